@@ -12,7 +12,7 @@ use Rattle.wait_rule.specs.declared.journal.Item.TheVariants as item
 use Rattle.wait_rule.specs.Aside.{Grows}
 use Rattle.wait_rule.specs.Ends.{WasWorn}
 use Rattle.wait_rule.specs.Known.{Known}
-use Rattle.wait_rule.specs.Pipes.{End, bytes_in, moved_bytes, read_end, write_end}
+use Rattle.wait_rule.specs.Pipes.{End, merged_bytes, moved_bytes, read_end, write_end}
 use Rattle.wait_rule.specs.PipeSays.{KeepsEnd, end_at, reading, writing}
 use Rattle.wait_rule.specs.Queues.{IsIdle, index}
 use Rattle.wait_rule.specs.Says.{IsUp, added}
@@ -28,7 +28,7 @@ use Rattle.poll_wait.specs.declared.turns.Poll.{Poll}
 use Rattle.poll_wait.specs.declared.turns.PollEnd.{PollEnd}
 use Rattle.poll_wait.specs.declared.turns.PollEnd.TheVariants as poll_end
 use Rattle.poll_wait.specs.declared.turns.Ready.{Ready}
-use Rattle.poll_wait.specs.Polls.{EndsPoll, EndsWorn, FindsNoPlace, GoesOn, LeavesBoth, StaysBeside, loaded, poll_change, ready_of}
+use Rattle.poll_wait.specs.Polls.{EndsPoll, EndsWorn, FindsNoPlace, PollGoesOn, LeavesBoth, StaysBesidePoll, loaded, poll_change, ready_of}
 use Rattle.poll_wait.specs.Seconds.{HasLeftSecond, IsSecondOut}
 use Rattle.poll_wait.proofs.Beside.{Beside, beside_join, looks_beside, near_steps, step_beside}
 use Rattle.poll_wait.proofs.Near.{goes_near}
@@ -48,7 +48,7 @@ use Rattle.flow_merge.specs.declared.sides.Side.TheVariants as sides
 use Rattle.flow_merge.specs.Mergers.{IsMergerStop}
 use Rattle.flow_merge.specs.MergerWords.{found_in, poll_stop}
 use Rattle.flow_merge.specs.Passed.{side_pipe}
-use Rattle.flow_merge.specs.Sides.{BothAtEnd, IsWornStop, Looked}
+use Rattle.flow_merge.specs.Sides.{BothAtEnd, IsWornStop, LookedAtSides}
 
 -- an end that keeps what its task knows of its own part
 pub keeps_same : (e f : End) → f ≡ e → KeepsEnd e f
@@ -76,11 +76,11 @@ kept_settled e f k s = record {
 }
 
 pub kept_moved : (e f : End) → KeepsEnd e f → moved_bytes f ≡ moved_bytes e
-kept_moved e f k = ap (λ (n : ℕ). bytes_in (take n f.cells)) k.count
-    ∙ ap (λ (cells : List ℕ). bytes_in (take e.count cells)) k.cells
+kept_moved e f k = ap (λ (n : ℕ). merged_bytes (take n f.cells)) k.count
+    ∙ ap (λ (cells : List ℕ). merged_bytes (take e.count cells)) k.cells
 
 -- one look after another
-pub looked_then : (a b c : Known) → Looked a b → Looked b c → Looked a c
+pub looked_then : (a b c : Known) → LookedAtSides a b → LookedAtSides b c → LookedAtSides a c
 looked_then a b c one two = record {
   works = works_then a b c one.works two.works;
   taps = λ s. keeps_then (reading (side_pipe s) a) (reading (side_pipe s) b) (reading (side_pipe s) c) (one.taps s)
@@ -91,7 +91,7 @@ looked_then a b c one two = record {
 }
 
 -- a part that is about no pipe
-pub apart_looked : (a b : Known) → Apart a b → Looked a b
+pub apart_looked : (a b : Known) → Apart a b → LookedAtSides a b
 apart_looked a b p = record {
   works = p.works;
   taps = λ s. keeps_same (reading (side_pipe s) a) (reading (side_pipe s) b) (p.ends (read_end (side_pipe s)));
@@ -104,7 +104,7 @@ apart_looked a b p = record {
 module _ (a b : Known) (work : IsAtWork a) where
   module _ (t : Side) (l : OnlyLooked (read_end (side_pipe t)) a b) (taps : (s : Side) → KeepsEnd
       (reading (side_pipe s) a) (reading (side_pipe s) b)) (pen : writing MERGED_PIPE b ≡ writing MERGED_PIPE a) where
-    look_looked : Looked a b
+    look_looked : LookedAtSides a b
     look_looked = record {
       works = record {
         work = record {
@@ -125,7 +125,7 @@ module _ (a b : Known) (work : IsAtWork a) where
       signals = l.aside.signals;
     }
 
-  pub left_looked : OnlyLooked (read_end LEFT_PIPE) a b → Looked a b
+  pub left_looked : OnlyLooked (read_end LEFT_PIPE) a b → LookedAtSides a b
   left_looked l = look_looked sides.Left l by (l.others (write_end MERGED_PIPE) (λ e. omega (arith, e)))
     where
       by : (s : Side) → KeepsEnd (reading (side_pipe s) a) (reading (side_pipe s) b)
@@ -133,7 +133,7 @@ module _ (a b : Known) (work : IsAtWork a) where
       by sides.Right = keeps_same (reading RIGHT_PIPE a) (reading RIGHT_PIPE b)
           (l.others (read_end RIGHT_PIPE) (λ e. omega (arith, e)))
 
-  pub right_looked : OnlyLooked (read_end RIGHT_PIPE) a b → Looked a b
+  pub right_looked : OnlyLooked (read_end RIGHT_PIPE) a b → LookedAtSides a b
   right_looked l = look_looked sides.Right l by (l.others (write_end MERGED_PIPE) (λ e. omega (arith, e)))
     where
       by : (s : Side) → KeepsEnd (reading (side_pipe s) a) (reading (side_pipe s) b)
@@ -145,8 +145,8 @@ module _ (a b : Known) (work : IsAtWork a) where
   pub second_out : IsSecondOut a
   second_out = work.owes.unqueued (index a.view.number 1)
 
-  pub poll_looked : IsUp b → IsIdle b → IsOut b → Carries (poll_change a.view.number b.at) a b → StaysBeside a b
-      → Looked a b
+  pub poll_looked : IsUp b → IsIdle b → IsOut b → Carries (poll_change a.view.number b.at) a b → StaysBesidePoll a b
+      → LookedAtSides a b
   poll_looked up idle out c beside = record {
     works = record {
       work = record {
@@ -270,7 +270,7 @@ poll_worn a b p (Err (poll_end.Worn h pl)) how is ends =
     subst (λ (s : Option Stop). IfSome s (IsWornStop b)) (sym is)
     (by (ready_of p ends.loads) (loaded p ends.loads a) ends.goes)
   where
-    by : (o : Option Ready) (k : Known) → GoesOn p o k b (Err (poll_end.Worn h pl))
+    by : (o : Option Ready) (k : Known) → PollGoesOn p o k b (Err (poll_end.Worn h pl))
         → WasWorn b.view.number b.view.items h pl
     by (Some r) k goes = let e : Err (poll_end.Worn h pl) ≡ Ok r = goes.1 in absurd (cc)
     by None k goes = worn_last p goes.last b h pl goes.ends

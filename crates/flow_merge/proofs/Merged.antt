@@ -40,10 +40,10 @@ use Rattle.flow_merge.specs.declared.TheConstants.{LEFT_PIPE, MERGED_PIPE, RIGHT
 use Rattle.flow_merge.specs.declared.sides.Side.{Side}
 use Rattle.flow_merge.specs.declared.sides.Side.TheVariants as sides
 use Rattle.flow_merge.specs.Merged.{
-  AllFinished,
+  MergeFinished,
   Drawn,
-  Ends,
-  Filled,
+  CrewEnds,
+  SinkFilled,
   Five,
   FiveDid,
   HoldsMerged,
@@ -55,7 +55,7 @@ use Rattle.flow_merge.specs.Merged.{
   no_targets,
 }
 use Rattle.flow_merge.specs.Mergers.{HasEnds, IsMergerStop, LacksEnd, MergerWorked}
-use Rattle.flow_merge.specs.Passed.{Passed, Piece, bytes_if, bytes_in, bytes_of, read_of, sent_of, side_pipe}
+use Rattle.flow_merge.specs.Passed.{Passed, Piece, bytes_if, merged_bytes, bytes_of, read_of, sent_of, side_pipe}
 use Rattle.flow_merge.proofs.Turns.{reads_whole, sends_whole}
 
 -- the five lists, each under the number of its task
@@ -119,9 +119,9 @@ piece_sides sides.Right bytes left right all e =
     let f = length-append bytes right in let g = length-append bytes all in omega (arith, e, f, g)
 
 both_sides : (ps : List Piece) → length (bytes_of sides.Left ps) + length (bytes_of sides.Right ps)
-    ≡ length (bytes_in ps)
+    ≡ length (merged_bytes ps)
 both_sides [] = refl
-both_sides (p ∷ ps) = piece_sides p.side p.bytes (bytes_of sides.Left ps) (bytes_of sides.Right ps) (bytes_in ps)
+both_sides (p ∷ ps) = piece_sides p.side p.bytes (bytes_of sides.Left ps) (bytes_of sides.Right ps) (merged_bytes ps)
     (both_sides ps)
 
 -- a reader with no plan raised no fatal signal
@@ -134,7 +134,7 @@ plans_none p number next domain k d ended r free =
     ∙ (sent_kills no_targets (due_at 0 raised.times [])
     ∙ due_at_kills 0 raised.times ended.read raised.rise [])
 
-module _ (domain : TableId) (k : Five) (first second : Drawn) (into : Filled) (ends : Ends) (answer : Result ℕ BitEnd)
+module _ (domain : TableId) (k : Five) (first second : Drawn) (into : SinkFilled) (ends : CrewEnds) (answer : Result ℕ BitEnd)
     (did : FiveDid domain k first second into ends answer) (shown : IsShown (joined k)) where
   abbrev lefts : ReaderWorked LEFT_PIPE (newcomer domain 1 2 0) k.left first.left_old first.left_new first.faults_old
       first.faults_new no_targets [] ends.left
@@ -397,7 +397,7 @@ module _ (domain : TableId) (k : Five) (first second : Drawn) (into : Filled) (e
         ∙ (sym (else_of ends.right.stop _ _ right_free rights.sent) ∙ (right_flow.all right_end.ended right_end.all
         ∙ (got_side sides.Right ∙ reads_whole sides.Right merges.passed nothing_more)))
 
-    sink_whole : bytes_in merges.passed.pieces ≡ writes.front
+    sink_whole : merged_bytes merges.passed.pieces ≡ writes.front
     sink_whole = sym (sends_whole merges.passed nothing_more) ∙ (sym sent_all
         ∙ (merged_flow.all merged_end.ended merged_end.all
         ∙ no_rest (moved_bytes (reading MERGED_PIPE k.writer)) writes.front writes.rest

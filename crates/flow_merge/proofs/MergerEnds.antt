@@ -25,8 +25,8 @@ use Rattle.flow_merge.specs.declared.merger.Has.{Has}
 use Rattle.flow_merge.specs.declared.sides.Side.{Side}
 use Rattle.flow_merge.specs.declared.sides.Side.TheVariants as sides
 use Rattle.flow_merge.specs.Mergers.{HasEnds, IsMergerStop, LacksEnd, MergerDid, MergerWorked, Merging}
-use Rattle.flow_merge.specs.MergerSteps.{Claimed, HoldsOpen, MergesIf, OpensEnds, Rests, Shut, ShutsEnds, with_if}
-use Rattle.flow_merge.specs.Passed.{Passed, bytes_in, read_of, sent_of, side_pipe}
+use Rattle.flow_merge.specs.MergerSteps.{Claimed, HoldsOpen, MergesIf, OpensEnds, RestStays, Shut, ShutsEnds, with_if}
+use Rattle.flow_merge.specs.Passed.{Passed, merged_bytes, read_of, sent_of, side_pipe}
 use Rattle.flow_merge.proofs.Turns.{merger_before, passed_none}
 
 abbrev left : ℕ
@@ -38,10 +38,10 @@ right = read_end RIGHT_PIPE
 abbrev pen : ℕ
 pen = write_end MERGED_PIPE
 
-rests_of : (a b : Known) → Leaves a b → Rests a b
+rests_of : (a b : Known) → Leaves a b → RestStays a b
 rests_of a b l = record { domain = l.domain; grows = l.grows; sums = l.sums; signals = l.signals }
 
-rests_then : (a b c : Known) → Rests a b → Rests b c → Rests a c
+rests_then : (a b c : Known) → RestStays a b → RestStays b c → RestStays a c
 rests_then a b c one two = record {
   domain = two.domain ∙ one.domain;
   grows = grows_then a b c one.grows two.grows;
@@ -184,10 +184,10 @@ module _ (a b : Known) (has : Has) (o : OpensEnds a b has) where
 
 -- The ends were claimed, something was done, and those were closed that it has.
 module _ (a b c d : Known) (has : Has) (o : OpensEnds a b has) (q : ShutsEnds c d has) (idler : IsIdler a) where
-  before : Rests a b
+  before : RestStays a b
   before = rests_then a o.one b o.left.rests (rests_then o.one o.two b o.right.rests o.pen.rests)
 
-  behind : Rests c d
+  behind : RestStays c d
   behind = rests_then c q.one d q.pen.rests (rests_then q.one q.two d q.right.rests q.left.rests)
 
   settled : ((x : Excuse) → Owes x b → Owes x c) → OwesNothing d

@@ -25,9 +25,9 @@ use Rattle.flow_merge.specs.declared.TheConstants.{LEFT_PIPE, MERGED_PIPE, RIGHT
 use Rattle.flow_merge.specs.declared.sides.Side.{Side}
 use Rattle.flow_merge.specs.declared.sides.Side.TheVariants as sides
 use Rattle.flow_merge.specs.Mergers.{IsMergerStop, Merging}
-use Rattle.flow_merge.specs.MergerWords.{passes_on}
-use Rattle.flow_merge.specs.Passed.{Passed, Piece, bytes_if, bytes_in, bytes_of, read_of, sent_of, side_pipe}
-use Rattle.flow_merge.specs.Sides.{Looked}
+use Rattle.flow_merge.specs.MergerWords.{goes_behind}
+use Rattle.flow_merge.specs.Passed.{Passed, Piece, bytes_if, merged_bytes, bytes_of, read_of, sent_of, side_pipe}
+use Rattle.flow_merge.specs.Sides.{LookedAtSides}
 use Rattle.flow_merge.proofs.Looks.{kept_moved, kept_settled}
 
 -- pieces behind pieces
@@ -36,10 +36,10 @@ of_append s [] qs = refl
 of_append s (p ∷ ps) qs = ap (λ (l : List ℕ). bytes_if s p.side p.bytes ++ l) (of_append s ps qs)
     ∙ sym (append_assoc (bytes_if s p.side p.bytes) (bytes_of s ps) (bytes_of s qs))
 
-pub in_append : (ps qs : List Piece) → bytes_in (ps ++ qs) ≡ bytes_in ps ++ bytes_in qs
+pub in_append : (ps qs : List Piece) → merged_bytes (ps ++ qs) ≡ merged_bytes ps ++ merged_bytes qs
 in_append [] qs = refl
 in_append (p ∷ ps) qs = ap (λ (l : List ℕ). p.bytes ++ l) (in_append ps qs)
-    ∙ sym (append_assoc p.bytes (bytes_in ps) (bytes_in qs))
+    ∙ sym (append_assoc p.bytes (merged_bytes ps) (merged_bytes qs))
 
 none_of : (s t : Side) → bytes_if s t [] ≡ []
 none_of sides.Left sides.Left = refl
@@ -56,9 +56,9 @@ pub reads_whole : (s : Side) (p : Passed) → p.part.bytes ≡ [] → read_of s 
 reads_whole s p none = ap (λ (l : List ℕ). bytes_of s p.pieces ++ bytes_if s p.part.side l) none
     ∙ (ap (λ (l : List ℕ). bytes_of s p.pieces ++ l) (none_of s p.part.side) ∙ append-nil (bytes_of s p.pieces))
 
-pub sends_whole : (p : Passed) → p.part.bytes ≡ [] → sent_of p ≡ bytes_in p.pieces
-sends_whole p none = ap (λ (l : List ℕ). bytes_in p.pieces ++ l) (no_front p.front p.rest (sym p.parts ∙ none))
-    ∙ append-nil (bytes_in p.pieces)
+pub sends_whole : (p : Passed) → p.part.bytes ≡ [] → sent_of p ≡ merged_bytes p.pieces
+sends_whole p none = ap (λ (l : List ℕ). merged_bytes p.pieces ++ l) (no_front p.front p.rest (sym p.parts ∙ none))
+    ∙ append-nil (merged_bytes p.pieces)
 
 -- some that were passed on whole, and then others
 abbrev pub passed_then : Passed → Passed → Passed
@@ -77,7 +77,7 @@ reads_then s p q none = ap (λ (l : List ℕ). l ++ bytes_if s q.part.side q.par
 
 sends_then : (p q : Passed) → p.part.bytes ≡ [] → sent_of (passed_then p q) ≡ sent_of p ++ sent_of q
 sends_then p q none = ap (λ (l : List ℕ). l ++ q.front) (in_append p.pieces q.pieces)
-    ∙ (append_assoc (bytes_in p.pieces) (bytes_in q.pieces) q.front
+    ∙ (append_assoc (merged_bytes p.pieces) (merged_bytes q.pieces) q.front
     ∙ ap (λ (l : List ℕ). l ++ sent_of q) (sym (sends_whole p none)))
 
 -- why a merger stopped, told from an earlier moment
@@ -106,7 +106,7 @@ reads_none : (s : Side) → read_of s passed_none ≡ []
 reads_none s = none_of s sides.Left
 
 -- a turn in which nothing was, or no turn at all
-pub merging_idle : (a b : Known) (m : ℕ) (how : Option Stop) → m < 2 ^ 64 → Looked a b
+pub merging_idle : (a b : Known) (m : ℕ) (how : Option Stop) → m < 2 ^ 64 → LookedAtSides a b
     → ((s : Side) → IsSettled (reading (side_pipe s) a)) → IsSettled (writing MERGED_PIPE a)
     → IfStopped how (IsMergerStop a b) → Merging a b m m how
 merging_idle a b m how small l taps pen cause = record {
@@ -122,7 +122,7 @@ merging_idle a b m how small l taps pen cause = record {
   pen = kept_settled (writing MERGED_PIPE a) (writing MERGED_PIPE b) l.pen pen;
   n = 0;
   counted = counted_none a b l.sums;
-  counts = whole_of how (0 ≡ length (bytes_in no_pieces)) refl;
+  counts = whole_of how (0 ≡ length (merged_bytes no_pieces)) refl;
   sum = sum_none m small;
   signals = l.signals;
   cause = cause;
@@ -152,7 +152,7 @@ merging_none k m small work taps pen = record {
 }
 
 -- turns behind looks
-pub merging_behind : (a b c : Known) (m n : ℕ) (how : Option Stop) → Looked a b → Merging b c m n how
+pub merging_behind : (a b c : Known) (m n : ℕ) (how : Option Stop) → LookedAtSides a b → Merging b c m n how
     → Merging a c m n how
 merging_behind a b c m n how l r = record {
   works = works_then a b c l.works r.works;
@@ -191,10 +191,10 @@ module _ (a b c : Known) (k m n : ℕ) (how : Option Stop) (one : Merging a b k 
     pen = two.pen;
     n = one.n + two.n;
     counted = counted_then one.n two.n a b c one.counted two.counted;
-    counts = whole_map how (two.n ≡ length (bytes_in two.passed.pieces))
-        (one.n + two.n ≡ length (bytes_in (one.passed.pieces ++ two.passed.pieces)))
-        (λ e. let f : one.n ≡ length (bytes_in one.passed.pieces) = one.counts in
-        let g = length-append (bytes_in one.passed.pieces) (bytes_in two.passed.pieces) in
+    counts = whole_map how (two.n ≡ length (merged_bytes two.passed.pieces))
+        (one.n + two.n ≡ length (merged_bytes (one.passed.pieces ++ two.passed.pieces)))
+        (λ e. let f : one.n ≡ length (merged_bytes one.passed.pieces) = one.counts in
+        let g = length-append (merged_bytes one.passed.pieces) (merged_bytes two.passed.pieces) in
         let h = ap length (in_append one.passed.pieces two.passed.pieces) in
         omega (arith, e, f, g, h)) two.counts;
     sum = sum_then k m n one.n two.n one.sum two.sum;
@@ -267,14 +267,14 @@ module _ (t : Side) (a b : Known) (m n : ℕ) (taps : (s : Side) → IsSettled (
         pen = r.pen;
         n = r.n;
         counted = r.counted;
-        counts = unfinished (r.n ≡ length (bytes_in no_pieces));
+        counts = unfinished (r.n ≡ length (merged_bytes no_pieces));
         sum = r.sum;
         signals = r.signals;
         cause = cause;
       }
 
   pub merging_from : (how : Option Stop) → Relaying (side_pipe t) MERGED_PIPE a b m n how
-      → Merging a b m n (passes_on how)
+      → Merging a b m n (goes_behind how)
   merging_from None r = whole_piece None r r.all r.counts
   merging_from (Some stop.Finished) r = whole_piece (Some stop.Finished) r r.all r.counts
   merging_from (Some stop.Broken) r = stopped_piece stop.Broken r (λ X. tt) r.cause

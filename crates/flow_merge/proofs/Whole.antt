@@ -31,8 +31,8 @@ use Rattle.copy_ends.proofs.Idlers.{joined_clean}
 use Rattle.copy_ends.proofs.JoinedSums.{found_tally, joined_counts, last_list, last_tally, one_counts}
 use Rattle.flow_merge.specs.Merged.{
   Drawn,
-  Ends,
-  Filled,
+  CrewEnds,
+  SinkFilled,
   Five,
   FiveDid,
   FollowsMerge,
@@ -149,7 +149,7 @@ five_counts p k =
     omega (arith, all, n0, n1, n2, n3, n4, n5)
 
 -- the five did their work, their lists were joined, and the tally was read
-pub record Ended (domain : TableId) (k : Five) (old new : Known) (first second : Drawn) (into : Filled) (ends : Ends)
+pub record Ended (domain : TableId) (k : Five) (old new : Known) (first second : Drawn) (into : SinkFilled) (ends : CrewEnds)
     (answer : Result ℕ BitEnd) (tally : ℕ) : Type 0 where
   pub did : FiveDid domain k first second into ends answer
   pub joined : old.view ≡ joined_all (fresh 0 6 (TASKS - 6)) (views_of k)
@@ -158,7 +158,7 @@ pub record Ended (domain : TableId) (k : Five) (old new : Known) (first second :
   pub aside : GrowsAside old new
 
 -- all that a merge ensures of its end
-pub record Ensured (domain : TableId) (k : Five) (new : Known) (first second : Drawn) (into : Filled) (ends : Ends)
+pub record Ensured (domain : TableId) (k : Five) (new : Known) (first second : Drawn) (into : SinkFilled) (ends : CrewEnds)
     (how : Stop) (answer : Result ℕ BitEnd) (tally : ℕ) : Type 0 where
   pub merged : Merged domain new first second into ends how answer
   pub front : HoldsMerged first second into
@@ -168,7 +168,7 @@ pub record Ensured (domain : TableId) (k : Five) (new : Known) (first second : D
   pub unhurt : NoneHurt ends
   pub lists : HasFive new.view k
 
-module _ (domain : TableId) (k : Five) (old new : Known) (first second : Drawn) (into : Filled) (ends : Ends)
+module _ (domain : TableId) (k : Five) (old new : Known) (first second : Drawn) (into : SinkFilled) (ends : CrewEnds)
     (answer : Result ℕ BitEnd) (tally : ℕ) (e : Ended domain k old new first second into ends answer tally) where
   joined_is : old.view ≡ joined k
   joined_is = e.joined ∙ five_same (fresh 0 6 (TASKS - 6)) k.left.view k.right.view k.merger.view k.writer.view
@@ -235,7 +235,7 @@ module _ (domain : TableId) (k : Five) (old new : Known) (first second : Drawn) 
 
 -- the five were forked with these numbers, and joined by the task that forked them
 pub ended_of : (domain : TableId) (t1 t2 t3 t4 t5 : Known) (k : Five) (start old new : Known) (first second : Drawn)
-    (into : Filled) (ends : Ends) (answer : Result ℕ BitEnd) (tally : ℕ) → t1 ≡ newcomer domain 1 2 0
+    (into : SinkFilled) (ends : CrewEnds) (answer : Result ℕ BitEnd) (tally : ℕ) → t1 ≡ newcomer domain 1 2 0
     → t2 ≡ newcomer domain 2 3 0 → t3 ≡ newcomer domain 3 4 0 → t4 ≡ newcomer domain 4 5 0
     → t5 ≡ newcomer domain 5 6 0 → start ≡ newcomer domain 0 6 (TASKS - 6)
     → ReaderDid LEFT_PIPE t1 k.left first.left_old first.left_new first.faults_old first.faults_new no_targets []
@@ -265,7 +265,7 @@ ended_of domain t1 t2 t3 t4 t5 k start old new first second into ends answer tal
       aside = aside;
     }
 
-pub follows : (domain : TableId) (t1 t2 t3 t4 t5 : Known) (k : Five) (new : Known) (first second : Drawn) (ends : Ends)
+pub follows : (domain : TableId) (t1 t2 t3 t4 t5 : Known) (k : Five) (new : Known) (first second : Drawn) (ends : CrewEnds)
     (answer : Result ℕ BitEnd) → t1 ≡ newcomer domain 1 2 0 → t2 ≡ newcomer domain 2 3 0 → t3 ≡ newcomer domain 3 4 0
     → t4 ≡ newcomer domain 4 5 0 → t5 ≡ newcomer domain 5 6 0
     → FromSource first.left_old first.left_new 0 ends.left.read

@@ -22,7 +22,7 @@ use Rattle.flow_merge.specs.declared.sides.Side.{Side}
 use Rattle.flow_merge.specs.declared.sides.Side.TheVariants as sides
 use Rattle.flow_merge.specs.Mergers.{MergerDid}
 use Rattle.flow_merge.specs.MergerWords.{MergerGoes}
-use Rattle.flow_merge.specs.Passed.{Passed, Piece, bytes_in, bytes_of, read_of, sent_of}
+use Rattle.flow_merge.specs.Passed.{Passed, Piece, merged_bytes, bytes_of, read_of, sent_of}
 
 -- the readers send no signals, so nobody's number is planned
 abbrev pub no_targets : List ℕ
@@ -39,7 +39,7 @@ abbrev pub drawn : Option (List ℕ) → Option (List ℕ) → ℕ → ℕ → D
 drawn l0 l1 f0 f1 = record { left_old = l0; left_new = l1; faults_old = f0; faults_new = f1 }
 
 -- a sink: what it held before and after, and its counts of faults and of wants
-pub record Filled : Type 0 where
+pub record SinkFilled : Type 0 where
   pub held_old : Option (List ℕ)
   pub held_new : Option (List ℕ)
   pub faults_old : ℕ
@@ -47,7 +47,7 @@ pub record Filled : Type 0 where
   pub wants_old : ℕ
   pub wants_new : ℕ
 
-abbrev pub filled : Option (List ℕ) → Option (List ℕ) → ℕ → ℕ → ℕ → ℕ → Filled
+abbrev pub filled : Option (List ℕ) → Option (List ℕ) → ℕ → ℕ → ℕ → ℕ → SinkFilled
 filled h0 h1 f0 f1 w0 w1 = record {
   held_old = h0;
   held_new = h1;
@@ -58,13 +58,13 @@ filled h0 h1 f0 f1 w0 w1 = record {
 }
 
 -- how its workers ended
-pub record Ends : Type 0 where
+pub record CrewEnds : Type 0 where
   pub left : ReaderEnd
   pub right : ReaderEnd
   pub merger : WorkerEnd
   pub writer : WorkerEnd
 
-abbrev pub ends_of : ReaderEnd → ReaderEnd → WorkerEnd → WorkerEnd → Ends
+abbrev pub ends_of : ReaderEnd → ReaderEnd → WorkerEnd → WorkerEnd → CrewEnds
 ends_of l r m w = record { left = l; right = r; merger = m; writer = w }
 
 -- the last that each of its five tasks knew
@@ -84,7 +84,7 @@ pub record HasFive (v : Journal) (k : Five) : Type 0 where
   pub controller : has_of 5 v ≡ k.controller.view.items
 
 -- what each of them did
-pub record FiveDid (domain : TableId) (k : Five) (first second : Drawn) (into : Filled) (ends : Ends)
+pub record FiveDid (domain : TableId) (k : Five) (first second : Drawn) (into : SinkFilled) (ends : CrewEnds)
     (total : Result ℕ BitEnd) : Type 0 where
   pub left : ReaderDid LEFT_PIPE (newcomer domain 1 2 0) k.left first.left_old first.left_new first.faults_old
       first.faults_new no_targets [] ends.left
@@ -106,11 +106,11 @@ pub record NotesLate (new : Known) : Type 0 where
   pub writer : NotesAreLate shown law 4 new
   pub controller : NotesAreLate shown law 5 new
 
-abbrev pub stops_of : Ends → Result ℕ BitEnd → List Stop
+abbrev pub stops_of : CrewEnds → Result ℕ BitEnd → List Stop
 stops_of e total = e.left.stop ∷ e.right.stop ∷ e.merger.stop ∷ e.writer.stop ∷ control_stop total ∷ []
 
 -- The five tasks of a merge did their work, and their lists stand in the journal of the task that joined them.
-pub record Merged (domain : TableId) (new : Known) (first second : Drawn) (into : Filled) (ends : Ends) (how : Stop)
+pub record Merged (domain : TableId) (new : Known) (first second : Drawn) (into : SinkFilled) (ends : CrewEnds) (how : Stop)
     (total : Result ℕ BitEnd) : Type 0 where
   pub five : Five
   pub did : FiveDid domain five first second into ends total
@@ -119,7 +119,7 @@ pub record Merged (domain : TableId) (new : Known) (first second : Drawn) (into 
   pub late : NotesLate new
 
 -- They went by their programs, from their first steps to their last.
-pub record FollowsMerge (domain : TableId) (new : Known) (first second : Drawn) (ends : Ends) (total : Result ℕ BitEnd)
+pub record FollowsMerge (domain : TableId) (new : Known) (first second : Drawn) (ends : CrewEnds) (total : Result ℕ BitEnd)
     : Type 0 where
   pub five : Five
   pub left : FromSource first.left_old first.left_new 0 ends.left.read
@@ -144,13 +144,13 @@ pub record ReadsFront (d : Drawn) (s : Side) (passed : Passed) : Type 0 where
 
 -- With every stop: the sink holds a front of what the merger sent, which is the pieces that it passed on, in order, and
 -- then a front of one more; and the pieces of each side, in order, are a front of what its source gave.
-pub record HoldsMerged (first second : Drawn) (into : Filled) : Type 0 where
+pub record HoldsMerged (first second : Drawn) (into : SinkFilled) : Type 0 where
   pub passed : Passed
   pub left : ReadsFront first sides.Left passed
   pub right : ReadsFront second sides.Right passed
   pub held : HoldsPrefix into.held_old into.held_new (sent_of passed)
 
-pub record AllFinished (ends : Ends) : Type 0 where
+pub record MergeFinished (ends : CrewEnds) : Type 0 where
   pub left : ends.left.stop ≡ stop.Finished
   pub right : ends.right.stop ≡ stop.Finished
   pub merger : ends.merger.stop ≡ stop.Finished
@@ -159,12 +159,12 @@ pub record AllFinished (ends : Ends) : Type 0 where
 -- Where the merge finished, so did all workers: the pieces of the left side, in order, are the bytes of the first
 -- source, those of the right one the second's, and the sink holds all of them in order; and each byte was counted three
 -- times.
-pub record MergesAll (first second : Drawn) (into : Filled) (ends : Ends) (tally : ℕ) : Type 0 where
-  pub all : AllFinished ends
+pub record MergesAll (first second : Drawn) (into : SinkFilled) (ends : CrewEnds) (tally : ℕ) : Type 0 where
+  pub all : MergeFinished ends
   pub pieces : List Piece
   pub left : IfSome first.left_old (λ bytes. bytes ≡ bytes_of sides.Left pieces)
   pub right : IfSome second.left_old (λ bytes. bytes ≡ bytes_of sides.Right pieces)
-  pub held : into.held_new ≡ append_known into.held_old (bytes_in pieces)
+  pub held : into.held_new ≡ append_known into.held_old (merged_bytes pieces)
   pub moved : tally ≡ 3 * (ends.left.read + ends.right.read) % 2 ^ 64
 
 -- a merge that ran stopped so
@@ -180,7 +180,7 @@ IsUnhurt stop.Killed = ⊥
 IsUnhurt stop.Taken = ⊥
 IsUnhurt _ = Unit {0}
 
-pub record NoneHurt (ends : Ends) : Type 0 where
+pub record NoneHurt (ends : CrewEnds) : Type 0 where
   pub left : IsUnhurt ends.left.stop
   pub right : IsUnhurt ends.right.stop
   pub merger : IsUnhurt ends.merger.stop

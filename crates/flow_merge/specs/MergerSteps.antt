@@ -20,7 +20,7 @@ abbrev pub with_if : ℕ → Bool → Excuse → Excuse
 with_if k true x = with_end k x
 with_if k false x = x
 
-pub record Rests (old new : Known) : Type 0 where
+pub record RestStays (old new : Known) : Type 0 where
   pub domain : new.domain ≡ old.domain
   pub grows : Grows old new
   pub sums : SumsStay old new
@@ -28,7 +28,7 @@ pub record Rests (old new : Known) : Type 0 where
 
 -- a claim of end k, and whether it has it
 pub record Claimed (k : ℕ) (got : Bool) (old new : Known) : Type 0 where
-  pub rests : Rests old new
+  pub rests : RestStays old new
   pub work : IsAtWork new
   pub owes : (x : Excuse) → Owes x old → Owes (with_if k got x) new
   pub becomes : EndBecomes k old new (if got then new_end else end_at k old)
@@ -36,7 +36,7 @@ pub record Claimed (k : ℕ) (got : Bool) (old new : Known) : Type 0 where
 
 -- end k was closed where it has it
 pub record Shut (k : ℕ) (got : Bool) (old new : Known) : Type 0 where
-  pub rests : Rests old new
+  pub rests : RestStays old new
   pub work : IsAtWork new
   pub owes : (x : Excuse) → Owes (with_if k got x) old → Owes x new
   pub own : end_at k new ≡ (if got then closed (end_at k old) else end_at k old)

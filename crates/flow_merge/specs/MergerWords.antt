@@ -55,15 +55,15 @@ poll_stop (Err (poll_end.Worn h p)) = Some (stop.Worn h p)
 poll_stop _ = None
 
 -- A piece is passed on from a side; where none is there after all, the next turn looks again.
-abbrev pub passes_on : Option Stop → Option Stop
-passes_on (Some stop.Finished) = None
-passes_on how = how
+abbrev pub goes_behind : Option Stop → Option Stop
+goes_behind (Some stop.Finished) = None
+goes_behind how = how
 
 pub record PassesFrom (s : Side) (old new : Known) (how : Option Stop) : Type 0 where
   pub piece : List ℕ
   pub ended : Option Stop
   pub gets : GetsAnd (read_end (side_pipe s)) (RelaysPiece MERGED_PIPE) old new piece ended
-  pub on : how ≡ passes_on ended
+  pub on : how ≡ goes_behind ended
 
 -- A turn: the own signals are taken, and where no fatal one was among them both sides are looked at; then a piece is
 -- passed on from a side that has cells, or both sides are at their ends, or it waits for one of them.

@@ -15,7 +15,7 @@ use Rattle.copy_turns.specs.Work.{Counted, SignalsStay, TookKill, Works}
 use Rattle.copy_ends.specs.Did.{Completes, Refused, Served}
 use Rattle.flow_merge.specs.declared.TheConstants.{LEFT_PIPE, MERGED_PIPE, RIGHT_PIPE}
 use Rattle.flow_merge.specs.declared.sides.Side.{Side}
-use Rattle.flow_merge.specs.Passed.{Passed, bytes_in, read_of, sent_of, side_pipe}
+use Rattle.flow_merge.specs.Passed.{Passed, merged_bytes, read_of, sent_of, side_pipe}
 
 -- Why a merger stops. Finished: both pipes are at their ends.
 abbrev pub IsMergerStop : Known → Known → Stop → Type 0
@@ -38,7 +38,7 @@ pub record Merging (old new : Known) (moved_old moved_new : ℕ) (how : Option S
   pub pen : IsSettled (writing MERGED_PIPE new)
   pub n : ℕ
   pub counted : Counted n old new
-  pub counts : IfWhole how (n ≡ length (bytes_in passed.pieces))
+  pub counts : IfWhole how (n ≡ length (merged_bytes passed.pieces))
   pub sum : moved_new ≡ (moved_old + n) % 2 ^ 64
   pub signals : SignalsStay old new
   pub cause : IfStopped how (IsMergerStop old new)
@@ -66,7 +66,7 @@ pub record MergerWorked (old new : Known) (ended : WorkerEnd) : Type 0 where
   pub all : IfFinished ended.stop (passed.part.bytes ≡ [])
   pub n : ℕ
   pub counted : Counted n old new
-  pub counts : IfFinished ended.stop (n ≡ length (bytes_in passed.pieces))
+  pub counts : IfFinished ended.stop (n ≡ length (merged_bytes passed.pieces))
   pub moved : ended.moved ≡ n % 2 ^ 64
   pub signals : SignalsStay old new
   pub cause : IfTaken ended.stop (Unit {0}) (IsMergerStop old new ended.stop)

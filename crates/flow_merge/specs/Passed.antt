@@ -27,9 +27,9 @@ bytes_of s [] = []
 bytes_of s (p ∷ ps) = bytes_if s p.side p.bytes ++ bytes_of s ps
 
 -- and of all of them
-abbrev pub bytes_in : List Piece → List ℕ
-bytes_in [] = []
-bytes_in (p ∷ ps) = p.bytes ++ bytes_in ps
+abbrev pub merged_bytes : List Piece → List ℕ
+merged_bytes [] = []
+merged_bytes (p ∷ ps) = p.bytes ++ merged_bytes ps
 
 -- Pieces that were passed on whole, in this order, and then a front of one more that was read.
 pub record Passed : Type 0 where
@@ -44,4 +44,4 @@ abbrev pub read_of : Side → Passed → List ℕ
 read_of s p = bytes_of s p.pieces ++ bytes_if s p.part.side p.part.bytes
 
 abbrev pub sent_of : Passed → List ℕ
-sent_of p = bytes_in p.pieces ++ p.front
+sent_of p = merged_bytes p.pieces ++ p.front

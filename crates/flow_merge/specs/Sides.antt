@@ -13,7 +13,7 @@ use Rattle.flow_merge.specs.declared.sides.Side.{Side}
 use Rattle.flow_merge.specs.Passed.{side_pipe}
 
 -- Of its three ends it may have seen more of the other ones, and all else of them stays.
-pub record Looked (old new : Known) : Type 0 where
+pub record LookedAtSides (old new : Known) : Type 0 where
   pub works : Works old new
   pub taps : (s : Side) → KeepsEnd (reading (side_pipe s) old) (reading (side_pipe s) new)
   pub pen : KeepsEnd (writing MERGED_PIPE old) (writing MERGED_PIPE new)

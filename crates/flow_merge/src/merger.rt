@@ -22,7 +22,7 @@ ghost use Rattle.flow_merge.specs.MergerWords.{
   MergerWorks,
   PassesFrom,
   TurnsIf,
-  passes_on,
+  goes_behind,
 };
 ghost use Rattle.flow_merge.specs.Passed.{side_pipe};
 
@@ -54,12 +54,12 @@ fn pass_from<R: Wait>(
     ensures goes { PassesFrom side task.old task.new result }
 {
     let how = pass_piece(rt, domain, task, side.pipe(), MERGED_PIPE, moved);
-    passes_on(how)
+    goes_behind(how)
 }
 
 /// Where a piece was asked for that is not there, the next turn looks again.
-fn passes_on(how: Option<Stop>) -> Option<Stop>
-    ensures { result ≡ passes_on how }
+fn goes_behind(how: Option<Stop>) -> Option<Stop>
+    ensures { result ≡ goes_behind how }
 {
     match how {
         Some(Stop::Finished) => None,

@@ -8,7 +8,7 @@ ghost use Rattle.copy_turns.specs.Work.{IsAtWork};
 ghost use Rattle.flow_merge.specs.declared.sides.Found.TheVariants as found;
 ghost use Rattle.flow_merge.specs.MergerWords.{LooksBoth, both_words, found_in, poll_stop};
 ghost use Rattle.flow_merge.specs.Passed.{side_pipe};
-ghost use Rattle.flow_merge.specs.Sides.{BothAtEnd, IsWornStop, Looked};
+ghost use Rattle.flow_merge.specs.Sides.{BothAtEnd, IsWornStop, LookedAtSides};
 
 use crate::{LEFT_PIPE, RIGHT_PIPE};
 use copy_plan::Stop;
@@ -73,7 +73,7 @@ pub(crate) fn look_both(domain: &Domain, task: &mut Task) -> Found
     requires of { task.old.domain ≡ domain.now }
     requires work { IsAtWork task.old }
     requires taps { (s : Side) → IsSettled (reading (side_pipe s) task.old) }
-    ensures looked { Looked task.old task.new }
+    ensures looked { LookedAtSides task.old task.new }
     ensures ended { result ≡ found.Ended → BothAtEnd task.new }
     ensures goes { LooksBoth task.old task.new result }
 {
@@ -93,7 +93,7 @@ pub(crate) fn wait_both<R: Wait>(
 ) -> Option<Stop>
     requires of { task.old.domain ≡ domain.now }
     requires work { IsAtWork task.old }
-    ensures looked { Looked task.old task.new }
+    ensures looked { LookedAtSides task.old task.new }
     ensures worn { IfSome result (IsWornStop task.new) }
     ensures goes { (polled : _) × (EndsPoll (both_words left right) task.old task.new polled
         × (result ≡ poll_stop polled)) }

@@ -42,7 +42,7 @@ use Rattle.futex_table.specs.declared.waits.FutexStage.TheVariants as stage
 use Rattle.futex_table.specs.declared.waits.FutexWait.{FutexWait}
 use Rattle.futex_table.specs.CondStretches.{
   EndsCond,
-  IsAwaiting,
+  IsCondWaiting,
   IsCondAsleep,
   IsCondAt,
   IsCondUnderWay,
@@ -62,10 +62,10 @@ use Rattle.futex_table.specs.LockStretches.{
   AskedIf,
   IsLockAsleep,
   IsLockAt,
-  IsLocking,
+  IsMutexLocking,
   LeavesLock,
-  LockTurn,
-  WaitTurn,
+  MutexTurn,
+  FutexWaitTurn,
 }
 use Rattle.futex_table.specs.Mutexes.{HasFreedMutex, LocksMutex, is_locked}
 use Rattle.futex_table.specs.TallyUses.{LeavesTallies, StoresWord}
@@ -201,7 +201,7 @@ module _ (b : Bool) (w : CondWait) (old new : Known) (q : Run FutexWait) (o : Fu
       (left_idle (AskedIf b) x.unlocked new x.first q stage.First o x.came x.left.idle.unmarked)
       (left_out (AskedIf b) x.unlocked new x.first q stage.First o x.came)
 
-  cond_over : IsAwaiting b w old new (awaited_to q (turn.Done o))
+  cond_over : IsCondWaiting b w old new (awaited_to q (turn.Done o))
   cond_over = record {
     seen = x.seen;
     loaded = x.loaded;
@@ -218,7 +218,7 @@ module _ (b : Bool) (w : CondWait) (old new : Known) (q : Run FutexWait) (o : Fu
   }
 
 -- a wait that went on to here
-with_way : (b : Bool) (w : CondWait) (old mid new : Known) (q p : Run FutexWait) (u v : WaitTurn)
+with_way : (b : Bool) (w : CondWait) (old mid new : Known) (q p : Run FutexWait) (u v : FutexWaitTurn)
     (x : IsForCond (AskedIf b) w old mid q u)
     → OnTheWay (AskedIf b) futex_table futex_exits x.unlocked x.first stage.First new p v
     → IsForCond (AskedIf b) w old new p v
@@ -235,8 +235,8 @@ with_way b w old mid new q p u v x came = record {
   came = came;
 }
 
-in_wait : (b : Bool) (w : CondWait) (old new : Known) (q : Run FutexWait) (u : WaitTurn)
-    → IsForCond (AskedIf b) w old new q u → IsAwaiting b w old new (awaited_to q u)
+in_wait : (b : Bool) (w : CondWait) (old new : Known) (q : Run FutexWait) (u : FutexWaitTurn)
+    → IsForCond (AskedIf b) w old new q u → IsCondWaiting b w old new (awaited_to q u)
 in_wait b w old new q (turn.Again s) x = x
 in_wait b w old new q (turn.Asleep s) x = x
 in_wait b w old new q (turn.Locked s) x = with_way b w old new new q q (turn.Locked s) (turn.Again s) x
@@ -245,8 +245,8 @@ in_wait b w old new q (turn.Locked s) x = with_way b w old new new q q (turn.Loc
 in_wait b w old new q (turn.Done o) x = cond_over b w old new q o x
 
 module _ (b : Bool) (w : CondWait) (old mid new : Known) (q : Run FutexWait) (s : FutexStage) where
-  pub wait_on : (p : Run FutexWait) (u : WaitTurn) → IsForCond (AskedIf b) w old mid q (turn.Again s)
-      → OnTheWay (AskedIf b) futex_table futex_exits mid q s new p u → IsAwaiting b w old new (awaited_to p u)
+  pub wait_on : (p : Run FutexWait) (u : FutexWaitTurn) → IsForCond (AskedIf b) w old mid q (turn.Again s)
+      → OnTheWay (AskedIf b) futex_table futex_exits mid q s new p u → IsCondWaiting b w old new (awaited_to p u)
   wait_on p u x v = in_wait b w old new p u (with_way b w old mid new q p (turn.Again s) u x
       (way_then (AskedIf b) futex_table futex_exits futex_may_leave futex_lawful x.unlocked x.first stage.First mid new
       q p s u x.came v))
@@ -261,12 +261,12 @@ module _ (b : Bool) (w : CondWait) (old mid new : Known) (q : Run FutexWait) (s 
   wait_woke calm false a x = with_way b w old mid new q q (turn.Asleep s) (turn.Asleep s) x
       (way_dozed (AskedIf b) x.unlocked x.first stage.First mid new q s calm x.came a)
 
-pub wait_lands : (b : Bool) (w : CondWait) (old k : Known) (q : Run FutexWait) (u : WaitTurn)
+pub wait_lands : (b : Bool) (w : CondWait) (old k : Known) (q : Run FutexWait) (u : FutexWaitTurn)
     → IsForCond (AskedIf b) w old k q u → Lands futex_table k q u
 wait_lands b w old k q u x = way_lands (AskedIf b) futex_table futex_exits futex_may_leave futex_lawful x.unlocked
     x.first stage.First k q u x.came
 
-pub cond_may_be_asked : (b : Bool) (w : CondWait) (old new : Known) (q : Run FutexWait) (u : WaitTurn)
+pub cond_may_be_asked : (b : Bool) (w : CondWait) (old new : Known) (q : Run FutexWait) (u : FutexWaitTurn)
     → IsForCond (AskedIf b) w old new q u → IsForCond (Unit {0}) w old new q u
 cond_may_be_asked b w old new q u x = record {
   seen = x.seen;
@@ -289,7 +289,7 @@ either_awaits false b w old k s x = (b, old, x)
 
 -- in the lock behind it
 module _ (A : Type 0) (w : CondWait) (old mid new : Known) (end : Until (Result (Unit {0}) FutexEnd)) where
-  pub relock_on : (s n : LockTurn) (x : IsRelocking A w old mid end s) → IsLocking false w.lock x.waited new n
+  pub relock_on : (s n : MutexTurn) (x : IsRelocking A w old mid end s) → IsMutexLocking false w.lock x.waited new n
       → IsRelocking A w old new end n
   relock_on s n x locks = record {
     seen = x.seen;
@@ -309,7 +309,7 @@ module _ (A : Type 0) (w : CondWait) (old mid new : Known) (end : Until (Result 
   relock_woke true s x locks = relock_on (turn.Asleep s) (turn.Again s) x locks
   relock_woke false s x locks = relock_on (turn.Asleep s) (turn.Asleep s) x locks
 
-  pub relock_ends : (s : LockTurn) (x : IsRelocking A w old mid end s) (locked : Result (Unit {0}) Worn)
+  pub relock_ends : (s : MutexTurn) (x : IsRelocking A w old mid end s) (locked : Result (Unit {0}) Worn)
       → LocksMutex x.waited new w.lock locked → LeavesLock w.lock x.waited new (is_locked locked)
       → EndsCond A w old new (cond_until_answer end locked)
   relock_ends s x locked locks l =

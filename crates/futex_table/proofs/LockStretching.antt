@@ -42,7 +42,7 @@ use Rattle.futex_table.specs.LockLeaves.{
   round_end,
   worn_until,
 }
-use Rattle.futex_table.specs.LockStretches.{AskedIf, IsInRound, IsLockAsleep, IsLockAt, IsLockUnderWay, IsLocking, LeavesLock, WaitTurn, ended_to, waited_to}
+use Rattle.futex_table.specs.LockStretches.{AskedIf, IsInRound, IsLockAsleep, IsLockAt, IsLockUnderWay, IsMutexLocking, LeavesLock, FutexWaitTurn, ended_to, waited_to}
 use Rattle.futex_table.specs.Mutexes.{HasWaitedRounds, LocksMutex, WaitsRound, WaitsRounds, worn_in}
 use Rattle.futex_table.specs.TallyUses.{LeavesTallies}
 use Rattle.futex_table.proofs.FutexEndings.{ends_futex}
@@ -129,7 +129,7 @@ module _ (b : Bool) (m : ℕ) (old new : Known) (q : Run FutexWait) (o : FutexOu
       (left_idle (AskedIf b) x.tried new x.first q stage.First o x.came x.left.idle.unmarked)
       (left_out (AskedIf b) x.tried new x.first q stage.First o x.came)
 
-  over_to : (z : Option (Until (Result (Unit {0}) Worn))) → round_end end ≡ z → IsLocking b m old new (ended_to z)
+  over_to : (z : Option (Until (Result (Unit {0}) Worn))) → round_end end ≡ z → IsMutexLocking b m old new (ended_to z)
   over_to (Some result) is = record {
     locked = locks_by (AskedIf b) old new m x.mid end x.rounds round result is (round_unlocks end result is);
     left = over_left (is_locked_until result) (round_unlocks end result is);
@@ -139,7 +139,7 @@ module _ (b : Bool) (m : ℕ) (old new : Known) (q : Run FutexWait) (o : FutexOu
     left = over_left false refl;
   }
 
-  pub round_over : IsLocking b m old new (ended_to (round_end (futex_until_in q.of o)))
+  pub round_over : IsMutexLocking b m old new (ended_to (round_end (futex_until_in q.of o)))
   round_over = over_to (round_end end) refl
 
 -- a look at the own word is no sleep
@@ -147,7 +147,7 @@ pub looked_awake : (old new : Known) (w : ℕ) → new ≡ added old (item.Awake
 looked_awake old new w is = only_awake old new (record { items = item.Awake w ∷ []; looks = (tt, tt); is = is })
 
 -- a wait that was put asleep, looked, and is asleep still
-out_dozed : (e : WaitTurn) (n : FutexStage) (k mid new : Known) (r q : Run FutexWait)
+out_dozed : (e : FutexWaitTurn) (n : FutexStage) (k mid new : Known) (r q : Run FutexWait)
     → GoesOut futex_table k mid r q e (turn.Asleep n) → Advances futex_table mid new q q n (turn.Asleep n)
     → GoesOut futex_table k new r q e (turn.Asleep n)
 out_dozed (turn.Again s) n k mid new r q b a = woke_on futex_table futex_lawful k mid new r q q s n (turn.Asleep n) b a
@@ -177,7 +177,7 @@ way_dozed A old r s _ new _ n calm (left_at k j i mid q _ cause w l) a = left_at
     (leaves_dozed k mid new j q i n calm l a)
 
 -- a wait that went on to here
-with_way : (b : Bool) (m : ℕ) (old mid new : Known) (q p : Run FutexWait) (u v : WaitTurn)
+with_way : (b : Bool) (m : ℕ) (old mid new : Known) (q p : Run FutexWait) (u v : FutexWaitTurn)
     (x : IsInRound (AskedIf b) m old mid q u)
     → OnTheWay (AskedIf b) futex_table futex_exits x.tried x.first stage.First new p v
     → IsInRound (AskedIf b) m old new p v
@@ -193,8 +193,8 @@ with_way b m old mid new q p u v x came = record {
   came = came;
 }
 
-pub in_round : (b : Bool) (m : ℕ) (old new : Known) (q : Run FutexWait) (u : WaitTurn)
-    → IsInRound (AskedIf b) m old new q u → IsLocking b m old new (waited_to q u)
+pub in_round : (b : Bool) (m : ℕ) (old new : Known) (q : Run FutexWait) (u : FutexWaitTurn)
+    → IsInRound (AskedIf b) m old new q u → IsMutexLocking b m old new (waited_to q u)
 in_round b m old new q (turn.Again s) x = x
 in_round b m old new q (turn.Asleep s) x = x
 in_round b m old new q (turn.Locked s) x = with_way b m old new new q q (turn.Locked s) (turn.Again s) x
@@ -203,8 +203,8 @@ in_round b m old new q (turn.Locked s) x = with_way b m old new new q q (turn.Lo
 in_round b m old new q (turn.Done o) x = round_over b m old new q o x
 
 module _ (b : Bool) (m : ℕ) (old mid new : Known) (q : Run FutexWait) (s : FutexStage) where
-  pub round_on : (p : Run FutexWait) (u : WaitTurn) → IsInRound (AskedIf b) m old mid q (turn.Again s)
-      → OnTheWay (AskedIf b) futex_table futex_exits mid q s new p u → IsLocking b m old new (waited_to p u)
+  pub round_on : (p : Run FutexWait) (u : FutexWaitTurn) → IsInRound (AskedIf b) m old mid q (turn.Again s)
+      → OnTheWay (AskedIf b) futex_table futex_exits mid q s new p u → IsMutexLocking b m old new (waited_to p u)
   round_on p u x w = in_round b m old new p u (with_way b m old mid new q p (turn.Again s) u x
       (way_then (AskedIf b) futex_table futex_exits futex_may_leave futex_lawful x.tried x.first stage.First mid new q p
       s u x.came w))
@@ -228,9 +228,9 @@ module _ (b : Bool) (m : ℕ) (old mid new : Known) (q : Run FutexWait) (s : Fut
   round_woke calm true a x = risen x a
   round_woke calm false a x = dozed calm x a
 
-pub round_asked : (m : ℕ) (old mid new : Known) (q p : Run FutexWait) (s : FutexStage) (u : WaitTurn)
+pub round_asked : (m : ℕ) (old mid new : Known) (q p : Run FutexWait) (s : FutexStage) (u : FutexWaitTurn)
     → IsInRound (Unit {0}) m old mid q (turn.Again s) → Leaves futex_table futex_exits mid new q p s u
-    → IsLocking true m old new (waited_to p u)
+    → IsMutexLocking true m old new (waited_to p u)
 round_asked m old mid new q p s u x l = in_round true m old new p u (with_way true m old mid new q p (turn.Again s) u x
     (left_at mid q s new p u tt x.came l))
 
@@ -256,7 +256,7 @@ rounds_as b (suc n) m old new x = (
   x.4,
 )
 
-pub may_be_asked : (b : Bool) (m : ℕ) (old new : Known) (q : Run FutexWait) (u : WaitTurn)
+pub may_be_asked : (b : Bool) (m : ℕ) (old new : Known) (q : Run FutexWait) (u : FutexWaitTurn)
     → IsInRound (AskedIf b) m old new q u → IsInRound (Unit {0}) m old new q u
 may_be_asked b m old new q u x = record {
   mid = x.mid;
@@ -271,12 +271,12 @@ may_be_asked b m old new q u x = record {
 }
 
 -- how the task stands
-pub round_lands : (b : Bool) (m : ℕ) (old k : Known) (q : Run FutexWait) (u : WaitTurn)
+pub round_lands : (b : Bool) (m : ℕ) (old k : Known) (q : Run FutexWait) (u : FutexWaitTurn)
     → IsInRound (AskedIf b) m old k q u → Lands futex_table k q u
 round_lands b m old k q u x = way_lands (AskedIf b) futex_table futex_exits futex_may_leave futex_lawful x.tried x.first
     stage.First k q u x.came
 
-pub outside_by : (k : Known) (q : Run FutexWait) (u : WaitTurn) → Lands futex_table k q u → IsStop futex_table u
+pub outside_by : (k : Known) (q : Run FutexWait) (u : FutexWaitTurn) → Lands futex_table k q u → IsStop futex_table u
     → k.book.head ≡ None
 outside_by k q (turn.Again s) l stop = l.stands.head
     ∙ free_head (ticket_at futex_table s q.ticket) (futex_table.plan_of q.of) (futex_point s) stop
@@ -287,7 +287,7 @@ outside_by k q (turn.Locked s) l stop = l.stands.head
 outside_by k q (turn.Done o) l stop = l.stands.head
 
 -- A lock that nobody asked to leave says at its end what one says that can't be left.
-straight_only : (old : Known) (r : Run FutexWait) (s : FutexStage) (new : Known) (q : Run FutexWait) (u : WaitTurn)
+straight_only : (old : Known) (r : Run FutexWait) (s : FutexStage) (new : Known) (q : Run FutexWait) (u : FutexWaitTurn)
     → OnTheWay ⊥ futex_table futex_exits old r s new q u → Advances futex_table old new r q s u
 straight_only old r s _ _ _ (straight new q u a) = a
 straight_only old r s _ _ _ (left_at mid m n new q u cause w l) = absurd cause

@@ -42,7 +42,7 @@ use Rattle.futex_table.specs.FutexLeaves.{EndsFutexUntil, futex_exits, futex_unt
 use Rattle.futex_table.specs.FutexTables.{IsFreshFutexWait, futex_table}
 use Rattle.futex_table.specs.Holding.{OthersStayHeld, holds_mutex}
 use Rattle.futex_table.specs.LockLeaves.{WaitsForCondUntil, cond_until_answer, is_held_until}
-use Rattle.futex_table.specs.LockStretches.{AskedIf, IsLocking, LockTurn, LockTurned, WaitTurn}
+use Rattle.futex_table.specs.LockStretches.{AskedIf, IsMutexLocking, MutexTurn, LockTurned, FutexWaitTurn}
 use Rattle.futex_table.specs.Mutexes.{HasFreedMutex}
 use Rattle.futex_table.specs.TallyUses.{LeavesTallies}
 
@@ -74,7 +74,7 @@ pub record IsGivingBack (w : CondWait) (old new : Known) (seen : ℕ) (r : WakeR
   pub walks : IsAt stored new r s
 
 -- It loaded the word, gave the mutex back, and came in the wait for another value than it loaded to here.
-pub record IsForCond (A : Type 0) (w : CondWait) (old new : Known) (q : Run FutexWait) (u : WaitTurn) : Type 0 where
+pub record IsForCond (A : Type 0) (w : CondWait) (old new : Known) (q : Run FutexWait) (u : FutexWaitTurn) : Type 0 where
   pub seen : ℕ
   pub loaded : Known
   pub loads : loaded ≡ added old (item.Made (step.Load (watch.Plain w.cond) seen))
@@ -88,7 +88,7 @@ pub record IsForCond (A : Type 0) (w : CondWait) (old new : Known) (q : Run Fute
 
 -- The wait is over, and the lock behind it came to here; that is not left.
 pub record IsRelocking (A : Type 0) (w : CondWait) (old new : Known) (end : Until (Result (Unit {0}) FutexEnd))
-    (u : LockTurn) : Type 0 where
+    (u : MutexTurn) : Type 0 where
   pub seen : ℕ
   pub loaded : Known
   pub loads : loaded ≡ added old (item.Made (step.Load (watch.Plain w.cond) seen))
@@ -97,7 +97,7 @@ pub record IsRelocking (A : Type 0) (w : CondWait) (old new : Known) (end : Unti
   pub waited : Known
   pub waits : EndsFutexUntil A unlocked waited w.cond seen w.state end
   pub left : LeavesCond w.lock old waited false
-  pub locks : IsLocking false w.lock waited new u
+  pub locks : IsMutexLocking false w.lock waited new u
 
 -- It has ended as the whole call does.
 pub record EndsCond (A : Type 0) (w : CondWait) (old new : Known) (result : Until (Result (Unit {0}) CondEnd)) :
@@ -122,15 +122,15 @@ IsCondStopped A w old new (stop.Over result) = EndsCond A w old new result
 IsCondStopped A w old new (stop.Starved failed) = HasStarved (futex_aim w.lock 1) new failed
 
 -- The wait that this task began has come to what a stretch answered; it may have been asked to leave, or was not.
-abbrev pub IsAwaiting : Bool → CondWait → Known → Known → CondTurn → Type 0
-IsAwaiting b w old new (turn.Again s) = IsCondAt (AskedIf b) w old new s
-IsAwaiting b w old new (turn.Locked s) = IsCondAt (AskedIf b) w old new s
-IsAwaiting b w old new (turn.Asleep s) = IsCondAsleep (AskedIf b) w old new s
-IsAwaiting b w old new (turn.Done o) = IsCondStopped (AskedIf b) w old new o
+abbrev pub IsCondWaiting : Bool → CondWait → Known → Known → CondTurn → Type 0
+IsCondWaiting b w old new (turn.Again s) = IsCondAt (AskedIf b) w old new s
+IsCondWaiting b w old new (turn.Locked s) = IsCondAt (AskedIf b) w old new s
+IsCondWaiting b w old new (turn.Asleep s) = IsCondAsleep (AskedIf b) w old new s
+IsCondWaiting b w old new (turn.Done o) = IsCondStopped (AskedIf b) w old new o
 
 -- so is a wait of these numbers, whenever it began
 abbrev pub IsCondUnderWay : CondWait → Known → CondTurn → Type 0
-IsCondUnderWay w k u = (b : Bool) × (start : Known) × IsAwaiting b w start k u
+IsCondUnderWay w k u = (b : Bool) × (start : Known) × IsCondWaiting b w start k u
 
 -- Where it goes on behind a turn of the wake, of the wait, and of the lock. The lock is not left, so it has no such
 -- answer.
@@ -141,13 +141,13 @@ GivesTo w seen r (wake.Done walked) u = (q : Run FutexWait) × IsFreshFutexWait 
     × (u ≡ turn.Again (cond.Wait q stage.First))
 GivesTo w seen r (wake.Starved failed) u = u ≡ turn.Done (stop.Starved failed)
 
-abbrev pub awaited_to : Run FutexWait → WaitTurn → CondTurn
+abbrev pub awaited_to : Run FutexWait → FutexWaitTurn → CondTurn
 awaited_to q (turn.Again s) = turn.Again (cond.Wait q s)
 awaited_to q (turn.Asleep s) = turn.Asleep (cond.Wait q s)
 awaited_to q (turn.Locked s) = turn.Locked (cond.Wait q s)
 awaited_to q (turn.Done o) = turn.Again (cond.Lock (futex_until_in q.of o) lock.Try)
 
-abbrev pub RelocksTo : Until (Result (Unit {0}) FutexEnd) → LockTurn → CondTurn → Type 0
+abbrev pub RelocksTo : Until (Result (Unit {0}) FutexEnd) → MutexTurn → CondTurn → Type 0
 RelocksTo end (turn.Again s) u = u ≡ turn.Again (cond.Lock end s)
 RelocksTo end (turn.Asleep s) u = u ≡ turn.Asleep (cond.Lock end s)
 RelocksTo end (turn.Locked s) u = u ≡ turn.Locked (cond.Lock end s)
@@ -166,7 +166,7 @@ pub record StoresBack (w : CondWait) (old new : Known) (u : CondTurn) : Type 0 w
   pub aim : wake.aim ≡ futex_aim w.lock 1
   pub to : u ≡ turn.Again (cond.Give seen wake wakes.First)
 
-pub record GivesBack (w : CondWait) (old new : Known) (seen : ℕ) (r : WakeRun) (s : WakeStage) (u : CondTurn) : Type 0
+pub record GivesMutexBack (w : CondWait) (old new : Known) (seen : ℕ) (r : WakeRun) (s : WakeStage) (u : CondTurn) : Type 0
   where
     pub wake : WakeRun
     pub did : WakeTurn
@@ -175,14 +175,14 @@ pub record GivesBack (w : CondWait) (old new : Known) (seen : ℕ) (r : WakeRun)
 
 abbrev pub CondTurned : CondWait → Known → Known → CondStage → CondTurn → Type 0
 CondTurned w old new cond.First u = StoresBack w old new u
-CondTurned w old new (cond.Give seen r s) u = GivesBack w old new seen r s u
-CondTurned w old new (cond.Wait q s) u = (p : Run FutexWait) × (v : WaitTurn) × Turned futex_table old new q p s v
+CondTurned w old new (cond.Give seen r s) u = GivesMutexBack w old new seen r s u
+CondTurned w old new (cond.Wait q s) u = (p : Run FutexWait) × (v : FutexWaitTurn) × Turned futex_table old new q p s v
     × (u ≡ awaited_to p v)
-CondTurned w old new (cond.Lock end s) u = (v : LockTurn) × LockTurned w.lock old new s v × RelocksTo end v u
+CondTurned w old new (cond.Lock end s) u = (v : MutexTurn) × LockTurned w.lock old new s v × RelocksTo end v u
 
 -- and one that was asked to leave the wait, in which it does not sleep
 abbrev pub CondTurnedOut : CondWait → Known → Known → CondStage → CondTurn → Type 0
-CondTurnedOut w old new (cond.Wait q s) u = (p : Run FutexWait) × (v : WaitTurn)
+CondTurnedOut w old new (cond.Wait q s) u = (p : Run FutexWait) × (v : FutexWaitTurn)
     × OnTheWay (Unit {0}) futex_table futex_exits old q s new p v × SleepsNot old new × (u ≡ awaited_to p v)
 CondTurnedOut w old new s u = CondTurned w old new s u
 

@@ -35,11 +35,11 @@ AskedIf true = Unit {0}
 AskedIf false = ⊥
 
 -- what a turn of a wait for a futex, and a stretch of a lock, answer
-abbrev pub WaitTurn : Type 0
-WaitTurn = Turn FutexStage FutexOutcome
+abbrev pub FutexWaitTurn : Type 0
+FutexWaitTurn = Turn FutexStage FutexOutcome
 
-abbrev pub LockTurn : Type 0
-LockTurn = Turn LockStage (Until (Result (Unit {0}) Worn))
+abbrev pub MutexTurn : Type 0
+MutexTurn = Turn LockStage (Until (Result (Unit {0}) Worn))
 
 -- What a lock leaves of its task, which has taken the mutex or has not: it is idle with no entry queued as it was, and
 -- owes what it owed; it holds the other mutexes that it held, and has added to no tally.
@@ -53,7 +53,7 @@ pub record LeavesLock (m : ℕ) (old new : Known) (took : Bool) : Type 0 where
   pub tallies : LeavesTallies m old new
 
 -- The lock made rounds, a take that found 0, and went on with a wait for 0 to here.
-pub record IsInRound (A : Type 0) (m : ℕ) (old new : Known) (q : Run FutexWait) (u : WaitTurn) : Type 0 where
+pub record IsInRound (A : Type 0) (m : ℕ) (old new : Known) (q : Run FutexWait) (u : FutexWaitTurn) : Type 0 where
   pub mid : Known
   pub rounds : HasAskedRounds A m old mid
   pub tried : Known
@@ -83,50 +83,50 @@ IsLockAsleep A m old new lock.Try = ⊥
 IsLockAsleep A m old new (lock.Wait q s) = IsInRound A m old new q (turn.Asleep s)
 
 -- The lock that this task began has come to what a stretch answered; it may have been asked to leave, or was not.
-abbrev pub IsLocking : Bool → ℕ → Known → Known → LockTurn → Type 0
-IsLocking b m old new (turn.Again s) = IsLockAt (AskedIf b) m old new s
-IsLocking b m old new (turn.Locked s) = IsLockAt (AskedIf b) m old new s
-IsLocking b m old new (turn.Asleep s) = IsLockAsleep (AskedIf b) m old new s
-IsLocking b m old new (turn.Done result) = EndsLock (AskedIf b) m old new result
+abbrev pub IsMutexLocking : Bool → ℕ → Known → Known → MutexTurn → Type 0
+IsMutexLocking b m old new (turn.Again s) = IsLockAt (AskedIf b) m old new s
+IsMutexLocking b m old new (turn.Locked s) = IsLockAt (AskedIf b) m old new s
+IsMutexLocking b m old new (turn.Asleep s) = IsLockAsleep (AskedIf b) m old new s
+IsMutexLocking b m old new (turn.Done result) = EndsLock (AskedIf b) m old new result
 
 -- so is a lock of this mutex, whenever it began
-abbrev pub IsLockUnderWay : ℕ → Known → LockTurn → Type 0
-IsLockUnderWay m k u = (b : Bool) × (start : Known) × IsLocking b m start k u
+abbrev pub IsLockUnderWay : ℕ → Known → MutexTurn → Type 0
+IsLockUnderWay m k u = (b : Bool) × (start : Known) × IsMutexLocking b m start k u
 
 -- where a lock goes on behind a turn of its wait, and behind a take
-abbrev pub ended_to : Option (Until (Result (Unit {0}) Worn)) → LockTurn
+abbrev pub ended_to : Option (Until (Result (Unit {0}) Worn)) → MutexTurn
 ended_to (Some result) = turn.Done result
 ended_to None = turn.Again lock.Try
 
-abbrev pub waited_to : Run FutexWait → WaitTurn → LockTurn
+abbrev pub waited_to : Run FutexWait → FutexWaitTurn → MutexTurn
 waited_to q (turn.Again s) = turn.Again (lock.Wait q s)
 waited_to q (turn.Asleep s) = turn.Asleep (lock.Wait q s)
 waited_to q (turn.Locked s) = turn.Locked (lock.Wait q s)
 waited_to q (turn.Done o) = ended_to (round_end (futex_until_in q.of o))
 
-abbrev pub TriesTo : ℕ → Bool → LockTurn → Type 0
+abbrev pub TriesTo : ℕ → Bool → MutexTurn → Type 0
 TriesTo m true u = u ≡ turn.Done (until.Over (Ok tt))
 TriesTo m false u = (q : Run FutexWait) × IsFreshFutexWait q.of m 0 states.Uninterruptible
     × (u ≡ turn.Again (lock.Wait q stage.First))
 
 -- What a stretch did: one take, or a stretch of the wait, which has for its answer what that of a `futex_wait` has.
-abbrev pub LockTurned : ℕ → Known → Known → LockStage → LockTurn → Type 0
+abbrev pub LockTurned : ℕ → Known → Known → LockStage → MutexTurn → Type 0
 LockTurned m old new lock.Try u = (hit : Bool) × HasTriedMutex old new m hit × TriesTo m hit u
-LockTurned m old new (lock.Wait q s) u = (p : Run FutexWait) × (w : WaitTurn) × Turned futex_table old new q p s w
+LockTurned m old new (lock.Wait q s) u = (p : Run FutexWait) × (w : FutexWaitTurn) × Turned futex_table old new q p s w
     × (u ≡ waited_to p w)
 
 -- and one that was asked to leave the wait
-abbrev pub LockTurnedOut : ℕ → Known → Known → LockStage → LockTurn → Type 0
+abbrev pub LockTurnedOut : ℕ → Known → Known → LockStage → MutexTurn → Type 0
 LockTurnedOut m old new lock.Try u = (hit : Bool) × HasTriedMutex old new m hit × TriesTo m hit u
-LockTurnedOut m old new (lock.Wait q s) u = (p : Run FutexWait) × (w : WaitTurn)
+LockTurnedOut m old new (lock.Wait q s) u = (p : Run FutexWait) × (w : FutexWaitTurn)
     × OnTheWay (Unit {0}) futex_table futex_exits old q s new p w × (u ≡ waited_to p w)
 
-abbrev pub asked_to : Run FutexWait → Option WaitTurn → Option LockTurn
+abbrev pub asked_to : Run FutexWait → Option FutexWaitTurn → Option MutexTurn
 asked_to q (Some w) = Some (waited_to q w)
 asked_to q None = None
 
 -- What came of asking a lock at a stage to leave: it is not asked before a take.
-abbrev pub LockAsked : Known → Known → LockStage → Option LockTurn → Type 0
+abbrev pub LockAsked : Known → Known → LockStage → Option MutexTurn → Type 0
 LockAsked old new lock.Try u = (u ≡ None) × (new ≡ old)
-LockAsked old new (lock.Wait q s) u = (p : Run FutexWait) × (w : Option WaitTurn)
+LockAsked old new (lock.Wait q s) u = (p : Run FutexWait) × (w : Option FutexWaitTurn)
     × IsAsked futex_table futex_exits old new q p s w × (u ≡ asked_to p w)

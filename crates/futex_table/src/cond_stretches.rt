@@ -17,7 +17,7 @@ ghost use Rattle.futex_table.specs.CondStretches.{
   CondRouses,
   CondTurned,
   CondTurnedOut,
-  IsAwaiting,
+  IsCondWaiting,
   IsCondUnderWay,
   LeavesCond,
   awaited_to,
@@ -84,7 +84,7 @@ pub fn begin_cond_wait(task: &Task, wait: CondWait) -> CondStage
     requires apart { wait.cond ≢ wait.lock }
     requires held { HoldsMutex task.now wait.lock }
     ensures stands { IsCondUnderWay wait task.now (turn.Again result) }
-    ensures came { (b : _) → IsAwaiting b wait task.now task.now (turn.Again result) }
+    ensures came { (b : _) → IsCondWaiting b wait task.now task.now (turn.Again result) }
 {
     let _ = *task;
     let _ = wait;
@@ -116,8 +116,8 @@ pub fn stretch_cond_wait(
     ensures turned { CondTurned wait task.old task.new stage result }
     ensures rouses { CondRouses task.old task.new stage rousing.new }
     ensures stands { IsCondUnderWay wait task.new result }
-    ensures came { (b : _) → (start : _) → IsAwaiting b wait start task.old (turn.Again stage)
-        → IsAwaiting b wait start task.new result }
+    ensures came { (b : _) → (start : _) → IsCondWaiting b wait start task.old (turn.Again stage)
+        → IsCondWaiting b wait start task.new result }
 {
     match stage {
         CondStage::First => store_back(domain, task, wait),
@@ -154,8 +154,8 @@ pub fn stretch_cond_wait_out(
     ensures turned { CondTurnedOut wait task.old task.new stage result }
     ensures rouses { CondRouses task.old task.new stage rousing.new }
     ensures stands { IsCondUnderWay wait task.new result }
-    ensures came { (start : _) → IsAwaiting true wait start task.old (turn.Again stage)
-        → IsAwaiting true wait start task.new result }
+    ensures came { (start : _) → IsCondWaiting true wait start task.old (turn.Again stage)
+        → IsCondWaiting true wait start task.new result }
 {
     match stage {
         CondStage::Wait(run, at) => {
@@ -179,8 +179,8 @@ fn store_back(domain: &Domain, task: &mut Task, wait: CondWait) -> CondTurn
     requires at { IsCondUnderWay wait task.old (turn.Again stages.First) }
     ensures of { task.new.domain ≡ domain.now }
     ensures turned { CondTurned wait task.old task.new stages.First result }
-    ensures came { (b : _) → (start : _) → IsAwaiting b wait start task.old (turn.Again stages.First)
-        → IsAwaiting b wait start task.new result }
+    ensures came { (b : _) → (start : _) → IsCondWaiting b wait start task.old (turn.Again stages.First)
+        → IsCondWaiting b wait start task.new result }
 {
     let seen = cond_load(domain, task, Watch::Plain { cond: wait.cond });
     task.told();
@@ -209,8 +209,8 @@ fn give_back(
     ensures of { task.new.domain ≡ domain.now }
     ensures turned { CondTurned wait task.old task.new (stages.Give seen wake stage) result }
     ensures rouses { IsRousing task.old task.new rousing.new }
-    ensures came { (b : _) → (start : _) → IsAwaiting b wait start task.old (turn.Again (stages.Give seen wake stage))
-        → IsAwaiting b wait start task.new result }
+    ensures came { (b : _) → (start : _) → IsCondWaiting b wait start task.old (turn.Again (stages.Give seen wake stage))
+        → IsCondWaiting b wait start task.new result }
 {
     let mut run = wake;
     match wake_stretch(domain, task, &mut run, stage, rousing, passing) {
@@ -254,8 +254,8 @@ fn relock(
     requires at { IsCondUnderWay wait task.old (turn.Again (stages.Lock end stage)) }
     ensures of { task.new.domain ≡ domain.now }
     ensures turned { CondTurned wait task.old task.new (stages.Lock end stage) result }
-    ensures came { (b : _) → (start : _) → IsAwaiting b wait start task.old (turn.Again (stages.Lock end stage))
-        → IsAwaiting b wait start task.new result }
+    ensures came { (b : _) → (start : _) → IsCondWaiting b wait start task.old (turn.Again (stages.Lock end stage))
+        → IsCondWaiting b wait start task.new result }
 {
     match stretch_mutex_lock(domain, task, wait.lock, stage, passing) {
         Turn::Again(next) => Turn::Again(CondStage::Lock(end, next)),
@@ -276,9 +276,9 @@ pub fn woke_cond_wait(domain: &Domain, task: &mut Task, wait: CondWait, stage: C
     ensures looked { LooksAwake task.old task.new result }
     ensures stands { MatchBool result (IsCondUnderWay wait task.new (turn.Again stage))
         (IsCondUnderWay wait task.new (turn.Asleep stage)) }
-    ensures came { (b : _) → (start : _) → IsAwaiting b wait start task.old (turn.Asleep stage)
-        → MatchBool result (IsAwaiting b wait start task.new (turn.Again stage))
-        (IsAwaiting b wait start task.new (turn.Asleep stage)) }
+    ensures came { (b : _) → (start : _) → IsCondWaiting b wait start task.old (turn.Asleep stage)
+        → MatchBool result (IsCondWaiting b wait start task.new (turn.Again stage))
+        (IsCondWaiting b wait start task.new (turn.Asleep stage)) }
 {
     match stage {
         CondStage::Wait(run, at) => woke(domain, task, &run, at),
@@ -295,20 +295,20 @@ pub fn end_cond_wait(
     wait: CondWait,
     answer: Until<Result<(), CondEnd>>,
 ) -> Result<(), CondEnd>
-    requires over { (start : Known) × IsAwaiting false wait start task.now (turn.Done (stop.Over answer)) }
+    requires over { (start : Known) × IsCondWaiting false wait start task.now (turn.Done (stop.Over answer)) }
     ensures is { answer ≡ until.Over result }
     ensures up { IsUp task.now }
     ensures idle { IsIdle task.now }
     ensures out { IsOut task.now }
     ensures held { holds_mutex task.now wait.lock ≡ is_mutex_held result }
     ensures holds { IfOk result (λ _. HoldsMutex task.now wait.lock) }
-    ensures waited { (start : _) → IsAwaiting false wait start task.now (turn.Done (stop.Over answer))
+    ensures waited { (start : _) → IsCondWaiting false wait start task.now (turn.Done (stop.Over answer))
         → WaitsForCond start task.now wait.cond wait.lock wait.state result }
-    ensures leaves { (start : _) → IsAwaiting false wait start task.now (turn.Done (stop.Over answer))
+    ensures leaves { (start : _) → IsCondWaiting false wait start task.now (turn.Done (stop.Over answer))
         → LeavesCond wait.lock start task.now (is_mutex_held result) }
-    ensures tallied { (start : _) → IsAwaiting false wait start task.now (turn.Done (stop.Over answer))
+    ensures tallied { (start : _) → IsCondWaiting false wait start task.now (turn.Done (stop.Over answer))
         → StayTallied wait.lock start task.now }
-    ensures clean { (start : _) → IsAwaiting false wait start task.now (turn.Done (stop.Over answer)) → IsClean start
+    ensures clean { (start : _) → IsCondWaiting false wait start task.now (turn.Done (stop.Over answer)) → IsClean start
         → IsClean task.now }
 {
     let _ = *task;
@@ -333,13 +333,13 @@ pub fn end_cond_wait_until(
     ensures out { IsOut task.now }
     ensures held { holds_mutex task.now wait.lock ≡ is_held_until result }
     ensures holds { is_held_until result ≡ true → HoldsMutex task.now wait.lock }
-    ensures waited { (start : _) → IsAwaiting true wait start task.now (turn.Done (stop.Over answer))
+    ensures waited { (start : _) → IsCondWaiting true wait start task.now (turn.Done (stop.Over answer))
         → WaitsForCondUntil (Unit {0}) start task.now wait.cond wait.lock wait.state result }
-    ensures leaves { (start : _) → IsAwaiting true wait start task.now (turn.Done (stop.Over answer))
+    ensures leaves { (start : _) → IsCondWaiting true wait start task.now (turn.Done (stop.Over answer))
         → LeavesCond wait.lock start task.now (is_held_until result) }
-    ensures tallied { (start : _) → IsAwaiting true wait start task.now (turn.Done (stop.Over answer))
+    ensures tallied { (start : _) → IsCondWaiting true wait start task.now (turn.Done (stop.Over answer))
         → StayTallied wait.lock start task.now }
-    ensures clean { (start : _) → IsAwaiting true wait start task.now (turn.Done (stop.Over answer)) → IsClean start
+    ensures clean { (start : _) → IsCondWaiting true wait start task.now (turn.Done (stop.Over answer)) → IsClean start
         → IsClean task.now }
 {
     let _ = *task;

@@ -16,7 +16,7 @@ ghost use Rattle.futex_table.specs.Holding.{HoldsMutex};
 ghost use Rattle.futex_table.specs.LockLeaves.{LocksMutexUntil, is_locked_until};
 ghost use Rattle.futex_table.specs.LockStretches.{
   IsLockUnderWay,
-  IsLocking,
+  IsMutexLocking,
   LeavesLock,
   LockAsked,
   LockTurned,
@@ -47,7 +47,7 @@ pub enum LockStage {
 }
 
 /// What a stretch of a lock did. Done has its answer.
-pub type LockTurn = Turn<LockStage, Until<Result<(), Worn>>>;
+pub type MutexTurn = Turn<LockStage, Until<Result<(), Worn>>>;
 
 /// A lock of mutex `lock`, below `FIRST_SIMPLE`, that is about to begin, as `mutex_lock` does: `stretch_mutex_lock` goes
 /// on with it there, or `stretch_mutex_lock_out`, and `end_mutex_lock` or `end_mutex_lock_until` has what holds at its
@@ -57,7 +57,7 @@ pub fn begin_mutex_lock(task: &Task, lock: u8) -> LockStage
     requires idle { IsIdle task.now }
     requires out { IsOut task.now }
     ensures stands { IsLockUnderWay lock task.now (turn.Again result) }
-    ensures came { (b : _) → IsLocking b lock task.now task.now (turn.Again result) }
+    ensures came { (b : _) → IsMutexLocking b lock task.now task.now (turn.Again result) }
 {
     let _ = *task;
     let _ = lock;
@@ -76,7 +76,7 @@ pub fn stretch_mutex_lock(
     lock: u8,
     stage: LockStage,
     passing: &mut Passing,
-) -> LockTurn
+) -> MutexTurn
     requires of { task.old.domain ≡ domain.now }
     requires lock { lock < FIRST_SIMPLE }
     requires passes { PassesNone passing.old }
@@ -86,8 +86,8 @@ pub fn stretch_mutex_lock(
     ensures outside { task.new.book.head ≡ None }
     ensures given { LastGiven task.old task.new passing.new.head }
     ensures stands { IsLockUnderWay lock task.new result }
-    ensures came { (b : _) → (start : _) → IsLocking b lock start task.old (turn.Again stage)
-        → IsLocking b lock start task.new result }
+    ensures came { (b : _) → (start : _) → IsMutexLocking b lock start task.old (turn.Again stage)
+        → IsMutexLocking b lock start task.new result }
 {
     match stage {
         LockStage::Try => try_stretch(domain, task, lock),
@@ -109,7 +109,7 @@ pub fn stretch_mutex_lock_out(
     lock: u8,
     stage: LockStage,
     passing: &mut Passing,
-) -> LockTurn
+) -> MutexTurn
     requires of { task.old.domain ≡ domain.now }
     requires lock { lock < FIRST_SIMPLE }
     requires passes { PassesNone passing.old }
@@ -120,8 +120,8 @@ pub fn stretch_mutex_lock_out(
     ensures given { LastGiven task.old task.new passing.new.head }
     ensures awake { SleepsNot task.old task.new }
     ensures stands { IsLockUnderWay lock task.new result }
-    ensures came { (start : _) → IsLocking true lock start task.old (turn.Again stage)
-        → IsLocking true lock start task.new result }
+    ensures came { (start : _) → IsMutexLocking true lock start task.old (turn.Again stage)
+        → IsMutexLocking true lock start task.new result }
 {
     match stage {
         LockStage::Try => try_stretch(domain, task, lock),
@@ -134,7 +134,7 @@ pub fn stretch_mutex_lock_out(
 }
 
 /// One try, and a wait that is about to begin where it found the mutex taken.
-fn try_stretch(domain: &Domain, task: &mut Task, lock: u8) -> LockTurn
+fn try_stretch(domain: &Domain, task: &mut Task, lock: u8) -> MutexTurn
     requires of { task.old.domain ≡ domain.now }
     requires lock { lock < FIRST_SIMPLE }
     requires at { IsLockUnderWay lock task.old (turn.Again stages.Try) }
@@ -143,8 +143,8 @@ fn try_stretch(domain: &Domain, task: &mut Task, lock: u8) -> LockTurn
     ensures outside { task.new.book.head ≡ None }
     ensures given { LastGiven task.old task.new HEADS }
     ensures awake { SleepsNot task.old task.new }
-    ensures came { (b : _) → (start : _) → IsLocking b lock start task.old (turn.Again stages.Try)
-        → IsLocking b lock start task.new result }
+    ensures came { (b : _) → (start : _) → IsMutexLocking b lock start task.old (turn.Again stages.Try)
+        → IsMutexLocking b lock start task.new result }
 {
     if mutex_try(domain, task, lock) {
         return Turn::Done(Until::Over(Ok(())));
@@ -154,7 +154,7 @@ fn try_stretch(domain: &Domain, task: &mut Task, lock: u8) -> LockTurn
 }
 
 /// Where a lock goes on behind a turn of its wait.
-fn waited_to(wait: FutexRun, turn: FutexTurn) -> LockTurn
+fn waited_to(wait: FutexRun, turn: FutexTurn) -> MutexTurn
     ensures { result ≡ waited_to wait turn }
 {
     match turn {
@@ -176,9 +176,9 @@ pub fn woke_mutex_lock(domain: &Domain, task: &mut Task, lock: u8, stage: LockSt
     ensures looked { LooksAwake task.old task.new result }
     ensures stands { MatchBool result (IsLockUnderWay lock task.new (turn.Again stage))
         (IsLockUnderWay lock task.new (turn.Asleep stage)) }
-    ensures came { (b : _) → (start : _) → IsLocking b lock start task.old (turn.Asleep stage)
-        → MatchBool result (IsLocking b lock start task.new (turn.Again stage))
-        (IsLocking b lock start task.new (turn.Asleep stage)) }
+    ensures came { (b : _) → (start : _) → IsMutexLocking b lock start task.old (turn.Asleep stage)
+        → MatchBool result (IsMutexLocking b lock start task.new (turn.Again stage))
+        (IsMutexLocking b lock start task.new (turn.Asleep stage)) }
 {
     let _ = lock;
     match stage {
@@ -195,15 +195,15 @@ pub fn ask_mutex_lock(
     task: &mut Task,
     lock: u8,
     stage: LockStage,
-) -> Option<LockTurn>
+) -> Option<MutexTurn>
     requires of { task.old.domain ≡ domain.now }
     requires at { IsLockUnderWay lock task.old (turn.Again stage) }
     ensures of { task.new.domain ≡ domain.now }
     ensures asked { LockAsked task.old task.new stage result }
     ensures awake { SleepsNot task.old task.new }
     ensures stands { IfSome result (λ u. IsLockUnderWay lock task.new u) }
-    ensures came { (start : _) → IsLocking true lock start task.old (turn.Again stage)
-        → IfSome result (λ u. IsLocking true lock start task.new u) }
+    ensures came { (start : _) → IsMutexLocking true lock start task.old (turn.Again stage)
+        → IfSome result (λ u. IsMutexLocking true lock start task.new u) }
 {
     let _ = lock;
     match stage {
@@ -221,19 +221,19 @@ pub fn ask_mutex_lock(
 /// The answer of a lock of mutex `lock` that went on by stretches, was never asked to leave, and has ended. Of one that
 /// began at `start` holds what `mutex_lock` says.
 pub fn end_mutex_lock(task: &Task, lock: u8, answer: Until<Result<(), Worn>>) -> Result<(), Worn>
-    requires over { (start : Known) × IsLocking false lock start task.now (turn.Done answer) }
+    requires over { (start : Known) × IsMutexLocking false lock start task.now (turn.Done answer) }
     ensures is { answer ≡ until.Over result }
     ensures up { IsUp task.now }
     ensures idle { IsIdle task.now }
     ensures out { IsOut task.now }
     ensures holds { IfOk result (λ _. HoldsMutex task.now lock) }
-    ensures locked { (start : _) → IsLocking false lock start task.now (turn.Done answer)
+    ensures locked { (start : _) → IsMutexLocking false lock start task.now (turn.Done answer)
         → LocksMutex start task.now lock result }
-    ensures leaves { (start : _) → IsLocking false lock start task.now (turn.Done answer)
+    ensures leaves { (start : _) → IsMutexLocking false lock start task.now (turn.Done answer)
         → LeavesLock lock start task.now (is_locked result) }
-    ensures tallied { (start : _) → IsLocking false lock start task.now (turn.Done answer)
+    ensures tallied { (start : _) → IsMutexLocking false lock start task.now (turn.Done answer)
         → StayTallied lock start task.now }
-    ensures clean { (start : _) → IsLocking false lock start task.now (turn.Done answer) → IsClean start
+    ensures clean { (start : _) → IsMutexLocking false lock start task.now (turn.Done answer) → IsClean start
         → IsClean task.now }
 {
     let _ = *task;
@@ -257,13 +257,13 @@ pub fn end_mutex_lock_until(
     ensures idle { IsIdle task.now }
     ensures out { IsOut task.now }
     ensures holds { is_locked_until result ≡ true → HoldsMutex task.now lock }
-    ensures locked { (start : _) → IsLocking true lock start task.now (turn.Done answer)
+    ensures locked { (start : _) → IsMutexLocking true lock start task.now (turn.Done answer)
         → LocksMutexUntil (Unit {0}) start task.now lock result }
-    ensures leaves { (start : _) → IsLocking true lock start task.now (turn.Done answer)
+    ensures leaves { (start : _) → IsMutexLocking true lock start task.now (turn.Done answer)
         → LeavesLock lock start task.now (is_locked_until result) }
-    ensures tallied { (start : _) → IsLocking true lock start task.now (turn.Done answer)
+    ensures tallied { (start : _) → IsMutexLocking true lock start task.now (turn.Done answer)
         → StayTallied lock start task.now }
-    ensures clean { (start : _) → IsLocking true lock start task.now (turn.Done answer) → IsClean start
+    ensures clean { (start : _) → IsMutexLocking true lock start task.now (turn.Done answer) → IsClean start
         → IsClean task.now }
 {
     let _ = *task;

@@ -14,7 +14,7 @@ use crate::calls::open;
 use crate::wants::{all_so, another};
 use futex_table::futexes::futex_wake;
 use futex_table::lock_stretches::{
-    LockStage, LockTurn, begin_mutex_lock, end_mutex_lock_until, stretch_mutex_lock,
+    LockStage, MutexTurn, begin_mutex_lock, end_mutex_lock_until, stretch_mutex_lock,
     stretch_mutex_lock_out, woke_mutex_lock,
 };
 use futex_table::mutexes::{mutex_try, mutex_unlock};
@@ -53,12 +53,12 @@ fn has_locked(end: Until<Result<(), Worn>>) -> bool
 }
 
 /// Whether a lock has taken the mutex there.
-fn is_inside(at: LockTurn) -> bool {
+fn is_inside(at: MutexTurn) -> bool {
     matches!(at, Turn::Done(Until::Over(Ok(()))))
 }
 
 /// Whether a lock has drawn no ticket there, so that another task of the thread can wait for the lock of the head.
-fn is_free(at: LockTurn) -> bool {
+fn is_free(at: MutexTurn) -> bool {
     match at {
         Turn::Again(LockStage::Wait(_, stage)) => is_free_at(stage),
         Turn::Locked(LockStage::Wait(_, stage)) => is_free_at(stage),
@@ -71,7 +71,7 @@ fn is_free_at(stage: FutexStage) -> bool {
 }
 
 /// Goes on with a lock by one stretch, or looks whether it was woken. Who parks for a lock that it passed on is woken.
-fn go_on(domain: &Domain, task: &mut Task, last: LockTurn) -> LockTurn
+fn go_on(domain: &Domain, task: &mut Task, last: MutexTurn) -> MutexTurn
     requires of { task.old.domain ≡ domain.now }
     requires waiting { IsLockUnderWay 6 task.old last }
     ensures of { task.new.domain ≡ domain.now }
@@ -101,7 +101,7 @@ fn come_out<R: Wait>(
     domain: &Domain,
     task: &mut Task,
     answer: Until<Result<(), Worn>>,
-) -> LockTurn
+) -> MutexTurn
     requires of { task.old.domain ≡ domain.now }
     requires over { IsLockUnderWay 6 task.old (turn.Done answer) }
     ensures of { task.new.domain ≡ domain.now }
@@ -114,7 +114,13 @@ fn come_out<R: Wait>(
 }
 
 /// One turn of a task: it goes on with its lock, or comes out of its critical section where it `may`.
-fn take_turn<R: Wait>(rt: &R, domain: &Domain, task: &mut Task, at: LockTurn, may: bool) -> LockTurn
+fn take_turn<R: Wait>(
+    rt: &R,
+    domain: &Domain,
+    task: &mut Task,
+    at: MutexTurn,
+    may: bool,
+) -> MutexTurn
     requires of { task.old.domain ≡ domain.now }
     requires waiting { IsLockUnderWay 6 task.old at }
     ensures of { task.new.domain ≡ domain.now }
@@ -140,7 +146,7 @@ fn next_number(seed: u32) -> u32 {
 }
 
 /// What a turn from here to there does to the sections: one more is in its own, or one came out.
-fn count_turn(sections: Sections, from: LockTurn, to: LockTurn) -> Sections {
+fn count_turn(sections: Sections, from: MutexTurn, to: MutexTurn) -> Sections {
     let (was, is) = (is_inside(from), is_inside(to));
     Sections {
         inside: if was == is { sections.inside } else { is },
@@ -150,7 +156,7 @@ fn count_turn(sections: Sections, from: LockTurn, to: LockTurn) -> Sections {
 }
 
 /// One more for a task that came out.
-fn came_out(adds: u32, from: LockTurn, to: LockTurn) -> u32 {
+fn came_out(adds: u32, from: MutexTurn, to: MutexTurn) -> u32 {
     if is_inside(from) && !is_inside(to) {
         adds.wrapping_add(1)
     } else {
@@ -211,7 +217,7 @@ fn two_locks_take_turns(rt: HostRuntime) -> Result<(), Fail> {
 }
 
 /// Goes on with a lock by one stretch that is asked to leave, or looks whether it was woken.
-fn go_out(domain: &Domain, task: &mut Task, last: LockTurn) -> LockTurn
+fn go_out(domain: &Domain, task: &mut Task, last: MutexTurn) -> MutexTurn
     requires of { task.old.domain ≡ domain.now }
     requires waiting { IsLockUnderWay 6 task.old last }
     ensures of { task.new.domain ≡ domain.now }
@@ -240,7 +246,7 @@ fn leave_at<R: Wait>(
     rt: &R,
     domain: &Domain,
     task: &mut Task,
-    last: LockTurn,
+    last: MutexTurn,
 ) -> Until<Result<(), Worn>>
     requires of { task.old.domain ≡ domain.now }
     requires waiting { IsLockUnderWay 6 task.old last }

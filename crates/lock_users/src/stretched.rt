@@ -5,12 +5,12 @@ ghost use Rattle.std.specs.Prelude.{◌≡◌, true, false};
 ghost use Rattle.wait_rule.specs.Says.{IsClean};
 ghost use Rattle.wait_class.specs.declared.stages.Turn.TheVariants as turn;
 ghost use Rattle.futex_table.specs.Holding.{HoldsMutex};
-ghost use Rattle.futex_table.specs.LockStretches.{IsLockUnderWay, IsLocking};
+ghost use Rattle.futex_table.specs.LockStretches.{IsLockUnderWay, IsMutexLocking};
 ghost use Rattle.futex_table.specs.TalliedTasks.{CountsAdd, StayTallied};
 
 use crate::mutexes::{LOCK, add_one, give_mutex};
 use futex_table::lock_stretches::{
-    LockStage, LockTurn, begin_mutex_lock, end_mutex_lock, stretch_mutex_lock, woke_mutex_lock,
+    LockStage, MutexTurn, begin_mutex_lock, end_mutex_lock, stretch_mutex_lock, woke_mutex_lock,
 };
 use std::sync::Wait;
 use wait_class::stages::Turn;
@@ -20,13 +20,13 @@ use wait_rule::{Domain, Task};
 use wq_head::Worn;
 
 /// Makes one stretch of a lock, and wakes who parks for the lock of the head that it gave back.
-fn one_stretch(domain: &Domain, task: &mut Task, stage: LockStage) -> LockTurn
+fn one_stretch(domain: &Domain, task: &mut Task, stage: LockStage) -> MutexTurn
     requires of { task.old.domain ≡ domain.now }
     requires at { IsLockUnderWay 6 task.old (turn.Again stage) }
     ensures of { task.new.domain ≡ domain.now }
     ensures stands { IsLockUnderWay 6 task.new result }
-    ensures came { (start : _) → IsLocking false 6 start task.old (turn.Again stage)
-        → IsLocking false 6 start task.new result }
+    ensures came { (start : _) → IsMutexLocking false 6 start task.old (turn.Again stage)
+        → IsMutexLocking false 6 start task.new result }
 {
     let mut passing = Passing::none();
     let turn = stretch_mutex_lock(domain, task, LOCK, stage, &mut passing);
@@ -41,8 +41,8 @@ fn doze<R: Wait>(rt: &R, domain: &Domain, task: &mut Task, stage: LockStage)
     requires asleep { IsLockUnderWay 6 task.old (turn.Asleep stage) }
     ensures of { task.new.domain ≡ domain.now }
     ensures stands { IsLockUnderWay 6 task.new (turn.Again stage) }
-    ensures came { (start : _) → IsLocking false 6 start task.old (turn.Asleep stage)
-        → IsLocking false 6 start task.new (turn.Again stage) }
+    ensures came { (start : _) → IsMutexLocking false 6 start task.old (turn.Asleep stage)
+        → IsMutexLocking false 6 start task.new (turn.Again stage) }
 {
     for _ in rt.forever() {
         if woke_mutex_lock(domain, task, LOCK, stage) {
@@ -61,8 +61,8 @@ fn lock_on<R: Wait>(
     requires of { task.old.domain ≡ domain.now }
     requires at { IsLockUnderWay 6 task.old (turn.Again stage) }
     ensures of { task.new.domain ≡ domain.now }
-    ensures came { (start : _) → IsLocking false 6 start task.old (turn.Again stage)
-        → IsLocking false 6 start task.new (turn.Done result) }
+    ensures came { (start : _) → IsMutexLocking false 6 start task.old (turn.Again stage)
+        → IsMutexLocking false 6 start task.new (turn.Done result) }
 {
     let mut at = stage;
     for _ in rt.forever() {

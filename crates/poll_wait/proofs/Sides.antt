@@ -34,7 +34,7 @@ use Rattle.poll_wait.specs.declared.turns.Poll.{Poll}
 use Rattle.poll_wait.specs.declared.turns.PollEnd.{PollEnd}
 use Rattle.poll_wait.specs.declared.turns.PollEnd.TheVariants as poll_end
 use Rattle.poll_wait.specs.declared.turns.Ready.{Ready}
-use Rattle.poll_wait.specs.Polls.{AsksIf, AsksSignal, EndsLast, EndsPoll, EndsQueueing, FindsNoPlace, GoesOn, IsPoll, LeavesBoth, QueuesBoth, SleepsTurn, SleepsTurns, StaysBeside, front_in, loaded, ready_of}
+use Rattle.poll_wait.specs.Polls.{AsksIf, AsksSignal, EndsLast, EndsPoll, EndsQueueing, FindsNoPlace, PollGoesOn, IsPoll, LeavesBoth, QueuesBoth, SleepsTurn, SleepsTurns, StaysBesidePoll, front_in, loaded, ready_of}
 use Rattle.poll_wait.specs.Seconds.{HasLeftSecond, JoinsSecond}
 use Rattle.poll_wait.proofs.Beside.{Beside, beside_join, looks_beside, near_steps, step_beside}
 use Rattle.poll_wait.proofs.Near.{goes_near}
@@ -166,13 +166,13 @@ module _ (p : Poll) (is : IsPoll p) where
       (none_found old x.queued (record { head = head; place = place }) x.queues)
       (rest_beside x.queued new x.loads x.leaves)
 
-  goes_beside : (o : Option Ready) (old new : Known) (r : Result Ready PollEnd) → GoesOn p o old new r → Beside old new
+  goes_beside : (o : Option Ready) (old new : Known) (r : Result Ready PollEnd) → PollGoesOn p o old new r → Beside old new
   goes_beside (Some q) old new r x = subst (Beside old) (sym x.0) (none_beside old)
   goes_beside None old new r x = beside_join old x.last new (turns_beside x.turns old x.last x.sleeps)
       (last_beside x.last new r x.ends)
 
   pub stays_beside : (old new : Known) (r : Result Ready PollEnd) → (told_of old).hold.head ≡ None
-      → new.view.number ≡ old.view.number → EndsPoll p old new r → StaysBeside old new
+      → new.view.number ≡ old.view.number → EndsPoll p old new r → StaysBesidePoll old new
   stays_beside old new r none number x =
       let seen = loaded p x.loads old in
       let b = beside_join old seen new (loads_beside p x.loads old) (goes_beside (ready_of p x.loads) seen new r x.goes) in

@@ -13,7 +13,7 @@ use Rattle.poll_wait.specs.declared.turns.Loads.{Loads}
 use Rattle.poll_wait.specs.declared.turns.Poll.{Poll}
 use Rattle.poll_wait.specs.declared.turns.PollEnd.{PollEnd}
 use Rattle.poll_wait.specs.declared.turns.Ready.{Ready}
-use Rattle.poll_wait.specs.Polls.{EndsLast, EndsPoll, EndsTurns, GoesOn, IsPoll, MayTurn, SleepsTurn, SleepsTurns, is_either, loaded, poll_change, ready_of, with_both}
+use Rattle.poll_wait.specs.Polls.{EndsLast, EndsPoll, EndsTurns, PollGoesOn, IsPoll, MayTurn, SleepsTurn, SleepsTurns, is_either, loaded, poll_change, ready_of, with_both}
 use Rattle.poll_wait.specs.Seconds.{IsSecondOut, second_of}
 use Rattle.poll_wait.specs.TurnSteps.{GoesAgain, HasDone, PairCarries}
 use Rattle.poll_wait.proofs.Carrying.{carries_more}
@@ -83,11 +83,11 @@ polling_done p start now new was done = done_then (λ _. 0) start now new was.ca
 
 -- the whole call
 pub ends_poll : (p : Poll) (l : Loads) (old mid new : Known) (r : Result Ready PollEnd) (o : Option Ready)
-    → mid ≡ loaded p l old → ready_of p l ≡ o → GoesOn p o mid new r → EndsPoll p old new r
+    → mid ≡ loaded p l old → ready_of p l ≡ o → PollGoesOn p o mid new r → EndsPoll p old new r
 ends_poll p l old mid new r o is set goes = record {
   loads = l;
-  goes = subst (λ (k : Known). GoesOn p (ready_of p l) k new r) is
-      (subst (λ (q : Option Ready). GoesOn p q mid new r) (sym set) goes);
+  goes = subst (λ (k : Known). PollGoesOn p (ready_of p l) k new r) is
+      (subst (λ (q : Option Ready). PollGoesOn p q mid new r) (sym set) goes);
 }
 
 module _ (p : Poll) (is : IsPoll p) (old mid : Known) (c : Carries unchanged old mid) (up : IsUp old) (idle : IsIdle old)

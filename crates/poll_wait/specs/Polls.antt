@@ -143,13 +143,13 @@ pub record EndsTurns (p : Poll) (old new : Known) (result : Result Ready PollEnd
   pub ends : EndsLast p last new result
 
 -- The whole call: it loads both conditions, and is over where one of them is set; else it goes on in turns.
-abbrev pub GoesOn : Poll → Option Ready → Known → Known → Result Ready PollEnd → Type 0
-GoesOn p (Some r) old new result = (new ≡ old) × (result ≡ Ok r)
-GoesOn p None old new result = EndsTurns p old new result
+abbrev pub PollGoesOn : Poll → Option Ready → Known → Known → Result Ready PollEnd → Type 0
+PollGoesOn p (Some r) old new result = (new ≡ old) × (result ≡ Ok r)
+PollGoesOn p None old new result = EndsTurns p old new result
 
 pub record EndsPoll (p : Poll) (old new : Known) (result : Result Ready PollEnd) : Type 0 where
   pub loads : Loads
-  pub goes : GoesOn p (ready_of p loads) (loaded p loads old) new result
+  pub goes : PollGoesOn p (ready_of p loads) (loaded p loads old) new result
 
 -- Between its parts the task is awake and holds no lock, and its two entries are off, or for these watches. It is RUNNING
 -- where a turn begins.
@@ -187,7 +187,7 @@ poll_change me h = pair_change me (λ x. x) (λ x. x) (λ σ. σ) h
 
 -- The journal has more items of its task, which add to no tally, raise no signal and claim no end of a pipe. Of each end
 -- the task may have seen more of the other one, and nothing else of it changes; and it leaves no entry at a completion.
-pub record StaysBeside (old new : Known) : Type 0 where
+pub record StaysBesidePoll (old new : Known) : Type 0 where
   pub grows : GrowsAside old new
   pub ends : (k : ℕ) → KeepsEnd (end_at k old) (end_at k new)
   pub off : StaysOff old new

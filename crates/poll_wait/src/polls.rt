@@ -5,7 +5,7 @@ ghost use Rattle.wait_rule.specs.Queues.{IsIdle};
 ghost use Rattle.wait_rule.specs.Says.{IsUp};
 ghost use Rattle.wait_rule.specs.Stays.{Carries};
 ghost use Rattle.wait_class.specs.Posts.{IsOut};
-ghost use Rattle.poll_wait.specs.Polls.{EndsPoll, EndsTurns, IsPoll, MayTurn, StaysBeside, poll_change};
+ghost use Rattle.poll_wait.specs.Polls.{EndsPoll, EndsTurns, IsPoll, MayTurn, StaysBesidePoll, poll_change};
 ghost use Rattle.poll_wait.specs.Seconds.{IsPolled, IsSecondOut};
 ghost use Rattle.poll_wait.specs.TurnSteps.{EndsSo};
 
@@ -66,7 +66,7 @@ pub fn poll_two<R: Wait>(
     ensures out { IsOut task.new }
     ensures out_second { IsSecondOut task.new }
     ensures carries { Carries (poll_change task.old.view.number task.new.at) task.old task.new }
-    ensures beside { StaysBeside task.old task.new }
+    ensures beside { StaysBesidePoll task.old task.new }
 {
     task.told();
     let poll = Poll {

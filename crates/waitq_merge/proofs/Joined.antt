@@ -7,7 +7,7 @@ use Rattle.atomic_table.specs.Seated.{TableId}
 use Rattle.edge_io.specs.declared.sink.SinkFault.{SinkFault}
 use Rattle.edge_io.specs.Folders.{Files, HasBytes, HoldsNothing, Stores}
 use Rattle.wait_rule.specs.Known.{Known}
-use Rattle.flow_merge.specs.Passed.{Piece, bytes_in, bytes_of}
+use Rattle.flow_merge.specs.Passed.{Piece, merged_bytes, bytes_of}
 use Rattle.flow_merge.specs.declared.sides.Side.TheVariants as sides
 use Rattle.waitq_alone.specs.declared.fault.Fault.{Fault}
 use Rattle.waitq_copy.specs.Copying.{IsStored, Outside}
@@ -29,7 +29,7 @@ join : (files_old files_new : Option Files) (first second dst : List ℕ)
     → HasBytes files_old second right → HoldsNothing files_old held_old → Stores files_old files_new dst held_new
     → IfSome left (λ bytes. bytes ≡ bytes_of sides.Left pieces)
     → IfSome right (λ bytes. bytes ≡ bytes_of sides.Right pieces)
-    → held_new ≡ append_known held_old (bytes_in pieces) → DeliversBoth first second dst files_old files_new
+    → held_new ≡ append_known held_old (merged_bytes pieces) → DeliversBoth first second dst files_old files_new
 join None files_new first second dst left right held_old held_new pieces fl fr empty stores l r h = tt
 join (Some old) files_new first second dst left right held_old held_new pieces fl fr empty stores l r h = (
   stores.0,
@@ -38,7 +38,7 @@ join (Some old) files_new first second dst left right held_old held_new pieces f
   told_bytes (old first) left (bytes_of sides.Left pieces) fl.0 fl.1 l,
   told_bytes (old second) right (bytes_of sides.Right pieces) fr.0 fr.1 r,
   subst (λ (o : Option (List ℕ)). IfSome o (λ xs. stores.0 dst ≡ Some xs))
-      (holds held_old held_new (bytes_in pieces) empty h) stores.2.bytes,
+      (holds held_old held_new (merged_bytes pieces) empty h) stores.2.bytes,
 )
 
 pub joined : (domain : TableId) (task_old task_new : Known) (old new : Outside) (first second dst : List ℕ)

@@ -4,8 +4,8 @@ use Rattle.std.specs.Prelude.{Option, Some, None, Result, IfSome}
 use Rattle.atomic_table.specs.Seated.{TableId}
 use Rattle.edge_io.specs.Folders.{Files, HasBytes}
 use Rattle.wait_rule.specs.Known.{Known}
-use Rattle.flow_merge.specs.Merged.{Drawn, Filled, HoldsMerged, ReadsFront}
-use Rattle.flow_merge.specs.Passed.{Passed, Piece, bytes_if, bytes_in, bytes_of, read_of, sent_of}
+use Rattle.flow_merge.specs.Merged.{Drawn, SinkFilled, HoldsMerged, ReadsFront}
+use Rattle.flow_merge.specs.Passed.{Passed, Piece, bytes_if, merged_bytes, bytes_of, read_of, sent_of}
 use Rattle.flow_merge.specs.declared.sides.Side.{Side}
 use Rattle.flow_merge.specs.declared.sides.Side.TheVariants as sides
 use Rattle.waitq_alone.specs.declared.fault.Fault.{Fault}
@@ -15,10 +15,10 @@ use Rattle.waitq_copy.proofs.Fronts.{is_front, kept, spares_but}
 use Rattle.waitq_merge.specs.Merging.{MergeLeft}
 use Rattle.waitq_merge.specs.MergeRun.{IsFrontOfBoth, MergeSpares}
 
-in_last : (ps : List Piece) (p : Piece) → bytes_in (ps ++ p ∷ []) ≡ bytes_in ps ++ p.bytes
+in_last : (ps : List Piece) (p : Piece) → merged_bytes (ps ++ p ∷ []) ≡ merged_bytes ps ++ p.bytes
 in_last [] p = append-nil p.bytes
 in_last (q ∷ qs) p = ap (λ (xs : List ℕ). q.bytes ++ xs) (in_last qs p)
-    ∙ sym (append_assoc q.bytes (bytes_in qs) p.bytes)
+    ∙ sym (append_assoc q.bytes (merged_bytes qs) p.bytes)
 
 of_last : (s : Side) (ps : List Piece) (p : Piece)
     → bytes_of s (ps ++ p ∷ []) ≡ bytes_of s ps ++ bytes_if s p.side p.bytes
@@ -28,9 +28,9 @@ of_last s (q ∷ qs) p = ap (λ (xs : List ℕ). bytes_if s q.side q.bytes ++ xs
 
 -- what was sent is a front of them
 sent_front : (p : Passed) (front rest : List ℕ) → sent_of p ≡ front ++ rest
-    → bytes_in (p.pieces ++ p.part ∷ []) ≡ front ++ (rest ++ p.rest)
-sent_front p front rest e = in_last p.pieces p.part ∙ (ap (λ (xs : List ℕ). bytes_in p.pieces ++ xs) p.parts
-    ∙ (sym (append_assoc (bytes_in p.pieces) p.front p.rest) ∙ (ap (λ (xs : List ℕ). xs ++ p.rest) e
+    → merged_bytes (p.pieces ++ p.part ∷ []) ≡ front ++ (rest ++ p.rest)
+sent_front p front rest e = in_last p.pieces p.part ∙ (ap (λ (xs : List ℕ). merged_bytes p.pieces ++ xs) p.parts
+    ∙ (sym (append_assoc (merged_bytes p.pieces) p.front p.rest) ∙ (ap (λ (xs : List ℕ). xs ++ p.rest) e
     ∙ append_assoc front rest p.rest)))
 
 -- and those of a side are a front of its file
@@ -41,7 +41,7 @@ side_front files name d s p found r =
     is_front (Some (bytes_of s (p.pieces ++ p.part ∷ []))) (files name) d.left_new r.given (read_of s p) r.front.rest
     (ap (λ (xs : List ℕ). Some xs) (of_last s p.pieces p.part)) (sym found.1 ∙ r.left) found.0 r.front.whole
 
-both_front : (old : Option Files) (first second : List ℕ) (one two : Drawn) (into : Filled)
+both_front : (old : Option Files) (first second : List ℕ) (one two : Drawn) (into : SinkFilled)
     → HasBytes old first one.left_old → HasBytes old second two.left_old → (h : HoldsMerged one two into)
     → IfSome old (λ files. IsFrontOfBoth (Some h.held.front) (files first) (files second))
 both_front None first second one two into f g h = tt

@@ -18,7 +18,7 @@ use Rattle.copy_plan.specs.declared.stop.WorkerEnd.{WorkerEnd}
 use Rattle.copy_plan.specs.Stops.{IfFinished}
 use Rattle.copy_ends.specs.Did.{ReaderDid}
 use Rattle.copy_ends.proofs.Rows.{gave_all}
-use Rattle.flow_merge.specs.Merged.{Drawn, Filled, HoldsMerged, IsMergeStop, Merged, MergesAll, NoneHurt, ends_of}
+use Rattle.flow_merge.specs.Merged.{Drawn, SinkFilled, HoldsMerged, IsMergeStop, Merged, MergesAll, NoneHurt, ends_of}
 use Rattle.waitq_copy.specs.Copying.{IsStored}
 use Rattle.waitq_merge.specs.Merging.{MergeThrough}
 
@@ -33,7 +33,7 @@ size_of p old new d targets plan ended did e =
 
 module _ (domain : TableId) (task : Known) (files_old files_new : Option Files)
     (reads_old reads_new writes_old writes_new : ℕ) (first second dst : List ℕ) (one two : Drawn)
-    (into : Filled) (left right : ReaderEnd) (merger writer : WorkerEnd) (how : Stop) (moved : ℕ)
+    (into : SinkFilled) (left right : ReaderEnd) (merger writer : WorkerEnd) (how : Stop) (moved : ℕ)
     (stored : Result (Unit {0}) SinkFault) (total : Result ℕ BitEnd) where
   pub merged_through : HasBytes files_old first one.left_old → HasBytes files_old second two.left_old
       → HoldsNothing files_old into.held_old

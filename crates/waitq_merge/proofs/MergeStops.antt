@@ -12,12 +12,12 @@ use Rattle.copy_plan.specs.declared.stop.Stop.TheVariants as stop
 use Rattle.copy_plan.specs.Stops.{IfTaken}
 use Rattle.copy_turns.specs.Turns.{IsLong, IsReaderStop, IsWriterStop}
 use Rattle.flow_merge.specs.declared.TheConstants.{LEFT_PIPE, MERGED_PIPE, RIGHT_PIPE}
-use Rattle.flow_merge.specs.Merged.{Drawn, Ends, Filled, Merged, stops_of}
+use Rattle.flow_merge.specs.Merged.{Drawn, CrewEnds, SinkFilled, Merged, stops_of}
 use Rattle.flow_merge.specs.Mergers.{IsMergerStop}
 use Rattle.waitq_copy.specs.Copying.{WasFull}
 use Rattle.waitq_copy.proofs.Stops.{Among, Cause, among_named, cause_of, full_at, full_control, no_control}
 
-module _ (domain : TableId) (task : Known) (one two : Drawn) (into : Filled) (ends : Ends) (how : Stop)
+module _ (domain : TableId) (task : Known) (one two : Drawn) (into : SinkFilled) (ends : CrewEnds) (how : Stop)
     (total : Result ℕ BitEnd) (m : Merged domain task one two into ends how total) where
   among : (s : Stop) → (s ≡ stop.Finished → ⊥) → (s ≡ stop.Killed → ⊥) → how ≡ s → Among s (stops_of ends total)
   among s nf nk e =

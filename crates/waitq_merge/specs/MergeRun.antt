@@ -4,7 +4,7 @@ use Rattle.std.specs.Prelude.{◌≡◌, ℕ, List, Option, Some, None, Result}
 use Rattle.atomic_table.specs.Seated.{TableId}
 use Rattle.edge_io.specs.Folders.{Files}
 use Rattle.wait_rule.specs.Known.{Known}
-use Rattle.flow_merge.specs.Passed.{Piece, bytes_in, bytes_of}
+use Rattle.flow_merge.specs.Passed.{Piece, merged_bytes, bytes_of}
 use Rattle.flow_merge.specs.declared.sides.Side.TheVariants as sides
 use Rattle.waitq_alone.specs.Alone.{Reports, exit_status}
 use Rattle.waitq_alone.specs.Commands.{Request, Replay, Drill, Copy, Merge}
@@ -35,14 +35,14 @@ IfMerge None p = Unit {0}
 abbrev pub DeliversBoth : List ℕ → List ℕ → List ℕ → Option Files → Option Files → Type 0
 DeliversBoth first second dst (Some old) new =
     (files : Files) × (pieces : List Piece) × (new ≡ Some files) × (old first ≡ Some (bytes_of sides.Left pieces))
-    × (old second ≡ Some (bytes_of sides.Right pieces)) × (files dst ≡ Some (bytes_in pieces))
+    × (old second ≡ Some (bytes_of sides.Right pieces)) × (files dst ≡ Some (merged_bytes pieces))
 DeliversBoth first second dst None new = Unit {0}
 
 -- The bytes of a file are a front of pieces, one behind another, of which those of each side are, in their order, a front
 -- of a file.
 pub record IsFrontOfBoth (bytes first second : Option (List ℕ)) : Type 0 where
   pub pieces : List Piece
-  pub front : IsFrontOf bytes (Some (bytes_in pieces))
+  pub front : IsFrontOf bytes (Some (merged_bytes pieces))
   pub left : IsFrontOf (Some (bytes_of sides.Left pieces)) first
   pub right : IsFrontOf (Some (bytes_of sides.Right pieces)) second
 

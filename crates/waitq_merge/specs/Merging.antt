@@ -15,7 +15,7 @@ use Rattle.copy_plan.specs.declared.stop.ReaderEnd.{ReaderEnd}
 use Rattle.copy_plan.specs.declared.stop.Stop.{Stop}
 use Rattle.copy_plan.specs.declared.stop.Stop.TheVariants as stop
 use Rattle.copy_plan.specs.declared.stop.WorkerEnd.{WorkerEnd}
-use Rattle.flow_merge.specs.Merged.{Drawn, Filled, HoldsMerged, IsMergeStop, Merged, MergesAll, NoneHurt, ends_of}
+use Rattle.flow_merge.specs.Merged.{Drawn, SinkFilled, HoldsMerged, IsMergeStop, Merged, MergesAll, NoneHurt, ends_of}
 use Rattle.waitq_alone.specs.Drill.{number_line}
 use Rattle.waitq_alone.specs.declared.fault.Fault.{Fault}
 use Rattle.waitq_alone.specs.declared.fault.Fault.TheVariants as fault
@@ -48,7 +48,7 @@ pub record MergeThrough (domain : TableId) (task : Known) (files_old files_new :
     (moved : ℕ) (stored : Result (Unit {0}) SinkFault) : Type 0 where
   pub one : Drawn
   pub two : Drawn
-  pub into : Filled
+  pub into : SinkFilled
   pub merger : WorkerEnd
   pub writer : WorkerEnd
   pub total : Result ℕ BitEnd

@@ -2,7 +2,7 @@ use Rattle.std.proofs.Common.{ap, ◌∙◌}
 use Rattle.std.specs.Prelude.{[], ◌∷◌}
 use Rattle.copy_plan.specs.declared.stop.Stop.{Stop}
 use Rattle.copy_plan.specs.Kinds.{copy_stop}
-use Rattle.flow_merge.specs.Merged.{Drawn, Ends, Filled, Five, drawn, ends_of, filled}
+use Rattle.flow_merge.specs.Merged.{Drawn, CrewEnds, SinkFilled, Five, drawn, ends_of, filled}
 use Rattle.flow_merge.proofs.Whole.{ended_of, ensured, follows}
 use Rattle.flow_merge.proofs.merge.merge_all.Goals as goal
 
@@ -15,9 +15,9 @@ returns g c =
     (g.S.Source.faults c.args.first) (g.S.Source.faults made.0.1) in
     let second : Drawn = drawn (g.S.Source.left c.args.second) (g.S.Source.left made.1.1)
     (g.S.Source.faults c.args.second) (g.S.Source.faults made.1.1) in
-    let into : Filled = filled (g.K.Sink.held c.args.sink) (g.K.Sink.held made.3.1) (g.K.Sink.faults c.args.sink)
+    let into : SinkFilled = filled (g.K.Sink.held c.args.sink) (g.K.Sink.held made.3.1) (g.K.Sink.faults c.args.sink)
     (g.K.Sink.faults made.3.1) (g.K.Sink.wants c.args.sink) (g.K.Sink.wants made.3.1) in
-    let ends : Ends = ends_of made.0.2 made.1.2 made.2.1 made.3.3 in
+    let ends : CrewEnds = ends_of made.0.2 made.1.2 made.2.1 made.3.3 in
     let five : Five = record {
       left = made.0.0;
       right = made.1.0;

@@ -3,7 +3,7 @@ use Rattle.std.specs.Prelude.{Option, Some}
 use Rattle.copy_plan.specs.declared.stop.Stop.{Stop}
 use Rattle.copy_plan.specs.declared.stop.Stop.TheVariants as stop
 use Rattle.flow_merge.specs.MergerWords.{MergerTurn, merger_killed, side_passes, sides_ended, sides_wait}
-use Rattle.flow_merge.specs.Sides.{Looked}
+use Rattle.flow_merge.specs.Sides.{LookedAtSides}
 use Rattle.flow_merge.proofs.Looks.{apart_looked, looked_then, worn_cause}
 use Rattle.flow_merge.proofs.Turns.{merging_behind, merging_idle}
 use Rattle.flow_merge.proofs.merger.merge_turn.Goals as goal
@@ -18,7 +18,7 @@ returns-then-is_killed g c = record {
 
 pub returns-in-Cells : goal.returns-in-Cells
 returns-in-Cells g c =
-    let looked : Looked c.args.task.now c.look_both.new.task
+    let looked : LookedAtSides c.args.task.now c.look_both.new.task
     = looked_then c.args.task.now c.is_killed.new.task c.look_both.new.task
     (apart_looked c.args.task.now c.is_killed.new.task c.is_killed.ensures.apart) c.look_both.ensures.looked in
     record {
@@ -30,7 +30,7 @@ returns-in-Cells g c =
 
 pub returns-in-Ended : goal.returns-in-Ended
 returns-in-Ended g c =
-    let looked : Looked c.args.task.now c.look_both.new.task
+    let looked : LookedAtSides c.args.task.now c.look_both.new.task
     = looked_then c.args.task.now c.is_killed.new.task c.look_both.new.task
     (apart_looked c.args.task.now c.is_killed.new.task c.is_killed.ensures.apart) c.look_both.ensures.looked in
     record {
@@ -41,7 +41,7 @@ returns-in-Ended g c =
 
 pub returns-in-Nothing : goal.returns-in-Nothing
 returns-in-Nothing g c =
-    let looked : Looked c.args.task.now c.look_both.new.task
+    let looked : LookedAtSides c.args.task.now c.look_both.new.task
     = looked_then c.args.task.now c.is_killed.new.task c.look_both.new.task
     (apart_looked c.args.task.now c.is_killed.new.task c.is_killed.ensures.apart) c.look_both.ensures.looked in
     let goes = c.wait_both.ensures.goes in

@@ -27,7 +27,7 @@ pass_piece-how-requires-clause-tap g c = subst (λ (n : ℕ). IsSettled (reading
 pub returns : goal.returns
 returns g c = record {
   turn = subst (λ (h : Option Stop). Merging c.args.task.now c.pass_piece-how.new.task c.args.moved.now
-      c.pass_piece-how.new.moved h) (sym c.passes_on.ensures)
+      c.pass_piece-how.new.moved h) (sym c.goes_behind.ensures)
       (merging_from c.args.side c.args.task.now c.pass_piece-how.new.task c.args.moved.now c.pass_piece-how.new.moved
       c.requires.taps c.pass_piece-how.result
       (subst (λ (n : ℕ). Relaying n MERGED_PIPE c.args.task.now c.pass_piece-how.new.task c.args.moved.now
@@ -37,6 +37,6 @@ returns g c = record {
     ended = c.pass_piece-how.result;
     gets = subst (λ (n : ℕ). GetsAnd (read_end n) (RelaysPiece MERGED_PIPE) c.args.task.now c.pass_piece-how.new.task
         c.pass_piece-how.ensures.goes.0 c.pass_piece-how.result) c.pipe.ensures c.pass_piece-how.ensures.goes.1;
-    on = c.passes_on.ensures;
+    on = c.goes_behind.ensures;
   };
 }

@@ -1,7 +1,7 @@
 use Rattle.wait_rule.specs.PipeSays.{reading}
 use Rattle.flow_merge.specs.declared.TheConstants.{RIGHT_PIPE}
 use Rattle.flow_merge.specs.declared.sides.Side.TheVariants as sides
-use Rattle.flow_merge.specs.Sides.{Looked}
+use Rattle.flow_merge.specs.Sides.{LookedAtSides}
 use Rattle.flow_merge.proofs.Looks.{found_ended, kept_settled, left_looked, looked_then, right_looked}
 use Rattle.flow_merge.proofs.sides.look_both.Goals as goal
 
@@ -10,16 +10,16 @@ peek_read-left-requires-clause-settled c = c.requires.taps sides.Left
 
 pub peek_read-right-requires-clause-settled : goal.peek_read-right-requires-clause-settled
 peek_read-right-requires-clause-settled c =
-    let one : Looked c.args.task.now c.peek_read-left.new.task
+    let one : LookedAtSides c.args.task.now c.peek_read-left.new.task
     = left_looked c.args.task.now c.peek_read-left.new.task c.requires.work c.peek_read-left.ensures.looked in
     kept_settled (reading RIGHT_PIPE c.args.task.now) (reading RIGHT_PIPE c.peek_read-left.new.task)
     (one.taps sides.Right) (c.requires.taps sides.Right)
 
 pub returns : goal.returns
 returns c =
-    let one : Looked c.args.task.now c.peek_read-left.new.task
+    let one : LookedAtSides c.args.task.now c.peek_read-left.new.task
     = left_looked c.args.task.now c.peek_read-left.new.task c.requires.work c.peek_read-left.ensures.looked in
-    let two : Looked c.peek_read-left.new.task c.peek_read-right.new.task
+    let two : LookedAtSides c.peek_read-left.new.task c.peek_read-right.new.task
     = right_looked c.peek_read-left.new.task c.peek_read-right.new.task one.works.work
     c.peek_read-right.ensures.looked in
     record {

@@ -1,7 +1,7 @@
 use Rattle.std.proofs.Common.{sym, subst}
 use Rattle.wait_class.specs.declared.stages.Turn.TheVariants as turn
 use Rattle.wait_leave.specs.OnTheWay.{straight}
-use Rattle.futex_table.specs.CondStretches.{IsAwaiting, IsCondAt}
+use Rattle.futex_table.specs.CondStretches.{IsCondWaiting, IsCondAt}
 use Rattle.futex_table.specs.LockStretches.{AskedIf}
 use Rattle.futex_table.proofs.CondStretching.{wait_lands, wait_on}
 use Rattle.futex_table.proofs.cond_stretches.stretch_cond_wait.Goals as goal
@@ -15,7 +15,7 @@ stretch-turn-requires-clause-at c =
 pub returns-in-Wait-clause-came : goal.returns-in-Wait-clause-came
 returns-in-Wait-clause-came c b start x =
     let t = c.stretch-turn in
-    subst (IsAwaiting b c.args.wait start t.new.task) (sym c.awaited_to.ensures)
+    subst (IsCondWaiting b c.args.wait start t.new.task) (sym c.awaited_to.ensures)
     (wait_on b c.args.wait start c.args.task.now t.new.task c.in-Wait.run' c.in-Wait.at t.new.run t.result
     (subst (IsCondAt (AskedIf b) c.args.wait start c.args.task.now) c.in-Wait.is x)
     (straight t.new.task t.new.run t.result t.ensures.turned.advances))

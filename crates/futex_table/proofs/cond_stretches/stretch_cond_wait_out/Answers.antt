@@ -1,7 +1,7 @@
 use Rattle.std.proofs.Common.{sym, subst}
 use Rattle.wait_class.specs.declared.stages.Turn.TheVariants as turn
 use Rattle.std.specs.Prelude.{true}
-use Rattle.futex_table.specs.CondStretches.{IsAwaiting, IsCondAt}
+use Rattle.futex_table.specs.CondStretches.{IsCondWaiting, IsCondAt}
 use Rattle.futex_table.specs.LockStretches.{AskedIf}
 use Rattle.futex_table.proofs.CondStretching.{cond_may_be_asked, wait_lands, wait_on}
 use Rattle.futex_table.proofs.cond_stretches.stretch_cond_wait_out.Goals as goal
@@ -15,7 +15,7 @@ stretch_out-turn-requires-clause-at c =
 pub returns-in-Wait-clause-came : goal.returns-in-Wait-clause-came
 returns-in-Wait-clause-came c start x =
     let t = c.stretch_out-turn in
-    subst (IsAwaiting true c.args.wait start t.new.task) (sym c.awaited_to.ensures)
+    subst (IsCondWaiting true c.args.wait start t.new.task) (sym c.awaited_to.ensures)
     (wait_on true c.args.wait start c.args.task.now t.new.task c.in-Wait.run' c.in-Wait.at t.new.call t.result
     (subst (IsCondAt (Unit {0}) c.args.wait start c.args.task.now) c.in-Wait.is x) t.ensures.way)
 
@@ -25,7 +25,7 @@ returns-in-Wait-clause-stands c =
     let t = c.stretch_out-turn in (
       true,
       x.1,
-      subst (IsAwaiting true c.args.wait x.1 t.new.task) (sym c.awaited_to.ensures)
+      subst (IsCondWaiting true c.args.wait x.1 t.new.task) (sym c.awaited_to.ensures)
           (wait_on true c.args.wait x.1 c.args.task.now t.new.task c.in-Wait.run' c.in-Wait.at t.new.call t.result
           (cond_may_be_asked x.0 c.args.wait x.1 c.args.task.now c.in-Wait.run' (turn.Again c.in-Wait.at)
           (subst (IsCondAt (AskedIf x.0) c.args.wait x.1 c.args.task.now) c.in-Wait.is x.2)) t.ensures.way),

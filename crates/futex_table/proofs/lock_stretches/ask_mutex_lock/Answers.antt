@@ -1,7 +1,7 @@
 use Rattle.std.proofs.Common.{sym, subst}
 use Rattle.wait_class.specs.declared.stages.Turn.TheVariants as turn
 use Rattle.std.specs.Prelude.{true}
-use Rattle.futex_table.specs.LockStretches.{AskedIf, IsLockAt, IsLocking}
+use Rattle.futex_table.specs.LockStretches.{AskedIf, IsLockAt, IsMutexLocking}
 use Rattle.futex_table.proofs.LockStretching.{may_be_asked, round_asked, round_lands}
 use Rattle.futex_table.proofs.lock_stretches.ask_mutex_lock.Goals as goal
 
@@ -14,7 +14,7 @@ ask-requires-clause-at c =
 pub returns-in-Some-clause-came : goal.returns-in-Some-clause-came
 returns-in-Some-clause-came c start x =
     let t = c.ask in
-    subst (IsLocking true c.args.lock start t.new.task) (sym c.waited_to.ensures)
+    subst (IsMutexLocking true c.args.lock start t.new.task) (sym c.waited_to.ensures)
     (round_asked c.args.lock start c.args.task.now t.new.task c.in-Wait.wait t.new.call c.in-Wait.at c.in-Some.turn
     (subst (IsLockAt (Unit {0}) c.args.lock start c.args.task.now) c.in-Wait.is x) c.in-Some.ensures.asked)
 
@@ -24,7 +24,7 @@ returns-in-Some-clause-stands c =
     let t = c.ask in (
       true,
       x.1,
-      subst (IsLocking true c.args.lock x.1 t.new.task) (sym c.waited_to.ensures)
+      subst (IsMutexLocking true c.args.lock x.1 t.new.task) (sym c.waited_to.ensures)
           (round_asked c.args.lock x.1 c.args.task.now t.new.task c.in-Wait.wait t.new.call c.in-Wait.at c.in-Some.turn
           (may_be_asked x.0 c.args.lock x.1 c.args.task.now c.in-Wait.wait (turn.Again c.in-Wait.at)
           (subst (IsLockAt (AskedIf x.0) c.args.lock x.1 c.args.task.now) c.in-Wait.is x.2)) c.in-Some.ensures.asked),

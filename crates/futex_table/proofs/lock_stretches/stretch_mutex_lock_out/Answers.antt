@@ -1,7 +1,7 @@
 use Rattle.std.proofs.Common.{sym, subst}
 use Rattle.wait_class.specs.declared.stages.Turn.TheVariants as turn
 use Rattle.std.specs.Prelude.{true}
-use Rattle.futex_table.specs.LockStretches.{AskedIf, IsLockAt, IsLocking}
+use Rattle.futex_table.specs.LockStretches.{AskedIf, IsLockAt, IsMutexLocking}
 use Rattle.futex_table.proofs.LockStretching.{may_be_asked, round_lands, round_on}
 use Rattle.futex_table.proofs.lock_stretches.stretch_mutex_lock_out.Goals as goal
 
@@ -14,7 +14,7 @@ stretch_out-turn-requires-clause-at c =
 pub returns-in-Wait-clause-came : goal.returns-in-Wait-clause-came
 returns-in-Wait-clause-came c start x =
     let t = c.stretch_out-turn in
-    subst (IsLocking true c.args.lock start t.new.task) (sym c.waited_to.ensures)
+    subst (IsMutexLocking true c.args.lock start t.new.task) (sym c.waited_to.ensures)
     (round_on true c.args.lock start c.args.task.now t.new.task c.in-Wait.wait c.in-Wait.at t.new.call t.result
     (subst (IsLockAt (Unit {0}) c.args.lock start c.args.task.now) c.in-Wait.is x) t.ensures.way)
 
@@ -24,7 +24,7 @@ returns-in-Wait-clause-stands c =
     let t = c.stretch_out-turn in (
       true,
       x.1,
-      subst (IsLocking true c.args.lock x.1 t.new.task) (sym c.waited_to.ensures)
+      subst (IsMutexLocking true c.args.lock x.1 t.new.task) (sym c.waited_to.ensures)
           (round_on true c.args.lock x.1 c.args.task.now t.new.task c.in-Wait.wait c.in-Wait.at t.new.call t.result
           (may_be_asked x.0 c.args.lock x.1 c.args.task.now c.in-Wait.wait (turn.Again c.in-Wait.at)
           (subst (IsLockAt (AskedIf x.0) c.args.lock x.1 c.args.task.now) c.in-Wait.is x.2)) t.ensures.way),

@@ -1,10 +1,11 @@
 #!/bin/sh
 # Runs the tests in which threads sleep and wake one another in many rounds, RUNS times each (20), and fails where one
 # of them fails or has not ended after LIMIT seconds (60). It needs the tests built by `rt test` in crates/head_tests,
-# crates/wait_tests, crates/sem_tests, crates/futex_tests, crates/user_tests, crates/copy_tests and
-# crates/examples_threads, or in those of them that are named: `bench/park_often.sh futex_tests` runs the tests of that crate alone. JOBS: how many runs there
-# are at once (1). BUSY: how many loops keep processors busy meanwhile (0). ONLY: a part of the names of the tests that
-# are run (all). So a thousand runs of a crate under load are `RUNS=1000 JOBS=4 BUSY=4 bench/park_often.sh futex_tests`.
+# crates/wait_tests, crates/sem_tests, crates/futex_tests, crates/poll_tests, crates/user_tests, crates/copy_tests,
+# crates/merge_tests and crates/examples_threads, or in those of them that are named: `bench/park_often.sh futex_tests`
+# runs the tests of that crate alone. JOBS: how many runs there are at once (1). BUSY: how many loops keep processors busy
+# meanwhile (0). ONLY: a part of the names of the tests that are run (all). So a thousand runs of a crate under load are
+# `RUNS=1000 JOBS=4 BUSY=4 bench/park_often.sh futex_tests`.
 set -eu
 cd "$(dirname "$0")/.."
 . bench/busy.sh
@@ -52,6 +53,8 @@ often wait_tests variables::threads::waiter_sees_each_value
 often futex_tests monitors::monitor
 often futex_tests tallies::tally_of_four
 often futex_tests races::signal_races_with_a_wake
+often poll_tests rounds::each_set_is_seen
+often poll_tests rounds::signal_ends_it_only_where_neither_is_set
 often sem_tests five::four_permits
 often sem_tests rounds::signal_beside_an_up_loses_and_doubles_no_permit
 often sem_tests rounds::left_down_beside_an_up_and_a_second_one_gets_it_or_leaves_it
@@ -62,6 +65,9 @@ often copy_tests tests::faults::sink_fails
 often copy_tests tests::faults::workers_are_killed
 often copy_tests tests::faults::plain_signals_change_nothing
 often copy_tests tests::meeting::workers_meet_in_their_first_turns
+often merge_tests tests::tables::merges_in_rounds
+often merge_tests tests::faults::sources_fail
+often merge_tests tests::late::whichever_has_bytes_first
 often user_tests users::strangers::strangers_on_one_head
 often user_tests users::rounds::simple_waiter_is_joined
 often user_tests users::rounds::waiter_for_one_is_joined

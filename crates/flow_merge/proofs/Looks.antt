@@ -12,7 +12,7 @@ use Rattle.wait_rule.specs.declared.journal.Item.TheVariants as item
 use Rattle.wait_rule.specs.Aside.{Grows}
 use Rattle.wait_rule.specs.Ends.{WasWorn}
 use Rattle.wait_rule.specs.Known.{Known}
-use Rattle.wait_rule.specs.Pipes.{End, merged_bytes, moved_bytes, read_end, write_end}
+use Rattle.wait_rule.specs.Pipes.{End, bytes_in, moved_bytes, read_end, write_end}
 use Rattle.wait_rule.specs.PipeSays.{KeepsEnd, end_at, reading, writing}
 use Rattle.wait_rule.specs.Queues.{IsIdle, index}
 use Rattle.wait_rule.specs.Says.{IsUp, added}
@@ -76,8 +76,8 @@ kept_settled e f k s = record {
 }
 
 pub kept_moved : (e f : End) → KeepsEnd e f → moved_bytes f ≡ moved_bytes e
-kept_moved e f k = ap (λ (n : ℕ). merged_bytes (take n f.cells)) k.count
-    ∙ ap (λ (cells : List ℕ). merged_bytes (take e.count cells)) k.cells
+kept_moved e f k = ap (λ (n : ℕ). bytes_in (take n f.cells)) k.count
+    ∙ ap (λ (cells : List ℕ). bytes_in (take e.count cells)) k.cells
 
 -- one look after another
 pub looked_then : (a b c : Known) → LookedAtSides a b → LookedAtSides b c → LookedAtSides a c

@@ -2,6 +2,7 @@
 //! and locks that are left by stretches, at each moment.
 
 ghost use Rattle.std.specs.Prelude.{◌≡◌};
+ghost use Rattle.wait_rule.specs.PassedLocks.{PassesNone};
 ghost use Rattle.wait_rule.specs.Queues.{IsIdle};
 ghost use Rattle.wait_rule.specs.Says.{IsClean, IsUp};
 ghost use Rattle.wait_class.specs.Posts.{IsOut};
@@ -70,6 +71,27 @@ fn is_free_at(stage: FutexStage) -> bool {
     !matches!(stage, FutexStage::Turn | FutexStage::OffTurn)
 }
 
+/// One stretch of a lock, or a look whether it was woken.
+fn go_on_by(domain: &Domain, task: &mut Task, last: MutexTurn, passing: &mut Passing) -> MutexTurn
+    requires of { task.old.domain ≡ domain.now }
+    requires passes { PassesNone passing.old }
+    requires waiting { IsLockUnderWay 6 task.old last }
+    ensures of { task.new.domain ≡ domain.now }
+    ensures waiting { IsLockUnderWay 6 task.new result }
+{
+    match last {
+        Turn::Again(stage) => stretch_mutex_lock(domain, task, LOCK, stage, passing),
+        Turn::Locked(stage) => stretch_mutex_lock(domain, task, LOCK, stage, passing),
+        Turn::Asleep(stage) => {
+            if woke_mutex_lock(domain, task, LOCK, stage) {
+                return Turn::Again(stage);
+            }
+            Turn::Asleep(stage)
+        }
+        Turn::Done(answer) => Turn::Done(answer),
+    }
+}
+
 /// Goes on with a lock by one stretch, or looks whether it was woken. Who parks for a lock that it passed on is woken.
 fn go_on(domain: &Domain, task: &mut Task, last: MutexTurn) -> MutexTurn
     requires of { task.old.domain ≡ domain.now }
@@ -78,18 +100,7 @@ fn go_on(domain: &Domain, task: &mut Task, last: MutexTurn) -> MutexTurn
     ensures waiting { IsLockUnderWay 6 task.new result }
 {
     let mut passing = Passing::none();
-    let next = match last {
-        Turn::Again(stage) => stretch_mutex_lock(domain, task, LOCK, stage, &mut passing),
-        Turn::Locked(stage) => stretch_mutex_lock(domain, task, LOCK, stage, &mut passing),
-        Turn::Asleep(stage) => {
-            if woke_mutex_lock(domain, task, LOCK, stage) {
-                Turn::Again(stage)
-            } else {
-                Turn::Asleep(stage)
-            }
-        }
-        Turn::Done(answer) => Turn::Done(answer),
-    };
+    let next = go_on_by(domain, task, last, &mut passing);
     passing.wake(domain);
     passing.end();
     next
@@ -216,6 +227,27 @@ fn two_locks_take_turns(rt: HostRuntime) -> Result<(), Fail> {
     Ok(())
 }
 
+/// One stretch of a lock that is asked to leave, or a look whether it was woken.
+fn go_out_by(domain: &Domain, task: &mut Task, last: MutexTurn, passing: &mut Passing) -> MutexTurn
+    requires of { task.old.domain ≡ domain.now }
+    requires passes { PassesNone passing.old }
+    requires waiting { IsLockUnderWay 6 task.old last }
+    ensures of { task.new.domain ≡ domain.now }
+    ensures waiting { IsLockUnderWay 6 task.new result }
+{
+    match last {
+        Turn::Again(stage) => stretch_mutex_lock_out(domain, task, LOCK, stage, passing),
+        Turn::Locked(stage) => stretch_mutex_lock_out(domain, task, LOCK, stage, passing),
+        Turn::Asleep(stage) => {
+            if woke_mutex_lock(domain, task, LOCK, stage) {
+                return Turn::Again(stage);
+            }
+            Turn::Asleep(stage)
+        }
+        Turn::Done(answer) => Turn::Done(answer),
+    }
+}
+
 /// Goes on with a lock by one stretch that is asked to leave, or looks whether it was woken.
 fn go_out(domain: &Domain, task: &mut Task, last: MutexTurn) -> MutexTurn
     requires of { task.old.domain ≡ domain.now }
@@ -224,18 +256,7 @@ fn go_out(domain: &Domain, task: &mut Task, last: MutexTurn) -> MutexTurn
     ensures waiting { IsLockUnderWay 6 task.new result }
 {
     let mut passing = Passing::none();
-    let next = match last {
-        Turn::Again(stage) => stretch_mutex_lock_out(domain, task, LOCK, stage, &mut passing),
-        Turn::Locked(stage) => stretch_mutex_lock_out(domain, task, LOCK, stage, &mut passing),
-        Turn::Asleep(stage) => {
-            if woke_mutex_lock(domain, task, LOCK, stage) {
-                Turn::Again(stage)
-            } else {
-                Turn::Asleep(stage)
-            }
-        }
-        Turn::Done(answer) => Turn::Done(answer),
-    };
+    let next = go_out_by(domain, task, last, &mut passing);
     passing.wake(domain);
     passing.end();
     next
@@ -266,26 +287,28 @@ fn is_left(end: Until<Result<(), Worn>>) -> bool {
     matches!(end, Until::Left { seen: 0 })
 }
 
-/// A lock goes on by so many stretches, roused again and again, while the other task has the mutex; and then that gives
-/// it back, or does not, and the lock is left. Whether it took the mutex only where that was given back, was left
+/// A lock goes on by so many stretches, roused again and again by a waker, while the other task has the mutex; and then
+/// that gives it back, or does not, and the lock is left. Whether it took the mutex only where that was given back, was left
 /// otherwise, and the mutex is free exactly where it was given back and not taken; and nobody sleeps then.
 fn leave_after<R: Wait>(
     rt: &R,
     domain: &Domain,
     task: &mut Task,
     other: &mut Task,
+    waker: &mut Task,
     stretches: u32,
     gives: bool,
 ) -> bool
-    requires of { (task.old.domain ≡ domain.now) × (other.old.domain ≡ domain.now) }
-    requires clean { IsClean task.old × IsClean other.old }
+    requires of { (task.old.domain ≡ domain.now) × ((other.old.domain ≡ domain.now)
+        × (waker.old.domain ≡ domain.now)) }
+    requires clean { IsClean task.old × (IsClean other.old × IsClean waker.old) }
     requires holds { HoldsMutex other.old 6 }
 {
     let who = task.number();
     let mut at = Turn::Again(begin_mutex_lock(task, LOCK));
     for _ in 0..stretches {
         at = go_on(domain, task, at);
-        wake_task(rt, domain, other, who, Mode::Normal);
+        wake_task(rt, domain, waker, who, Mode::Normal);
     }
     let gave = gives && is_free(at);
     if gave {
@@ -310,7 +333,10 @@ fn lock_is_left_at_each_moment(rt: HostRuntime) -> Result<(), Fail> {
             if !has {
                 panic!(rt; "the mutex is open")
             }
-            let so = leave_after(&rt, &domain, &mut task, &mut other, stretches, gives);
+            let mut waker = another(&rt, &domain, &mut task);
+            let so = leave_after(
+                &rt, &domain, &mut task, &mut other, &mut waker, stretches, gives,
+            );
             all_so(&rt, &[so]);
         }
     }

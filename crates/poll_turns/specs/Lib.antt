@@ -1,0 +1,3 @@
+pub mod PollSteps
+pub mod PollTurns
+pub mod PollSleepers

@@ -6,3 +6,4 @@ pub mod Sleeping
 pub mod Ending
 pub mod Quitting
 pub mod Sleepers
+pub mod Showing

@@ -7,6 +7,8 @@ ghost use Rattle.wait_class.specs.declared.stages.Turn.TheVariants as turn;
 ghost use Rattle.poll_wait.specs.Polls.{IsPoll, loaded, ready_of};
 ghost use Rattle.poll_turns.specs.declared.stages.PollStage.TheVariants as stage;
 ghost use Rattle.poll_turns.specs.PollTurns.{IsOnTurn, IsPollUnderWay, IsPolling, leaves_at};
+ghost use Rattle.poll_turns.specs.PollShows.{DidStretch};
+ghost use Rattle.wait_model.specs.declared.layout.TheConstants.{HEADS};
 
 use crate::stages::{PollStage, PollTurn, PollUntil};
 use poll_wait::turns::{Loads, Poll};
@@ -57,6 +59,7 @@ pub(crate) fn load_first(domain: &Domain, task: &mut Task, poll: Poll) -> PollTu
     ensures of { task.new.domain ≡ domain.now }
     ensures came { (b : _) → (start : _) → IsPolling b poll start task.old (turn.Again stage.First)
         → IsPolling b poll start task.new result }
+    ensures did { DidStretch poll task.old task.new HEADS stage.First result }
 {
     let loads = load_both(domain, task, poll);
     match ready(poll, loads) {
@@ -78,6 +81,7 @@ pub(crate) fn load_queued(
     ensures of { task.new.domain ≡ domain.now }
     ensures came { (b : _) → (start : _) → IsPolling b poll start task.old (turn.Again (stage.Load queued))
         → IsPolling b poll start task.new result }
+    ensures did { DidStretch poll task.old task.new HEADS (stage.Load queued) result }
 {
     let loads = load_both(domain, task, poll);
     if let Some(ready) = ready(poll, loads) {
@@ -108,6 +112,7 @@ pub(crate) fn ask(domain: &Domain, task: &mut Task, poll: Poll, loads: Loads) ->
     ensures of { task.new.domain ≡ domain.now }
     ensures came { (b : _) → (start : _) → IsPolling b poll start task.old (turn.Again (stage.Ask loads))
         → IsPolling b poll start task.new result }
+    ensures did { DidStretch poll task.old task.new HEADS (stage.Ask loads) result }
 {
     let own = load_own(domain, task);
     if pending_state(poll.state.mask(), own) {
@@ -128,6 +133,7 @@ pub(crate) fn sleep(domain: &Domain, task: &mut Task, poll: Poll, failed: Failed
     ensures of { task.new.domain ≡ domain.now }
     ensures came { (b : _) → (start : _) → IsPolling b poll start task.old (turn.Again (stage.Sleep failed))
         → IsPolling b poll start task.new result }
+    ensures did { DidStretch poll task.old task.new HEADS (stage.Sleep failed) result }
 {
     let _ = poll;
     let mut tries = failed;
@@ -146,6 +152,7 @@ pub(crate) fn load_last(domain: &Domain, task: &mut Task, poll: Poll) -> PollTur
     requires at { (start : _) × IsOnTurn poll start task.old }
     ensures of { task.new.domain ≡ domain.now }
     ensures came { (start : _) → IsOnTurn poll start task.old → IsPolling true poll start task.new result }
+    ensures did { (s : _) → DidStretch poll task.old task.new HEADS s result }
 {
     let loads = load_both(domain, task, poll);
     match ready(poll, loads) {

@@ -6,6 +6,7 @@ ghost use Rattle.wait_class.specs.declared.stages.Turn.TheVariants as turn;
 ghost use Rattle.poll_wait.specs.Polls.{IsPoll};
 ghost use Rattle.poll_turns.specs.declared.stages.PollStage.TheVariants as stage;
 ghost use Rattle.poll_turns.specs.PollTurns.{IsPollUnderWay, IsPolling};
+ghost use Rattle.poll_turns.specs.PollShows.{DidStretch};
 
 use crate::entries::{join_first, join_second, pass_on};
 use crate::stages::{PollStage, PollTurn};
@@ -30,6 +31,7 @@ pub(crate) fn queue_first(
     ensures of { task.new.domain ≡ domain.now }
     ensures came { (b : _) → (start : _) → IsPolling b poll start task.old (turn.Again stage.QueueFirst)
         → IsPolling b poll start task.new result }
+    ensures did { DidStretch poll task.old task.new passing.new.head stage.QueueFirst result }
 {
     task.told();
     let ticket = draw_lock(domain, task, head_of(poll.first));
@@ -51,6 +53,7 @@ pub(crate) fn hold_first(
     ensures of { task.new.domain ≡ domain.now }
     ensures came { (b : _) → (start : _) → IsPolling b poll start task.old (turn.Again (stage.HoldFirst ticket))
         → IsPolling b poll start task.new result }
+    ensures did { DidStretch poll task.old task.new passing.new.head (stage.HoldFirst ticket) result }
 {
     match lock_turn(domain, task, head_of(poll.first), ticket) {
         Err(_) => Turn::Locked(PollStage::HoldFirst(ticket)),
@@ -80,6 +83,7 @@ pub(crate) fn queue_second(
     ensures of { task.new.domain ≡ domain.now }
     ensures came { (b : _) → (start : _) → IsPolling b poll start task.old (turn.Again stage.QueueSecond)
         → IsPolling b poll start task.new result }
+    ensures did { DidStretch poll task.old task.new passing.new.head stage.QueueSecond result }
 {
     task.told();
     let ticket = draw_lock(domain, task, head_of(poll.second));
@@ -101,6 +105,7 @@ pub(crate) fn hold_second(
     ensures of { task.new.domain ≡ domain.now }
     ensures came { (b : _) → (start : _) → IsPolling b poll start task.old (turn.Again (stage.HoldSecond ticket))
         → IsPolling b poll start task.new result }
+    ensures did { DidStretch poll task.old task.new passing.new.head (stage.HoldSecond ticket) result }
 {
     match lock_turn(domain, task, head_of(poll.second), ticket) {
         Err(_) => Turn::Locked(PollStage::HoldSecond(ticket)),

@@ -6,12 +6,13 @@ ghost use Rattle.wait_rule.specs.Queues.{IsIdle};
 ghost use Rattle.wait_rule.specs.Says.{IsClean, IsUp};
 ghost use Rattle.wait_rule.specs.Stays.{Carries};
 ghost use Rattle.wait_class.specs.Posts.{IsOut};
-ghost use Rattle.wait_class.specs.Tables.{LooksAwake};
+ghost use Rattle.wait_class.specs.Tables.{LooksAwake, SleepsNot};
 ghost use Rattle.wait_class.specs.declared.stages.Turn.TheVariants as turn;
 ghost use Rattle.poll_wait.specs.Polls.{EndsPoll, IsPoll, StaysBeside, poll_change};
 ghost use Rattle.poll_wait.specs.Seconds.{IsSecondOut};
 ghost use Rattle.poll_turns.specs.declared.stages.PollUntil.TheVariants as until;
 ghost use Rattle.poll_turns.specs.PollTurns.{EndsPollUntil, IsPollUnderWay, IsPolling};
+ghost use Rattle.poll_turns.specs.PollShows.{DidStretch};
 
 use crate::asking::{ask, leaves_at, load_first, load_last, load_queued, sleep};
 use crate::queueing::{hold_first, hold_second, queue_first, queue_second};
@@ -59,6 +60,7 @@ pub fn stretch_poll(
     ensures stands { IsPollUnderWay poll task.new result }
     ensures came { (b : _) → (start : _) → IsPolling b poll start task.old (turn.Again stage)
         → IsPolling b poll start task.new result }
+    ensures did { DidStretch poll task.old task.new passing.new.head stage result }
 {
     match stage {
         PollStage::First => load_first(domain, task, poll),
@@ -99,6 +101,8 @@ pub fn stretch_poll_out(
     ensures stands { IsPollUnderWay poll task.new result }
     ensures came { (start : _) → IsPolling true poll start task.old (turn.Again stage)
         → IsPolling true poll start task.new result }
+    ensures did { DidStretch poll task.old task.new passing.new.head stage result }
+    ensures awake { SleepsNot task.old task.new }
 {
     if leaves_at(stage) {
         return load_last(domain, task, poll);

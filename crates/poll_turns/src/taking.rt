@@ -6,6 +6,8 @@ ghost use Rattle.wait_class.specs.declared.stages.Turn.TheVariants as turn;
 ghost use Rattle.poll_wait.specs.Polls.{IsPoll};
 ghost use Rattle.poll_turns.specs.declared.stages.PollStage.TheVariants as stage;
 ghost use Rattle.poll_turns.specs.PollTurns.{IsPollUnderWay, IsPolling};
+ghost use Rattle.poll_turns.specs.PollShows.{DidStretch};
+ghost use Rattle.wait_model.specs.declared.layout.TheConstants.{HEADS};
 
 use crate::entries::{pare_first, pare_second, pass_on, second_entry};
 use crate::stages::{PollStage, PollTurn, PollUntil};
@@ -27,6 +29,7 @@ pub(crate) fn take_first(domain: &Domain, task: &mut Task, poll: Poll, end: Poll
     ensures of { task.new.domain ≡ domain.now }
     ensures came { (b : _) → (start : _) → IsPolling b poll start task.old (turn.Again (stage.TakeFirst end))
         → IsPolling b poll start task.new result }
+    ensures did { DidStretch poll task.old task.new HEADS (stage.TakeFirst end) result }
 {
     let _ = poll;
     task.told();
@@ -61,6 +64,7 @@ pub(crate) fn hold_take_first(
     ensures of { task.new.domain ≡ domain.now }
     ensures came { (b : _) → (start : _) → IsPolling b poll start task.old
         (turn.Again (stage.HoldTakeFirst end head ticket)) → IsPolling b poll start task.new result }
+    ensures did { DidStretch poll task.old task.new passing.new.head (stage.HoldTakeFirst end head ticket) result }
 {
     let _ = poll;
     match lock_turn(domain, task, head, ticket) {
@@ -82,6 +86,7 @@ pub(crate) fn take_second(domain: &Domain, task: &mut Task, poll: Poll, end: Pol
     ensures of { task.new.domain ≡ domain.now }
     ensures came { (b : _) → (start : _) → IsPolling b poll start task.old (turn.Again (stage.TakeSecond end))
         → IsPolling b poll start task.new result }
+    ensures did { DidStretch poll task.old task.new HEADS (stage.TakeSecond end) result }
 {
     let _ = poll;
     task.told();
@@ -112,6 +117,7 @@ pub(crate) fn hold_take_second(
     ensures of { task.new.domain ≡ domain.now }
     ensures came { (b : _) → (start : _) → IsPolling b poll start task.old
         (turn.Again (stage.HoldTakeSecond end head ticket)) → IsPolling b poll start task.new result }
+    ensures did { DidStretch poll task.old task.new passing.new.head (stage.HoldTakeSecond end head ticket) result }
 {
     let _ = poll;
     match lock_turn(domain, task, head, ticket) {

@@ -1,6 +1,7 @@
 use Rattle.std.proofs.Common.{inl, inr, subst}
 use Rattle.wait_rule.specs.Stays.{Carries, sleep_change}
 use Rattle.poll_turns.proofs.Sleeping.{falls_asleep, slept_awake, turned_more}
+use Rattle.poll_turns.proofs.Showing.{sleep_failed, slept_again, slept_last}
 use Rattle.poll_turns.proofs.asking.sleep.Goals as goal
 
 pub returns-in-Some-Asleep-clause-came : goal.returns-in-Some-Asleep-clause-came
@@ -26,3 +27,22 @@ returns-in-Some-Signal-clause-came c b start x =
     (inr c.in-Some-Signal.field-0-is))
     (subst (λ (y : _). Carries (sleep_change y) c.args.task.now c.sleep_try.new.task) c.in-Some-Signal.field-0-is
     c.in-Some-Signal.ensures.carries)
+
+pub returns-in-None-clause-did : goal.returns-in-None-clause-did
+returns-in-None-clause-did c = sleep_failed c.args.poll c.args.task.now c.sleep_try.new.task c.args.failed
+    c.sleep_try.new.failed c.in-None.ensures.same c.in-None.ensures.counts
+
+pub returns-in-Some-Asleep-clause-did : goal.returns-in-Some-Asleep-clause-did
+returns-in-Some-Asleep-clause-did c =
+    let s = c.in-Some-Asleep.ensures.step in
+    slept_last c.args.poll c.args.task.now c.sleep_try.new.task c.args.failed s.0 s.2
+
+pub returns-in-Some-Stay-clause-did : goal.returns-in-Some-Stay-clause-did
+returns-in-Some-Stay-clause-did c =
+    let s = c.in-Some-Stay.ensures.step in
+    slept_again c.args.poll c.args.task.now c.sleep_try.new.task c.args.failed s.0 s.2
+
+pub returns-in-Some-Signal-clause-did : goal.returns-in-Some-Signal-clause-did
+returns-in-Some-Signal-clause-did c =
+    let s = c.in-Some-Signal.ensures.step in
+    slept_again c.args.poll c.args.task.now c.sleep_try.new.task c.args.failed s.0 s.2

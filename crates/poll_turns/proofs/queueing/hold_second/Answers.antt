@@ -1,7 +1,9 @@
 use Rattle.std.proofs.Common.{subst}
 use Rattle.wait_model.specs.Watches.{head_of}
-use Rattle.wq_head.specs.LockTurns.{AwaitsLock}
+use Rattle.wq_head.specs.LockTurns.{AwaitsLock, FindsOther}
 use Rattle.poll_turns.proofs.Holding.{awaits_as, low_head, second_head, second_home, second_low, second_tried, took_as}
+use Rattle.poll_turns.specs.declared.stages.PollStage.TheVariants as stage
+use Rattle.poll_turns.proofs.Showing.{hold_again, hold_waits, join_second_awake}
 use Rattle.poll_turns.proofs.queueing.hold_second.Goals as goal
 
 pub lock_turn-requires-clause-head : goal.lock_turn-requires-clause-head
@@ -58,3 +60,22 @@ returns-in-Ok-clause-came c b start x =
     c.args.ticket c.head_of.ensures x.waits)))
     c.join_second-joined.new.task c.join_second-joined.result c.join_second-joined.ensures.joins c.pass_on.new.task
     c.pass_on.ensures.gives
+
+pub returns-in-Err-clause-did : goal.returns-in-Err-clause-did
+returns-in-Err-clause-did c =
+    let o = subst (λ (h : _). FindsOther c.args.task.now c.lock_turn.new.task h c.args.ticket c.in-Err.field-0) c.head_of.ensures
+    c.in-Err.ensures.other in
+    hold_waits c.args.poll c.args.task.now c.lock_turn.new.task (head_of c.args.poll.second) c.args.ticket c.in-Err.field-0
+    c.args.passing.now.head o c.requires.passes (stage.HoldSecond c.args.ticket) (stage.HoldSecond c.args.ticket) (c.args.task.now, c.in-Err.field-0, o)
+
+pub returns-in-Ok-clause-did : goal.returns-in-Ok-clause-did
+returns-in-Ok-clause-did c =
+    let x = c.requires.at.2 in
+    hold_again c.args.poll x.queued c.args.task.now c.lock_turn.new.task c.join_second-joined.new.task c.pass_on.new.task
+    (head_of c.args.poll.second) c.args.ticket x.waits
+    (took_as x.queued c.lock_turn.new.task c.head_of.result (head_of c.args.poll.second) c.head_of.ensures
+    (c.in-Ok.ensures.turned x.queued (awaits_as x.queued c.args.task.now (head_of c.args.poll.second) c.head_of.result
+    c.args.ticket c.head_of.ensures x.waits)))
+    (join_second_awake c.args.poll.second c.requires.poll.second c.lock_turn.new.task c.join_second-joined.new.task
+    c.join_second-joined.result c.join_second-joined.ensures.joins)
+    c.pass_on.ensures.gives (stage.HoldSecond c.args.ticket) (stage.Load c.join_second-joined.result) c.pass_on.new.passing.head c.pass_on.ensures.passes

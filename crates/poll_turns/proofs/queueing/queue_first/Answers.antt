@@ -1,4 +1,5 @@
 use Rattle.poll_turns.proofs.Holding.{first_drawn, low_head}
+use Rattle.poll_turns.proofs.Showing.{drawn_first, waits_still}
 use Rattle.poll_turns.proofs.queueing.queue_first.Goals as goal
 
 pub draw_lock-ticket-requires-clause-head : goal.draw_lock-ticket-requires-clause-head
@@ -24,3 +25,9 @@ pub returns-clause-came : goal.returns-clause-came
 returns-clause-came c b start x = c.hold_first.ensures.came b start
     (first_drawn c.args.poll start c.args.task.now c.draw_lock-ticket.new.task c.head_of.result c.draw_lock-ticket.result
     c.head_of.ensures x c.told.ensures c.draw_lock-ticket.ensures.awaits)
+
+pub returns-clause-did : goal.returns-clause-did
+returns-clause-did c = drawn_first c.args.poll c.args.task.now c.draw_lock-ticket.new.task c.hold_first.new.task
+    c.hold_first.new.passing.head c.draw_lock-ticket.result c.hold_first.result
+    (waits_still c.args.task.now c.draw_lock-ticket.new.task c.head_of.result c.draw_lock-ticket.result
+    c.draw_lock-ticket.ensures.awaits) c.hold_first.ensures.did

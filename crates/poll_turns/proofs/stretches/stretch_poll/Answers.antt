@@ -1,5 +1,8 @@
-use Rattle.std.proofs.Common.{subst}
+use Rattle.std.proofs.Common.{ℕ, subst, sym}
 use Rattle.poll_turns.specs.PollTurns.{AskedIf, IsPollAt}
+use Rattle.poll_turns.specs.declared.stages.PollStage.{PollStage}
+use Rattle.poll_turns.specs.PollShows.{DidStretch}
+use Rattle.wait_model.specs.declared.layout.TheConstants.{HEADS}
 use Rattle.poll_turns.proofs.stretches.stretch_poll.Goals as goal
 
 pub load_first-requires-clause-at : goal.load_first-requires-clause-at
@@ -205,3 +208,63 @@ returns-in-HoldTakeSecond-clause-stands c =
       x.1,
       c.hold_take_second.ensures.came x.0 x.1 (subst (IsPollAt (AskedIf x.0) c.args.poll x.1 c.args.task.now) c.in-HoldTakeSecond.is x.2),
     )
+
+pub returns-in-First-clause-did : goal.returns-in-First-clause-did
+returns-in-First-clause-did c = subst (λ (h : ℕ). DidStretch c.args.poll c.args.task.now c.load_first.new.task h c.args.stage
+    c.load_first.result) (sym c.requires.passes)
+    (subst (λ (s : PollStage). DidStretch c.args.poll c.args.task.now c.load_first.new.task HEADS s c.load_first.result)
+    (sym c.in-First.is) c.load_first.ensures.did)
+
+pub returns-in-QueueFirst-clause-did : goal.returns-in-QueueFirst-clause-did
+returns-in-QueueFirst-clause-did c = subst (λ (s : PollStage). DidStretch c.args.poll c.args.task.now c.queue_first.new.task
+    c.queue_first.new.passing.head s c.queue_first.result) (sym c.in-QueueFirst.is) c.queue_first.ensures.did
+
+pub returns-in-HoldFirst-clause-did : goal.returns-in-HoldFirst-clause-did
+returns-in-HoldFirst-clause-did c = subst (λ (s : PollStage). DidStretch c.args.poll c.args.task.now c.hold_first.new.task
+    c.hold_first.new.passing.head s c.hold_first.result) (sym c.in-HoldFirst.is) c.hold_first.ensures.did
+
+pub returns-in-QueueSecond-clause-did : goal.returns-in-QueueSecond-clause-did
+returns-in-QueueSecond-clause-did c = subst (λ (s : PollStage). DidStretch c.args.poll c.args.task.now c.queue_second.new.task
+    c.queue_second.new.passing.head s c.queue_second.result) (sym c.in-QueueSecond.is) c.queue_second.ensures.did
+
+pub returns-in-HoldSecond-clause-did : goal.returns-in-HoldSecond-clause-did
+returns-in-HoldSecond-clause-did c = subst (λ (s : PollStage). DidStretch c.args.poll c.args.task.now c.hold_second.new.task
+    c.hold_second.new.passing.head s c.hold_second.result) (sym c.in-HoldSecond.is) c.hold_second.ensures.did
+
+pub returns-in-Load-clause-did : goal.returns-in-Load-clause-did
+returns-in-Load-clause-did c = subst (λ (h : ℕ). DidStretch c.args.poll c.args.task.now c.load_queued.new.task h c.args.stage
+    c.load_queued.result) (sym c.requires.passes)
+    (subst (λ (s : PollStage). DidStretch c.args.poll c.args.task.now c.load_queued.new.task HEADS s c.load_queued.result)
+    (sym c.in-Load.is) c.load_queued.ensures.did)
+
+pub returns-in-Ask-clause-did : goal.returns-in-Ask-clause-did
+returns-in-Ask-clause-did c = subst (λ (h : ℕ). DidStretch c.args.poll c.args.task.now c.ask.new.task h c.args.stage
+    c.ask.result) (sym c.requires.passes)
+    (subst (λ (s : PollStage). DidStretch c.args.poll c.args.task.now c.ask.new.task HEADS s c.ask.result)
+    (sym c.in-Ask.is) c.ask.ensures.did)
+
+pub returns-in-Sleep-clause-did : goal.returns-in-Sleep-clause-did
+returns-in-Sleep-clause-did c = subst (λ (h : ℕ). DidStretch c.args.poll c.args.task.now c.sleep.new.task h c.args.stage
+    c.sleep.result) (sym c.requires.passes)
+    (subst (λ (s : PollStage). DidStretch c.args.poll c.args.task.now c.sleep.new.task HEADS s c.sleep.result)
+    (sym c.in-Sleep.is) c.sleep.ensures.did)
+
+pub returns-in-TakeFirst-clause-did : goal.returns-in-TakeFirst-clause-did
+returns-in-TakeFirst-clause-did c = subst (λ (h : ℕ). DidStretch c.args.poll c.args.task.now c.take_first.new.task h c.args.stage
+    c.take_first.result) (sym c.requires.passes)
+    (subst (λ (s : PollStage). DidStretch c.args.poll c.args.task.now c.take_first.new.task HEADS s c.take_first.result)
+    (sym c.in-TakeFirst.is) c.take_first.ensures.did)
+
+pub returns-in-HoldTakeFirst-clause-did : goal.returns-in-HoldTakeFirst-clause-did
+returns-in-HoldTakeFirst-clause-did c = subst (λ (s : PollStage). DidStretch c.args.poll c.args.task.now c.hold_take_first.new.task
+    c.hold_take_first.new.passing.head s c.hold_take_first.result) (sym c.in-HoldTakeFirst.is) c.hold_take_first.ensures.did
+
+pub returns-in-TakeSecond-clause-did : goal.returns-in-TakeSecond-clause-did
+returns-in-TakeSecond-clause-did c = subst (λ (h : ℕ). DidStretch c.args.poll c.args.task.now c.take_second.new.task h c.args.stage
+    c.take_second.result) (sym c.requires.passes)
+    (subst (λ (s : PollStage). DidStretch c.args.poll c.args.task.now c.take_second.new.task HEADS s c.take_second.result)
+    (sym c.in-TakeSecond.is) c.take_second.ensures.did)
+
+pub returns-in-HoldTakeSecond-clause-did : goal.returns-in-HoldTakeSecond-clause-did
+returns-in-HoldTakeSecond-clause-did c = subst (λ (s : PollStage). DidStretch c.args.poll c.args.task.now c.hold_take_second.new.task
+    c.hold_take_second.new.passing.head s c.hold_take_second.result) (sym c.in-HoldTakeSecond.is) c.hold_take_second.ensures.did

@@ -1,7 +1,10 @@
-use Rattle.std.proofs.Common.{◌∙◌, sym}
+use Rattle.std.proofs.Common.{ℕ, ◌∙◌, subst, sym}
 use Rattle.std.specs.Prelude.{true}
 use Rattle.poll_turns.specs.PollTurns.{AskedIf}
 use Rattle.poll_turns.proofs.Quitting.{on_turn}
+use Rattle.poll_turns.specs.declared.stages.PollStage.TheVariants as stage
+use Rattle.poll_turns.specs.PollShows.{DidStretch}
+use Rattle.poll_turns.proofs.Showing.{out_awake}
 use Rattle.poll_turns.proofs.stretches.stretch_poll_out.Goals as goal
 
 pub load_last-requires-clause-at : goal.load_last-requires-clause-at
@@ -29,3 +32,14 @@ returns-then-leaves_at-clause-stands c =
 
 pub returns-clause-came : goal.returns-clause-came
 returns-clause-came c start x = c.stretch_poll.ensures.came true start x
+
+pub returns-then-leaves_at-clause-did : goal.returns-then-leaves_at-clause-did
+returns-then-leaves_at-clause-did c = subst (λ (h : ℕ). DidStretch c.args.poll c.args.task.now c.load_last.new.task h
+    c.args.stage c.load_last.result) (sym c.requires.passes) (c.load_last.ensures.did c.args.stage)
+
+pub returns-then-leaves_at-clause-awake : goal.returns-then-leaves_at-clause-awake
+returns-then-leaves_at-clause-awake c = (c.load_last.ensures.did stage.First).sleeps
+
+pub returns-clause-awake : goal.returns-clause-awake
+returns-clause-awake c = out_awake c.args.stage c.args.task.now c.stretch_poll.new.task
+    (sym c.leaves_at.ensures ∙ c.if-leaves_at.false) c.stretch_poll.ensures.did.sleeps

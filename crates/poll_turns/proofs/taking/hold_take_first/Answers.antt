@@ -1,5 +1,7 @@
 use Rattle.poll_turns.specs.PollTurns.{AskedIf}
 use Rattle.poll_turns.proofs.Ending.{take_fits, take_home, take_on, take_owes}
+use Rattle.poll_turns.specs.declared.stages.PollStage.TheVariants as stage
+use Rattle.poll_turns.proofs.Showing.{hold_again, hold_waits, pare_first_awake}
 use Rattle.poll_turns.proofs.taking.hold_take_first.Goals as goal
 
 pub lock_turn-requires-clause-head : goal.lock_turn-requires-clause-head
@@ -42,3 +44,19 @@ pub returns-in-Ok-clause-came : goal.returns-in-Ok-clause-came
 returns-in-Ok-clause-came c b start x = take_on (AskedIf b) c.args.poll c.requires.poll start c.args.task.now c.args.end
     c.args.head c.args.ticket x c.lock_turn.new.task (c.in-Ok.ensures.turned x.seen x.waits) c.pare_first.new.task
     c.pare_first.result c.pare_first.ensures.pares c.pass_on.new.task c.pass_on.ensures.gives c.told.ensures
+
+pub returns-in-Err-clause-did : goal.returns-in-Err-clause-did
+returns-in-Err-clause-did c =
+    let o = c.in-Err.ensures.other in
+    hold_waits c.args.poll c.args.task.now c.lock_turn.new.task c.args.head c.args.ticket c.in-Err.field-0
+    c.args.passing.now.head o c.requires.passes (stage.HoldTakeFirst c.args.end c.args.head c.args.ticket) (stage.HoldTakeFirst c.args.end c.args.head c.args.ticket)
+    (c.args.task.now, c.in-Err.field-0, o)
+
+pub returns-in-Ok-clause-did : goal.returns-in-Ok-clause-did
+returns-in-Ok-clause-did c =
+    let x = c.requires.at.2 in
+    hold_again c.args.poll x.seen c.args.task.now c.lock_turn.new.task c.pare_first.new.task c.pass_on.new.task c.args.head
+    c.args.ticket x.waits (c.in-Ok.ensures.turned x.seen x.waits)
+    (pare_first_awake c.lock_turn.new.task c.pare_first.new.task c.pare_first.result c.pare_first.ensures.pares)
+    c.pass_on.ensures.gives (stage.HoldTakeFirst c.args.end c.args.head c.args.ticket) (stage.TakeSecond c.args.end) c.pass_on.new.passing.head
+    c.pass_on.ensures.passes

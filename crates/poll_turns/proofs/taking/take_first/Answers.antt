@@ -1,5 +1,9 @@
+use Rattle.std.proofs.Common.{refl}
 use Rattle.poll_turns.specs.PollTurns.{AskedIf}
 use Rattle.poll_turns.proofs.Ending.{first_awaits, first_fits, first_free, first_off, first_up}
+use Rattle.wait_model.specs.declared.steps.Step.TheVariants as step
+use Rattle.poll_turns.specs.declared.stages.PollStage.TheVariants as stage
+use Rattle.poll_turns.proofs.Showing.{first_quiet, made_then, quiet_again, quiet_on, quiet_same, step_quiet, waits_still}
 use Rattle.poll_turns.proofs.taking.take_first.Goals as goal
 
 pub draw_lock-ticket-requires-clause-head : goal.draw_lock-ticket-requires-clause-head
@@ -33,3 +37,24 @@ returns-in-Some-clause-came c b start x = first_awaits (AskedIf b) c.args.poll c
     c.args.end x c.told.ensures c.set_state.new.task c.set_state.ensures.step c.set_state.ensures.carries
     c.own_entry.new.task c.own_entry.result c.own_entry.ensures c.in-Some.entry c.in-Some.is c.head_of-head.result
     c.head_of-head.ensures c.draw_lock-ticket.new.task c.draw_lock-ticket.result c.draw_lock-ticket.ensures.awaits
+
+pub returns-in-None-clause-did : goal.returns-in-None-clause-did
+returns-in-None-clause-did c =
+    let q = first_quiet c.set_state.new.task c.own_entry.new.task c.own_entry.result c.own_entry.ensures in
+    quiet_again c.args.poll c.args.task.now c.own_entry.new.task (stage.TakeFirst c.args.end) (stage.TakeSecond c.args.end)
+    (quiet_on c.args.task.now c.set_state.new.task c.own_entry.new.task
+    (step_quiet c.args.task.now c.set_state.new.task (step.State 0) c.set_state.ensures.step refl refl) q)
+    (made_then c.args.task.now c.set_state.new.task c.own_entry.new.task (step.State 0) c.set_state.ensures.step q.awake)
+
+pub returns-in-Some-clause-did : goal.returns-in-Some-clause-did
+returns-in-Some-clause-did c =
+    let new = c.draw_lock-ticket.new.task in
+    let q = quiet_on c.set_state.new.task c.own_entry.new.task new
+    (first_quiet c.set_state.new.task c.own_entry.new.task c.own_entry.result c.own_entry.ensures)
+    (quiet_same c.own_entry.new.task new (waits_still c.own_entry.new.task new c.head_of-head.result
+    c.draw_lock-ticket.result c.draw_lock-ticket.ensures.awaits)) in
+    quiet_again c.args.poll c.args.task.now new (stage.TakeFirst c.args.end)
+    (stage.HoldTakeFirst c.args.end c.head_of-head.result c.draw_lock-ticket.result)
+    (quiet_on c.args.task.now c.set_state.new.task new
+    (step_quiet c.args.task.now c.set_state.new.task (step.State 0) c.set_state.ensures.step refl refl) q)
+    (made_then c.args.task.now c.set_state.new.task new (step.State 0) c.set_state.ensures.step q.awake)

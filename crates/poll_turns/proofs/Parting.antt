@@ -34,7 +34,7 @@ use Rattle.poll_wait.specs.declared.turns.Poll.{Poll}
 use Rattle.poll_wait.specs.declared.turns.PollEnd.{PollEnd}
 use Rattle.poll_wait.specs.declared.turns.PollEnd.TheVariants as poll_end
 use Rattle.poll_wait.specs.declared.turns.Ready.{Ready}
-use Rattle.poll_wait.specs.Polls.{AsksIf, AsksSignal, EndsLast, EndsPoll, EndsQueueing, FindsNoPlace, GoesOn, IsPoll, LeavesBoth, QueuesBoth, SleepsTurn, SleepsTurns, StaysBeside, front_in, loaded, ready_of}
+use Rattle.poll_wait.specs.Polls.{AsksIf, AsksSignal, EndsLast, EndsPoll, EndsQueueing, FindsNoPlace, PollGoesOn, IsPoll, LeavesBoth, QueuesBoth, SleepsTurn, SleepsTurns, StaysBesidePoll, front_in, loaded, ready_of}
 use Rattle.poll_wait.specs.Seconds.{HasLeftSecond, JoinsSecond}
 use Rattle.poll_wait.proofs.Beside.{Beside, beside_join, looks_beside, near_steps, step_beside}
 use Rattle.poll_wait.proofs.Near.{goes_near}
@@ -159,7 +159,7 @@ module _ (p : Poll) (is : IsPoll p) where
       (leaves_beside (loaded p l x.there) new x.leaves))))
 
   stays_by : (old new : Known) → (told_of old).hold.head ≡ None → new.view.number ≡ old.view.number → Beside old new
-      → StaysBeside old new
+      → StaysBesidePoll old new
   stays_by old new none number b = record {
     grows = b.aside;
     ends = b.ends;
@@ -167,12 +167,12 @@ module _ (p : Poll) (is : IsPoll p) where
   }
 
   ready_stays : (old new : Known) (r : Result Ready PollEnd) → (told_of old).hold.head ≡ None
-      → new.view.number ≡ old.view.number → LeavesReady p old new r → StaysBeside old new
+      → new.view.number ≡ old.view.number → LeavesReady p old new r → StaysBesidePoll old new
   ready_stays old new (Ok r) none number x = stays_by old new none number (leaves_part old new x.0 (Some r) x.1)
   ready_stays old new (Err e) none number x = absurd x
 
   pub until_stays : (A : Type 0) (old new : Known) (end : PollUntil) → (told_of old).hold.head ≡ None
-      → new.view.number ≡ old.view.number → EndsPollUntil A p old new end → StaysBeside old new
+      → new.view.number ≡ old.view.number → EndsPollUntil A p old new end → StaysBesidePoll old new
   until_stays A old new (until.Over r) none number (inl x) = stays_beside p is old new r none number x
   until_stays A old new (until.Over r) none number (inr x) = ready_stays old new r none number x.1
   until_stays A old new (until.Left first second) none number x = stays_by old new none number

@@ -32,7 +32,7 @@ use Rattle.poll_wait.specs.Polls.{
   MayTurn,
   QueuesBoth,
   SleepsTurns,
-  StaysBeside,
+  StaysBesidePoll,
   front_in,
   loaded,
   poll_change,
@@ -225,7 +225,7 @@ pub record HasPolled (A : Type 0) (p : Poll) (old new : Known) (end : PollUntil)
   pub out : IsOut new
   pub out_second : IsSecondOut new
   pub carries : Carries (poll_change old.view.number new.at) old new
-  pub beside : StaysBeside old new
+  pub beside : StaysBesidePoll old new
 
 abbrev pub IsPollAt : Type 0 → Poll → Known → Known → PollStage → Type 0
 IsPollAt A p old new stage.First = (new ≡ old) × CanPoll old

@@ -8,7 +8,7 @@ ghost use Rattle.wait_rule.specs.Stays.{Carries};
 ghost use Rattle.wait_class.specs.Posts.{IsOut};
 ghost use Rattle.wait_class.specs.Tables.{LooksAwake, SleepsNot};
 ghost use Rattle.wait_class.specs.declared.stages.Turn.TheVariants as turn;
-ghost use Rattle.poll_wait.specs.Polls.{EndsPoll, IsPoll, StaysBeside, poll_change};
+ghost use Rattle.poll_wait.specs.Polls.{EndsPoll, IsPoll, StaysBesidePoll, poll_change};
 ghost use Rattle.poll_wait.specs.Seconds.{IsSecondOut};
 ghost use Rattle.poll_turns.specs.declared.stages.PollUntil.TheVariants as until;
 ghost use Rattle.poll_turns.specs.PollTurns.{EndsPollUntil, IsPollUnderWay, IsPolling};
@@ -140,7 +140,7 @@ pub fn end_poll(task: &Task, poll: Poll, end: PollUntil) -> Result<Ready, PollEn
     ensures ends { (start : _) → IsPolling false poll start task.now (turn.Done end) → EndsPoll poll start task.now result }
     ensures carries { (start : _) → IsPolling false poll start task.now (turn.Done end)
         → Carries (poll_change start.view.number task.now.at) start task.now }
-    ensures beside { (start : _) → IsPolling false poll start task.now (turn.Done end) → StaysBeside start task.now }
+    ensures beside { (start : _) → IsPolling false poll start task.now (turn.Done end) → StaysBesidePoll start task.now }
     ensures clean { (start : _) → IsPolling false poll start task.now (turn.Done end) → IsClean start
         → IsClean task.now }
 {
@@ -164,7 +164,7 @@ pub fn end_poll_until(task: &Task, poll: Poll, end: PollUntil) -> PollUntil
         → EndsPollUntil (Unit {0}) poll start task.now result }
     ensures carries { (start : _) → IsPolling true poll start task.now (turn.Done end)
         → Carries (poll_change start.view.number task.now.at) start task.now }
-    ensures beside { (start : _) → IsPolling true poll start task.now (turn.Done end) → StaysBeside start task.now }
+    ensures beside { (start : _) → IsPolling true poll start task.now (turn.Done end) → StaysBesidePoll start task.now }
     ensures clean { (start : _) → IsPolling true poll start task.now (turn.Done end) → IsClean start
         → IsClean task.now }
 {

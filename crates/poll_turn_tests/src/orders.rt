@@ -1,0 +1,141 @@
+//! Two polls and a setter on one thread, which goes on with one of them at a time, in an order that a number draws: what
+//! an executor does.
+
+ghost use Rattle.std.specs.Prelude.{◌≡◌};
+ghost use Rattle.wait_rule.specs.Says.{IsClean};
+ghost use Rattle.wait_class.specs.declared.stages.Turn.TheVariants as turn;
+ghost use Rattle.poll_wait.specs.Polls.{IsPoll};
+ghost use Rattle.poll_turns.specs.PollTurns.{IsPollUnderWay};
+
+use crate::calls::{sets, stores};
+use crate::turns::{go_on, next_number};
+use crate::wants::{all_so, another};
+use poll_turns::{Poll, PollTurn, PollUntil, begin_poll};
+use poll_wait::Ready;
+use std::sync::Wait;
+use std::test::Fail;
+use wait_class::stages::Turn;
+use wait_model::tasks::SleepState;
+use wait_model::watches::Watch;
+use wait_rule::{Domain, Task};
+
+/// How many turns an order has at most: each poll has fewer than 40 stretches, and two of five turns go to each.
+const TURNS: u32 = 800;
+
+/// How many orders are drawn.
+const ORDERS: u32 = 300;
+
+/// The setter's turn: it sets the condition or stores the variable, where it has not done so yet. Whether it has then.
+fn set_if<R: Wait>(
+    rt: &R,
+    domain: &Domain,
+    setter: &mut Task,
+    variable: bool,
+    is_to: bool,
+    done: bool,
+) -> bool
+    requires of { setter.old.domain ≡ domain.now }
+    requires clean { IsClean setter.old }
+    ensures of { setter.new.domain ≡ domain.now }
+    ensures clean { IsClean setter.new }
+{
+    if !is_to || done {
+        return done;
+    }
+    if variable {
+        stores(rt, domain, setter, 20, 5);
+    } else {
+        sets(rt, domain, setter, 3, 7);
+    }
+    true
+}
+
+/// Plays one order, of two polls that have just begun: where they stand then.
+fn play_two<R: Wait>(
+    rt: &R,
+    domain: &Domain,
+    setter: &mut Task,
+    first: &mut Task,
+    first_poll: Poll,
+    one: PollTurn,
+    second: &mut Task,
+    second_poll: Poll,
+    two: PollTurn,
+    seed: u32,
+) -> (PollTurn, PollTurn)
+    requires of { (setter.old.domain ≡ domain.now) × (first.old.domain ≡ domain.now)
+        × (second.old.domain ≡ domain.now) }
+    requires setter { IsClean setter.old }
+    requires first_poll { IsPoll first_poll }
+    requires second_poll { IsPoll second_poll }
+    requires one { IsPollUnderWay first_poll first.old one }
+    requires two { IsPollUnderWay second_poll second.old two }
+{
+    let mut one_at = one;
+    let mut two_at = two;
+    let mut seed = seed;
+    let mut set = false;
+    for _ in 0..TURNS {
+        seed = next_number(seed);
+        match seed % 5 {
+            0 | 1 => one_at = go_on(domain, first, first_poll, one_at, false),
+            2 | 3 => two_at = go_on(domain, second, second_poll, two_at, false),
+            _ => set = set_if(rt, domain, setter, seed % 2 == 0, seed % 64 < 8, set),
+        }
+    }
+    (one_at, two_at)
+}
+
+/// Whether it is over, and found the condition or the variable.
+fn is_found(turn: PollTurn, variable_first: bool) -> bool {
+    match turn {
+        Turn::Done(PollUntil::Over(Ok(Ready::First { value }))) => {
+            value == if variable_first { 5 } else { 7 }
+        }
+        Turn::Done(PollUntil::Over(Ok(Ready::Second { value }))) => {
+            value == if variable_first { 7 } else { 5 }
+        }
+        _ => false,
+    }
+}
+
+/// In each order both polls see the set, and each what was set.
+#[test]
+fn in_each_order_both_see_the_set(rt: HostRuntime) -> Result<(), Fail> {
+    let mut seen = [true; 2];
+    for order in 0..ORDERS {
+        let (domain, mut setter) = Domain::with_looks(rt.alloc(), 0)?;
+        let mut first = another(&rt, &domain, &mut setter);
+        let mut second = another(&rt, &domain, &mut setter);
+        let cond = Watch::Plain { cond: 3 };
+        let var = Watch::Var { var: 20, old: 0 };
+        let one = Poll {
+            first: cond,
+            second: var,
+            state: SleepState::Uninterruptible,
+        };
+        let two = Poll {
+            first: var,
+            second: cond,
+            state: SleepState::Interruptible,
+        };
+        let one_at = Turn::Again(begin_poll(&first, one));
+        let two_at = Turn::Again(begin_poll(&second, two));
+        let ends = play_two(
+            &rt,
+            &domain,
+            &mut setter,
+            &mut first,
+            one,
+            one_at,
+            &mut second,
+            two,
+            two_at,
+            order + 1,
+        );
+        seen[0] = seen[0] && is_found(ends.0, false);
+        seen[1] = seen[1] && is_found(ends.1, true);
+    }
+    all_so(&rt, &seen);
+    Ok(())
+}

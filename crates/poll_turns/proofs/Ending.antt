@@ -43,7 +43,7 @@ use Rattle.poll_wait.proofs.Queueing.{may_finish, may_leave}
 use Rattle.poll_wait.proofs.Turning.{done_carried, done_idle}
 use Rattle.poll_turns.specs.declared.stages.PollUntil.{PollUntil}
 use Rattle.poll_turns.specs.declared.stages.PollUntil.TheVariants as until
-use Rattle.poll_turns.specs.PollSteps.{GivesBack}
+use Rattle.poll_turns.specs.PollSteps.{GivesHoldBack}
 use Rattle.poll_turns.specs.PollTurns.{AwaitsTakeFirst, AwaitsTakeSecond, EndsPollUntil, HasPolled, HasTakenFirst, IsEnding}
 use Rattle.poll_turns.proofs.Holding.{took_as}
 use Rattle.poll_turns.proofs.Parting.{until_stays}
@@ -117,7 +117,7 @@ module _ (A : Type 0) (p : Poll) (is : IsPoll p) (start old : Known) (end : Poll
       take_owes = finish_owes w.before w.stored fin w.stores w.carries w.seen (Some w.entry) w.looks w.entry refl a
           took.locked took.carries b (pares_at a b found pares)
 
-      pub take_on : (new : Known) → GivesBack b new → IsTold new → HasTakenFirst A p start new end
+      pub take_on : (new : Known) → GivesHoldBack b new → IsTold new → HasTakenFirst A p start new end
       take_on new gives known = taken A p is start w.before end w.ending w.told new known
           (finish_on w.before w.stored fin w.stores w.carries w.seen (Some w.entry) w.looks w.entry refl a took.locked
           took.carries took.held b found pares new gives.unlocked gives.carries)
@@ -209,7 +209,7 @@ module _ (A : Type 0) (p : Poll) (is : IsPoll p) (start between : Known) (end : 
           second_owes = leave_owes between seen o second_may told looks entry some a took_second.locked took_second.carries b
               (pares_second a b found pares).at
 
-          pub second_on : (new : Known) → GivesBack b new → HasPolled A p start new end
+          pub second_on : (new : Known) → GivesHoldBack b new → HasPolled A p start new end
           second_on new gives = over new
               (leave_on between seen o second_may told looks entry some a took_second.locked took_second.carries
               took_second.held b found pares new gives.unlocked gives.carries)

@@ -27,11 +27,11 @@ use Rattle.poll_wait.proofs.Joining.{held_at, join_carries, join_ends, join_may,
 use Rattle.poll_wait.proofs.Pairing.{join_pair, prepare_pair, queue_pair}
 use Rattle.poll_wait.proofs.Polled.{join_has, polled_low, prepare_has, suits_by}
 use Rattle.poll_wait.proofs.Queueing.{may_join, queue_ends}
-use Rattle.poll_turns.specs.PollSteps.{GivesBack, JoinsFirst}
-use Rattle.poll_turns.specs.PollTurns.{AwaitsFirst, AwaitsSecond, HasFirst, HasTried, HasTurned, IsWithin}
+use Rattle.poll_turns.specs.PollSteps.{GivesHoldBack, JoinsFirst}
+use Rattle.poll_turns.specs.PollTurns.{AwaitsFirst, AwaitsSecond, HasFirst, HasTriedQueueing, HasMadeTurns, IsWithin}
 
 -- the first entry
-module _ (p : Poll) (is : IsPoll p) (start last a : Known) (turned : HasTurned p start last) (was : IsTold last)
+module _ (p : Poll) (is : IsPoll p) (start last a : Known) (turned : HasMadeTurns p start last) (was : IsTold last)
     (took : TookLock last a (head_of p.first)) where
   may : MayPrepare last p.first (kind_for p.first) p.state
   may = record {
@@ -66,7 +66,7 @@ module _ (p : Poll) (is : IsPoll p) (start last a : Known) (turned : HasTurned p
       took.locked took.carries heed b
       (joins_at (record { kind = kind_for p.first; watch = p.first; how = front_in p.state; asks = false }) a b r joins)
 
-  module _ (b new : Known) (gives : GivesBack b new) (now : IsTold new) where
+  module _ (b new : Known) (gives : GivesHoldBack b new) (now : IsTold new) where
     -- as a prepare, whatever it answers
     within : (q : Result (Unit {0}) Worn) → new.view.number ≡ last.view.number
         → EndsPrepare last new p.first (kind_for p.first) (front_in p.state) false (with_signal q) → TurnCarries last new
@@ -91,7 +91,7 @@ module _ (p : Poll) (is : IsPoll p) (start last a : Known) (turned : HasTurned p
           first = (e.0, e.1);
         }
 
-    pub first_worn : (w : Worn) → JoinsFirst p a b (Err w) → HasTried p start new (Err w)
+    pub first_worn : (w : Worn) → JoinsFirst p a b (Err w) → HasTriedQueueing p start new (Err w)
     first_worn w joins =
         let e = prepared_ends
         (record { kind = kind_for p.first; watch = p.first; how = front_in p.state; asks = false }) last a a may was suits
@@ -121,7 +121,7 @@ module _ (p : Poll) (is : IsPoll p) (start queued a : Known) (has : HasFirst p s
     pub second_low : OwesNoPermit b
     second_low = joins_low p.second queued a took.carries (polled_low p.second is.second) b (held_at p.second a b r joins)
 
-    pub second_tried : (new : Known) → GivesBack b new → HasTried p start new r
+    pub second_tried : (new : Known) → GivesHoldBack b new → HasTriedQueueing p start new r
     second_tried new gives =
         let carries = join_carries p.second queued a b new join was took.locked took.carries gives.unlocked gives.carries r
         joins in
@@ -138,7 +138,7 @@ module _ (p : Poll) (is : IsPoll p) (start queued a : Known) (has : HasFirst p s
         }
 
 -- behind a draw
-pub first_drawn : (p : Poll) (start last now : Known) (h t : ℕ) → h ≡ head_of p.first → HasTurned p start last → IsTold last
+pub first_drawn : (p : Poll) (start last now : Known) (h t : ℕ) → h ≡ head_of p.first → HasMadeTurns p start last → IsTold last
     → AwaitsLock last now h t → AwaitsFirst p start now t
 first_drawn p start last now h t is turned told waits = record {
   last = last;

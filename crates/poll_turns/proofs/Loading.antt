@@ -19,7 +19,7 @@ use Rattle.poll_wait.proofs.Pairing.{pairs_on, state_as, still_pair}
 use Rattle.poll_wait.proofs.Polled.{still_has}
 use Rattle.poll_wait.proofs.Turning.{ends_poll, first_turn, loads_carried, loads_idle, loads_out, loads_second}
 use Rattle.poll_turns.specs.declared.stages.PollUntil.TheVariants as until
-use Rattle.poll_turns.specs.PollTurns.{CanPoll, HasLoaded, HasPolled, HasTried, HasTurned, IsEnding, IsToSleep, IsWithin}
+use Rattle.poll_turns.specs.PollTurns.{CanPoll, HasLoadedBoth, HasPolled, HasTriedQueueing, HasMadeTurns, IsEnding, IsToSleep, IsWithin}
 use Rattle.poll_turns.proofs.Parting.{until_stays}
 
 -- over steps that are about no entry
@@ -41,7 +41,7 @@ turn_within p is start last mid new w c = record {
 -- the loads before the first turn
 module _ (p : Poll) (is : IsPoll p) (start new : Known) (can : CanPoll start) (l : Loads)
     (loads : new ≡ loaded p l start) (c : Carries unchanged start new) where
-  pub first_unset : ready_of p l ≡ None → HasTurned p start new
+  pub first_unset : ready_of p l ≡ None → HasMadeTurns p start new
   first_unset none = record {
     begins = can;
     loads = l;
@@ -66,7 +66,7 @@ module _ (p : Poll) (is : IsPoll p) (start new : Known) (can : CanPoll start) (l
       }
 
 -- an end of the present turn is one of the whole call
-pub last_ends : (p : Poll) (start last new : Known) (r : Result Ready PollEnd) → HasTurned p start last
+pub last_ends : (p : Poll) (start last new : Known) (r : Result Ready PollEnd) → HasMadeTurns p start last
     → EndsLast p last new r → EndsPoll p start new r
 last_ends p start last new r turned ends = ends_poll p turned.loads start (loaded p turned.loads start) new r None refl
     turned.unset (record { turns = turned.turns; last = last; sleeps = turned.sleeps; ends = ends })
@@ -86,7 +86,7 @@ is_ending A p start last now r w ends = record {
 
 -- the loads behind a queueing
 module _ (A : Type 0) (p : Poll) (is : IsPoll p) (start old new : Known) (q : Result (Unit {0}) Worn)
-    (tried : HasTried p start old q) (l : Loads) (loads : new ≡ loaded p l old) (c : Carries unchanged old new) where
+    (tried : HasTriedQueueing p start old q) (l : Loads) (loads : new ≡ loaded p l old) (c : Carries unchanged old new) where
   abbrev last : Known
   last = tried.last
 
@@ -117,7 +117,7 @@ module _ (A : Type 0) (p : Poll) (is : IsPoll p) (start old new : Known) (q : Re
       queues : QueuesBoth p last old
       queues = subst (λ (d : Result (Unit {0}) Worn). EndsQueueing p last old d) both tried.queues
 
-      pub loads_looks : looks_in p.state ≡ true → HasLoaded p start new l
+      pub loads_looks : looks_in p.state ≡ true → HasLoadedBoth p start new l
       loads_looks looks = record {
         looks = looks;
         last = last;
@@ -140,7 +140,7 @@ module _ (A : Type 0) (p : Poll) (is : IsPoll p) (start old new : Known) (q : Re
       }
 
 -- the look for a signal
-module _ (A : Type 0) (p : Poll) (is : IsPoll p) (start old new : Known) (l : Loads) (had : HasLoaded p start old l) (w : ℕ)
+module _ (A : Type 0) (p : Poll) (is : IsPoll p) (start old new : Known) (l : Loads) (had : HasLoadedBoth p start old l) (w : ℕ)
     (looked : new ≡ added old (item.Made (step.Look w))) (c : Carries unchanged old new) (hit : Bool)
     (shows : hit ≡ pending (state_mask p.state) (task_of w)) where
   ask_within : IsWithin p start had.last new

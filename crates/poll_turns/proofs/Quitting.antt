@@ -16,9 +16,9 @@ use Rattle.poll_turns.specs.PollTurns.{
   EndsPollUntil,
   HasBegunTurn,
   HasFirst,
-  HasLoaded,
-  HasTried,
-  HasTurned,
+  HasLoadedBoth,
+  HasTriedQueueing,
+  HasMadeTurns,
   IsEnding,
   IsOnTurn,
   IsPollAt,
@@ -35,7 +35,7 @@ use Rattle.poll_turns.proofs.Ending.{same_carries}
 use Rattle.poll_turns.proofs.Loading.{turn_within}
 
 -- where it stands
-on_none : (p : Poll) (start now : Known) → HasTurned p start now → IsOnTurn p start now
+on_none : (p : Poll) (start now : Known) → HasMadeTurns p start now → IsOnTurn p start now
 on_none p start now t = record {
   last = now;
   within = record {
@@ -53,10 +53,10 @@ on_none p start now t = record {
 on_first : (p : Poll) (start now : Known) → HasFirst p start now → IsOnTurn p start now
 on_first p start now x = record { last = x.last; within = x.within; part = queued_first now x.first }
 
-on_both : (p : Poll) (start now : Known) → HasTried p start now (Ok tt) → IsOnTurn p start now
+on_both : (p : Poll) (start now : Known) → HasTriedQueueing p start now (Ok tt) → IsOnTurn p start now
 on_both p start now x = record { last = x.last; within = x.within; part = queued_both now x.queues }
 
-on_loads : (p : Poll) (start now : Known) (l : Loads) → HasLoaded p start now l → IsOnTurn p start now
+on_loads : (p : Poll) (start now : Known) (l : Loads) → HasLoadedBoth p start now l → IsOnTurn p start now
 on_loads p start now l x = record {
   last = x.last;
   within = x.within;

@@ -42,8 +42,8 @@ use Rattle.poll_wait.proofs.Programs.{OnPrepare, join_near, prepare_near}
 use Rattle.poll_turns.specs.declared.stages.PollStage.{PollStage}
 use Rattle.poll_turns.specs.declared.stages.PollStage.TheVariants as stage
 use Rattle.poll_turns.specs.declared.stages.PollUntil.{PollUntil}
-use Rattle.poll_turns.specs.PollShows.{DidStretch, HasFailedSleep, HasFoundOther, PollShows, SleepsAt}
-use Rattle.poll_turns.specs.PollSteps.{GivesBack, JoinsFirst}
+use Rattle.poll_turns.specs.PollShows.{DidStretch, HasFailedSleep, FindsOtherServed, PollShows, SleepsAt}
+use Rattle.poll_turns.specs.PollSteps.{GivesHoldBack, JoinsFirst}
 use Rattle.poll_turns.specs.PollTurns.{PollTurn, leaves_at}
 
 -- steps one after another
@@ -193,7 +193,7 @@ pare_second_awake old new false x = sleeps_not_on old x.seen new (second_quiet o
 
 -- A hold: the lock, what is done there, and the unlock.
 module _ (start old a b new : Known) (h t : ℕ) (waits : AwaitsLock start old h t) (took : TookLock start a h)
-    (did : SleepsNot a b) (gives : GivesBack b new) where
+    (did : SleepsNot a b) (gives : GivesHoldBack b new) where
   abbrev locks : Step
   locks = step.Lock h (walk_of_hold h None) took.locked.found
 
@@ -232,7 +232,7 @@ sleeps_by (stage.Sleep f) old new x = tt
 sleeps_by s old new x = x
 
 pub hold_again : (p : Poll) (start old a b new : Known) (h t : ℕ) → AwaitsLock start old h t → TookLock start a h
-    → SleepsNot a b → GivesBack b new → (s n : PollStage) (head : ℕ) → head ≡ b.at → DidStretch p old new head s (turn.Again n)
+    → SleepsNot a b → GivesHoldBack b new → (s n : PollStage) (head : ℕ) → head ≡ b.at → DidStretch p old new head s (turn.Again n)
 hold_again p start old a b new h t waits took did gives s n head is_head = record {
   shows = inl (hold_made start old a b new h t waits took did gives);
   sleeps = sleeps_by s old new (hold_awake start old a b new h t waits took did gives);
@@ -240,7 +240,7 @@ hold_again p start old a b new h t waits took did gives s n head is_head = recor
 }
 
 pub hold_done : (p : Poll) (start old a b new : Known) (h t : ℕ) → AwaitsLock start old h t → TookLock start a h
-    → SleepsNot a b → GivesBack b new → (s : PollStage) (end : PollUntil) (head : ℕ) → head ≡ b.at
+    → SleepsNot a b → GivesHoldBack b new → (s : PollStage) (end : PollUntil) (head : ℕ) → head ≡ b.at
     → DidStretch p old new head s (turn.Done end)
 hold_done p start old a b new h t waits took did gives s end head is_head = record {
   shows = tt;
@@ -249,7 +249,7 @@ hold_done p start old a b new h t waits took did gives s end head is_head = reco
 }
 
 pub hold_waits : (p : Poll) (old new : Known) (h t served head : ℕ) → FindsOther old new h t served → head ≡ HEADS
-    → (s n : PollStage) → HasFoundOther p new n → DidStretch p old new head s (turn.Locked n)
+    → (s n : PollStage) → FindsOtherServed p new n → DidStretch p old new head s (turn.Locked n)
 hold_waits p old new h t served head x is_head s n found =
     let q = quiet_same old new (served_still old new h served x.looked) in record {
       shows = found;

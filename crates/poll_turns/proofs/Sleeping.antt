@@ -23,7 +23,7 @@ use Rattle.poll_wait.proofs.Polled.{still_has}
 use Rattle.wait_class.specs.declared.stages.Turn.TheVariants as turn
 use Rattle.poll_turns.specs.declared.stages.PollStage.{PollStage}
 use Rattle.poll_turns.specs.declared.stages.PollStage.TheVariants as stage
-use Rattle.poll_turns.specs.PollTurns.{HasTurned, IsPollAsleep, IsPollUnderWay, IsPolling, IsToSleep}
+use Rattle.poll_turns.specs.PollTurns.{HasMadeTurns, IsPollAsleep, IsPollUnderWay, IsPolling, IsToSleep}
 
 -- one turn more
 sleeps_more : (p : Poll) (turns : List Known) (start now new : Known) → SleepsTurns p start turns now
@@ -32,7 +32,7 @@ sleeps_more p [] start now new was t = (subst (λ (k : Known). SleepsTurn p k ne
 sleeps_more p (next ∷ more) start now new was t = (was.0, sleeps_more p more next now new was.1 t)
 
 pub turned_more : (p : Poll) → IsPoll p → (start asked new : Known) (b : IsToSleep p start asked) (answer : Sleep)
-    → HasSlept asked new answer → Carries (state_change 0) asked new → HasTurned p start new
+    → HasSlept asked new answer → Carries (state_change 0) asked new → HasMadeTurns p start new
 turned_more p is start asked new b answer slept c =
     let t = b.within.turned in record {
       begins = t.begins;
@@ -133,7 +133,7 @@ module _ (p : Poll) (is : IsPoll p) (start old : Known) (z : IsPollAsleep p star
         answers = sym z.asleep;
       }
 
-  pub woken_on : (task_of w).runnable ≡ true → HasTurned p start new
+  pub woken_on : (task_of w).runnable ≡ true → HasMadeTurns p start new
   woken_on shows = turned_more p is start z.asked new z.before sleep.Asleep (rose shows)
       (risen_carried z.asked slept new z.found z.before.within.has.up refl (looked true shows))
 

@@ -23,18 +23,18 @@ HasFailedSleep old new _ _ = ⊥
 abbrev pub LooksLast : Known → ℕ → ℕ → Type 0
 LooksLast new head ticket = (before : Known) × (served : ℕ) × FindsOther before new head ticket served
 
-abbrev pub HasFoundOther : Poll → Known → PollStage → Type 0
-HasFoundOther p new (stage.HoldFirst ticket) = LooksLast new (head_of p.first) ticket
-HasFoundOther p new (stage.HoldSecond ticket) = LooksLast new (head_of p.second) ticket
-HasFoundOther p new (stage.HoldTakeFirst end head ticket) = LooksLast new head ticket
-HasFoundOther p new (stage.HoldTakeSecond end head ticket) = LooksLast new head ticket
-HasFoundOther p new _ = ⊥
+abbrev pub FindsOtherServed : Poll → Known → PollStage → Type 0
+FindsOtherServed p new (stage.HoldFirst ticket) = LooksLast new (head_of p.first) ticket
+FindsOtherServed p new (stage.HoldSecond ticket) = LooksLast new (head_of p.second) ticket
+FindsOtherServed p new (stage.HoldTakeFirst end head ticket) = LooksLast new head ticket
+FindsOtherServed p new (stage.HoldTakeSecond end head ticket) = LooksLast new head ticket
+FindsOtherServed p new _ = ⊥
 
 -- That it goes on: an event, or a failed try; that it waits for a lock: a look that found another number served; that it
 -- was put asleep: a sleep, which came last.
 abbrev pub PollShows : Poll → Known → Known → PollStage → PollTurn → Type 0
 PollShows p old new s (turn.Again n) = MadeEvent old new ⊎ HasFailedSleep old new s n
-PollShows p old new s (turn.Locked n) = HasFoundOther p new n
+PollShows p old new s (turn.Locked n) = FindsOtherServed p new n
 PollShows p old new s (turn.Asleep n) = SleptLast old new
 PollShows p old new s (turn.Done end) = Unit {0}
 

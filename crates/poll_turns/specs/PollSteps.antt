@@ -17,7 +17,7 @@ JoinsFirst p old new r = Joins (record { kind = kind_for p.first; watch = p.firs
     old new r
 
 -- the head that is held is given back
-pub record GivesBack (old new : Known) : Type 0 where
+pub record GivesHoldBack (old new : Known) : Type 0 where
   pub is : new ≡ unlocked_with old old.at false
   pub unlocked : HasUnlocked old new false
   pub carries : Carries unlock_change old new

@@ -50,9 +50,9 @@ abbrev pub PollTurn : Type 0
 PollTurn = Turn PollStage PollUntil
 
 -- whether it may have been asked to leave
-abbrev pub AskedIf : Bool → Type 0
-AskedIf true = Unit {0}
-AskedIf false = ⊥
+abbrev pub PollAskedIf : Bool → Type 0
+PollAskedIf true = Unit {0}
+PollAskedIf false = ⊥
 
 -- who may begin: an idle task that has neither entry queued
 pub record CanPoll (k : Known) : Type 0 where
@@ -64,7 +64,7 @@ pub record CanPoll (k : Known) : Type 0 where
 
 -- It began at `start`, loaded both conditions and found neither set, and then slept in turns, one after the other. It is
 -- before a turn now, RUNNING, with its two entries off or for these watches.
-pub record HasTurned (p : Poll) (start now : Known) : Type 0 where
+pub record HasMadeTurns (p : Poll) (start now : Known) : Type 0 where
   pub begins : CanPoll start
   pub loads : Loads
   pub unset : ready_of p loads ≡ None
@@ -75,14 +75,14 @@ pub record HasTurned (p : Poll) (start now : Known) : Type 0 where
 
 -- Since the turn began it has come to hold no head, and to have its two entries off or for these watches.
 pub record IsWithin (p : Poll) (start last now : Known) : Type 0 where
-  pub turned : HasTurned p start last
+  pub turned : HasMadeTurns p start last
   pub has : HasBoth p now
   pub carries : TurnCarries last now
 
 -- it drew this ticket for the hold in which the first entry is queued
 pub record AwaitsFirst (p : Poll) (start now : Known) (ticket : ℕ) : Type 0 where
   pub last : Known
-  pub turned : HasTurned p start last
+  pub turned : HasMadeTurns p start last
   pub told : IsTold last
   pub waits : AwaitsLock last now (head_of p.first) ticket
 
@@ -100,13 +100,13 @@ pub record AwaitsSecond (p : Poll) (start now : Known) (ticket : ℕ) : Type 0 w
   pub waits : AwaitsLock queued now (head_of p.second) ticket
 
 -- both are queued, or no place was left for one of them
-pub record HasTried (p : Poll) (start now : Known) (outcome : Result (Unit {0}) Worn) : Type 0 where
+pub record HasTriedQueueing (p : Poll) (start now : Known) (outcome : Result (Unit {0}) Worn) : Type 0 where
   pub last : Known
   pub within : IsWithin p start last now
   pub queues : EndsQueueing p last now outcome
 
 -- behind both entries it loaded both conditions, and found neither set; its state admits signals
-pub record HasLoaded (p : Poll) (start now : Known) (loads : Loads) : Type 0 where
+pub record HasLoadedBoth (p : Poll) (start now : Known) (loads : Loads) : Type 0 where
   pub looks : looks_in p.state ≡ true
   pub last : Known
   pub within : IsWithin p start last now
@@ -229,12 +229,12 @@ pub record HasPolled (A : Type 0) (p : Poll) (old new : Known) (end : PollUntil)
 
 abbrev pub IsPollAt : Type 0 → Poll → Known → Known → PollStage → Type 0
 IsPollAt A p old new stage.First = (new ≡ old) × CanPoll old
-IsPollAt A p old new stage.QueueFirst = HasTurned p old new
+IsPollAt A p old new stage.QueueFirst = HasMadeTurns p old new
 IsPollAt A p old new (stage.HoldFirst ticket) = AwaitsFirst p old new ticket
 IsPollAt A p old new stage.QueueSecond = HasFirst p old new
 IsPollAt A p old new (stage.HoldSecond ticket) = AwaitsSecond p old new ticket
-IsPollAt A p old new (stage.Load outcome) = HasTried p old new outcome
-IsPollAt A p old new (stage.Ask loads) = HasLoaded p old new loads
+IsPollAt A p old new (stage.Load outcome) = HasTriedQueueing p old new outcome
+IsPollAt A p old new (stage.Ask loads) = HasLoadedBoth p old new loads
 IsPollAt A p old new (stage.Sleep failed) = IsToSleep p old new
 IsPollAt A p old new (stage.TakeFirst end) = IsEnding A p old new end
 IsPollAt A p old new (stage.HoldTakeFirst end head ticket) = AwaitsTakeFirst A p old new end head ticket
@@ -249,10 +249,10 @@ IsPollAsleepAt p old new _ = ⊥
 -- The wait that this task began at `old` has come to what a stretch answered; it may have been asked to leave, or was
 -- not.
 abbrev pub IsPolling : Bool → Poll → Known → Known → PollTurn → Type 0
-IsPolling b p old new (turn.Again s) = IsPollAt (AskedIf b) p old new s
-IsPolling b p old new (turn.Locked s) = IsPollAt (AskedIf b) p old new s
+IsPolling b p old new (turn.Again s) = IsPollAt (PollAskedIf b) p old new s
+IsPolling b p old new (turn.Locked s) = IsPollAt (PollAskedIf b) p old new s
 IsPolling b p old new (turn.Asleep s) = IsPollAsleepAt p old new s
-IsPolling b p old new (turn.Done end) = HasPolled (AskedIf b) p old new end
+IsPolling b p old new (turn.Done end) = HasPolled (PollAskedIf b) p old new end
 
 -- so is a wait for these two, whenever it began
 abbrev pub IsPollUnderWay : Poll → Known → PollTurn → Type 0

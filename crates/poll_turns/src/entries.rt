@@ -14,7 +14,7 @@ ghost use Rattle.wq_head.specs.Holds.{IsHolding};
 ghost use Rattle.poll_wait.specs.Polls.{IsPoll};
 ghost use Rattle.poll_wait.specs.Seconds.{IsPolled, second_of};
 ghost use Rattle.poll_wait.specs.SecondSteps.{HasSeenSecond, IsSecondAtHead, JoinsHeld, ParesSecond};
-ghost use Rattle.poll_turns.specs.PollSteps.{GivesBack, JoinsFirst};
+ghost use Rattle.poll_turns.specs.PollSteps.{GivesHoldBack, JoinsFirst};
 
 use poll_wait::turns::Poll;
 use wait_class::queueing::{add_by, is_first, own_entry, wait_form};
@@ -36,7 +36,7 @@ pub(crate) fn pass_on(domain: &Domain, task: &mut Task, passing: &mut Passing)
     requires permits { OwesNoPermit task.old }
     requires passes { PassesNone passing.old }
     ensures of { task.new.domain ≡ domain.now }
-    ensures gives { GivesBack task.old task.new }
+    ensures gives { GivesHoldBack task.old task.new }
     ensures passes { passing.new.head ≡ task.old.at }
 {
     passing.put(give_back(domain, task, false));

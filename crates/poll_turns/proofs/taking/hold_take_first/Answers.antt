@@ -1,4 +1,4 @@
-use Rattle.poll_turns.specs.PollTurns.{AskedIf}
+use Rattle.poll_turns.specs.PollTurns.{PollAskedIf}
 use Rattle.poll_turns.proofs.Ending.{take_fits, take_home, take_on, take_owes}
 use Rattle.poll_turns.specs.declared.stages.PollStage.TheVariants as stage
 use Rattle.poll_turns.proofs.Showing.{hold_again, hold_waits, pare_first_awake}
@@ -7,7 +7,7 @@ use Rattle.poll_turns.proofs.taking.hold_take_first.Goals as goal
 pub lock_turn-requires-clause-head : goal.lock_turn-requires-clause-head
 lock_turn-requires-clause-head c =
     let x = c.requires.at in
-    take_fits (AskedIf x.0) c.args.poll c.requires.poll x.1 c.args.task.now c.args.end c.args.head c.args.ticket x.2
+    take_fits (PollAskedIf x.0) c.args.poll c.requires.poll x.1 c.args.task.now c.args.end c.args.head c.args.ticket x.2
 
 pub lock_turn-requires-clause-awaits : goal.lock_turn-requires-clause-awaits
 lock_turn-requires-clause-awaits c = (c.requires.at.2.seen, c.requires.at.2.waits)
@@ -15,13 +15,13 @@ lock_turn-requires-clause-awaits c = (c.requires.at.2.seen, c.requires.at.2.wait
 pub pare_first-requires-clause-home : goal.pare_first-requires-clause-home
 pare_first-requires-clause-home c =
     let x = c.requires.at in
-    take_home (AskedIf x.0) c.args.poll c.requires.poll x.1 c.args.task.now c.args.end c.args.head c.args.ticket x.2
+    take_home (PollAskedIf x.0) c.args.poll c.requires.poll x.1 c.args.task.now c.args.end c.args.head c.args.ticket x.2
     c.lock_turn.new.task (c.in-Ok.ensures.turned x.2.seen x.2.waits)
 
 pub pass_on-requires-clause-permits : goal.pass_on-requires-clause-permits
 pass_on-requires-clause-permits c =
     let x = c.requires.at in
-    take_owes (AskedIf x.0) c.args.poll c.requires.poll x.1 c.args.task.now c.args.end c.args.head c.args.ticket x.2
+    take_owes (PollAskedIf x.0) c.args.poll c.requires.poll x.1 c.args.task.now c.args.end c.args.head c.args.ticket x.2
     c.lock_turn.new.task (c.in-Ok.ensures.turned x.2.seen x.2.waits) c.pare_first.new.task c.pare_first.result
     c.pare_first.ensures.pares
 
@@ -41,7 +41,7 @@ returns-in-Err-clause-came c b start x = record {
 }
 
 pub returns-in-Ok-clause-came : goal.returns-in-Ok-clause-came
-returns-in-Ok-clause-came c b start x = take_on (AskedIf b) c.args.poll c.requires.poll start c.args.task.now c.args.end
+returns-in-Ok-clause-came c b start x = take_on (PollAskedIf b) c.args.poll c.requires.poll start c.args.task.now c.args.end
     c.args.head c.args.ticket x c.lock_turn.new.task (c.in-Ok.ensures.turned x.seen x.waits) c.pare_first.new.task
     c.pare_first.result c.pare_first.ensures.pares c.pass_on.new.task c.pass_on.ensures.gives c.told.ensures
 

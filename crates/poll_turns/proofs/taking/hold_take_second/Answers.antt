@@ -1,6 +1,6 @@
 use Rattle.std.proofs.Common.{refl}
 use Rattle.std.specs.Prelude.{Some}
-use Rattle.poll_turns.specs.PollTurns.{AskedIf}
+use Rattle.poll_turns.specs.PollTurns.{PollAskedIf}
 use Rattle.poll_turns.proofs.Ending.{second_fits, second_home, second_on, second_owes}
 use Rattle.poll_turns.specs.declared.stages.PollStage.TheVariants as stage
 use Rattle.poll_turns.proofs.Showing.{hold_done, hold_waits, pare_second_awake}
@@ -10,7 +10,7 @@ pub lock_turn-requires-clause-head : goal.lock_turn-requires-clause-head
 lock_turn-requires-clause-head c =
     let x = c.requires.at in
     let y = x.2 in
-    second_fits (AskedIf x.0) c.args.poll c.requires.poll x.1 y.between c.args.end y.taken y.told y.seen (Some y.entry)
+    second_fits (PollAskedIf x.0) c.args.poll c.requires.poll x.1 y.between c.args.end y.taken y.told y.seen (Some y.entry)
     y.looks y.entry refl c.args.head y.is_head
 
 pub lock_turn-requires-clause-awaits : goal.lock_turn-requires-clause-awaits
@@ -20,14 +20,14 @@ pub pare_second-requires-clause-home : goal.pare_second-requires-clause-home
 pare_second-requires-clause-home c =
     let x = c.requires.at in
     let y = x.2 in
-    second_home (AskedIf x.0) c.args.poll c.requires.poll x.1 y.between c.args.end y.taken y.told y.seen (Some y.entry)
+    second_home (PollAskedIf x.0) c.args.poll c.requires.poll x.1 y.between c.args.end y.taken y.told y.seen (Some y.entry)
     y.looks y.entry refl c.args.head y.is_head c.lock_turn.new.task (c.in-Ok.ensures.turned y.seen y.waits)
 
 pub pass_on-requires-clause-permits : goal.pass_on-requires-clause-permits
 pass_on-requires-clause-permits c =
     let x = c.requires.at in
     let y = x.2 in
-    second_owes (AskedIf x.0) c.args.poll c.requires.poll x.1 y.between c.args.end y.taken y.told y.seen (Some y.entry)
+    second_owes (PollAskedIf x.0) c.args.poll c.requires.poll x.1 y.between c.args.end y.taken y.told y.seen (Some y.entry)
     y.looks y.entry refl c.args.head y.is_head c.lock_turn.new.task (c.in-Ok.ensures.turned y.seen y.waits)
     c.pare_second.new.task c.pare_second.result c.pare_second.ensures.pares
 
@@ -44,7 +44,7 @@ returns-in-Err-clause-came c b start x = record {
 }
 
 pub returns-in-Ok-clause-came : goal.returns-in-Ok-clause-came
-returns-in-Ok-clause-came c b start y = second_on (AskedIf b) c.args.poll c.requires.poll start y.between c.args.end
+returns-in-Ok-clause-came c b start y = second_on (PollAskedIf b) c.args.poll c.requires.poll start y.between c.args.end
     y.taken y.told y.seen (Some y.entry) y.looks y.entry refl c.args.head y.is_head c.lock_turn.new.task
     (c.in-Ok.ensures.turned y.seen y.waits) c.pare_second.new.task c.pare_second.result c.pare_second.ensures.pares
     c.pass_on.new.task c.pass_on.ensures.gives

@@ -1,4 +1,4 @@
-use Rattle.poll_turns.specs.PollTurns.{AskedIf}
+use Rattle.poll_turns.specs.PollTurns.{PollAskedIf}
 use Rattle.poll_turns.proofs.Ending.{second_awaits, second_fits, second_free, second_off, second_up}
 use Rattle.poll_turns.specs.declared.stages.PollStage.TheVariants as stage
 use Rattle.poll_turns.proofs.Showing.{quiet_again, quiet_done, quiet_on, quiet_same, second_made, second_quiet, waits_still}
@@ -7,30 +7,30 @@ use Rattle.poll_turns.proofs.taking.take_second.Goals as goal
 pub draw_lock-ticket-requires-clause-head : goal.draw_lock-ticket-requires-clause-head
 draw_lock-ticket-requires-clause-head c =
     let x = c.requires.at in
-    second_fits (AskedIf x.0) c.args.poll c.requires.poll x.1 c.args.task.now c.args.end x.2 c.told.ensures
+    second_fits (PollAskedIf x.0) c.args.poll c.requires.poll x.1 c.args.task.now c.args.end x.2 c.told.ensures
     c.second_entry.new.task c.second_entry.result c.second_entry.ensures c.in-Some.entry c.in-Some.is
     c.head_of-head.result c.head_of-head.ensures
 
 pub draw_lock-ticket-requires-clause-free : goal.draw_lock-ticket-requires-clause-free
 draw_lock-ticket-requires-clause-free c =
     let x = c.requires.at in
-    second_free (AskedIf x.0) c.args.poll c.requires.poll x.1 c.args.task.now c.args.end x.2 c.told.ensures
+    second_free (PollAskedIf x.0) c.args.poll c.requires.poll x.1 c.args.task.now c.args.end x.2 c.told.ensures
     c.second_entry.new.task c.second_entry.result c.second_entry.ensures c.in-Some.entry c.in-Some.is
     c.head_of-head.result c.head_of-head.ensures
 
 pub draw_lock-ticket-requires-clause-up : goal.draw_lock-ticket-requires-clause-up
 draw_lock-ticket-requires-clause-up c =
     let x = c.requires.at in
-    second_up (AskedIf x.0) c.args.poll c.requires.poll x.1 c.args.task.now c.args.end x.2 c.told.ensures
+    second_up (PollAskedIf x.0) c.args.poll c.requires.poll x.1 c.args.task.now c.args.end x.2 c.told.ensures
     c.second_entry.new.task c.second_entry.result c.second_entry.ensures c.in-Some.entry c.in-Some.is
     c.head_of-head.result c.head_of-head.ensures
 
 pub returns-in-None-clause-came : goal.returns-in-None-clause-came
-returns-in-None-clause-came c b start x = second_off (AskedIf b) c.args.poll c.requires.poll start c.args.task.now
+returns-in-None-clause-came c b start x = second_off (PollAskedIf b) c.args.poll c.requires.poll start c.args.task.now
     c.args.end x c.told.ensures c.second_entry.new.task c.second_entry.result c.second_entry.ensures c.in-None.is
 
 pub returns-in-Some-clause-came : goal.returns-in-Some-clause-came
-returns-in-Some-clause-came c b start x = second_awaits (AskedIf b) c.args.poll c.requires.poll start c.args.task.now
+returns-in-Some-clause-came c b start x = second_awaits (PollAskedIf b) c.args.poll c.requires.poll start c.args.task.now
     c.args.end x c.told.ensures c.second_entry.new.task c.second_entry.result c.second_entry.ensures c.in-Some.entry
     c.in-Some.is c.head_of-head.result c.head_of-head.ensures c.draw_lock-ticket.new.task c.draw_lock-ticket.result
     c.draw_lock-ticket.ensures.awaits

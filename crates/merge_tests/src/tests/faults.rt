@@ -14,33 +14,32 @@ const ROUNDS: u32 = 30;
 fn sources_fail(rt: HostRuntime) -> Result<(), Fail> {
     for (read, arrived) in [(1u64, 0usize), (2, 4_096)] {
         for _ in 0..ROUNDS {
-            let fails = [read];
-            let first = merge(
-                &rt,
-                rt.alloc(),
-                Given {
-                    first_fails: &fails,
-                    ..of_sizes(SIZE, SIZE)
-                },
-            )?;
+            let given = Given {
+                first_fails: read,
+                ..of_sizes(SIZE, SIZE)
+            };
+            let first = merge(&rt, rt.alloc(), given)?;
             assert_eq!(rt;
                 (first.stop, first.left.stop),
                 (Stop::ReadFault, Stop::ReadFault)
             );
-            assert!(rt; parts_of(first.sink.bytes()).is_some_and(|parts| parts.0 == arrived));
-            let second = merge(
-                &rt,
-                rt.alloc(),
-                Given {
-                    second_fails: &fails,
-                    ..of_sizes(SIZE, SIZE)
-                },
-            )?;
+            assert_eq!(rt;
+                parts_of(first.sink.bytes()).map(|parts| parts.0),
+                Some(arrived)
+            );
+            let given = Given {
+                second_fails: read,
+                ..of_sizes(SIZE, SIZE)
+            };
+            let second = merge(&rt, rt.alloc(), given)?;
             assert_eq!(rt;
                 (second.stop, second.right.stop),
                 (Stop::ReadFault, Stop::ReadFault)
             );
-            assert!(rt; parts_of(second.sink.bytes()).is_some_and(|parts| parts.1 == arrived));
+            assert_eq!(rt;
+                parts_of(second.sink.bytes()).map(|parts| parts.1),
+                Some(arrived)
+            );
         }
     }
     Ok(())
@@ -51,15 +50,11 @@ fn sources_fail(rt: HostRuntime) -> Result<(), Fail> {
 fn sink_fails(rt: HostRuntime) -> Result<(), Fail> {
     for write in [1u64, 3] {
         for _ in 0..ROUNDS {
-            let fails = [write];
-            let end = merge(
-                &rt,
-                rt.alloc(),
-                Given {
-                    writes_fail: &fails,
-                    ..of_sizes(SIZE, SIZE)
-                },
-            )?;
+            let given = Given {
+                writes_fail: write,
+                ..of_sizes(SIZE, SIZE)
+            };
+            let end = merge(&rt, rt.alloc(), given)?;
             assert_eq!(rt;
                 (end.stop, end.writer.stop),
                 (Stop::WriteFault, Stop::WriteFault)

@@ -36,14 +36,19 @@ impl Source for Late<'_> {
     ghost faults = { λ late. late.source.reads.faults };
 
     fn read(&mut self, buf: &mut [u8]) -> Result<usize, Failed> {
-        for _ in 0..LOOKS {
-            if self.arrived.bytes.load(Ordering::SeqCst) >= self.after {
-                return self.source.read(buf);
-            }
-        }
-        self.arrived.gave_up.fetch_add(1, Ordering::SeqCst);
+        hold_up(self.arrived, self.after);
         self.source.read(buf)
     }
+}
+
+/// Waits until so many bytes have arrived, or gives up, and says so.
+fn hold_up(arrived: &Arrived, after: u64) {
+    for _ in 0..LOOKS {
+        if arrived.bytes.load(Ordering::SeqCst) >= after {
+            return;
+        }
+    }
+    arrived.gave_up.fetch_add(1, Ordering::SeqCst);
 }
 
 /// A sink that counts what it takes.

@@ -20,22 +20,22 @@ pub fn bytes_of(alloc: Global, size: usize, mark: u8) -> Result<Vec<u8>, AllocEr
     Ok(bytes)
 }
 
-/// What is merged: how many bytes each source has, and which reads and writes fail.
+/// What is merged: how many bytes each source has, and which read of each and which write fails; 0 is none of them.
 #[derive(Clone, Copy)]
-pub struct Given<'a> {
+pub struct Given {
     pub sizes: (usize, usize),
-    pub first_fails: &'a [u64],
-    pub second_fails: &'a [u64],
-    pub writes_fail: &'a [u64],
+    pub first_fails: u64,
+    pub second_fails: u64,
+    pub writes_fail: u64,
 }
 
 /// Sources of these sizes, and nothing fails.
-pub fn of_sizes(first: usize, second: usize) -> Given<'static> {
+pub fn of_sizes(first: usize, second: usize) -> Given {
     Given {
         sizes: (first, second),
-        first_fails: &[],
-        second_fails: &[],
-        writes_fail: &[],
+        first_fails: 0,
+        second_fails: 0,
+        writes_fail: 0,
     }
 }
 
@@ -43,14 +43,14 @@ pub fn of_sizes(first: usize, second: usize) -> Given<'static> {
 pub fn merge<R: Threads + Wait + Sync>(
     rt: &R,
     alloc: Global,
-    given: Given<'_>,
+    given: Given,
 ) -> Result<MergeEnd<MemSource, MemSink>, AllocError> {
     let (domain, mut task) = Domain::with_looks(alloc, 0)?;
     let first = bytes_of(alloc, given.sizes.0, 0)?;
     let second = bytes_of(alloc, given.sizes.1, SECOND)?;
-    let first = MemSource::new(alloc, &first, given.first_fails)?;
-    let second = MemSource::new(alloc, &second, given.second_fails)?;
-    let sink = MemSink::new(alloc, given.writes_fail)?;
+    let first = MemSource::new(alloc, &first, &[given.first_fails])?;
+    let second = MemSource::new(alloc, &second, &[given.second_fails])?;
+    let sink = MemSink::new(alloc, &[given.writes_fail])?;
     match merge_all(rt, &domain, &mut task, first, second, sink, &OpenGate) {
         Ok(end) => Ok(end),
         Err(_) => Err(AllocError),

@@ -20,7 +20,7 @@ use Rattle.wait_event.proofs.PartSteps.{heeds_none, joins_at}
 use Rattle.wait_event.proofs.Preparing.{ends_carried, ends_keeps, join_ends as prepared_ends, prepare_home, prepare_low, prepare_may}
 use Rattle.poll_wait.specs.declared.turns.Poll.{Poll}
 use Rattle.poll_wait.specs.Polls.{IsPoll, front_in}
-use Rattle.poll_wait.specs.Seconds.{IsPolled, MayJoin, second_of}
+use Rattle.poll_wait.specs.Seconds.{IsPolled, MayJoinSecond, second_of}
 use Rattle.poll_wait.specs.SecondSteps.{JoinsHeld}
 use Rattle.poll_wait.specs.TurnSteps.{TurnCarries}
 use Rattle.poll_wait.proofs.Joining.{held_at, join_carries, join_ends, join_may, joins_home, joins_low}
@@ -108,7 +108,7 @@ module _ (p : Poll) (is : IsPoll p) (start last a : Known) (turned : HasMadeTurn
 -- the second
 module _ (p : Poll) (is : IsPoll p) (start queued a : Known) (has : HasFirst p start queued) (was : IsTold queued)
     (took : TookLock queued a (head_of p.second)) where
-  join : MayJoin queued p.second
+  join : MayJoinSecond queued p.second
   join = may_join p queued has.within.has
 
   pub second_head : head_of p.second ≡ a.at

@@ -175,6 +175,48 @@ fn came_out(adds: u32, from: MutexTurn, to: MutexTurn) -> u32 {
     }
 }
 
+/// One turn of an order: the first task goes on, or the second, as the number says, and where each stands then.
+fn play_turn<R: Wait>(
+    rt: &R,
+    domain: &Domain,
+    first: &mut Task,
+    second: &mut Task,
+    ats: (MutexTurn, MutexTurn),
+    seed: u32,
+) -> (MutexTurn, MutexTurn)
+    requires of { (first.old.domain ≡ domain.now) × (second.old.domain ≡ domain.now) }
+    requires one { IsLockUnderWay 6 first.old ats.0 }
+    requires two { IsLockUnderWay 6 second.old ats.1 }
+    ensures of { (first.new.domain ≡ domain.now) × (second.new.domain ≡ domain.now) }
+    ensures one { IsLockUnderWay 6 first.new result.0 }
+    ensures two { IsLockUnderWay 6 second.new result.1 }
+{
+    let may = seed % 7 < 3;
+    if seed % 2 == 0 {
+        let next = take_turn(rt, domain, first, ats.0, may && is_free(ats.1));
+        return (next, ats.1);
+    }
+    let next = take_turn(rt, domain, second, ats.1, may && is_free(ats.0));
+    (ats.0, next)
+}
+
+/// What a turn does to the sections and to how often each came out: one of the two stands where it stood.
+fn count_both(
+    sections: Sections,
+    from: (MutexTurn, MutexTurn),
+    to: (MutexTurn, MutexTurn),
+) -> Sections {
+    let first = count_turn(sections, from.0, to.0);
+    let both = count_turn(first, from.1, to.1);
+    Sections {
+        adds: (
+            came_out(sections.adds.0, from.0, to.0),
+            came_out(sections.adds.1, from.1, to.1),
+        ),
+        ..both
+    }
+}
+
 /// Plays one order of two tasks that take the mutex again and again.
 fn play_two<R: Wait>(
     rt: &R,
@@ -186,8 +228,9 @@ fn play_two<R: Wait>(
     requires of { (first.old.domain ≡ domain.now) × (second.old.domain ≡ domain.now) }
     requires clean { IsClean first.old × IsClean second.old }
 {
-    let mut one = Turn::Again(begin_mutex_lock(first, LOCK));
-    let mut two = Turn::Again(begin_mutex_lock(second, LOCK));
+    let one = Turn::Again(begin_mutex_lock(first, LOCK));
+    let two = Turn::Again(begin_mutex_lock(second, LOCK));
+    let mut ats = (one, two);
     let mut seed = seed;
     let mut sections = Sections {
         inside: false,
@@ -196,18 +239,9 @@ fn play_two<R: Wait>(
     };
     for _ in 0..TURNS {
         seed = next_number(seed);
-        let may = seed % 7 < 3;
-        if seed % 2 == 0 {
-            let next = take_turn(rt, domain, first, one, may && is_free(two));
-            sections = count_turn(sections, one, next);
-            sections.adds.0 = came_out(sections.adds.0, one, next);
-            one = next;
-        } else {
-            let next = take_turn(rt, domain, second, two, may && is_free(one));
-            sections = count_turn(sections, two, next);
-            sections.adds.1 = came_out(sections.adds.1, two, next);
-            two = next;
-        }
+        let next = play_turn(rt, domain, first, second, ats, seed);
+        sections = count_both(sections, ats, next);
+        ats = next;
     }
     sections
 }

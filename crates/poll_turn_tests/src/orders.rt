@@ -50,6 +50,44 @@ fn set_if<R: Wait>(
     true
 }
 
+/// One turn of an order, as the number says: the first poll goes on, or the second, or the setter sets. Where both stand
+/// then, and whether something was set.
+fn play_turn<R: Wait>(
+    rt: &R,
+    domain: &Domain,
+    setter: &mut Task,
+    first: &mut Task,
+    first_poll: Poll,
+    second: &mut Task,
+    second_poll: Poll,
+    at: (PollTurn, PollTurn, bool),
+    seed: u32,
+) -> (PollTurn, PollTurn, bool)
+    requires of { (setter.old.domain ≡ domain.now) × ((first.old.domain ≡ domain.now)
+        × (second.old.domain ≡ domain.now)) }
+    requires setter { IsClean setter.old }
+    requires first_poll { IsPoll first_poll }
+    requires second_poll { IsPoll second_poll }
+    requires one { IsPollUnderWay first_poll first.old at.0 }
+    requires two { IsPollUnderWay second_poll second.old at.1 }
+    ensures of { (setter.new.domain ≡ domain.now) × ((first.new.domain ≡ domain.now)
+        × (second.new.domain ≡ domain.now)) }
+    ensures setter { IsClean setter.new }
+    ensures one { IsPollUnderWay first_poll first.new result.0 }
+    ensures two { IsPollUnderWay second_poll second.new result.1 }
+{
+    if seed % 5 < 2 {
+        let one = go_on(domain, first, first_poll, at.0, false);
+        return (one, at.1, at.2);
+    }
+    if seed % 5 < 4 {
+        let two = go_on(domain, second, second_poll, at.1, false);
+        return (at.0, two, at.2);
+    }
+    let set = set_if(rt, domain, setter, seed % 2 == 0, seed % 64 < 8, at.2);
+    (at.0, at.1, set)
+}
+
 /// Plays one order, of two polls that have just begun: where they stand then.
 fn play_two<R: Wait>(
     rt: &R,
@@ -63,27 +101,31 @@ fn play_two<R: Wait>(
     two: PollTurn,
     seed: u32,
 ) -> (PollTurn, PollTurn)
-    requires of { (setter.old.domain ≡ domain.now) × (first.old.domain ≡ domain.now)
-        × (second.old.domain ≡ domain.now) }
+    requires of { (setter.old.domain ≡ domain.now) × ((first.old.domain ≡ domain.now)
+        × (second.old.domain ≡ domain.now)) }
     requires setter { IsClean setter.old }
     requires first_poll { IsPoll first_poll }
     requires second_poll { IsPoll second_poll }
     requires one { IsPollUnderWay first_poll first.old one }
     requires two { IsPollUnderWay second_poll second.old two }
 {
-    let mut one_at = one;
-    let mut two_at = two;
+    let mut at = (one, two, false);
     let mut seed = seed;
-    let mut set = false;
     for _ in 0..TURNS {
         seed = next_number(seed);
-        match seed % 5 {
-            0 | 1 => one_at = go_on(domain, first, first_poll, one_at, false),
-            2 | 3 => two_at = go_on(domain, second, second_poll, two_at, false),
-            _ => set = set_if(rt, domain, setter, seed % 2 == 0, seed % 64 < 8, set),
-        }
+        at = play_turn(
+            rt,
+            domain,
+            setter,
+            first,
+            first_poll,
+            second,
+            second_poll,
+            at,
+            seed,
+        );
     }
-    (one_at, two_at)
+    (at.0, at.1)
 }
 
 /// Whether it is over, and found the condition or the variable.

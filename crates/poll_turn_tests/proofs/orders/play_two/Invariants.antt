@@ -9,6 +9,6 @@ invariant-loop g l = record {
   of_first : l.first.domain ≡ l.fn.domain;
   of_second : l.second.domain ≡ l.fn.domain;
   setter : IsClean l.setter;
-  one : IsPollUnderWay l.fn.first_poll l.first l.one_at;
-  two : IsPollUnderWay l.fn.second_poll l.second l.two_at;
+  one : IsPollUnderWay l.fn.first_poll l.first l.at.0;
+  two : IsPollUnderWay l.fn.second_poll l.second l.at.1;
 }

@@ -4,7 +4,7 @@ mod idle;
 
 ghost use Rattle.std.specs.Prelude.{◌≡◌};
 ghost use Rattle.wait_rule.specs.Says.{IsClean, IsUp, IsFree};
-ghost use Rattle.wq_head.specs.Readied.{IsAtRest, IsReady};
+ghost use Rattle.wq_head.specs.Readied.{IsUpAndIdle, IsReadyToCall};
 
 use crate::heads::idle::wait_a_second;
 use crate::report::report;
@@ -73,7 +73,7 @@ fn unlocked_looks(domain: &Domain, task: &mut Task, n: u64) -> u64
 /// A task that is awake queues its entry: false where there is no place.
 fn queue_own<R: Wait>(rt: &R, domain: &Domain, mut task: Task) -> bool
     requires of { task.domain ≡ domain.now }
-    requires ready { IsReady task }
+    requires ready { IsReadyToCall task }
 {
     lock(rt, domain, &mut task, HEAD);
     let watch = Watch::Plain { cond: 0 };
@@ -85,9 +85,9 @@ fn queue_own<R: Wait>(rt: &R, domain: &Domain, mut task: Task) -> bool
 /// So many new tasks queue their entries: false where there is no number or no place left.
 fn queue_many<R: Wait>(rt: &R, domain: &Domain, task: &mut Task, count: u8) -> bool
     requires of { task.old.domain ≡ domain.now }
-    requires ready { IsReady task.old }
+    requires ready { IsReadyToCall task.old }
     ensures of { task.new.domain ≡ domain.now }
-    ensures ready { IsReady task.new }
+    ensures ready { IsReadyToCall task.new }
 {
     for _ in 0..count {
         let Ok(other) = task.fork(domain, 0) else {
@@ -103,9 +103,9 @@ fn queue_many<R: Wait>(rt: &R, domain: &Domain, task: &mut Task, count: u8) -> b
 /// Wakes of all who wait for condition 0: 0 where nobody was woken.
 fn wakes<R: Wait>(rt: &R, domain: &Domain, task: &mut Task, n: u64) -> u32
     requires of { task.old.domain ≡ domain.now }
-    requires rests { IsAtRest task.old }
+    requires rests { IsUpAndIdle task.old }
     ensures of { task.new.domain ≡ domain.now }
-    ensures rests { IsAtRest task.new }
+    ensures rests { IsUpAndIdle task.new }
 {
     let mut woken: u32 = 0;
     for _ in 0..n {

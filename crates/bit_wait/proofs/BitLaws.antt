@@ -58,22 +58,22 @@ use Rattle.wait_class.proofs.Stays.{adds_front, wait_stays}
 use Rattle.wait_class.proofs.Ways.{finish_by, go_if, load_fork, look_by, sleep_by, way}
 use Rattle.wait_class.specs.Wholes.{HasRested}
 use Rattle.wait_class.proofs.Wholes.{Rested, begins, ended_runs, none_of, rested_idle, rested_out, rests}
-use Rattle.bit_wait.specs.BitEnds.{EndsBitWait, HasLoaded, IsCause, WasInterrupted, answer_of, end_in, finds_no_place}
+use Rattle.bit_wait.specs.BitEnds.{EndsBitWait, HasLoadedBit, IsBitCause, WasBitInterrupted, answer_of_bit_end, bit_end_in, finds_no_place}
 use Rattle.bit_wait.specs.BitTables.{
   BitAgainTrail,
   BitCauseIn,
   BitFinishTrail,
   BitTestTrail,
   BitWhyFailed,
-  IsFresh,
-  IsRunning,
-  answer_in,
+  IsFreshBitWait,
+  IsRunningBitWait,
+  answer_to_bit,
   bit_frame,
-  bit_in,
+  wait_bit_in,
   bit_table,
-  call_in,
-  end_post,
-  is_worn,
+  wait_bit_call,
+  bit_end_post,
+  is_bit_worn,
   loads_set,
   set_to,
 }
@@ -84,13 +84,13 @@ use Rattle.bit_wait.specs.declared.waits.BitTest.TheVariants as test
 use Rattle.bit_wait.specs.declared.wait_calls.BitEnd.{BitEnd}
 use Rattle.bit_wait.specs.declared.waits.WaitBit.{WaitBit}
 
-run_low : (r : WaitBit) → head_of (bit_in r) < FIRST_DONE_HEAD
+run_low : (r : WaitBit) → head_of (wait_bit_in r) < FIRST_DONE_HEAD
 unfolding head_of
 run_low r = let low = hashed_low (r.word * WORD_BITS + r.bit) in omega (arith, low)
 
 -- a signal that was found stays found while the task does not sleep
 more_signal : (old new : Known) (r : WaitBit) (es : List Step) → has_sleep es ≡ false → Calm es old new
-    → WasInterrupted old r.word r.bit r.state r.seen → WasInterrupted new r.word r.bit r.state r.seen
+    → WasBitInterrupted old r.word r.bit r.state r.seen → WasBitInterrupted new r.word r.bit r.state r.seen
 more_signal old new r es awake calm f = record {
   before = f.before;
   sleep = f.sleep;
@@ -105,7 +105,7 @@ more_signal old new r es awake calm f = record {
 
 -- and a load has been made
 more_loaded : (old new : Known) (w b v : ℕ) (es : List Step) → has_sleep es ≡ false → Calm es old new
-    → HasLoaded old w b v → HasLoaded new w b v
+    → HasLoadedBit old w b v → HasLoadedBit new w b v
 more_loaded old new w b v es awake calm f = record {
   before = f.before;
   more = f.more ++ es;
@@ -140,10 +140,10 @@ still_again old new r still false f = record {
 
 test_still : (old new : Known) (r : WaitBit) (x : BitTest) → Unmoved old new → BitTestTrail old r x → BitTestTrail new r x
 test_still old new r test.First still f = tt
-test_still old new r test.Load still f = ends_still old new (step.Unlock (head_of (bit_in r)) false ∷ []) still f
+test_still old new r test.Load still f = ends_still old new (step.Unlock (head_of (wait_bit_in r)) false ∷ []) still f
 test_still old new r (test.Again true) still f = still_again old new r still r.asked f
 test_still old new r (test.Again false) still f = tt
-test_still old new r test.Worn still f = found_still old new (head_of (bit_in r)) r.place still f
+test_still old new r test.Worn still f = found_still old new (head_of (wait_bit_in r)) r.place still f
 
 bit_if : (b : Bool) (e : Event) → go e (at.Bit (if b then biting.Sleep else biting.Again false))
     ≡ (if b then go e (at.Bit biting.Sleep) else go e (at.Bit (biting.Again false)))
@@ -157,7 +157,7 @@ module _ (r : WaitBit) where
   -- the loads
   module _ (v : ℕ) where
     abbrev e : Event
-    e = load (call_in r) (with_value v)
+    e = load (wait_bit_call r) (with_value v)
 
     abbrev q : Framed WaitBit
     q = record { wait = record r { seen = v } }
@@ -169,28 +169,28 @@ module _ (r : WaitBit) where
     abbrev b : Bool
     b = bit_at v r.bit
 
-    failed_on : (old new : Known) → Calm (step.Load (bit_in r) v ∷ []) old new → (a : Bool) → BitAgainTrail a old r
+    failed_on : (old new : Known) → Calm (step.Load (wait_bit_in r) v ∷ []) old new → (a : Bool) → BitAgainTrail a old r
         → BitWhyFailed a new z.wait
     failed_on old new calm true f = record { before = history_of old; more = []; ends = calm.history; awake = refl }
-    failed_on old new calm false f = more_signal old new r (step.Load (bit_in r) v ∷ []) refl calm f
+    failed_on old new calm false f = more_signal old new r (step.Load (wait_bit_in r) v ∷ []) refl calm f
 
-    fails_on : (old new : Known) → Calm (step.Load (bit_in r) v ∷ []) old new → (failed : Bool)
+    fails_on : (old new : Known) → Calm (step.Load (wait_bit_in r) v ∷ []) old new → (failed : Bool)
         → BitTestTrail old r (test.Again failed) → BitFinishTrail new z.wait failed
     fails_on old new calm true f = failed_on old new calm r.asked f
     fails_on old new calm false f = tt
 
-    abbrev loads_more : (old new : Known) → Calm (step.Load (bit_in r) v ∷ []) old new
-        → EndsWith old (step.Unlock (head_of (bit_in r)) false ∷ [])
-        → EndsWith new (step.Unlock (head_of (bit_in r)) false ∷ step.Load (bit_in r) v ∷ [])
-    loads_more old new calm u = ends_calm old new (step.Unlock (head_of (bit_in r)) false ∷ [])
-        (step.Load (bit_in r) v ∷ []) calm u
+    abbrev loads_more : (old new : Known) → Calm (step.Load (wait_bit_in r) v ∷ []) old new
+        → EndsWith old (step.Unlock (head_of (wait_bit_in r)) false ∷ [])
+        → EndsWith new (step.Unlock (head_of (wait_bit_in r)) false ∷ step.Load (wait_bit_in r) v ∷ [])
+    loads_more old new calm u = ends_calm old new (step.Unlock (head_of (wait_bit_in r)) false ∷ [])
+        (step.Load (wait_bit_in r) v ∷ []) calm u
 
     first_law : LoadLaw bit_table w (stage.Test test.First) v w (set_to test.First b)
     first_law = load_fork bit_table w (stage.Test test.First) refl v w b (turn.Again stage.PrepareLock)
         (turn.Done outcome.Over) (go e (at.Prepare preparing.Lock)) (ends_with e zero_answer) e refl (λ f. f) (λ x did. tt)
         (λ me. refl) (refl, refl) (refl, refl) (λ k me. refl) (λ me k. (refl, tt, tt))
         (way bit_table w (stage.Test test.First) w (turn.Again stage.PrepareLock) refl refl refl refl refl
-        (λ σ s. inl s) (home_waits (bit_in r)))
+        (λ σ s. inl s) (home_waits (wait_bit_in r)))
         (way bit_table w (stage.Test test.First) w (turn.Done outcome.Over) tt refl refl refl refl (λ σ s. s)
         (λ o h. h)) (λ old new is calm u. tt) (λ old new is calm u. tt)
 
@@ -223,10 +223,10 @@ module _ (r : WaitBit) where
         (λ me k. (refl, tt, tt))
         (way bit_table w (stage.Test test.Worn) q (turn.Done outcome.Worn) tt refl refl refl refl (λ σ s. s) (λ o h. h))
         (way bit_table w (stage.Test test.Worn) q (turn.Again (stage.FinishState false)) refl refl refl refl refl
-        (λ σ s. s) (home_waits (bit_in r)))
+        (λ σ s. s) (home_waits (wait_bit_in r)))
         (λ old new is calm u. record {
           head = refl;
-          noted = worn_calm old new (step.Load (bit_in r) v ∷ []) (head_of (bit_in r)) r.place calm u.noted;
+          noted = worn_calm old new (step.Load (wait_bit_in r) v ∷ []) (head_of (wait_bit_in r)) r.place calm u.noted;
           found = v;
           ends = loads_more old new calm u.ends;
           set = is;
@@ -250,7 +250,7 @@ module _ (r : WaitBit) where
       (λ o h. h) (λ v me. ap (λ (c : Bool). next.Go (at.Bit (if c then biting.Look else biting.Again false))) is)
       (λ v me k. tt) (λ v me k. (refl, tt, tt)) (λ old new v calm u. tt)
 
-  again_by : (k : Known) → WasInterrupted k r.word r.bit r.state r.seen → (b : Bool) → BitAgainTrail b k r
+  again_by : (k : Known) → WasBitInterrupted k r.word r.bit r.state r.seen → (b : Bool) → BitAgainTrail b k r
   again_by k f true = tt
   again_by k f false = f
 
@@ -270,14 +270,14 @@ module _ (r : WaitBit) where
       }) r.asked
   found old new v false is calm u = tt
 
-  acted_is : (hit : Bool) → acted (call_in r) hit ≡ at.Bit (biting.Again hit)
+  acted_is : (hit : Bool) → acted (wait_bit_call r) hit ≡ at.Bit (biting.Again hit)
   acted_is true = refl
   acted_is false = refl
 
   look_law : (hit : Bool) → LookLaw bit_table w stage.Look hit
   look_law hit = look_by bit_table w stage.Look refl hit
       (way bit_table w stage.Look w (turn.Again (stage.Test (test.Again hit))) refl refl refl refl refl (λ σ s. inl s)
-      (λ o h. h)) (λ v me is. ap (λ (c : Bool). next.Go (acted (call_in r) c)) is ∙ ap next.Go (acted_is hit))
+      (λ o h. h)) (λ v me is. ap (λ (c : Bool). next.Go (acted (wait_bit_call r) c)) is ∙ ap next.Go (acted_is hit))
       (λ v me k. tt)
       (λ v me k. (refl, tt, tt)) (λ old new v is calm u. found old new v hit is calm u)
 
@@ -295,7 +295,7 @@ abbrev ends_at : WaitBit → Bool → Next
 ends_at r failed = next_in bit_table (bit_frame.finished r failed)
 
 behind : (r : WaitBit) (failed : Bool) (e : Event)
-    → finished (call_in r) failed e ≡ record { event = e; next = ends_at r failed }
+    → finished (wait_bit_call r) failed e ≡ record { event = e; next = ends_at r failed }
 behind r true e = refl
 behind r false e = refl
 
@@ -309,8 +309,8 @@ bit_lawful = record {
   worn_fits = λ r p runs. record { word = runs.word; bit = runs.bit };
   ends = ends_at;
   goes = λ r failed. refl;
-  stands = λ r. asked_stands bit_frame (ends_at r) (call_plan (call_in r)) r.asked
-      (call_stands bit_frame (ends_at r) (call_in r) refl refl refl (behind r));
+  stands = λ r. asked_stands bit_frame (ends_at r) (call_plan (wait_bit_call r)) r.asked
+      (call_stands bit_frame (ends_at r) (wait_bit_call r) refl refl refl (behind r));
   prepared_stirs = λ r. refl;
   prepared_zone = refl;
   prepared_took = refl;
@@ -333,60 +333,60 @@ bit_lawful = record {
 }
 
 -- the add
-pub bit_for : (r : WaitBit) → IsRunning r → (c : Watch) → c ≡ bit_in r → IsFor c kind.Bit
+pub bit_for : (r : WaitBit) → IsRunningBitWait r → (c : Watch) → c ≡ wait_bit_in r → IsFor c kind.Bit
 bit_for r runs c is = inr (inl (refl, (r.word, r.bit, is, runs.word, runs.bit)))
 
-pub bit_adds : (r : WaitBit) (c : Watch) → c ≡ bit_in r → (old new : Known) (o : Result (Unit {0}) Worn)
+pub bit_adds : (r : WaitBit) (c : Watch) → c ≡ wait_bit_in r → (old new : Known) (o : Result (Unit {0}) Worn)
     → IfOk o (λ _. HasAdded IsFrontPlace old new 0 (front_entry c kind.Bit)) → IfErr o (λ w. IsFrontWorn old new w)
     → IfErr o (λ w. WasWorn new.view.number new.view.items w.head w.place) → IsHolding new → new.at ≡ old.at
     → AddsOwn bit_table (record { wait = r }) stage.PrepareQueue old new o
 bit_adds r c is old new o queued worn noted held at = adds_front bit_table (record { wait = r }) stage.PrepareQueue
-    (bit_in r) kind.Bit refl (λ p. refl) (λ p. (refl, refl)) (λ j k x. x) old new o
+    (wait_bit_in r) kind.Bit refl (λ p. refl) (λ p. (refl, refl)) (λ j k x. x) old new o
     (subst (λ (d : Watch). IfOk o (λ _. HasAdded IsFrontPlace old new 0 (front_entry d kind.Bit))) is queued) worn
     noted held at
 
 -- how a whole wait begins, and what it says at its end
-pub begins_at : (k : Known) (r : Run (Framed WaitBit)) → IsRunning r.of.wait → IsTold k → IsUp k → IsIdle k → IsOut k
+pub begins_at : (k : Known) (r : Run (Framed WaitBit)) → IsRunningBitWait r.of.wait → IsTold k → IsUp k → IsIdle k → IsOut k
     → IsAt bit_table k r (stage.Test test.First)
 begins_at k r runs = begins bit_table k r (stage.Test test.First) runs refl refl refl refl tt
 
 -- the cause of an answer, by the call
 abbrev CauseOf : Known → Watch → SleepState → Result (Unit {0}) BitEnd → Type 0
-CauseOf k (watch.Bit w b) st x = IsCause k w b st x
+CauseOf k (watch.Bit w b) st x = IsBitCause k w b st x
 CauseOf k _ st x = ⊥
 
 -- a wait that was not asked to leave
 cause_is : (k : Known) (r : WaitBit) (o : BitOutcome) → r.asked ≡ false → BitCauseIn k r o
-    → IsCause k r.word r.bit r.state (end_in r o)
+    → IsBitCause k r.word r.bit r.state (bit_end_in r o)
 cause_is k r outcome.Over none x = tt
 cause_is k r outcome.Interrupted none x = subst (λ (b : Bool). BitWhyFailed b k r) none x
 cause_is k r outcome.Worn none x = x
 
-answer_is : (r : WaitBit) (o : BitOutcome) → answer_in o ≡ answer_of (end_in r o)
+answer_is : (r : WaitBit) (o : BitOutcome) → answer_to_bit o ≡ answer_of_bit_end (bit_end_in r o)
 answer_is r outcome.Over = refl
 answer_is r outcome.Interrupted = refl
 answer_is r outcome.Worn = refl
 
-worn_is : (r : WaitBit) (o : BitOutcome) → is_worn o ≡ finds_no_place (end_in r o)
+worn_is : (r : WaitBit) (o : BitOutcome) → is_bit_worn o ≡ finds_no_place (bit_end_in r o)
 worn_is r outcome.Over = refl
 worn_is r outcome.Interrupted = refl
 worn_is r outcome.Worn = refl
 
 -- a wait that ended, from whatever stage, and what the task did then
 module _ (old ended : Known) (q : Run (Framed WaitBit)) (o : BitOutcome) (kept : Keeps (index old.view.number 0) old ended)
-    (at_end : IsEnded bit_table ended q o) (new : Known) (h : HasRested ended new (is_worn o)) where
+    (at_end : IsEnded bit_table ended q o) (new : Known) (h : HasRested ended new (is_bit_worn o)) where
   rested : Rested ended new
-  rested = rests ended new (is_worn o) (state_mask q.of.wait.state) h at_end.stands.state
+  rested = rests ended new (is_bit_worn o) (state_mask q.of.wait.state) h at_end.stands.state
 
   pub ends_up : IsUp new
   ends_up = rested.awake ∙ at_end.up
 
   pub ends_out : IsOut new
-  ends_out = rested_out ended new (end_post q.of.wait o) at_end.stands refl rested
+  ends_out = rested_out ended new (bit_end_post q.of.wait o) at_end.stands refl rested
 
   out_then : (told_of ended).bits.stored (index old.view.number 0) ≡ None
   out_then = ap (λ (n : ℕ). (told_of ended).bits.stored (index n 0)) (sym kept.number)
-      ∙ none_of (bit_in q.of.wait) ((told_of ended).bits.stored (index ended.view.number 0)) at_end.stands.home
+      ∙ none_of (wait_bit_in q.of.wait) ((told_of ended).bits.stored (index ended.view.number 0)) at_end.stands.home
 
   owes_still : (x : Excuse) → Owes x ended → Owes x new
   owes_still x o = record {
@@ -406,7 +406,7 @@ module _ (old ended : Known) (q : Run (Framed WaitBit)) (o : BitOutcome) (kept :
   pub ends_kept : Keeps (index old.view.number 0) old new
   ends_kept =
       let i = index old.view.number 0 in
-      wait_stays.on i (bit_in q.of.wait) false false false old ended new kept (record {
+      wait_stays.on i (wait_bit_in q.of.wait) false false false old ended new kept (record {
         domain = rested.domain;
         number = rested.number;
         mark = rested.mark;
@@ -418,7 +418,7 @@ module _ (old ended : Known) (q : Run (Framed WaitBit)) (o : BitOutcome) (kept :
       })
 
   pub ends_idle : (told_of old).mark ≡ None → IsIdle new
-  ends_idle unmarked = rested_idle ended new (end_post q.of.wait o) at_end.stands refl refl rested
+  ends_idle unmarked = rested_idle ended new (bit_end_post q.of.wait o) at_end.stands refl refl rested
       (kept.mark ∙ unmarked)
 
   -- who began owing nothing owes nothing
@@ -454,19 +454,19 @@ module _ (old ended : Known) (q : Run (Framed WaitBit)) (o : BitOutcome) (kept :
         owes = λ x owes. owes_on x owes;
       }
 
-module _ (old ended : Known) (r q : Run (Framed WaitBit)) (w b : ℕ) (st : SleepState) (fresh : IsFresh r.of.wait w b st)
+module _ (old ended : Known) (r q : Run (Framed WaitBit)) (w b : ℕ) (st : SleepState) (fresh : IsFreshBitWait r.of.wait w b st)
     (o : BitOutcome) (a : Advances bit_table old ended r q (stage.Test test.First) (turn.Done o)) (new : Known)
-    (h : HasRested ended new (is_worn o)) where
+    (h : HasRested ended new (is_bit_worn o)) where
   began : bit_frame.plan_of r.of.wait ≡ with_asked r.of.wait.asked (call_plan (calls.WaitBit w b st))
   began i = with_asked r.of.wait.asked (call_plan (calls.WaitBit (fresh.word i) (fresh.bit i) (fresh.state i)))
 
-  pub ends_wait : EndsBitWait old new w b st (end_in q.of.wait o)
+  pub ends_wait : EndsBitWait old new w b st (bit_end_in q.of.wait o)
   ends_wait = record {
     ended = ended;
     runs = ended_runs bit_table old ended r q (stage.Test test.First) o a
         (with_asked r.of.wait.asked (call_plan (calls.WaitBit w b st))) began
-        (answer_of (end_in q.of.wait o)) (answer_is q.of.wait o);
-    cause = subst (λ (p : Plan). CauseOf ended p.watch p.state (end_in q.of.wait o)) (a.same ∙ began)
+        (answer_of_bit_end (bit_end_in q.of.wait o)) (answer_is q.of.wait o);
+    cause = subst (λ (p : Plan). CauseOf ended p.watch p.state (bit_end_in q.of.wait o)) (a.same ∙ began)
         (cause_is ended q.of.wait o (ap (λ (p : Plan). p.asked) a.same ∙ fresh.unasked) a.lands.trail);
     rests = subst (HasRested ended new) (worn_is q.of.wait o) h;
   }

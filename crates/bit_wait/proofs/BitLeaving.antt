@@ -25,7 +25,7 @@ use Rattle.wait_class.specs.declared.frame_stages.Stage.{Stage}
 use Rattle.wait_class.specs.declared.frame_stages.Stage.TheVariants as stage
 use Rattle.wait_class.specs.declared.stages.Run.{Run}
 use Rattle.wait_class.specs.declared.stages.Turn.TheVariants as turn
-use Rattle.wait_class.specs.Laws.{HomeGoes, IsLawfulTable, StateGoes}
+use Rattle.wait_class.specs.Laws.{HomeGoes, IsLawfulCallTable, StateGoes}
 use Rattle.wait_class.specs.Tables.{IsEnded, Plan, post_of}
 use Rattle.wait_class.specs.Wholes.{HasRested}
 use Rattle.wait_class.proofs.Framing.{framed_lawful}
@@ -38,7 +38,7 @@ use Rattle.wait_leave.specs.ExitLaws.{AreLawfulExits, AwakeOn, ExitLaw}
 use Rattle.wait_leave.specs.Leaves.{stays_awake, with_asked}
 use Rattle.wait_leave.specs.OnTheWay.{IsOnWay, OnTheWay}
 use Rattle.wait_leave.proofs.Ways.{awake_since, way_asked, way_domain, way_keeps, way_lands, way_plan}
-use Rattle.bit_wait.specs.BitEnds.{HasLoaded}
+use Rattle.bit_wait.specs.BitEnds.{HasLoadedBit}
 use Rattle.bit_wait.specs.BitLeaves.{
   EndsBitWaitUntil,
   IsBitUntilCause,
@@ -49,7 +49,7 @@ use Rattle.bit_wait.specs.BitLeaves.{
   bit_failed_in,
   bit_until_in,
 }
-use Rattle.bit_wait.specs.BitTables.{BitCauseIn, BitWhyFailed, IsFresh, bit_frame, bit_in, bit_table, call_in, is_worn}
+use Rattle.bit_wait.specs.BitTables.{BitCauseIn, BitWhyFailed, IsFreshBitWait, bit_frame, wait_bit_in, bit_table, wait_bit_call, is_bit_worn}
 use Rattle.bit_wait.specs.LockLeaves.{IsAskedFor}
 use Rattle.bit_wait.specs.declared.wait_calls.BitEnd.{BitEnd}
 use Rattle.bit_wait.specs.declared.waits.BitOutcome.{BitOutcome}
@@ -98,7 +98,7 @@ to_exit r s e is = subst (ExitLaw bit_table bit_exits r s) (ap exit_of is)
 exit_law : (r : Framed WaitBit) (s : Stage BitTest) (e : BitExit) → bit_exit s ≡ Some e
     → ExitLaw bit_table bit_exits r s e
 exit_law r (stage.Test test.First) e is = to_exit r (stage.Test test.First) e is
-    (exit_by r (stage.Test test.First) refl refl refl refl (λ σ s. inl s) (home_waits (bit_in r.wait)))
+    (exit_by r (stage.Test test.First) refl refl refl refl (λ σ s. inl s) (home_waits (wait_bit_in r.wait)))
 exit_law r (stage.Test test.Load) e is = to_exit r (stage.Test test.Load) e is
     (exit_by r (stage.Test test.Load) refl refl refl refl (λ σ s. s) (λ o h. h))
 exit_law r (stage.Test (test.Again false)) e is = to_exit r (stage.Test (test.Again false)) e is
@@ -168,7 +168,7 @@ awake_on r me (at.Finish finishing.Queue true) seen is = either_awake (is_some s
 awake_on r me (at.Finish finishing.Queue false) seen is = either_awake (is_some seen.entry) _ _ (refl, refl) (refl, refl)
 awake_on r me (at.Finish finishing.Unlock true) seen is = (refl, refl)
 awake_on r me (at.Finish finishing.Unlock false) seen is = (refl, refl)
-awake_on r me (at.Bit (biting.Again true)) seen is = (refl, loads_awake (call_fails (call_in r.wait) seen))
+awake_on r me (at.Bit (biting.Again true)) seen is = (refl, loads_awake (call_fails (wait_bit_call r.wait) seen))
 awake_on r me p seen is = absurd (cc)
 
 sleeps_out : (r : Framed WaitBit) (s : Stage BitTest) → bit_table.doing s ≡ doing.Sleep → bit_exit s ≡ None → ⊥
@@ -182,7 +182,7 @@ bit_may_leave = record { at = exit_law; sleeps = sleeps_out; awake = awake_on }
 abbrev CauseOf : Known → WaitBit → BitOutcome → Until (Result (Unit {0}) BitEnd) → Type 0
 CauseOf k e o x = IsBitUntilCause k e.word e.bit e.state o x
 
-left_by : (k : Known) (e : WaitBit) (set : Bool) → bit_at e.last e.bit ≡ set → HasLoaded k e.word e.bit e.last
+left_by : (k : Known) (e : WaitBit) (set : Bool) → bit_at e.last e.bit ≡ set → HasLoadedBit k e.word e.bit e.last
     → CauseOf k e outcome.Interrupted (if set then until.Left e.last else until.Over (Ok tt))
 left_by k e true is x = (x, is)
 left_by k e false is x = (e.last, (x, is))
@@ -200,7 +200,7 @@ abbrev CauseAt : Known → Watch → SleepState → BitOutcome → Until (Result
 CauseAt k (watch.Bit w b) st o x = IsBitUntilCause k w b st o x
 CauseAt k _ st o x = ⊥
 
-lawful : IsLawfulTable bit_table
+lawful : IsLawfulCallTable bit_table
 lawful = framed_lawful bit_frame bit_lawful
 
 -- how the task stands at its end
@@ -219,7 +219,7 @@ module _ (A : Type 0) (old ended : Known) (r q : Run (Framed WaitBit)) (s : Stag
   same = way_plan A bit_table bit_exits bit_may_leave lawful old r s ended q (turn.Done o) came
 
 module _ (A : Type 0) (old ended new : Known) (r q : Run (Framed WaitBit)) (s : Stage BitTest) (o : BitOutcome)
-    (came : OnTheWay A bit_table bit_exits old r s ended q (turn.Done o)) (h : HasRested ended new (is_worn o)) where
+    (came : OnTheWay A bit_table bit_exits old r s ended q (turn.Done o)) (h : HasRested ended new (is_bit_worn o)) where
   pub left_up : IsUp new
   left_up = ends_up old ended q o (kept A old ended r q s o came) (left_ended A old ended r q s o came) new h
 
@@ -273,7 +273,7 @@ module _ (A : Type 0) (old ended new : Known) (r q : Run (Framed WaitBit)) (s : 
 
 pub ends_until : (A : Type 0) (old ended new : Known) (r q : Run (Framed WaitBit)) (o : BitOutcome)
     → OnTheWay A bit_table bit_exits old r (stage.Test test.First) ended q (turn.Done o)
-    → HasRested ended new (is_worn o) → (w b : ℕ) (st : SleepState) → IsFresh r.of.wait w b st
+    → HasRested ended new (is_bit_worn o) → (w b : ℕ) (st : SleepState) → IsFreshBitWait r.of.wait w b st
     → EndsBitWaitUntil A old new w b st (bit_until_in q.of.wait o)
 ends_until A old ended new r q o came h w b st fresh = record {
   first = r;
@@ -284,5 +284,5 @@ ends_until A old ended new r q o came h w b st fresh = record {
 
 -- of a call that went on by stretches
 pub left_clean : (A : Type 0) (c : Plan) (ended new : Known) (q : Run (Framed WaitBit)) (o : BitOutcome)
-    → IsOnWay A bit_table bit_exits c ended q (turn.Done o) → HasRested ended new (is_worn o) → IsClean new
+    → IsOnWay A bit_table bit_exits c ended q (turn.Done o) → HasRested ended new (is_bit_worn o) → IsClean new
 left_clean A c ended new q o i h = left_clean_from A i.old ended new i.began q i.start o i.came h i.clean

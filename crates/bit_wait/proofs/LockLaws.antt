@@ -40,20 +40,20 @@ use Rattle.wq_head.proofs.FullHeads.{hashed_low}
 use Rattle.wait_model.specs.declared.layout.TheConstants.{FIRST_DONE_HEAD, WORD_BITS}
 use Rattle.wait_model.specs.Watches.{head_of}
 use Rattle.bit_wait.specs.LockEnds.{ComesBehindWorn}
-use Rattle.bit_wait.specs.LockTables.{FailTrail, FinishTrail, FoundSignal, IsRunning, TestTrail, bit_in, call_in, head_in, lock_frame, lock_table}
+use Rattle.bit_wait.specs.LockTables.{FailTrail, FinishTrail, FoundLockSignal, IsRunningLock, TestTrail, lock_bit_in, lock_bit_call, lock_head_in, lock_frame, lock_table}
 use Rattle.bit_wait.specs.declared.lock_runs.LockBit.{LockBit}
 use Rattle.bit_wait.specs.declared.lock_runs.LockTest.{LockTest}
 use Rattle.bit_wait.specs.declared.lock_runs.LockTest.TheVariants as test
 use Rattle.bit_wait.proofs.LockGround.{lock_keeps_looks, lock_keeps_on, lock_keeps_queued}
 use Rattle.bit_wait.proofs.LockKinds.{lock_stays}
 
-run_low : (r : LockBit) → head_in r < FIRST_DONE_HEAD
+run_low : (r : LockBit) → lock_head_in r < FIRST_DONE_HEAD
 unfolding head_of
 run_low r = let low = hashed_low (r.word * WORD_BITS + r.bit) in omega (arith, low)
 
 -- a signal that was found stays found while the task does not sleep
 pub more_signal : (old new : Known) (st : SleepState) (es : List Step) → history_of new ≡ history_of old ++ es
-    → has_sleep es ≡ false → FoundSignal old st → FoundSignal new st
+    → has_sleep es ≡ false → FoundLockSignal old st → FoundLockSignal new st
 more_signal old new st es more awake f = record {
   before = f.before;
   sleep = f.sleep;
@@ -71,7 +71,7 @@ more_failed : (old new : Known) (r : LockBit) (es : List Step) → history_of ne
 more_failed old new r es more awake true f = tt
 more_failed old new r es more awake false f = more_signal old new r.state es more awake f
 
-failed_by : (k : Known) (r : LockBit) → FoundSignal k r.state → (b : Bool) → FailTrail b k r
+failed_by : (k : Known) (r : LockBit) → FoundLockSignal k r.state → (b : Bool) → FailTrail b k r
 failed_by k r f true = tt
 failed_by k r f false = f
 
@@ -91,7 +91,7 @@ calm_finish : (old new : Known) (r : LockBit) (failed : Bool) (es : List Step) �
     → Calm es old new → FinishTrail old r failed → FinishTrail new r failed
 calm_finish old new r true es awake calm f = more_failed old new r es calm.history awake r.asked f
 calm_finish old new r false es awake calm f = (
-  record { keeps = calm.keeps (bit_in r) ∙ f.0.keeps; tries = calm.tries (bit_in r) f.0.keeps f.0.tries },
+  record { keeps = calm.keeps (lock_bit_in r) ∙ f.0.keeps; tries = calm.tries (lock_bit_in r) f.0.keeps f.0.tries },
   f.1,
 )
 
@@ -99,7 +99,7 @@ test_still : (old new : Known) (r : LockBit) (x : LockTest) → Unmoved old new 
 test_still old new r test.First still f = tt
 test_still old new r test.Load still f = tt
 test_still old new r test.Again still f = tt
-test_still old new r test.Worn still f = (found_still old new (head_in r) r.place still f.0, f.1)
+test_still old new r test.Worn still f = (found_still old new (lock_head_in r) r.place still f.0, f.1)
 test_still old new r test.Last still f = still_failed old new r still r.asked f
 
 module _ (r : LockBit) where
@@ -129,13 +129,13 @@ module _ (r : LockBit) where
 
   look_law : (hit : Bool) → LookLaw lock_table w stage.Look hit
   look_law true = look_by lock_table w stage.Look refl true (way lock_table w stage.Look w (turn.Again (stage.FinishState true)) refl refl refl refl refl (λ σ s. inl s) (λ o h. h))
-      (λ v me is. ap (λ (c : Bool). next.Go (acted (call_in r) c)) is) (λ v me k. tt)
+      (λ v me is. ap (λ (c : Bool). next.Go (acted (lock_bit_call r) c)) is) (λ v me k. tt)
       (λ v me k. (refl, tt, tt)) (λ old new v is calm u.
       let e = ends_calm old new (step.Sleep u.0 ∷ []) (step.Look v ∷ []) calm u.1 in
       failed_by new r (record { before = e.0; sleep = u.0; look = v; more = []; ends = e.1; pends = is; awake = refl })
       r.asked)
   look_law false = look_by lock_table w stage.Look refl false (way lock_table w stage.Look w (turn.Again (stage.Test test.Again)) refl refl refl refl refl (λ σ s. inl s) (λ o h. h))
-      (λ v me is. ap (λ (c : Bool). next.Go (acted (call_in r) c)) is) (λ v me k. tt)
+      (λ v me is. ap (λ (c : Bool). next.Go (acted (lock_bit_call r) c)) is) (λ v me k. tt)
       (λ v me k. (refl, tt, tt)) (λ old new v is calm u. tt)
 
   finish_law : (failed : Bool) → FinishLaw lock_frame r failed
@@ -167,7 +167,7 @@ abbrev ends_at : LockBit → Bool → Next
 ends_at r failed = next_in lock_table (lock_frame.finished r failed)
 
 behind : (r : LockBit) (failed : Bool) (e : Event)
-    → finished (call_in r) failed e ≡ record { event = e; next = ends_at r failed }
+    → finished (lock_bit_call r) failed e ≡ record { event = e; next = ends_at r failed }
 behind r true e = refl
 behind r false e = refl
 
@@ -181,8 +181,8 @@ lock_lawful = record {
   worn_fits = λ r p runs. record { word = runs.word; bit = runs.bit };
   ends = ends_at;
   goes = λ r failed. refl;
-  stands = λ r. asked_stands lock_frame (ends_at r) (call_plan (call_in r)) r.asked
-      (call_stands lock_frame (ends_at r) (call_in r) refl refl refl (behind r));
+  stands = λ r. asked_stands lock_frame (ends_at r) (call_plan (lock_bit_call r)) r.asked
+      (call_stands lock_frame (ends_at r) (lock_bit_call r) refl refl refl (behind r));
   prepared_stirs = λ r. refl;
   prepared_zone = refl;
   prepared_took = refl;
@@ -205,25 +205,25 @@ lock_lawful = record {
 }
 
 -- the add
-pub lock_for : (r : LockBit) → IsRunning r → (c : Watch) → c ≡ bit_in r → IsForBit c kind.Bit
+pub lock_for : (r : LockBit) → IsRunningLock r → (c : Watch) → c ≡ lock_bit_in r → IsForBit c kind.Bit
 lock_for r runs c is = (refl, (r.word, r.bit, is, runs.word, runs.bit))
 
 lock_joins : (r : LockBit) (old new : Known) → (told_of old).bits.stored (index old.view.number 0) ≡ None
-    → HasAddedForBit old new 0 (tail_entry true (bit_in r) kind.Bit)
+    → HasAddedForBit old new 0 (tail_entry true (lock_bit_in r) kind.Bit)
     → HasJoined lock_table (record { wait = r }) stage.PrepareQueue old new
 lock_joins r old new out x = record {
   seen = x.seen;
-  entry = tail_entry true (bit_in r) kind.Bit x.place;
+  entry = tail_entry true (lock_bit_in r) kind.Bit x.place;
   looks = x.looks;
   whole = x.whole;
   is_off = x.is_off;
-  placed = ap (tail_entry true (bit_in r) kind.Bit) (sym (form_is x.seen x.low forms.Tail x.place x.sort));
+  placed = ap (tail_entry true (lock_bit_in r) kind.Bit) (sym (form_is x.seen x.low forms.Tail x.place x.sort));
   left = form_left x.seen x.low forms.Tail x.place x.sort;
   is = x.is;
   queued = x.queued;
   home = (refl, refl);
-  keeps = lock_keeps_on (index old.view.number 0) (bit_in r) false false false old x.seen new
-      (lock_keeps_looks (bit_in r) false (index old.view.number 0) old x.seen out x.looks)
+  keeps = lock_keeps_on (index old.view.number 0) (lock_bit_in r) false false false old x.seen new
+      (lock_keeps_looks (lock_bit_in r) false (index old.view.number 0) old x.seen out x.looks)
       (lock_keeps_queued (index old.view.number 0) r.word r.bit x.place false x.seen new x.is);
 }
 
@@ -233,7 +233,7 @@ lock_wears r old new w worn noted =
     let x = form_worn forms.Tail old new w worn in
     record { looks = x.looks; whole = x.whole; head = x.head; worn = x.worn; noted = noted }
 
-pub lock_adds : (r : LockBit) (c : Watch) → c ≡ bit_in r → (old new : Known) (o : Result (Unit {0}) Worn)
+pub lock_adds : (r : LockBit) (c : Watch) → c ≡ lock_bit_in r → (old new : Known) (o : Result (Unit {0}) Worn)
     → (told_of old).bits.stored (index old.view.number 0) ≡ None
     → IfOk o (λ _. HasAddedForBit old new 0 (tail_entry true c kind.Bit)) → IfErr o (λ w. IsTailWorn old new w)
     → IfErr o (λ w. WasWorn new.view.number new.view.items w.head w.place) → IsHolding new → new.at ≡ old.at

@@ -23,7 +23,7 @@ use Rattle.wait_class.specs.declared.frame_stages.Stage.{Stage}
 use Rattle.wait_class.specs.declared.frame_stages.Stage.TheVariants as stage
 use Rattle.wait_class.specs.declared.stages.Run.{Run}
 use Rattle.wait_class.specs.declared.stages.Turn.TheVariants as turn
-use Rattle.wait_class.specs.Laws.{HomeGoes, IsLawfulTable, StateGoes}
+use Rattle.wait_class.specs.Laws.{HomeGoes, IsLawfulCallTable, StateGoes}
 use Rattle.wait_class.specs.Tables.{IsEnded, Plan, post_of}
 use Rattle.wait_class.specs.Wholes.{HasRested}
 use Rattle.wait_class.proofs.Framing.{framed_lawful}
@@ -49,7 +49,7 @@ use Rattle.bit_wait.specs.LockLeaves.{
 }
 use Rattle.bit_wait.specs.Holders.{IsHolder}
 use Rattle.bit_wait.specs.LockStays.{LockKeeps, TakesBit}
-use Rattle.bit_wait.specs.LockTables.{CauseIn, IsFresh, WhyFailed, bit_in, end_post, is_over, lock_frame, lock_table}
+use Rattle.bit_wait.specs.LockTables.{CauseIn, IsFreshLock, WhyFailed, lock_bit_in, lock_end_post, is_lock_over, lock_frame, lock_table}
 use Rattle.bit_wait.specs.declared.wait_calls.BitEnd.{BitEnd}
 use Rattle.bit_wait.specs.declared.lock_runs.LockBit.{LockBit}
 use Rattle.bit_wait.specs.declared.lock_runs.LockOutcome.{LockOutcome}
@@ -99,7 +99,7 @@ to_exit r s e is = subst (ExitLaw lock_table lock_exits r s) (ap exit_of is)
 exit_law : (r : Framed LockBit) (s : Stage LockTest) (e : LockExit) → lock_exit s ≡ Some e
     → ExitLaw lock_table lock_exits r s e
 exit_law r (stage.Test test.First) e is = to_exit r (stage.Test test.First) e is
-    (exit_by r (stage.Test test.First) refl refl refl refl (λ σ s. inl s) (home_waits (bit_in r.wait)))
+    (exit_by r (stage.Test test.First) refl refl refl refl (λ σ s. inl s) (home_waits (lock_bit_in r.wait)))
 exit_law r (stage.Test test.Load) e is = to_exit r (stage.Test test.Load) e is
     (exit_by r (stage.Test test.Load) refl refl refl refl (λ σ s. s) (λ o h. h))
 exit_law r (stage.Test test.Again) e is = to_exit r (stage.Test test.Again) e is
@@ -194,7 +194,7 @@ failed_taken : (b : Bool) (e : LockBit) → false ≡ takes_until (failed_in b e
 failed_taken true e = refl
 failed_taken false e = refl
 
-taken_is : (e : LockBit) (o : LockOutcome) → is_over o ≡ takes_until (until_in e o)
+taken_is : (e : LockBit) (o : LockOutcome) → is_lock_over o ≡ takes_until (until_in e o)
 taken_is e outcome.Over = refl
 taken_is e outcome.Interrupted = failed_taken e.asked e
 taken_is e outcome.Worn = refl
@@ -220,7 +220,7 @@ module _ (A : Type 0) (old ended new : Known) (r q : Run (Framed LockBit)) (s : 
   abbrev e : LockBit
   e = q.of.wait
 
-  lawful : IsLawfulTable lock_table
+  lawful : IsLawfulCallTable lock_table
   lawful = framed_lawful lock_frame lock_lawful
 
   at_end : IsEnded lock_table ended q o
@@ -229,7 +229,7 @@ module _ (A : Type 0) (old ended new : Known) (r q : Run (Framed LockBit)) (s : 
   same : with_asked false (lock_frame.plan_of e) ≡ with_asked false (lock_frame.plan_of r.of.wait)
   same = way_plan A lock_table lock_exits lock_may_leave lawful old r s ended q (turn.Done o) came
 
-  bit_is : bit_in e ≡ bit_in r.of.wait
+  bit_is : lock_bit_in e ≡ lock_bit_in r.of.wait
   bit_is = ap (λ (p : Plan). p.watch) same
 
   rested : Rested ended new
@@ -239,36 +239,36 @@ module _ (A : Type 0) (old ended new : Known) (r q : Run (Framed LockBit)) (s : 
   left_up = rested.awake ∙ at_end.up
 
   pub left_out : IsOut new
-  left_out = rested_out ended new (end_post e o) at_end.stands refl rested
+  left_out = rested_out ended new (lock_end_post e o) at_end.stands refl rested
 
-  kept : LockKeeps (index old.view.number 0) (bit_in r.of.wait) (lock_table.took s) (is_over o) old ended
+  kept : LockKeeps (index old.view.number 0) (lock_bit_in r.of.wait) (lock_table.took s) (is_lock_over o) old ended
   kept = way_keeps A lock_table lock_exits lock_may_leave lawful old r s ended q (turn.Done o) came
 
   pub left_idle : (told_of old).mark ≡ None → IsIdle new
-  left_idle unmarked = rested_idle ended new (end_post e o) at_end.stands refl refl rested (kept.mark ∙ unmarked)
+  left_idle unmarked = rested_idle ended new (lock_end_post e o) at_end.stands refl refl rested (kept.mark ∙ unmarked)
 
-  pub left_tries : (told_of new).bits.pending (bit_in r.of.wait) ≡ false
-  left_tries = ap (told_of new).bits.pending (sym bit_is) ∙ (rested.pending (bit_in e) ∙ at_end.trail.tries)
+  pub left_tries : (told_of new).bits.pending (lock_bit_in r.of.wait) ≡ false
+  left_tries = ap (told_of new).bits.pending (sym bit_is) ∙ (rested.pending (lock_bit_in e) ∙ at_end.trail.tries)
 
-  pub left_kept : LockKeeps (index old.view.number 0) (bit_in r.of.wait) (lock_table.took s)
+  pub left_kept : LockKeeps (index old.view.number 0) (lock_bit_in r.of.wait) (lock_table.took s)
       (takes_until (until_in e o)) old new
-  left_kept = subst (λ (g : Bool). LockKeeps (index old.view.number 0) (bit_in r.of.wait) (lock_table.took s) g old new)
+  left_kept = subst (λ (g : Bool). LockKeeps (index old.view.number 0) (lock_bit_in r.of.wait) (lock_table.took s) g old new)
       (taken_is e o)
-      (lock_keeps_on (index old.view.number 0) (bit_in r.of.wait) (lock_table.took s) (is_over o) (is_over o) old ended
-      new kept (rest_keeps (index old.view.number 0) (bit_in r.of.wait) (is_over o) e.worn ended new h))
+      (lock_keeps_on (index old.view.number 0) (lock_bit_in r.of.wait) (lock_table.took s) (is_lock_over o) (is_lock_over o) old ended
+      new kept (rest_keeps (index old.view.number 0) (lock_bit_in r.of.wait) (is_lock_over o) e.worn ended new h))
 
   -- the whole call, by a bit of these numbers
-  pub left_takes : (w b : ℕ) → bit_in r.of.wait ≡ watch.Bit w b → lock_table.took s ≡ false → IsUp old → IsIdle old
+  pub left_takes : (w b : ℕ) → lock_bit_in r.of.wait ≡ watch.Bit w b → lock_table.took s ≡ false → IsUp old → IsIdle old
       → IsOut old → (told_of old).hold.head ≡ None → TakesBit old new (watch.Bit w b) (takes_until (until_in e o))
   left_takes w b is fresh up idle out held = takes_bit old ended new w b (takes_until (until_in e o))
       (subst (λ (g : Bool). LockKeeps (index old.view.number 0) (watch.Bit w b) false g old ended) (taken_is e o)
-      (subst (λ (c : Watch). LockKeeps (index old.view.number 0) c false (is_over o) old ended) is
-      (subst (λ (g : Bool). LockKeeps (index old.view.number 0) (bit_in r.of.wait) g (is_over o) old ended) fresh kept)))
+      (subst (λ (c : Watch). LockKeeps (index old.view.number 0) c false (is_lock_over o) old ended) is
+      (subst (λ (g : Bool). LockKeeps (index old.view.number 0) (lock_bit_in r.of.wait) g (is_lock_over o) old ended) fresh kept)))
       rested up idle out held left_up (left_idle idle.unmarked) (rested.hold ∙ at_end.stands.told)
       (ap (λ (n : ℕ). (told_of new).bits.stored (index n 0)) (sym (rested.number ∙ kept.number)) ∙ left_out)
       (ap (told_of new).bits.pending (sym is) ∙ left_tries)
       (λ took. ap (told_of new).bits.keeps (sym is) ∙ (ap (told_of new).bits.keeps (sym bit_is)
-      ∙ (rested.keeps (bit_in e) ∙ at_end.trail.keeps (taken_is e o ∙ took))))
+      ∙ (rested.keeps (lock_bit_in e) ∙ at_end.trail.keeps (taken_is e o ∙ took))))
 
   pub left_lock : LeavesBitLock A old new r s (until_in e o)
   left_lock = record {
@@ -298,7 +298,7 @@ module _ (A : Type 0) (old ended new : Known) (r q : Run (Framed LockBit)) (s : 
 
 pub ends_until : (A : Type 0) (old ended new : Known) (r q : Run (Framed LockBit)) (o : LockOutcome)
     → OnTheWay A lock_table lock_exits old r (stage.Test test.First) ended q (turn.Done o)
-    → HasRested ended new q.of.wait.worn → (w b : ℕ) (st : SleepState) → IsFresh r.of.wait w b st
+    → HasRested ended new q.of.wait.worn → (w b : ℕ) (st : SleepState) → IsFreshLock r.of.wait w b st
     → r.of.wait.asked ≡ false → EndsBitLockUntil A old new w b st (until_in q.of.wait o)
 ends_until A old ended new r q o came h w b st fresh unasked = record {
   first = r;
@@ -322,7 +322,7 @@ left_clean A c ended new q o i h =
     let out : IsOut i.old = i.clean.settled.unqueued (own_of i.old) in
     subst (λ (d : Watch). MatchBool (takes_until (until_in q.of.wait o)) (IsHolder new d) (IsClean new))
     (ap (λ (x : Plan). x.watch) i.plan)
-    (locks_clean i.old new (bit_in r.of.wait) i.clean (left_up A i.old ended new r q i.start o i.came h)
+    (locks_clean i.old new (lock_bit_in r.of.wait) i.clean (left_up A i.old ended new r q i.start o i.came h)
     (left_idle A i.old ended new r q i.start o i.came h was.unmarked) (takes_until (until_in q.of.wait o))
     (left_takes A i.old ended new r q i.start o i.came h r.of.wait.word r.of.wait.bit refl i.nothing i.clean.up was out
     (i.told.head ∙ i.clean.free.head)))

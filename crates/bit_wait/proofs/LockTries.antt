@@ -34,11 +34,11 @@ use Rattle.wait_class.specs.declared.frame_stages.Stage.TheVariants as stage
 use Rattle.wait_class.specs.declared.stages.Run.{Run}
 use Rattle.wait_class.specs.declared.stages.Turn.TheVariants as turn
 use Rattle.wait_class.specs.Tables.{IsAt, Turned, falls}
-use Rattle.wait_class.specs.Laws.{IsPlain}
+use Rattle.wait_class.specs.Laws.{IsPlainTurn}
 use Rattle.wait_class.proofs.Turns.{GoesOn, advance_by}
 use Rattle.bit_wait.specs.LockStays.{LockKeeps}
 use Rattle.bit_wait.specs.LockEnds.{ComesBehindWorn}
-use Rattle.bit_wait.specs.LockTables.{stands_worn, EndTrail, FailTrail, WhyFailed, LockTurn, bit_in, call_in, head_in, lock_frame, lock_table, tried_to, tries_bit}
+use Rattle.bit_wait.specs.LockTables.{stands_worn, EndTrail, FailTrail, WhyFailed, LockTurn, lock_bit_in, lock_bit_call, lock_head_in, lock_frame, lock_table, tried_to, tries_bit}
 use Rattle.bit_wait.specs.declared.lock_runs.LockBit.{LockBit}
 use Rattle.bit_wait.specs.declared.lock_runs.LockOutcome.TheVariants as outcome
 use Rattle.bit_wait.specs.declared.lock_runs.LockTest.{LockTest}
@@ -53,8 +53,8 @@ pub may_try : (old : Known) (r : Run (Framed LockBit)) (x : LockTest) → IsAt l
 may_try old r x a h at = a.stands.agreed h (sym a.stands.head ∙ at)
 
 module _ (old new : Known) (r : Run (Framed LockBit)) (v : ℕ)
-    (is : new ≡ added old (item.Made (step.Consume (bit_in r.of.wait) 1 v)))
-    (sets : SetsBit old new (bit_in r.of.wait) (was_clear (bit_in r.of.wait) v)) where
+    (is : new ≡ added old (item.Made (step.Consume (lock_bit_in r.of.wait) 1 v)))
+    (sets : SetsBit old new (lock_bit_in r.of.wait) (was_clear (lock_bit_in r.of.wait) v)) where
   abbrev w : LockBit
   w = r.of.wait
 
@@ -66,7 +66,7 @@ module _ (old new : Known) (r : Run (Framed LockBit)) (v : ℕ)
   q x = record { wait = record w { seen = v; worn = stands_worn x } }
 
   abbrev seen : Event
-  seen = exchange (call_in w) (with_value v)
+  seen = exchange (lock_bit_call w) (with_value v)
 
   abbrev prepares : Planned
   prepares = go seen (at.Prepare preparing.Lock)
@@ -78,13 +78,13 @@ module _ (old new : Known) (r : Run (Framed LockBit)) (v : ℕ)
   worn = ends_with seen answer.Worn
 
   abbrev Made : Point → Event → Type 0
-  Made p x = IsMadeFor old (Some (index old.view.number 0)) (given_at (call_in w) p) x
-      (by_step (step.Consume (bit_in w) 1 v))
+  Made p x = IsMadeFor old (Some (index old.view.number 0)) (given_at (lock_bit_call w) p) x
+      (by_step (step.Consume (lock_bit_in w) 1 v))
 
   more : history_of new ≡ history_of old ++ tries_bit w_seen
-  more = history_after old new (step.Consume (bit_in w) 1 v) is
+  more = history_after old new (step.Consume (lock_bit_in w) 1 v) is
 
-  over_trail : (x : LockTest) → ComesBehindWorn new w.word w.bit (Ok tt) (stands_worn x) → was_clear (bit_in w) v ≡ true
+  over_trail : (x : LockTest) → ComesBehindWorn new w.word w.bit (Ok tt) (stands_worn x) → was_clear (lock_bit_in w) v ≡ true
       → EndTrail new (q x).wait outcome.Over
   over_trail x behind clear = record {
     cause = tt;
@@ -95,14 +95,14 @@ module _ (old new : Known) (r : Run (Framed LockBit)) (v : ℕ)
 
   -- behind a hold that found no place
   worn_noted : (a : IsAt lock_table old r (stage.Test test.Worn))
-      → WasWorn new.view.number new.view.items (head_in w) w.place
-  worn_noted a = subst (λ (k : Known). WasWorn k.view.number k.view.items (head_in w) w.place) (sym is)
-      (notes_stay old.view.number old.view.items (item.Made (step.Consume (bit_in w) 1 v) ∷ []) (head_in w) w.place
+      → WasWorn new.view.number new.view.items (lock_head_in w) w.place
+  worn_noted a = subst (λ (k : Known). WasWorn k.view.number k.view.items (lock_head_in w) w.place) (sym is)
+      (notes_stay old.view.number old.view.items (item.Made (step.Consume (lock_bit_in w) 1 v) ∷ []) (lock_head_in w) w.place
       a.trail.0.noted)
 
   worn_ends : (a : IsAt lock_table old r (stage.Test test.Worn))
-      → EndsWith new (step.Unlock (head_in w) false ∷ tries_bit w_seen)
-  worn_ends a = ends_more old new (step.Unlock (head_in w) false ∷ []) (tries_bit w_seen) a.trail.0.ends more
+      → EndsWith new (step.Unlock (lock_head_in w) false ∷ tries_bit w_seen)
+  worn_ends a = ends_more old new (step.Unlock (lock_head_in w) false ∷ []) (tries_bit w_seen) a.trail.0.ends more
 
   -- what a wait that failed found at last
   why : (b : Bool) → FailTrail b old w → bit_at v w.bit ≡ true → WhyFailed b new (q test.Last).wait
@@ -130,7 +130,7 @@ module _ (old new : Known) (r : Run (Framed LockBit)) (v : ℕ)
       (stage.Test test.First) w.word w.bit v refl same_keeps is sets refl refl refl a (q test.First) (λ x did. tt) (turn.Again stage.PrepareLock) true set refl
       (ap (λ (c : Bool). (if c then prepares else over).next) set)
       (either_event (Made (at.Bit biting.First)) (bit_at v w.bit) prepares over (refl, refl) (refl, refl))
-      (refl, tt, tt) refl refl (λ σ s. inl s) (home_waits (bit_in w)) tt
+      (refl, tt, tt) refl refl (λ σ s. inl s) (home_waits (lock_bit_in w)) tt
   try_from test.First own a false set = set_goes lock_table old new r
       (stage.Test test.First) w.word w.bit v refl same_keeps is sets refl refl refl a (q test.First) (λ x did. tt) (turn.Done outcome.Over) false set refl
       (ap (λ (c : Bool). (if c then prepares else over).next) set)
@@ -185,7 +185,7 @@ module _ (old new : Known) (r : Run (Framed LockBit)) (v : ℕ)
         clear = set;
       }) (ap not set))
 
-plain_tries : (x : LockTest) (b : Bool) → IsPlain lock_table (tried_to x b)
+plain_tries : (x : LockTest) (b : Bool) → IsPlainTurn lock_table (tried_to x b)
 plain_tries test.First true = refl
 plain_tries test.First false = tt
 plain_tries test.Load true = refl
@@ -214,8 +214,8 @@ run_after r v worn = record r { of = record { wait = record r.of.wait { seen = v
 
 pub try_advances : (old new : Known) (r : Run (Framed LockBit)) (x : LockTest) → lock_frame.loads x ≡ false
     → IsAt lock_table old r (stage.Test x) → (v : ℕ)
-    → new ≡ added old (item.Made (step.Consume (bit_in r.of.wait) 1 v))
-    → SetsBit old new (bit_in r.of.wait) (was_clear (bit_in r.of.wait) v) → (worn : Bool) → worn ≡ stands_worn x
+    → new ≡ added old (item.Made (step.Consume (lock_bit_in r.of.wait) 1 v))
+    → SetsBit old new (lock_bit_in r.of.wait) (was_clear (lock_bit_in r.of.wait) v) → (worn : Bool) → worn ≡ stands_worn x
     → (b : Bool) → b ≡ bit_at v r.of.wait.bit → (u : LockTurn) → u ≡ tried_to x b
     → Turned lock_table old new r (run_after r v worn) (stage.Test x) u
 try_advances old new r x own a v is sets worn behind b tells u to =

@@ -30,20 +30,20 @@ use Rattle.bit_wait.specs.declared.waits.BitOutcome.TheVariants as outcome
 use Rattle.bit_wait.specs.declared.waits.WaitBit.{WaitBit}
 
 -- the answer of a wait that has ended
-abbrev pub end_in : WaitBit → BitOutcome → Result (Unit {0}) BitEnd
-end_in r outcome.Over = Ok tt
-end_in r outcome.Interrupted = Err (bit_end.Interrupted r.seen)
-end_in r outcome.Worn = Err (bit_end.Worn (head_of (watch.Bit r.word r.bit)) r.place)
+abbrev pub bit_end_in : WaitBit → BitOutcome → Result (Unit {0}) BitEnd
+bit_end_in r outcome.Over = Ok tt
+bit_end_in r outcome.Interrupted = Err (bit_end.Interrupted r.seen)
+bit_end_in r outcome.Worn = Err (bit_end.Worn (head_of (watch.Bit r.word r.bit)) r.place)
 
 -- the answer of the call
-abbrev pub answer_of : Result (Unit {0}) BitEnd → Answer
-answer_of (Ok u) = zero_answer
-answer_of (Err (bit_end.Interrupted seen)) = interrupted
-answer_of (Err (bit_end.Worn h place)) = answer.Worn
+abbrev pub answer_of_bit_end : Result (Unit {0}) BitEnd → Answer
+answer_of_bit_end (Ok u) = zero_answer
+answer_of_bit_end (Err (bit_end.Interrupted seen)) = interrupted
+answer_of_bit_end (Err (bit_end.Worn h place)) = answer.Worn
 
 -- The last turn of a wait that a signal ended: after the hold of its prepare the load found `seen`, with the bit set;
 -- then the task slept, and then its own word showed a signal that the state admits. It has not slept since.
-pub record WasInterrupted (k : Known) (w b : ℕ) (st : SleepState) (seen : ℕ) : Type 0 where
+pub record WasBitInterrupted (k : Known) (w b : ℕ) (st : SleepState) (seen : ℕ) : Type 0 where
   pub before : List Step
   pub sleep : ℕ
   pub look : ℕ
@@ -55,7 +55,7 @@ pub record WasInterrupted (k : Known) (w b : ℕ) (st : SleepState) (seen : ℕ)
   pub awake : has_sleep more ≡ false
 
 -- The last turn of a wait that was asked to leave: it loaded the bit's word, and found `last`. It has not slept since.
-pub record HasLoaded (k : Known) (w b last : ℕ) : Type 0 where
+pub record HasLoadedBit (k : Known) (w b last : ℕ) : Type 0 where
   pub before : List Step
   pub more : List Step
   pub ends : history_of k ≡ before ++ (step.Load (watch.Bit w b) last ∷ more)
@@ -63,17 +63,17 @@ pub record HasLoaded (k : Known) (w b last : ℕ) : Type 0 where
 
 -- The last steps of a wait that found no place: its hold noted it, and gave the head back; then the load found the bit
 -- set.
-pub record FoundNoPlace (k : Known) (w b h place : ℕ) : Type 0 where
+pub record FoundNoPlaceForBit (k : Known) (w b h place : ℕ) : Type 0 where
   pub head : h ≡ head_of (watch.Bit w b)
   pub noted : WasWorn k.view.number k.view.items h place
   pub found : ℕ
   pub ends : EndsWith k (step.Unlock h false ∷ step.Load (watch.Bit w b) found ∷ [])
   pub set : bit_at found b ≡ true
 
-abbrev pub IsCause : Known → ℕ → ℕ → SleepState → Result (Unit {0}) BitEnd → Type 0
-IsCause k w b st (Ok u) = Unit {0}
-IsCause k w b st (Err (bit_end.Interrupted seen)) = WasInterrupted k w b st seen
-IsCause k w b st (Err (bit_end.Worn h place)) = FoundNoPlace k w b h place
+abbrev pub IsBitCause : Known → ℕ → ℕ → SleepState → Result (Unit {0}) BitEnd → Type 0
+IsBitCause k w b st (Ok u) = Unit {0}
+IsBitCause k w b st (Err (bit_end.Interrupted seen)) = WasBitInterrupted k w b st seen
+IsBitCause k w b st (Err (bit_end.Worn h place)) = FoundNoPlaceForBit k w b h place
 
 -- whether a wait answers that it found no place
 abbrev pub finds_no_place : Result (Unit {0}) BitEnd → Bool
@@ -87,6 +87,6 @@ pub record EndsBitWait (old new : Known) (w b : ℕ) (st : SleepState) (result :
     Type 0 where
   pub ended : Known
   pub runs : Runs (call_program old.view.number 0 (calls.WaitBit w b st)) old ended (next.Go (at.Bit biting.First))
-      (next.Ends (answer_of result))
-  pub cause : IsCause ended w b st result
+      (next.Ends (answer_of_bit_end result))
+  pub cause : IsBitCause ended w b st result
   pub rests : HasRested ended new (finds_no_place result)

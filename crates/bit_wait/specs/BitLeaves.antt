@@ -18,8 +18,8 @@ use Rattle.wait_leave.specs.declared.exits.Until.{Until}
 use Rattle.wait_leave.specs.declared.exits.Until.TheVariants as until
 use Rattle.wait_leave.specs.Leaves.{Exits}
 use Rattle.wait_leave.specs.OnTheWay.{IsAwakeSince, OnTheWay}
-use Rattle.bit_wait.specs.BitEnds.{HasLoaded, IsCause, end_in}
-use Rattle.bit_wait.specs.BitTables.{IsFresh, bit_table, is_worn}
+use Rattle.bit_wait.specs.BitEnds.{HasLoadedBit, IsBitCause, bit_end_in}
+use Rattle.bit_wait.specs.BitTables.{IsFreshBitWait, bit_table, is_bit_worn}
 use Rattle.bit_wait.specs.LockLeaves.{IsAskedFor}
 use Rattle.bit_wait.specs.declared.wait_calls.BitEnd.{BitEnd}
 use Rattle.bit_wait.specs.declared.waits.BitOutcome.{BitOutcome}
@@ -63,16 +63,16 @@ bit_exits = record {
 -- the answer: one that failed was left where it was asked, if its load found the bit set, or a signal had ended it
 abbrev pub bit_failed_in : Bool → WaitBit → Until (Result (Unit {0}) BitEnd)
 bit_failed_in true r = if bit_at r.last r.bit then until.Left r.last else until.Over (Ok tt)
-bit_failed_in false r = until.Over (end_in r outcome.Interrupted)
+bit_failed_in false r = until.Over (bit_end_in r outcome.Interrupted)
 
 abbrev pub bit_until_in : WaitBit → BitOutcome → Until (Result (Unit {0}) BitEnd)
-bit_until_in r outcome.Over = until.Over (end_in r outcome.Over)
+bit_until_in r outcome.Over = until.Over (bit_end_in r outcome.Over)
 bit_until_in r outcome.Interrupted = bit_failed_in r.asked r
-bit_until_in r outcome.Worn = until.Over (end_in r outcome.Worn)
+bit_until_in r outcome.Worn = until.Over (bit_end_in r outcome.Worn)
 
 -- what the load of a wait that was asked to leave found, of the bit set or clear
 abbrev pub HasFound : Known → ℕ → ℕ → ℕ → Bool → Type 0
-HasFound k w b seen set = HasLoaded k w b seen × (bit_at seen b ≡ set)
+HasFound k w b seen set = HasLoadedBit k w b seen × (bit_at seen b ≡ set)
 
 -- its cause: of Left, that its load found the bit set, and of Ok, that it found it clear, where its program does not
 -- answer so itself
@@ -82,7 +82,7 @@ FoundClear k w b _ = Unit {0}
 
 abbrev pub IsBitUntilCause : Known → ℕ → ℕ → SleepState → BitOutcome → Until (Result (Unit {0}) BitEnd) → Type 0
 IsBitUntilCause k w b st o (until.Over (Ok u)) = FoundClear k w b o
-IsBitUntilCause k w b st o (until.Over (Err e)) = IsCause k w b st (Err e)
+IsBitUntilCause k w b st o (until.Over (Err e)) = IsBitCause k w b st (Err e)
 IsBitUntilCause k w b st o (until.Left seen) = HasFound k w b seen true
 
 -- The task went on from a stage, was asked there or later to leave, for this cause, and did not sleep from then on; or
@@ -96,12 +96,12 @@ pub record LeavesBitWait (A : Type 0) (old new : Known) (r : Run (Framed WaitBit
   pub awake : IsAwakeSince ended at (turn.Done outcome) came
   pub answer : result ≡ bit_until_in at.of.wait outcome
   pub cause : IsBitUntilCause ended r.of.wait.word r.of.wait.bit r.of.wait.state outcome result
-  pub rests : HasRested ended new (is_worn outcome)
+  pub rests : HasRested ended new (is_bit_worn outcome)
 
 -- a whole call, which begins unasked
 pub record EndsBitWaitUntil (A : Type 0) (old new : Known) (w b : ℕ) (st : SleepState)
     (result : Until (Result (Unit {0}) BitEnd)) : Type 0 where
   pub first : Run (Framed WaitBit)
-  pub fresh : IsFresh first.of.wait w b st
+  pub fresh : IsFreshBitWait first.of.wait w b st
   pub leaves : LeavesBitWait A old new first (stage.Test test.First) result
   pub asked : IsAskedFor A result

@@ -30,7 +30,7 @@ use Rattle.wait_class.specs.declared.stages.Turn.{Turn}
 use Rattle.wait_class.specs.declared.stages.Turn.TheVariants as turn
 use Rattle.wait_class.specs.Frames.{FrameTable, KeepsAll, framed}
 use Rattle.wait_class.specs.Tables.{CallTable, call_plan}
-use Rattle.bit_wait.specs.BitEnds.{FoundNoPlace, HasLoaded, WasInterrupted}
+use Rattle.bit_wait.specs.BitEnds.{FoundNoPlaceForBit, HasLoadedBit, WasBitInterrupted}
 use Rattle.wait_leave.specs.Leaves.{with_asked}
 use Rattle.bit_wait.specs.declared.waits.BitOutcome.{BitOutcome}
 use Rattle.bit_wait.specs.declared.waits.BitOutcome.TheVariants as outcome
@@ -38,19 +38,19 @@ use Rattle.bit_wait.specs.declared.waits.BitTest.{BitTest}
 use Rattle.bit_wait.specs.declared.waits.BitTest.TheVariants as test
 use Rattle.bit_wait.specs.declared.waits.WaitBit.{WaitBit}
 
-abbrev pub bit_in : WaitBit → Watch
-bit_in r = watch.Bit r.word r.bit
+abbrev pub wait_bit_in : WaitBit → Watch
+wait_bit_in r = watch.Bit r.word r.bit
 
 -- the numbers of a wait are in their ranges
-pub record IsRunning (r : WaitBit) : Type 0 where
+pub record IsRunningBitWait (r : WaitBit) : Type 0 where
   pub word : r.word < BIT_WORDS
   pub bit : r.bit < WORD_BITS
 
-abbrev pub test_point : BitTest → Point
-test_point test.First = at.Bit biting.First
-test_point test.Load = at.Bit biting.Load
-test_point (test.Again failed) = at.Bit (biting.Again failed)
-test_point test.Worn = at.Worn
+abbrev pub bit_test_point : BitTest → Point
+bit_test_point test.First = at.Bit biting.First
+bit_test_point test.Load = at.Bit biting.Load
+bit_test_point (test.Again failed) = at.Bit (biting.Again failed)
+bit_test_point test.Worn = at.Worn
 
 -- what a load notes, and where a wait goes on that found the bit set or not, that finished, that slept, and that looked
 -- for a signal
@@ -69,43 +69,43 @@ set_to test.Worn set = if set then turn.Done outcome.Worn else turn.Again (stage
 abbrev pub bit_finished_to : WaitBit → Bool → Turn (Stage BitTest) BitOutcome
 bit_finished_to r failed = if failed then turn.Done outcome.Interrupted else turn.Done outcome.Over
 
-abbrev pub slept_to : WaitBit → Stage BitTest
-slept_to r = if looks_in r.state then stage.Look else stage.Test (test.Again false)
+abbrev pub bit_slept_to : WaitBit → Stage BitTest
+bit_slept_to r = if looks_in r.state then stage.Look else stage.Test (test.Again false)
 
-abbrev pub answer_in : BitOutcome → Answer
-answer_in outcome.Over = zero_answer
-answer_in outcome.Interrupted = interrupted
-answer_in outcome.Worn = answer.Worn
+abbrev pub answer_to_bit : BitOutcome → Answer
+answer_to_bit outcome.Over = zero_answer
+answer_to_bit outcome.Interrupted = interrupted
+answer_to_bit outcome.Worn = answer.Worn
 
 -- The wait has ended: the task is awake, holds no head, and its entry is off. It is RUNNING, but that one which found
 -- no place may still be in the state that its last turn but one stored.
-abbrev pub is_worn : BitOutcome → Bool
-is_worn outcome.Worn = true
-is_worn _ = false
+abbrev pub is_bit_worn : BitOutcome → Bool
+is_bit_worn outcome.Worn = true
+is_bit_worn _ = false
 
-abbrev pub end_post : WaitBit → BitOutcome → Post
-end_post r o = record {
+abbrev pub bit_end_post : WaitBit → BitOutcome → Post
+bit_end_post r o = record {
   head = None;
   ticket = no_ticket;
-  stirs = is_worn o;
+  stirs = is_bit_worn o;
   state = state_mask r.state;
   zone = absent;
-  watch = bit_in r;
+  watch = wait_bit_in r;
 }
 
 -- the steps of a turn, from the hold of its prepare on
 abbrev pub loads_set : WaitBit → List Step → List Step
-loads_set r es = step.Unlock (head_of (bit_in r)) false ∷ step.Load (bit_in r) r.seen ∷ es
+loads_set r es = step.Unlock (head_of (wait_bit_in r)) false ∷ step.Load (wait_bit_in r) r.seen ∷ es
 
 -- why it fails: it was asked to leave, and has loaded the bit since, or it found a signal
 abbrev pub BitWhyFailed : Bool → Known → WaitBit → Type 0
-BitWhyFailed true k r = HasLoaded k r.word r.bit r.last
-BitWhyFailed false k r = WasInterrupted k r.word r.bit r.state r.seen
+BitWhyFailed true k r = HasLoadedBit k r.word r.bit r.last
+BitWhyFailed false k r = WasBitInterrupted k r.word r.bit r.state r.seen
 
 -- and what is said of that before the load behind
 abbrev pub BitAgainTrail : Bool → Known → WaitBit → Type 0
 BitAgainTrail true k r = Unit {0}
-BitAgainTrail false k r = WasInterrupted k r.word r.bit r.state r.seen
+BitAgainTrail false k r = WasBitInterrupted k r.word r.bit r.state r.seen
 
 abbrev pub BitFinishTrail : Known → WaitBit → Bool → Type 0
 BitFinishTrail k r true = BitWhyFailed r.asked k r
@@ -115,24 +115,24 @@ BitFinishTrail k r false = Unit {0}
 abbrev pub BitCauseIn : Known → WaitBit → BitOutcome → Type 0
 BitCauseIn k r outcome.Over = Unit {0}
 BitCauseIn k r outcome.Interrupted = BitWhyFailed r.asked k r
-BitCauseIn k r outcome.Worn = FoundNoPlace k r.word r.bit (head_of (bit_in r)) r.place
+BitCauseIn k r outcome.Worn = FoundNoPlaceForBit k r.word r.bit (head_of (wait_bit_in r)) r.place
 
 abbrev pub BitTestTrail : Known → WaitBit → BitTest → Type 0
 BitTestTrail k r test.First = Unit {0}
-BitTestTrail k r test.Load = EndsWith k (step.Unlock (head_of (bit_in r)) false ∷ [])
+BitTestTrail k r test.Load = EndsWith k (step.Unlock (head_of (wait_bit_in r)) false ∷ [])
 BitTestTrail k r (test.Again true) = BitAgainTrail r.asked k r
 BitTestTrail k r (test.Again false) = Unit {0}
-BitTestTrail k r test.Worn = FoundWorn k (head_of (bit_in r)) r.place []
+BitTestTrail k r test.Worn = FoundWorn k (head_of (wait_bit_in r)) r.place []
 
-abbrev pub call_in : WaitBit → Call
-call_in r = calls.WaitBit r.word r.bit r.state
+abbrev pub wait_bit_call : WaitBit → Call
+wait_bit_call r = calls.WaitBit r.word r.bit r.state
 
 abbrev pub bit_frame : FrameTable WaitBit BitTest BitOutcome
 bit_frame = record {
-  plan_of = λ r. with_asked r.asked (call_plan (call_in r));
-  Fits = IsRunning;
+  plan_of = λ r. with_asked r.asked (call_plan (wait_bit_call r));
+  Fits = IsRunningBitWait;
   worn_at = λ r p. record r { place = p };
-  test_point = test_point;
+  test_point = bit_test_point;
   loads = λ x. true;
   took = λ x. false;
   took_finish = λ failed. false;
@@ -141,13 +141,13 @@ bit_frame = record {
   prepared = test.Load;
   worn_to = test.Worn;
   finished = bit_finished_to;
-  slept_to = slept_to;
+  slept_to = bit_slept_to;
   looked = λ r hit. turn.Again (stage.Test (test.Again hit));
   noted = bit_noted;
   loaded_to = λ r x v. set_to x (bit_at v r.bit);
-  answer_of = answer_in;
+  answer_of = answer_to_bit;
   has_taken = λ o. false;
-  end_post = end_post;
+  end_post = bit_end_post;
   TestTrail = BitTestTrail;
   SleepTrail = λ k r. EndsWith k (loads_set r []) × (bit_at r.seen r.bit ≡ true);
   LookTrail = λ k r. (w : ℕ) × EndsWith k (loads_set r (step.Sleep w ∷ [])) × (bit_at r.seen r.bit ≡ true);
@@ -160,7 +160,7 @@ abbrev pub bit_table : CallTable (Framed WaitBit) (Stage BitTest) BitOutcome
 bit_table = framed bit_frame
 
 -- a wait that has not begun
-pub record IsFresh (r : WaitBit) (w b : ℕ) (st : SleepState) : Type 0 where
+pub record IsFreshBitWait (r : WaitBit) (w b : ℕ) (st : SleepState) : Type 0 where
   pub word : r.word ≡ w
   pub bit : r.bit ≡ b
   pub state : r.state ≡ st

@@ -18,7 +18,7 @@ use Rattle.wait_rule.specs.Says.{history_of}
 use Rattle.wait_rule.specs.Transitions.{call_program}
 use Rattle.wait_class.specs.Posts.{Runs}
 use Rattle.wait_class.specs.Posts.{EndsWith}
-use Rattle.bit_wait.specs.BitEnds.{answer_of}
+use Rattle.bit_wait.specs.BitEnds.{answer_of_bit_end}
 use Rattle.wait_class.specs.Tables.{has_sleep}
 pub use Rattle.wait_class.specs.Wholes.{HasRested}
 use Rattle.bit_wait.specs.declared.wait_calls.BitEnd.{BitEnd}
@@ -28,14 +28,14 @@ use Rattle.bit_wait.specs.declared.lock_runs.LockOutcome.TheVariants as outcome
 use Rattle.bit_wait.specs.declared.lock_runs.LockBit.{LockBit}
 
 -- the answer of a wait that has ended
-abbrev pub end_in : LockBit → LockOutcome → Result (Unit {0}) BitEnd
-end_in r outcome.Over = Ok tt
-end_in r outcome.Interrupted = Err (bit_end.Interrupted r.seen)
-end_in r outcome.Worn = Err (bit_end.Worn (head_of (watch.Bit r.word r.bit)) r.place)
+abbrev pub lock_end_in : LockBit → LockOutcome → Result (Unit {0}) BitEnd
+lock_end_in r outcome.Over = Ok tt
+lock_end_in r outcome.Interrupted = Err (bit_end.Interrupted r.seen)
+lock_end_in r outcome.Worn = Err (bit_end.Worn (head_of (watch.Bit r.word r.bit)) r.place)
 
 -- The last turn of a wait that a signal ended: the task slept, and then its own word showed a signal that the state
 -- admits. It has not slept since; and last of all the test-and-set found `seen`, with the bit set.
-pub record WasInterrupted (k : Known) (w b : ℕ) (st : SleepState) (seen : ℕ) : Type 0 where
+pub record WasLockInterrupted (k : Known) (w b : ℕ) (st : SleepState) (seen : ℕ) : Type 0 where
   pub before : List Step
   pub sleep : ℕ
   pub look : ℕ
@@ -53,17 +53,17 @@ pub record WasLeft (k : Known) (w b : ℕ) (seen : ℕ) : Type 0 where
 
 -- The last steps of a wait that found no place: its hold noted it, and gave the head back; then the test-and-set found
 -- the bit set.
-pub record FoundNoPlace (k : Known) (w b h place : ℕ) : Type 0 where
+pub record FoundNoPlaceForLock (k : Known) (w b h place : ℕ) : Type 0 where
   pub head : h ≡ head_of (watch.Bit w b)
   pub noted : WasWorn k.view.number k.view.items h place
   pub found : ℕ
   pub ends : EndsWith k (step.Unlock h false ∷ step.Consume (watch.Bit w b) 1 found ∷ [])
   pub set : bit_at found b ≡ true
 
-abbrev pub IsCause : Known → ℕ → ℕ → SleepState → Result (Unit {0}) BitEnd → Type 0
-IsCause k w b st (Ok u) = Unit {0}
-IsCause k w b st (Err (bit_end.Interrupted seen)) = WasInterrupted k w b st seen
-IsCause k w b st (Err (bit_end.Worn h place)) = FoundNoPlace k w b h place
+abbrev pub IsLockCause : Known → ℕ → ℕ → SleepState → Result (Unit {0}) BitEnd → Type 0
+IsLockCause k w b st (Ok u) = Unit {0}
+IsLockCause k w b st (Err (bit_end.Interrupted seen)) = WasLockInterrupted k w b st seen
+IsLockCause k w b st (Err (bit_end.Worn h place)) = FoundNoPlaceForLock k w b h place
 
 -- The last hold of a wait found no place, noted it and gave the head back; then the test-and-set found the bit clear.
 pub record TookBehindWorn (k : Known) (w b : ℕ) : Type 0 where
@@ -81,9 +81,9 @@ ComesBehindWorn k w b (Err (bit_end.Interrupted seen)) worn = worn ≡ false
 ComesBehindWorn k w b (Err (bit_end.Worn h place)) worn = worn ≡ true
 
 -- whether the call took the bit
-abbrev pub has_taken : Result (Unit {0}) BitEnd → Bool
-has_taken (Ok u) = true
-has_taken (Err e) = false
+abbrev pub has_taken_lock : Result (Unit {0}) BitEnd → Bool
+has_taken_lock (Ok u) = true
+has_taken_lock (Err e) = false
 
 -- The task went through the whole call, and the answer is that of its program, with its cause. Where its last hold
 -- found no place, and only there, it then stored RUNNING, since it may still have been in the state in which it would
@@ -92,8 +92,8 @@ pub record EndsBitLock (old new : Known) (w b : ℕ) (st : SleepState) (result :
     Type 0 where
   pub ended : Known
   pub runs : Runs (call_program old.view.number 0 (calls.LockBit w b st)) old ended (next.Go (at.Bit biting.First))
-      (next.Ends (answer_of result))
-  pub cause : IsCause ended w b st result
+      (next.Ends (answer_of_bit_end result))
+  pub cause : IsLockCause ended w b st result
   pub worn : Bool
   pub behind : ComesBehindWorn ended w b result worn
   pub rests : HasRested ended new worn

@@ -17,8 +17,8 @@ use Rattle.wait_leave.specs.declared.exits.Until.{Until}
 use Rattle.wait_leave.specs.declared.exits.Until.TheVariants as until
 use Rattle.wait_leave.specs.Leaves.{Exits}
 use Rattle.wait_leave.specs.OnTheWay.{IsAwakeSince, OnTheWay}
-use Rattle.bit_wait.specs.LockEnds.{IsCause, WasLeft, end_in, has_taken}
-use Rattle.bit_wait.specs.LockTables.{IsFresh, lock_table}
+use Rattle.bit_wait.specs.LockEnds.{IsLockCause, WasLeft, lock_end_in, has_taken_lock}
+use Rattle.bit_wait.specs.LockTables.{IsFreshLock, lock_table}
 use Rattle.bit_wait.specs.declared.wait_calls.BitEnd.{BitEnd}
 use Rattle.bit_wait.specs.declared.lock_runs.LockBit.{LockBit}
 use Rattle.bit_wait.specs.declared.lock_runs.LockOutcome.{LockOutcome}
@@ -60,20 +60,20 @@ lock_exits = record {
 -- the answer: one that failed was left where it was asked, or a signal had ended it
 abbrev pub failed_in : Bool → LockBit → Until (Result (Unit {0}) BitEnd)
 failed_in true r = until.Left r.seen
-failed_in false r = until.Over (end_in r outcome.Interrupted)
+failed_in false r = until.Over (lock_end_in r outcome.Interrupted)
 
 abbrev pub until_in : LockBit → LockOutcome → Until (Result (Unit {0}) BitEnd)
-until_in r outcome.Over = until.Over (end_in r outcome.Over)
+until_in r outcome.Over = until.Over (lock_end_in r outcome.Over)
 until_in r outcome.Interrupted = failed_in r.asked r
-until_in r outcome.Worn = until.Over (end_in r outcome.Worn)
+until_in r outcome.Worn = until.Over (lock_end_in r outcome.Worn)
 
 -- its cause: of Left, that its last test-and-set found the bit set
 abbrev pub IsUntilCause : Known → ℕ → ℕ → SleepState → Until (Result (Unit {0}) BitEnd) → Type 0
-IsUntilCause k w b st (until.Over x) = IsCause k w b st x
+IsUntilCause k w b st (until.Over x) = IsLockCause k w b st x
 IsUntilCause k w b st (until.Left seen) = WasLeft k w b seen
 
 abbrev pub takes_until : Until (Result (Unit {0}) BitEnd) → Bool
-takes_until (until.Over x) = has_taken x
+takes_until (until.Over x) = has_taken_lock x
 takes_until (until.Left seen) = false
 
 -- Left for nobody who was not asked
@@ -98,7 +98,7 @@ pub record LeavesBitLock (A : Type 0) (old new : Known) (r : Run (Framed LockBit
 pub record EndsBitLockUntil (A : Type 0) (old new : Known) (w b : ℕ) (st : SleepState)
     (result : Until (Result (Unit {0}) BitEnd)) : Type 0 where
   pub first : Run (Framed LockBit)
-  pub fresh : IsFresh first.of.wait w b st
+  pub fresh : IsFreshLock first.of.wait w b st
   pub unasked : first.of.wait.asked ≡ false
   pub leaves : LeavesBitLock A old new first (stage.Test test.First) result
   pub asked : IsAskedFor A result

@@ -13,8 +13,8 @@ ghost use Rattle.wait_class.specs.Handing.{LastGiven};
 ghost use Rattle.wait_class.specs.Tables.{Advances, IsAsleepAt, IsAt, IsStop, Turned};
 ghost use Rattle.wait_class.specs.UnderWay.{Came, IsUnderWay};
 ghost use Rattle.bit_wait.specs.declared.lock_runs.LockTest.TheVariants as test;
-ghost use Rattle.bit_wait.specs.LockTables.{IsFresh, lock_table};
-ghost use Rattle.bit_wait.specs.LockEnds.{EndsBitLock, end_in, has_taken};
+ghost use Rattle.bit_wait.specs.LockTables.{IsFreshLock, lock_table};
+ghost use Rattle.bit_wait.specs.LockEnds.{EndsBitLock, lock_end_in, has_taken_lock};
 ghost use Rattle.bit_wait.specs.LockStays.{TakesBit};
 ghost use Rattle.bit_wait.specs.Holders.{IsHolder};
 
@@ -39,7 +39,7 @@ pub fn begin_lock(task: &Task, word: u8, bit: u8, state: SleepState) -> LockRun
     requires bit { bit < WORD_BITS }
     requires out { IsOut task.now }
     ensures at { IsAt lock_table task.now result (stage.Test test.First) }
-    ensures fresh { IsFresh result.of.wait word bit state }
+    ensures fresh { IsFreshLock result.of.wait word bit state }
     ensures unasked { result.of.wait.asked ≡ false }
     ensures told { IsTold task.now }
     ensures under { IsClean task.now
@@ -86,9 +86,9 @@ pub fn wait_on_bit_lock<R: Wait>(
     ensures up { IsUp task.new }
     ensures idle { IsIdle task.new }
     ensures out { IsOut task.new }
-    ensures takes { TakesBit task.old task.new (watch.Bit word bit) (has_taken result) }
+    ensures takes { TakesBit task.old task.new (watch.Bit word bit) (has_taken_lock result) }
     ensures holder { IsClean task.old
-        → MatchBool (has_taken result) (IsHolder task.new (watch.Bit word bit)) (IsClean task.new) }
+        → MatchBool (has_taken_lock result) (IsHolder task.new (watch.Bit word bit)) (IsClean task.new) }
 {
     let mut call = begin_lock(task, word, bit, state);
     let outcome = run(rt, domain, task, &mut call, Stage::Test(LockTest::First));
@@ -145,11 +145,11 @@ pub fn end_lock(
 ) -> Result<(), BitEnd>
     requires of { task.old.domain ≡ domain.now }
     requires up { IsUp task.old }
-    ensures is { result ≡ end_in wait.now.of.wait outcome }
+    ensures is { result ≡ lock_end_in wait.now.of.wait outcome }
     ensures of { task.new.domain ≡ domain.now }
     ensures holder { (c : _) → IsUnderWay lock_table c task.old wait.now (turn.Done outcome)
-        → MatchBool (has_taken result) (IsHolder task.new c.watch) (IsClean task.new) }
-    ensures ends { (start : _) → (f : _) → (word : _) → (bit : _) → (state : _) → IsFresh f.of.wait word bit state
+        → MatchBool (has_taken_lock result) (IsHolder task.new c.watch) (IsClean task.new) }
+    ensures ends { (start : _) → (f : _) → (word : _) → (bit : _) → (state : _) → IsFreshLock f.of.wait word bit state
         → f.of.wait.asked ≡ false → Advances lock_table start task.old f wait.now (stage.Test test.First) (turn.Done outcome)
         → EndsBitLock start task.new word bit state result }
 {
@@ -159,7 +159,7 @@ pub fn end_lock(
 
 /// The answer of a wait that has ended. It stores nothing: `end_lock` stores RUNNING where no place was left.
 pub fn end_of(run: LockBit, outcome: LockOutcome) -> Result<(), BitEnd>
-    ensures { result ≡ end_in run outcome }
+    ensures { result ≡ lock_end_in run outcome }
 {
     match outcome {
         LockOutcome::Over => Ok(()),

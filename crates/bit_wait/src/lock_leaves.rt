@@ -12,7 +12,7 @@ ghost use Rattle.wait_leave.specs.OnTheWay.{IsOnWay, OnTheWay};
 ghost use Rattle.bit_wait.specs.Holders.{IsHolder};
 ghost use Rattle.bit_wait.specs.LockLeaves.{EndsBitLockUntil, LeavesBitLock, lock_exits, takes_until, until_in};
 ghost use Rattle.bit_wait.specs.LockStays.{LockKeeps, TakesBit};
-ghost use Rattle.bit_wait.specs.LockTables.{bit_in, lock_table};
+ghost use Rattle.bit_wait.specs.LockTables.{lock_bit_in, lock_table};
 
 use crate::lock_calls::{begin_lock, end_of};
 use crate::lock_waits::{LockBit, LockOutcome, LockRun, LockStage, LockTest};
@@ -85,8 +85,8 @@ pub fn leave_lock<R: Wait>(
     ensures up { IsUp task.new }
     ensures out { IsOut task.new }
     ensures idle { (told_of task.old).mark ≡ None → IsIdle task.new }
-    ensures tries { (told_of task.new).bits.pending (bit_in call.old.of.wait) ≡ false }
-    ensures keeps { LockKeeps (index task.old.view.number 0) (bit_in call.old.of.wait) (lock_table.took stage)
+    ensures tries { (told_of task.new).bits.pending (lock_bit_in call.old.of.wait) ≡ false }
+    ensures keeps { LockKeeps (index task.old.view.number 0) (lock_bit_in call.old.of.wait) (lock_table.took stage)
         (takes_until result) task.old task.new }
 {
     let outcome = leave(rt, domain, task, call, stage);

@@ -2,7 +2,7 @@
 
 ghost use Rattle.std.specs.Prelude.{◌≡◌, false, true};
 ghost use Rattle.wait_model.specs.declared.watches.Watch.TheVariants as watch;
-ghost use Rattle.bit_wait.specs.LockTables.{finished_to, stands_worn, loaded_to, lock_looked_to, slept_to, tried_to};
+ghost use Rattle.bit_wait.specs.LockTables.{finished_to, stands_worn, lock_loaded_to, lock_looked_to, lock_slept_to, tried_to};
 ghost use Rattle.wait_rule.specs.Says.{IsUp};
 ghost use Rattle.wait_model.specs.declared.layout.TheConstants.{HEADS};
 ghost use Rattle.wait_class.specs.Handing.{LastGiven};

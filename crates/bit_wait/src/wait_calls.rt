@@ -13,8 +13,8 @@ ghost use Rattle.wait_class.specs.Handing.{LastGiven};
 ghost use Rattle.wait_class.specs.Tables.{Advances, IsAsleepAt, IsAt, IsStop, Turned};
 ghost use Rattle.wait_class.specs.UnderWay.{Came, IsUnderWay};
 ghost use Rattle.bit_wait.specs.declared.waits.BitTest.TheVariants as test;
-ghost use Rattle.bit_wait.specs.BitTables.{IsFresh, bit_table, is_worn};
-ghost use Rattle.bit_wait.specs.BitEnds.{EndsBitWait, end_in};
+ghost use Rattle.bit_wait.specs.BitTables.{IsFreshBitWait, bit_table, is_bit_worn};
+ghost use Rattle.bit_wait.specs.BitEnds.{EndsBitWait, bit_end_in};
 ghost use Rattle.wait_event.specs.Ends.{wait_change};
 
 use crate::waits::{BitOutcome, BitRun, BitTest, WaitBit};
@@ -51,7 +51,7 @@ pub fn begin_bit(task: &Task, word: u8, bit: u8, state: SleepState) -> BitRun
     requires bit { bit < WORD_BITS }
     requires out { IsOut task.now }
     ensures at { IsAt bit_table task.now result (stage.Test test.First) }
-    ensures fresh { IsFresh result.of.wait word bit state }
+    ensures fresh { IsFreshBitWait result.of.wait word bit state }
     ensures told { IsTold task.now }
     ensures under { IsClean task.now
         → IsUnderWay bit_table (bit_table.plan_of result.of) task.now result (turn.Again (stage.Test test.First)) }
@@ -105,14 +105,14 @@ pub fn wait_on_bit<R: Wait>(
 /// Whether a wait ended since no place was left for its entry.
 #[inline(always)]
 pub fn is_worn(outcome: BitOutcome) -> bool
-    ensures { result ≡ is_worn outcome }
+    ensures { result ≡ is_bit_worn outcome }
 {
     matches!(outcome, BitOutcome::Worn)
 }
 
 /// The answer of a wait that has ended. It stores nothing: `end_bit` stores RUNNING where no place was left.
 pub fn end_of(run: WaitBit, outcome: BitOutcome) -> Result<(), BitEnd>
-    ensures { result ≡ end_in run outcome }
+    ensures { result ≡ bit_end_in run outcome }
 {
     match outcome {
         BitOutcome::Over => Ok(()),
@@ -176,10 +176,10 @@ pub fn end_bit(
 ) -> Result<(), BitEnd>
     requires of { task.old.domain ≡ domain.now }
     requires up { IsUp task.old }
-    ensures is { result ≡ end_in wait.now.of.wait outcome }
+    ensures is { result ≡ bit_end_in wait.now.of.wait outcome }
     ensures of { task.new.domain ≡ domain.now }
     ensures clean { (c : _) → IsUnderWay bit_table c task.old wait.now (turn.Done outcome) → IsClean task.new }
-    ensures ends { (start : _) → (f : _) → (word : _) → (bit : _) → (state : _) → IsFresh f.of.wait word bit state
+    ensures ends { (start : _) → (f : _) → (word : _) → (bit : _) → (state : _) → IsFreshBitWait f.of.wait word bit state
         → Advances bit_table start task.old f wait.now (stage.Test test.First) (turn.Done outcome)
         → EndsBitWait start task.new word bit state result }
 {

@@ -57,7 +57,7 @@ use Rattle.wait_class.specs.Findings.{with_value}
 use Rattle.wait_event.proofs.Entering.{hold_carried, looked_carried}
 use Rattle.wait_class.proofs.Ground.Going.{runs_none, runs_on}
 use Rattle.wait_class.proofs.Histories.{unlocked_history}
-use Rattle.completion_cell.specs.Asks.{Counted, Decides, HasAsked, HasReset, HasTried, TakesOne, yes_or_no}
+use Rattle.completion_cell.specs.Asks.{HasCountedDone, Decides, HasAsked, HasReset, HasTriedCell, TakesOne, hit_answer}
 use Rattle.completion_cell.proofs.Ground.{
   as_looks,
   count_after_step,
@@ -125,7 +125,7 @@ module _ (old a : Known) (d v : ℕ) (is : a ≡ added old (item.Made (step.Load
   pub asked_none : v ≡ 0 → HasAsked old a d false
   asked_none zero =
       let z : (v == 0) ≡ true = grind (arith, nat_tests) in record {
-        runs = called_by old a (calls.IsDone d) (at.Count counting.Peek) (yes_or_no false)
+        runs = called_by old a (calls.IsDone d) (at.Count counting.Peek) (hit_answer false)
             (subst (λ (b : Bool). Runs (call_program old.view.number 0 (calls.IsDone d)) old a
             (next.Go (at.Count counting.Peek)) (if b then ends_with (load (calls.IsDone d) (with_value v)) zero_answer
             else go (load (calls.IsDone d) (with_value v)) (at.Count counting.Lock)).next) z
@@ -153,16 +153,16 @@ module _ (old a : Known) (d v : ℕ) (is : a ≡ added old (item.Made (step.Load
     pub asked_some : HasAsked old new d true
     asked_some =
         let f = call_program old.view.number 0 (calls.IsDone d) in record {
-          runs = called_by old new (calls.IsDone d) (at.Count counting.Peek) (yes_or_no true)
+          runs = called_by old new (calls.IsDone d) (at.Count counting.Peek) (hit_answer true)
               (runs_on f old a new (next.Go (at.Count counting.Peek)) (next.Go (at.Count counting.Lock))
-              (next.Ends (yes_or_no true))
+              (next.Ends (hit_answer true))
               (subst (λ (z : Bool). Runs f old a
               (next.Go (at.Count counting.Peek))
               (if z then ends_with (load (calls.IsDone d) (with_value v)) zero_answer
               else go (load (calls.IsDone d) (with_value v)) (at.Count counting.Lock)).next) some
               (count_peeks old.view.number (calls.IsDone d) d refl old a v is))
               (runs_on f a b new (next.Go (at.Count counting.Lock)) (next.Go (at.Count (counting.Unlock true)))
-              (next.Ends (yes_or_no true)) (count_locks old.view.number (calls.IsDone d) d refl a b l)
+              (next.Ends (hit_answer true)) (count_locks old.view.number (calls.IsDone d) d refl a b l)
               (count_unlocks old.view.number (calls.IsDone d) d refl true b new at_lock u)))
               (step.Load (watch.Done d) v ∷ ask_lock ∷ step.Unlock b.at false ∷ []) asked_history (small, (tt, (tt, tt)));
           count = v;
@@ -202,7 +202,7 @@ module _ (old a b new : Known) (d : ℕ) (s : StoresCount a b d 0)
       (tt, ((set_small (watch.Done d) 0 s.found).0, (tt, tt)))
 
 -- one is taken of a count that a hold has loaded
-module _ (old new : Known) (d n : ℕ) (c : Counted old d n) (took : Bool) (takes : TakesOne n took)
+module _ (old new : Known) (d n : ℕ) (c : HasCountedDone old d n) (took : Bool) (takes : TakesOne n took)
     (made : MatchBool took (StoresCount old new d (n - 1)) (new ≡ old)) where
   -- where one is there and the count is not at its end
   pub lowers : (n == 0) ≡ false → (found : ℕ) → found ≡ n → is_publishing (watch.Done d) found (n - 1) ≡ false
@@ -290,10 +290,10 @@ reinit_reset old a b new d h same l s u =
     has_reset old a b new d s (subst (λ (i : ℕ). HasLocked old a i (walk_of_hold i None)) same l) u.is
 
 pub tried_none : (old a : Known) (d v : ℕ) → a ≡ added old (item.Made (step.Load (watch.Done d) v)) → v ≡ 0
-    → HasTried old a d false
+    → HasTriedCell old a d false
 tried_none old a d v is zero =
     let z : (v == 0) ≡ true = grind (arith, nat_tests) in record {
-      runs = called_by old a (calls.TryWait d) (at.Count counting.Peek) (yes_or_no false)
+      runs = called_by old a (calls.TryWait d) (at.Count counting.Peek) (hit_answer false)
           (subst (λ (b : Bool). Runs (call_program old.view.number 0 (calls.TryWait d)) old a
           (next.Go (at.Count counting.Peek)) (if b then ends_with (load (calls.TryWait d) (with_value v)) zero_answer
           else go (load (calls.TryWait d) (with_value v)) (at.Count counting.Lock)).next) z
@@ -310,7 +310,7 @@ module _ (old a b b2 : Known) (d v n h : ℕ) (same : h ≡ head_of (watch.Done 
     (is : a ≡ added old (item.Made (step.Load (watch.Done d) v))) (one : Carries unchanged old a) (ne : v ≡ 0 → ⊥)
     (first : FindsCount old d v) (l : HasLocked a b h (walk_of_hold h None)) (again : b2 ≡ added b (item.Made (step.Load (watch.Done d) n)))
     (finds : FindsCount b d n) (two : Carries unchanged b b2) where
-  pub try_counted : Counted b2 d n
+  pub try_counted : HasCountedDone b2 d n
   try_counted = record {
     held = two.head ∙ (ap (λ (k : Known). k.book.head) l.is ∙ ap Some same);
     loaded = count_after_step d b b2 (step.Load (watch.Done d) n) (history_after b b2 _ again)
@@ -363,23 +363,23 @@ module _ (old a b b2 : Known) (d v n h : ℕ) (same : h ≡ head_of (watch.Done 
         let t = take_history b2 c d n try_counted took takes made in
         small_on t.0 (step.Unlock c.at false ∷ []) t.2 (tt, tt)
 
-    pub tried_some : HasTried old new d (not (n == 0))
+    pub tried_some : HasTriedCell old new d (not (n == 0))
     tried_some =
         let f = call_program old.view.number 0 (calls.TryWait d) in record {
-          runs = called_by old new (calls.TryWait d) (at.Count counting.Peek) (yes_or_no (not (n == 0)))
+          runs = called_by old new (calls.TryWait d) (at.Count counting.Peek) (hit_answer (not (n == 0)))
               (runs_on f old a new (next.Go (at.Count counting.Peek)) (next.Go (at.Count counting.Lock))
-              (next.Ends (yes_or_no (not (n == 0))))
+              (next.Ends (hit_answer (not (n == 0))))
               (subst (λ (z : Bool). Runs f old a (next.Go (at.Count counting.Peek))
               (if z then ends_with (load (calls.TryWait d) (with_value v)) zero_answer
               else go (load (calls.TryWait d) (with_value v)) (at.Count counting.Lock)).next) some
               (count_peeks old.view.number (calls.TryWait d) d refl old a v is))
               (runs_on f a b new (next.Go (at.Count counting.Lock)) (next.Go (at.Count counting.Load))
-              (next.Ends (yes_or_no (not (n == 0)))) (count_locks old.view.number (calls.TryWait d) d refl a b locked)
+              (next.Ends (hit_answer (not (n == 0)))) (count_locks old.view.number (calls.TryWait d) d refl a b locked)
               (runs_on f b b2 new (next.Go (at.Count counting.Load)) (next.Go (at.Count (count_after n)))
-              (next.Ends (yes_or_no (not (n == 0))))
+              (next.Ends (hit_answer (not (n == 0))))
               (count_loads old.view.number (calls.TryWait d) d refl b b2 n again)
               (runs_on f b2 c new (next.Go (at.Count (count_after n)))
-              (next.Go (at.Count (counting.Unlock (not (n == 0))))) (next.Ends (yes_or_no (not (n == 0))))
+              (next.Go (at.Count (counting.Unlock (not (n == 0))))) (next.Ends (hit_answer (not (n == 0))))
               (subst (λ (m : ℕ). Runs (call_program m 0 (calls.TryWait d)) b2 c (next.Go (at.Count (count_after n)))
               (next.Go (at.Count (counting.Unlock (not (n == 0)))))) number_b2
               (take_runs b2 c d n try_counted took takes made))

@@ -29,7 +29,7 @@ use Rattle.wait_rule.proofs.KnownLaws.Transitions.{only_none}
 use Rattle.wait_class.specs.Findings.{with_value}
 use Rattle.wait_class.specs.Posts.{HasSeenOwn, IsStateFor, Post, Stands, own_of}
 use Rattle.wait_class.specs.Tables.{IsAt, Turned, falls, next_in, post_of}
-use Rattle.wait_class.specs.Laws.{IsPlain, TurnTrail, turn_post}
+use Rattle.wait_class.specs.Laws.{IsPlainTurn, TurnTrail, turn_post}
 use Rattle.wait_class.specs.declared.stages.Run.{Run}
 use Rattle.wait_class.proofs.CalmSteps.{calm_saw}
 use Rattle.wait_class.proofs.Ground.Keeping.{keeps_none, keeps_of, keeps_on, own_keeps}
@@ -45,7 +45,7 @@ use Rattle.completion_cell.specs.Awaits.{
   counted_by,
   counted_to,
 }
-use Rattle.completion_cell.specs.HeldPermits.{HasBegun, Knows}
+use Rattle.completion_cell.specs.HeldPermits.{HasBegunHold, Knows}
 use Rattle.completion_cell.specs.LoadedCounts.{InRange}
 use Rattle.completion_cell.specs.declared.awaits.AwaitCall.{AwaitCall}
 use Rattle.completion_cell.specs.declared.awaits.AwaitStage.{AwaitStage}
@@ -68,7 +68,7 @@ counted_next true false waited = refl
 counted_next false looks true = refl
 counted_next false looks false = refl
 
-counted_plain : (zero looks waited : Bool) → IsPlain await_table (counted_by zero looks waited)
+counted_plain : (zero looks waited : Bool) → IsPlainTurn await_table (counted_by zero looks waited)
 counted_plain true true waited = refl
 counted_plain true false waited = refl
 counted_plain false looks true = refl
@@ -100,7 +100,7 @@ still_stands_at old new carries differs p q s head ticket stirs state home =
     (subst (λ (σ : ℕ). IsStateFor p.stirs σ old.book.state) (sym state) s.state)) home
 
 module _ (old knew new : Known) (run : Run AwaitCall) (v : ℕ) (there : run.of.cell < COMPLETIONS)
-    (looks : OnlyLooks old knew) (begun : HasBegun run.of.cell knew) (up : IsUp knew)
+    (looks : OnlyLooks old knew) (begun : HasBegunHold run.of.cell knew) (up : IsUp knew)
     (keeps : CellKeeps (own_of old) old knew)
     (is : new ≡ added knew (item.Made (step.Load (watch.Done run.of.cell) v))) (finds : FindsCount knew run.of.cell v)
     (carries : Carries unchanged knew new) where

@@ -16,13 +16,13 @@ use Rattle.wait_rule.specs.Stays.{with_left_entry}
 use Rattle.wait_rule.specs.Transitions.{OnlyLooks, StepOrLook, Transition}
 use Rattle.wait_rule.proofs.KnownLaws.Transitions.{only_looked}
 use Rattle.wait_class.specs.Posts.{own_of}
-use Rattle.wait_class.specs.Laws.{DrawLaw, HasJoined, IsLawfulTable, LawOf, LockLaw, LookLaw, QueueLaw, SleepLaw, StateLaw, UnlockLaw}
+use Rattle.wait_class.specs.Laws.{DrawLaw, HasJoined, IsLawfulCallTable, LawOf, LockLaw, LookLaw, QueueLaw, SleepLaw, StateLaw, UnlockLaw}
 use Rattle.wait_class.specs.declared.stages.Turn.TheVariants as turn
 use Rattle.wait_class.proofs.Histories.{ends_calm, stored_history, unmoved_by}
 use Rattle.wait_class.proofs.Stays.{stays_but}
 use Rattle.wait_class.proofs.Turns.{may_by}
 use Rattle.wait_class.proofs.Ways.{look_by, sleep_by, way}
-use Rattle.wait_event.specs.Waits.{is_queue, queues}
+use Rattle.wait_event.specs.Waits.{is_queue, has_queued_in}
 use Rattle.wait_event.proofs.Tellings.{or_none, queues_append, quiet_queues}
 use Rattle.completion_cell.specs.Awaits.{AwaitTells, await_head, await_table, await_depth, await_doing}
 use Rattle.completion_cell.specs.HeldPermits.{Knows}
@@ -353,7 +353,7 @@ depth_most stage.FirstLoad = omega arith
 depth_most stage.AgainLoad = omega arith
 depth_most s = omega arith
 
-pub await_lawful : IsLawfulTable await_table
+pub await_lawful : IsLawfulCallTable await_table
 await_lawful = record {
   keeps = stays_but with_left_entry;
   tells = record {
@@ -361,7 +361,7 @@ await_lawful = record {
     on = λ r q w ts us a b. record {
       cell = b.cell ∙ a.cell;
       state = b.state ∙ a.state;
-      queued = b.queued ∙ (ap (λ (c : Bool). c || queues us) a.queued ∙ queues_append r.queued ts us);
+      queued = b.queued ∙ (ap (λ (c : Bool). c || has_queued_in us) a.queued ∙ queues_append r.queued ts us);
       ranged = ranged_on ts us a.ranged b.ranged;
     };
     quiet = λ r x quiet. told_by r r x refl refl refl (quiet_queues x.did quiet) (quiet_ranged x.did quiet);

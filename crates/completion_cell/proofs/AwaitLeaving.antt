@@ -48,7 +48,7 @@ use Rattle.completion_cell.specs.AwaitLeaves.{
   await_until,
   leave_awake,
 }
-use Rattle.completion_cell.specs.Awaits.{CellKeeps, IsFresh, LeavesFor, TrailEnd, WhyStopped, await_table}
+use Rattle.completion_cell.specs.Awaits.{CellKeeps, IsFreshAwait, LeavesFor, AwaitTrailEnd, WhyStopped, await_table}
 use Rattle.completion_cell.specs.HeldPermits.{Knows}
 use Rattle.completion_cell.specs.declared.awaits.AwaitCall.{AwaitCall}
 use Rattle.completion_cell.specs.declared.awaits.AwaitOutcome.{AwaitOutcome}
@@ -191,7 +191,7 @@ stopped_cause k e found false x = record {
   selects = λ i. e.queued && not (x.queued i);
 }
 
-cause_of : (k : Known) (e : AwaitCall) (o : AwaitOutcome) → TrailEnd k e o
+cause_of : (k : Known) (e : AwaitCall) (o : AwaitOutcome) → AwaitTrailEnd k e o
     → IsAwaitUntil k e.cell e.state e.queued (await_until e o)
 cause_of k e outcome.Over x = tt
 cause_of k e (outcome.Signalled found) x = stopped_cause k e found e.asked x.1
@@ -308,7 +308,7 @@ module _ (A : Type 0) (old new : Known) (r q : Run AwaitCall) (s : AwaitStage) (
       (λ is. way_asked A await_table await_exits await_may_leave await_lawful old r s new q (turn.Done o) w unasked is)
 
 -- a whole call
-pub ends_until : (A : Type 0) (old new : Known) (r q : Run AwaitCall) (d : ℕ) (st : SleepState) → IsFresh r.of d st
+pub ends_until : (A : Type 0) (old new : Known) (r q : Run AwaitCall) (d : ℕ) (st : SleepState) → IsFreshAwait r.of d st
     → (o : AwaitOutcome) → OnTheWay A await_table await_exits old r stage.First new q (turn.Done o)
     → EndsAwaitUntil A old new d st (await_until q.of o)
 ends_until A old new r q d st fresh o w = record {

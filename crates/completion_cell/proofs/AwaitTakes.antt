@@ -63,10 +63,10 @@ use Rattle.wait_class.proofs.Handed.{given_as, given_step}
 use Rattle.wait_rule.proofs.KnownLaws.Transitions.{only_none}
 use Rattle.wq_head.specs.Adds.{HasRemoved}
 use Rattle.wq_head.specs.Holds.{IsHolding}
-use Rattle.wait_class.specs.Findings.{nothing, with_value}
+use Rattle.wait_class.specs.Findings.{saw_nothing, with_value}
 use Rattle.wait_class.specs.Posts.{HasSeenOwn, Post, Stands, own_of}
 use Rattle.wait_class.specs.Tables.{IsAt, SleepsNot, Turned, falls, is_sleep, post_of, run_post}
-use Rattle.wait_class.specs.Laws.{Calm, IsPlain, is_quiet, turn_post}
+use Rattle.wait_class.specs.Laws.{Calm, IsPlainTurn, is_quiet_event, turn_post}
 use Rattle.wait_class.specs.declared.stages.Run.{Run}
 use Rattle.wait_class.specs.declared.stages.Turn.TheVariants as turn
 use Rattle.wait_class.proofs.Ground.Keeping.{keeps_none, keeps_of, keeps_on, keeps_taken, own_keeps}
@@ -88,14 +88,14 @@ use Rattle.wait_class.proofs.OwnSteps.{own_goes}
 use Rattle.wait_class.proofs.Turns.{GoesOn, advance_by}
 use Rattle.wait_event.specs.Waits.{is_queue}
 use Rattle.wait_event.proofs.Tellings.{quiet_queues}
-use Rattle.completion_cell.specs.Asks.{Counted, TakesOne}
+use Rattle.completion_cell.specs.Asks.{HasCountedDone, TakesOne}
 use Rattle.completion_cell.specs.Awaits.{
   AwaitTurn,
   CellKeeps,
   FoundSome,
   HasGivenBack,
   IsUnqueued,
-  Pares,
+  ParesAwait,
   QuitsFrom,
   TakesFrom,
   AwaitTells,
@@ -105,10 +105,10 @@ use Rattle.completion_cell.specs.Awaits.{
   await_head,
   await_table,
   await_watch,
-  end_post,
+  await_end_post,
   last_stage,
   off_stage,
-  point_of,
+  await_point_at,
   quit_stage,
   take_stage,
 }
@@ -155,9 +155,9 @@ module _ (start k : Known) (run : Run AwaitCall) (found : Bool) (off : IsUnqueue
   back_kept = keeps_on (own_of start) start k new off.keeps
       (await_lawful.keeps.unlock (own_of start) (await_watch run.of) false k new is)
 
-  back_stood : (o : AwaitOutcome) → Stands new (end_post run.of o)
+  back_stood : (o : AwaitOutcome) → Stands new (await_end_post run.of o)
   back_stood o = back_stands await_table await_lawful k new is (post_of await_table run.of stage.TakeStore)
-      (end_post run.of o) off.stands refl refl off.stands.state (λ f h. h)
+      (await_end_post run.of o) off.stands refl refl off.stands.state (λ f h. h)
 
   back_last : HasGivenBack new run.of
   back_last = (
@@ -199,7 +199,7 @@ module _ (start k : Known) (run : Run AwaitCall) (found : Bool) (t : TakesFrom s
   at_k : k.at ≡ await_head r
   at_k = stands.at (await_head r) refl
 
-  pub counted : Counted k d n
+  pub counted : HasCountedDone k d n
   counted = record { held = stands.head; loaded = some.0.counts.0; small = some.0.counts.1 }
 
   not_none : (n == 0) ≡ false
@@ -217,9 +217,9 @@ module _ (start k : Known) (run : Run AwaitCall) (found : Bool) (t : TakesFrom s
   own_x = Some (own_of start)
 
   abbrev given_at : AwaitStage → Given
-  given_at z = (await_table.plan_of r).given (point_of z)
+  given_at z = (await_table.plan_of r).given (await_point_at z)
 
-  none_told : (e : Step) → is_quiet (by_step e) ≡ true → (x : Transition) → x.did ≡ by_step e → AwaitTells r r (x ∷ [])
+  none_told : (e : Step) → is_quiet_event (by_step e) ≡ true → (x : Transition) → x.did ≡ by_step e → AwaitTells r r (x ∷ [])
   none_told e quiet x did = told_by r r x refl refl refl (ap is_queue did ∙ quiet_queues (by_step e) quiet)
       (subst InRange (sym did) (quiet_ranged (by_step e) quiet))
 
@@ -371,18 +371,18 @@ module _ (start k : Known) (run : Run AwaitCall) (found : Bool) (q : QuitsFrom s
     quit_told : (x : Transition) → x.did ≡ by_step qu → AwaitTells qr qr (x ∷ [])
     quit_told x did = told_by qr qr x refl refl refl (ap is_queue did) (subst InRange (sym did) tt)
 
-    zero_is : FindsValue k (await_watch qr) nothing
+    zero_is : FindsValue k (await_watch qr) saw_nothing
     zero_is = known.counts.0
 
     quits : (b : Bool) → (b ≡ false → (told_of k).hold.book (own_of start) ≡ gone) → WhyStopped qr.asked new qr b
         → GoesOn await_table start new qr qr (quit_stage b) (turn.Done (outcome.Signalled b))
     quits false seen was = own_goes await_table start k new qr qr stage.LeaveQueue (turn.Done (outcome.Signalled false))
-        qu nothing qo.looks (back_looks await_table await_lawful k new is) quit_told (back_kept start k run found qo new is)
+        qu saw_nothing qo.looks (back_looks await_table await_lawful k new is) quit_told (back_kept start k run found qo new is)
         refl (qo.stands.at (await_head qr) refl, refl) (tt, (gone_seen _ (seen refl), zero_is), tt)
         (back_up await_table await_lawful k new is qo.up) (back_stood start k run found qo new is (outcome.Signalled false))
         (back_last start k run found qo new is, was)
     quits true seen was = own_goes await_table start k new qr qr stage.LeaveUnlock (turn.Done (outcome.Signalled true))
-        qu nothing qo.looks (back_looks await_table await_lawful k new is) quit_told (back_kept start k run found qo new is)
+        qu saw_nothing qo.looks (back_looks await_table await_lawful k new is) quit_told (back_kept start k run found qo new is)
         refl (qo.stands.at (await_head qr) refl, refl) (tt, zero_is, tt) (back_up await_table await_lawful k new is qo.up)
         (back_stood start k run found qo new is (outcome.Signalled true)) (back_last start k run found qo new is, was)
 
@@ -437,14 +437,14 @@ module _ (old mid : Known) (run : Run AwaitCall) (stopped : Bool) (a : IsAt awai
     shows = λ none. seen_off old mid o h hd stood_old.head stood_old.told is;
   }
 
-  pub pares_none : is_some o ≡ false → Pares old mid run stopped false
+  pub pares_none : is_some o ≡ false → ParesAwait old mid run stopped false
   pares_none none = by stopped a.trail
     where
       gone_is : (f : Option Entry) → is_some f ≡ false → f ≡ None
       gone_is None out = refl
       gone_is (Some f) out = absurd (cc)
 
-      by : (b : Bool) → AwaitTrail old c (off_stage b) → Pares old mid run b false
+      by : (b : Bool) → AwaitTrail old c (off_stage b) → ParesAwait old mid run b false
       by true u = record {
         off = off_none (gone_is o none);
         left = left_off old mid c h.word u saw_calm (entry_shows false none);
@@ -498,7 +498,7 @@ module _ (old mid : Known) (run : Run AwaitCall) (stopped : Bool) (a : IsAt awai
     goes : (b : Bool) (n : ℕ) (f : Entry) → o ≡ Some f → Knows mid c.cell n → AwaitTrail new c (last_stage b)
         → GoesOn await_table old new c c (off_stage b) (turn.Again (last_stage b))
     goes true n f is known trail = own_goes await_table old mid new c c stage.LeaveQueue
-        (turn.Again stage.LeaveUnlock) (step.Unqueue x) (record nothing { entry = Some f; value = n })
+        (turn.Again stage.LeaveUnlock) (step.Unqueue x) (record saw_nothing { entry = Some f; value = n })
         (seen_looks old mid o h hd stood_old.head)
         (subst (OnlyLooks (added mid (item.Made (step.Unqueue x)))) (sym removed) (bit_looks mid (step.Unqueue x)))
         (λ y did. told_by c c y refl refl refl (ap is_queue did) (subst InRange (sym did) tt))
@@ -506,7 +506,7 @@ module _ (old mid : Known) (run : Run AwaitCall) (stopped : Bool) (a : IsAt awai
         (tt, (finds_own old mid o h hd stood_old.head stood_old.told here (Some f) is, known.counts.0), refl)
         (taken.awake ∙ (h.carries.awake ∙ a.up)) (stood_new f is) trail
     goes false n f is known trail = own_goes await_table old mid new c c stage.TakeQueue
-        (turn.Again stage.TakeStore) (step.Unqueue x) (record nothing { entry = Some f; value = n })
+        (turn.Again stage.TakeStore) (step.Unqueue x) (record saw_nothing { entry = Some f; value = n })
         (seen_looks old mid o h hd stood_old.head)
         (subst (OnlyLooks (added mid (item.Made (step.Unqueue x)))) (sym removed) (bit_looks mid (step.Unqueue x)))
         (λ y did. told_by c c y refl refl refl (ap is_queue did) (subst InRange (sym did) tt))
@@ -514,7 +514,7 @@ module _ (old mid : Known) (run : Run AwaitCall) (stopped : Bool) (a : IsAt awai
         (tt, (finds_own old mid o h hd stood_old.head stood_old.told here (Some f) is, known.counts.0), refl)
         (taken.awake ∙ (h.carries.awake ∙ a.up)) (stood_new f is) trail
 
-    plain_last : (b : Bool) → IsPlain await_table (turn.Again (last_stage b))
+    plain_last : (b : Bool) → IsPlainTurn await_table (turn.Again (last_stage b))
     plain_last true = refl
     plain_last false = refl
 
@@ -526,10 +526,10 @@ module _ (old mid : Known) (run : Run AwaitCall) (stopped : Bool) (a : IsAt awai
     on_from false f is u = goes false c.count f is (knows_saw c.cell old mid c.count x h.word saw_calm u.0)
         (knows_off c.cell old new c.count h.word off_calm u.0, u.1)
 
-    pub pares_some : is_some o ≡ true → Pares old new run stopped true
+    pub pares_some : is_some o ≡ true → ParesAwait old new run stopped true
     pares_some some = by o refl some
       where
-        by : (f : Option Entry) → o ≡ f → is_some f ≡ true → Pares old new run stopped true
+        by : (f : Option Entry) → o ≡ f → is_some f ≡ true → ParesAwait old new run stopped true
         by None is on = absurd (cc)
         by (Some f) is on = advance_by await_table old new run run (off_stage stopped) (turn.Again (last_stage stopped))
             refl a.fits (plain_last stopped) (on_from stopped f is a.trail)
@@ -548,14 +548,14 @@ stands_off k run stands up there = record {
 
 -- the ends of a hold that looked at the own entry and found it off
 pub quit_off : (old mid new : Known) (run : Run AwaitCall) (stopped : Bool) (u : AwaitTurn) → stopped ≡ true
-    → Pares old mid run stopped false
+    → ParesAwait old mid run stopped false
     → ((start : Known) → QuitsFrom start mid run false → Turned await_table start new run run (quit_stage false) u)
     → Turned await_table old new run run (off_stage stopped) u
 quit_off old mid new run true u is p ends = ends old p
 quit_off old mid new run false u is p ends = absurd (cc)
 
 pub take_off : (old mid new : Known) (run : Run AwaitCall) (stopped : Bool) (u : AwaitTurn) → stopped ≡ false
-    → Pares old mid run stopped false
+    → ParesAwait old mid run stopped false
     → ((start : Known) → TakesFrom start mid run false → Turned await_table start new run run (take_stage false) u)
     → Turned await_table old new run run (off_stage stopped) u
 take_off old mid new run true u is p ends = absurd (cc)

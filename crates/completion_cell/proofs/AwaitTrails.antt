@@ -22,7 +22,7 @@ use Rattle.wait_class.specs.Posts.{EndsWith, own_of}
 use Rattle.wait_class.specs.Laws.{Calm, Unmoved}
 use Rattle.wait_class.proofs.Histories.{ends_calm, ends_still}
 use Rattle.completion_cell.specs.Awaits.{HasGivenBack, HasJustLocked, HasPared, LeavesBy, LeavesFor, AwaitTrail, WhyStopped, await_head}
-use Rattle.completion_cell.specs.HeldPermits.{Deals, HasBegun, HasLoaded, Held, IsSettled, Knows, Waits}
+use Rattle.completion_cell.specs.HeldPermits.{Deals, HasBegunHold, HasLoadedCount, Held, IsDebtSettled, Knows, WaitsForPermit}
 use Rattle.completion_cell.specs.declared.awaits.AwaitCall.{AwaitCall}
 use Rattle.completion_cell.specs.declared.awaits.AwaitStage.{AwaitStage}
 use Rattle.completion_cell.specs.declared.awaits.AwaitStage.TheVariants as stage
@@ -79,7 +79,7 @@ pub knows_none : (d : ℕ) (k : Known) → k.at ≡ done_head d → Knows k d 0 
 knows_none d k at u = waits_may_end d k (Some 0) at (zero_waits d k u.loaded)
 
 -- the count is loaded
-pub load_settles : (n k : ℕ) → k ≤ 1 → IsSettled n (after_read n k)
+pub load_settles : (n k : ℕ) → k ≤ 1 → IsDebtSettled n (after_read n k)
 load_settles n k few = (
   (let less = read_debt n k in omega (arith, less, few)),
   (λ end. read_end n k end few),
@@ -87,7 +87,7 @@ load_settles n k few = (
 )
 
 pub load_loaded : (d : ℕ) (old new : Known) (n : ℕ) → history_of new ≡ history_of old ++ step.Load (watch.Done d) n ∷ []
-    → new.view.number ≡ old.view.number → HasBegun d old → HasLoaded d new n
+    → new.view.number ≡ old.view.number → HasBegunHold d old → HasLoadedCount d new n
 load_loaded d old new n is number b = record {
   owes = after_read n b.owes;
   settled = load_settles n b.owes b.few;
@@ -105,7 +105,7 @@ load_loaded d old new n is number b = record {
 -- looked at that.
 module _ (d : ℕ) (old new : Known) where
   pub first_begun : (aim : Option Aim) (w : ℕ) → Calm (step.Lock (done_head d) aim w ∷ []) old new → LeftOff d old
-      → HasBegun d new
+      → HasBegunHold d new
   first_begun aim w c left = record {
     knows = None;
     owes = 0;
@@ -114,13 +114,13 @@ module _ (d : ℕ) (old new : Known) where
         let a = old.view.number in
         let lock = step.Lock (done_head d) aim w in
         let front = order_as a new (history_of old ++ lock ∷ []) c.number c.history order in
-        subst (λ (i : ℕ). Waits d i (history_of new) None 0) (sym c.number)
-        (subst (λ (l : List Step). Waits d a l None 0) (sym c.history)
+        subst (λ (i : ℕ). WaitsForPermit d i (history_of new) None 0) (sym c.number)
+        (subst (λ (l : List Step). WaitsForPermit d a l None 0) (sym c.history)
         (begins_off d a (history_of old) aim w (left (order_front a (history_of old) (lock ∷ []) front))));
   }
 
   pub again_begun : (w : ℕ) → history_of new ≡ history_of old ++ step.Saw (own_of old) w ∷ []
-      → new.view.number ≡ old.view.number → HasJustLocked old d → HasBegun d new
+      → new.view.number ≡ old.view.number → HasJustLocked old d → HasBegunHold d new
   again_begun w is number u =
       let a = old.view.number in
       let front = u.2.0 in
@@ -132,8 +132,8 @@ module _ (d : ℕ) (old new : Known) where
         knows = None;
         owes = found d a front u.0 u.1 w;
         few = found_few d a front u.0 u.1 w;
-        waits = λ order. subst (λ (i : ℕ). Waits d i (history_of new) None (found d a front u.0 u.1 w)) (sym number)
-            (subst (λ (l : List Step). Waits d a l None (found d a front u.0 u.1 w)) (sym more)
+        waits = λ order. subst (λ (i : ℕ). WaitsForPermit d i (history_of new) None (found d a front u.0 u.1 w)) (sym number)
+            (subst (λ (l : List Step). WaitsForPermit d a l None (found d a front u.0 u.1 w)) (sym more)
             (begins_looking d a front u.0 u.1 w));
       }
 

@@ -19,7 +19,7 @@ use Rattle.wait_rule.proofs.KnownLaws.HeldPermits.{owed}
 use Rattle.wait_rule.proofs.KnownLaws.TaskHistories.{history_after}
 use Rattle.wq_head.specs.Holds.{HasLocked}
 use Rattle.wq_head.specs.Selects.{HasSelected}
-use Rattle.completion_cell.specs.Asks.{Counted}
+use Rattle.completion_cell.specs.Asks.{HasCountedDone}
 use Rattle.completion_cell.proofs.Asking.{none_held}
 use Rattle.completion_cell.proofs.Permits.{
   Inside,
@@ -86,7 +86,7 @@ is_stored d n old new most s few = record {
   number = s.publishes.number;
 }
 
-takes : (d n : ℕ) (old new : Known) → Counted old d n → (took : Bool)
+takes : (d n : ℕ) (old new : Known) → HasCountedDone old d n → (took : Bool)
     → MatchBool took (StoresCount old new d (n - 1)) (new ≡ old) → Stores d old new 0
 takes d n old new c true s =
     let same = s.finds.1 c.held n c.loaded in
@@ -94,7 +94,7 @@ takes d n old new c true s =
     is_stored d (n - 1) old new 0 s (omega (arith, none))
 takes d n old new c false s = stays_stored d old new 0 s
 
-makes : (d n : ℕ) (old new : Known) → Counted old d n → (raised : Bool)
+makes : (d n : ℕ) (old new : Known) → HasCountedDone old d n → (raised : Bool)
     → MatchBool raised (StoresCount old new d (n + 1)) (new ≡ old) → Stores d old new 1
 makes d n old new c true s =
     let same = ap (λ (r : ℕ). after_store (n + 1) r 0) (s.finds.1 c.held n c.loaded) in
@@ -105,7 +105,7 @@ makes d n old new c false s = stays_stored d old new 1 s
 -- one is taken of the count
 pub try_hold : (a b b2 c : Known) (d n h : ℕ) → h ≡ head_of (watch.Done d) → (told_of a).hold.head ≡ None
     → HasLocked a b h (walk_of_hold h None) → Carries (lock_change h) a b
-    → b2 ≡ added b (item.Made (step.Load (watch.Done d) n)) → Carries unchanged b b2 → Counted b2 d n → (took : Bool)
+    → b2 ≡ added b (item.Made (step.Load (watch.Done d) n)) → Carries unchanged b b2 → HasCountedDone b2 d n → (took : Bool)
     → MatchBool took (StoresCount b2 c d (n - 1)) (c ≡ b2) → MayEndHold d a c
 try_hold a b b2 c d n h same out l lock again two counted took made =
     let t = takes d n b2 c counted took made in
@@ -120,7 +120,7 @@ try_hold a b b2 c d n h same out l lock again two counted took made =
 -- the count is raised by one, and an entry taken off
 pub complete_hold : (old a a2 b m : Known) (d v n h : ℕ) → h ≡ head_of (watch.Done d) → IsFree old → IsTold old
     → HasLocked old a h (walk_of_hold h None) → Carries (lock_change h) old a
-    → a2 ≡ added a (item.Made (step.Load (watch.Done d) v)) → Carries unchanged a a2 → Counted a2 d v
+    → a2 ≡ added a (item.Made (step.Load (watch.Done d) v)) → Carries unchanged a a2 → HasCountedDone a2 d v
     → (raised : Bool) → MatchBool raised (StoresCount a2 b d (v + 1)) (b ≡ a2) → HasSelected b m 1 n
     → Carries only_looks b m → MayEndHold d old m
 complete_hold old a a2 b m d v n h same free told l lock is loaded counted raised made s select =

@@ -19,13 +19,13 @@ use Rattle.completion_cell.specs.declared.cell_turns.CellStage.TheVariants as st
 use Rattle.completion_cell.specs.declared.cell_turns.CellTurn.{CellTurn}
 use Rattle.completion_cell.specs.declared.cell_turns.CellTurn.TheVariants as turn
 use Rattle.completion_cell.specs.CellTurns.{
-  HasTurned,
-  HoldsFor,
-  IsAt,
-  IsOver,
-  Rests,
+  HasCellTurned,
+  HoldsForCell,
+  IsAtCell,
+  IsCellOver,
+  CellRests,
   cell_head,
-  peeks,
+  peeks_first,
 }
 use Rattle.completion_cell.proofs.Asking.{asked_none, free_on, tried_none}
 use Rattle.completion_cell.proofs.CallPermits.{ask_off}
@@ -35,20 +35,20 @@ pub fits : (d h : ℕ) → d < COMPLETIONS → h ≡ cell_head d → h < HEADS
 fits d h there same = subst (λ (n : ℕ). n < HEADS) (sym same) (head_there d there)
 
 -- before its first steps the task is as the call began
-pub first_up : (start now : Known) (r : CellRun) → IsAt start now r stage.First → IsUp now
+pub first_up : (start now : Known) (r : CellRun) → IsAtCell start now r stage.First → IsUp now
 first_up start now r at = subst IsUp (sym at.stands) at.up
 
-pub first_free : (start now : Known) (r : CellRun) → IsAt start now r stage.First → IsFree now
+pub first_free : (start now : Known) (r : CellRun) → IsAtCell start now r stage.First → IsFree now
 first_free start now r at = subst IsFree (sym at.stands) at.free
 
-pub first_left : (start now : Known) (r : CellRun) → IsAt start now r stage.First → LeftOff r.cell now
+pub first_left : (start now : Known) (r : CellRun) → IsAtCell start now r stage.First → LeftOff r.cell now
 first_left start now r at = subst (LeftOff r.cell) (sym at.stands) at.left
 
-pub from_start : (start now new : Known) (r s : CellRun) (hit : Bool) → IsAt start now r stage.First
-    → MatchBool hit (IsAt now new s stage.Turn) (IsOver r.call r.cell false now new)
-    → MatchBool hit (IsAt start new s stage.Turn) (IsOver r.call r.cell false start new)
-from_start start now new r s hit at did = subst (λ (k : Known). MatchBool hit (IsAt k new s stage.Turn)
-    (IsOver r.call r.cell false k new)) at.stands did
+pub from_start : (start now new : Known) (r s : CellRun) (hit : Bool) → IsAtCell start now r stage.First
+    → MatchBool hit (IsAtCell now new s stage.Turn) (IsCellOver r.call r.cell false now new)
+    → MatchBool hit (IsAtCell start new s stage.Turn) (IsCellOver r.call r.cell false start new)
+from_start start now new r s hit at did = subst (λ (k : Known). MatchBool hit (IsAtCell k new s stage.Turn)
+    (IsCellOver r.call r.cell false k new)) at.stands did
 
 -- a call that found the count 0 is over
 as_hold : (old new : Known) → Carries unchanged old new → Carries (hold_change new.at) old new
@@ -70,9 +70,9 @@ as_hold old new k = record {
   owes = k.owes;
 }
 
-pub peeked_none : (c : CellCall) (d v : ℕ) (start new : Known) → true ≡ peeks c → IsUp start → IsFree start
+pub peeked_none : (c : CellCall) (d v : ℕ) (start new : Known) → true ≡ peeks_first c → IsUp start → IsFree start
     → IsTold start → new ≡ added start (item.Made (step.Load (watch.Done d) v)) → Carries unchanged start new → v ≡ 0
-    → IsOver c d false start new
+    → IsCellOver c d false start new
 peeked_none call.Complete d v start new first up free told is one zero = absurd (cc)
 peeked_none call.CompleteAll d v start new first up free told is one zero = absurd (cc)
 peeked_none call.Reinit d v start new first up free told is one zero = absurd (cc)
@@ -93,12 +93,12 @@ peeked_none call.TryWait d v start new first up free told is one zero = record {
 
 -- a look at the ticket: another one is served, or the lock is taken
 module _ (start mid new : Known) (r : CellRun) (h : ℕ) (same : h ≡ cell_head r.cell)
-    (at : IsAt start mid r stage.Turn) where
+    (at : IsAtCell start mid r stage.Turn) where
   pub awaits : AwaitsLock at.stands.base mid h r.ticket
   awaits = subst (λ (i : ℕ). AwaitsLock at.stands.base mid i r.ticket) (sym same) at.stands.awaits
 
   pub waits_on : (served : ℕ) → AwaitsLock at.stands.base new h r.ticket
-      → IsAt start new (record r { served = served }) stage.Turn
+      → IsAtCell start new (record r { served = served }) stage.Turn
   waits_on served a = record {
     up = at.up;
     free = at.free;
@@ -112,7 +112,7 @@ module _ (start mid new : Known) (r : CellRun) (h : ℕ) (same : h ≡ cell_head
     };
   }
 
-  pub holds_for : TookLock at.stands.base new h → HoldsFor r.call r.cell start new
+  pub holds_for : TookLock at.stands.base new h → HoldsForCell r.call r.cell start new
   holds_for t = record {
     up = at.up;
     free = at.free;
@@ -124,7 +124,7 @@ module _ (start mid new : Known) (r : CellRun) (h : ℕ) (same : h ≡ cell_head
   }
 
 -- where a stretch leaves it, for who knows only that it began
-pub rests_of : (start now : Known) (r s : CellRun) (t : CellTurn) → HasTurned start now r s t → Rests now s t
+pub rests_of : (start now : Known) (r s : CellRun) (t : CellTurn) → HasCellTurned start now r s t → CellRests now s t
 rests_of start now r s turn.Locked h = (start, h.turns)
 rests_of start now r s (turn.Done hit) h = (h.turns.up, h.turns.free)
 rests_of start now r s (turn.Starved failed) h = h.turns

@@ -19,8 +19,8 @@ use Rattle.wq_head.proofs.CarriedHolds.{unlock_carried}
 use Rattle.wq_head.proofs.KeptHolds.{hold_carried}
 use Rattle.wq_head.proofs.LockWaits.{unlocked}
 use Rattle.completion_cell.specs.declared.cell_turns.CellCall.TheVariants as call
-use Rattle.completion_cell.specs.Asks.{Counted, TakesOne}
-use Rattle.completion_cell.specs.CellTurns.{HasPeeked, HoldsFor, IsOver, cell_head}
+use Rattle.completion_cell.specs.Asks.{HasCountedDone, TakesOne}
+use Rattle.completion_cell.specs.CellTurns.{HasPeeked, HoldsForCell, IsCellOver, cell_head}
 use Rattle.completion_cell.specs.Completes.{RaisesOne}
 use Rattle.completion_cell.proofs.Asking.{
   behind_load,
@@ -61,13 +61,13 @@ taken_agreed old new d n true made = stored_agreed old new d (n - 1) made.found 
 taken_agreed old new d n false made = ap (λ (k : Known). k.book.differs) made
 
 -- `complete`
-module _ (d v n : ℕ) (start a a2 b m new : Known) (i : HoldsFor call.Complete d start a)
+module _ (d v n : ℕ) (start a a2 b m new : Known) (i : HoldsForCell call.Complete d start a)
     (is : a2 ≡ added a (item.Made (step.Load (watch.Done d) v))) (finds : FindsCount a d v)
     (loaded : Carries unchanged a a2) where
   abbrev one_took : TookLock start a (cell_head d)
   one_took = took_from d start i.base a i.begun i.took
 
-  pub one_counted : Counted a2 d v
+  pub one_counted : HasCountedDone a2 d v
   one_counted = complete_counted start a a2 b m new d v n (cell_head d) refl i.free i.told one_took.locked
       one_took.simple one_took.carries
       is finds loaded
@@ -98,7 +98,7 @@ module _ (d v n : ℕ) (start a a2 b m new : Known) (i : HoldsFor call.Complete 
       pub one_owes : OwesNoPermit m
       one_owes = ends_owing_none d start m one_may i.left
 
-      pub one_over : new ≡ unlocked_with m m.at (n == 1) → IsOver call.Complete d true start new
+      pub one_over : new ≡ unlocked_with m m.at (n == 1) → IsCellOver call.Complete d true start new
       one_over gave =
           let u = unlocked m new (n == 1) gave in
           let carries = complete_carried start a a2 b m new d v n (cell_head d) refl i.free i.told one_took.locked
@@ -115,7 +115,7 @@ module _ (d v n : ℕ) (start a a2 b m new : Known) (i : HoldsFor call.Complete 
           }
 
 -- `complete_all`
-module _ (d n : ℕ) (start a b m new : Known) (i : HoldsFor call.CompleteAll d start a)
+module _ (d n : ℕ) (start a b m new : Known) (i : HoldsForCell call.CompleteAll d start a)
     (stored : StoresCount a b d ALL_DONE) where
   abbrev every_took : TookLock start a (cell_head d)
   every_took = took_from d start i.base a i.begun i.took
@@ -137,7 +137,7 @@ module _ (d n : ℕ) (start a b m new : Known) (i : HoldsFor call.CompleteAll d 
     pub every_owes : OwesNoPermit m
     every_owes = ends_owing_none d start m every_may i.left
 
-    pub every_over : new ≡ unlocked_with m m.at false → IsOver call.CompleteAll d true start new
+    pub every_over : new ≡ unlocked_with m m.at false → IsCellOver call.CompleteAll d true start new
     every_over gave =
         let u = unlocked m new false gave in
         let carries = all_carried start a b m new d n (cell_head d) refl i.free i.told every_took.locked
@@ -153,7 +153,7 @@ module _ (d n : ℕ) (start a b m new : Known) (i : HoldsFor call.CompleteAll d 
         }
 
 -- `reinit`
-module _ (d : ℕ) (start a b new : Known) (i : HoldsFor call.Reinit d start a) (stored : StoresCount a b d 0) where
+module _ (d : ℕ) (start a b new : Known) (i : HoldsForCell call.Reinit d start a) (stored : StoresCount a b d 0) where
   abbrev reset_took : TookLock start a (cell_head d)
   reset_took = took_from d start i.base a i.begun i.took
 
@@ -170,7 +170,7 @@ module _ (d : ℕ) (start a b new : Known) (i : HoldsFor call.Reinit d start a) 
   pub reset_owes : OwesNoPermit b
   reset_owes = ends_owing_none d start b reset_may i.left
 
-  pub reset_over : (hit : Bool) → new ≡ unlocked_with b b.at false → IsOver call.Reinit d hit start new
+  pub reset_over : (hit : Bool) → new ≡ unlocked_with b b.at false → IsCellOver call.Reinit d hit start new
   reset_over hit gave =
       let u = unlocked b new false gave in
       let carries = whole_carried start a b new i.free (none_held start i.told i.free) (cell_head d) reset_took.carries
@@ -183,7 +183,7 @@ module _ (d : ℕ) (start a b new : Known) (i : HoldsFor call.Reinit d start a) 
       }
 
 -- `is_done`
-module _ (d : ℕ) (start a new : Known) (i : HoldsFor call.IsDone d start a) where
+module _ (d : ℕ) (start a new : Known) (i : HoldsForCell call.IsDone d start a) where
   abbrev done_peek : HasPeeked d start i.base
   done_peek = i.begun
 
@@ -198,7 +198,7 @@ module _ (d : ℕ) (start a new : Known) (i : HoldsFor call.IsDone d start a) wh
   pub done_owes : OwesNoPermit a
   done_owes = ends_owing_none d i.base a done_may (base_off d i.left)
 
-  pub done_over : new ≡ unlocked_with a a.at false → IsOver call.IsDone d true start new
+  pub done_over : new ≡ unlocked_with a a.at false → IsCellOver call.IsDone d true start new
   done_over gave =
       let u = unlocked a new false gave in
       let carries = behind_load start i.base new done_peek.carries (whole_carried i.base a a new
@@ -214,13 +214,13 @@ module _ (d : ℕ) (start a new : Known) (i : HoldsFor call.IsDone d start a) wh
       }
 
 -- `try_wait`
-module _ (d n : ℕ) (start a a2 b new : Known) (i : HoldsFor call.TryWait d start a)
+module _ (d n : ℕ) (start a a2 b new : Known) (i : HoldsForCell call.TryWait d start a)
     (again : a2 ≡ added a (item.Made (step.Load (watch.Done d) n))) (finds : FindsCount a d n)
     (loaded : Carries unchanged a a2) where
   abbrev tried_peek : HasPeeked d start i.base
   tried_peek = i.begun
 
-  pub tried_counted : Counted a2 d n
+  pub tried_counted : HasCountedDone a2 d n
   tried_counted = try_counted start i.base a a2 d tried_peek.count n (cell_head d) refl tried_peek.is
       tried_peek.carries tried_peek.some tried_peek.finds i.took.locked again
       finds loaded
@@ -246,7 +246,7 @@ module _ (d n : ℕ) (start a a2 b new : Known) (i : HoldsFor call.TryWait d sta
     pub tried_owes : OwesNoPermit b
     tried_owes = ends_owing_none d i.base b tried_may (tried_off d i.left)
 
-    pub tried_over : new ≡ unlocked_with b b.at false → IsOver call.TryWait d (not (n == 0)) start new
+    pub tried_over : new ≡ unlocked_with b b.at false → IsCellOver call.TryWait d (not (n == 0)) start new
     tried_over gave =
         let u = unlocked b new false gave in
         let carries = try_carried start i.base a a2 d tried_peek.count n (cell_head d) refl tried_peek.is

@@ -74,9 +74,9 @@ use Rattle.wq_head.proofs.SelectedRuns.{lock_goes, selected_ends}
 use Rattle.wq_head.proofs.SimpleHolds.{own_done, simple_ended}
 use Rattle.wait_event.specs.Conds.{set_change}
 use Rattle.wait_class.specs.Posts.{Runs}
-use Rattle.wait_class.specs.Findings.{nothing, with_value}
+use Rattle.wait_class.specs.Findings.{saw_nothing, with_value}
 use Rattle.wait_class.proofs.Ground.Going.{runs_none, runs_on, runs_one}
-use Rattle.completion_cell.specs.Asks.{Counted}
+use Rattle.completion_cell.specs.Asks.{HasCountedDone}
 use Rattle.completion_cell.specs.Completes.{HasCompleted, HasCompletedAll, RaisesOne}
 use Rattle.completion_cell.proofs.Asking.{locked_history}
 use Rattle.completion_cell.proofs.RangedLoads.{is_selecting, ranged_by, ranged_on, selects_ranged}
@@ -197,7 +197,7 @@ module _ (d : ℕ) (old a b m new : Known) (most n : ℕ) (spent : Bool) (free :
   }
 
 -- a count is raised by one, unless it is at its end
-module _ (old new : Known) (d n : ℕ) (c : Counted old d n) (raised : Bool) (raises : RaisesOne n raised)
+module _ (old new : Known) (d n : ℕ) (c : HasCountedDone old d n) (raised : Bool) (raises : RaisesOne n raised)
     (made : MatchBool raised (StoresCount old new d (n + 1)) (new ≡ old)) where
   stored : (e : Bool) → (n == ALL_DONE) ≡ e → MatchBool (not e) (StoresCount old new d (n + 1)) (new ≡ old)
   stored e is = subst (λ (b : Bool). MatchBool b (StoresCount old new d (n + 1)) (new ≡ old))
@@ -252,7 +252,7 @@ module _ (call : Call) (d : ℕ) (about : call_watch call ≡ watch.Done d) (nor
       (next.Go (at.Select (select_from call)))
   select_locks me old a l = record {
     transitions = record {
-      seen = nothing;
+      seen = saw_nothing;
       knew = turn_of old a h (walk_of_hold h None) l;
       did = by_step (step.Lock h (walk_of_hold h None) l.found);
     } ∷ [];
@@ -277,7 +277,7 @@ stored_agreed old new d n r is = by (nat_lt r n || (n == ALL_DONE)) is
     by true made = ap (λ (k : Known). k.book.differs) made
     by false made = ap (λ (k : Known). k.book.differs) made
 
-raise_agreed : (old new : Known) (d n : ℕ) → Counted old d n → (raised : Bool) → RaisesOne n raised
+raise_agreed : (old new : Known) (d n : ℕ) → HasCountedDone old d n → (raised : Bool) → RaisesOne n raised
     → MatchBool raised (StoresCount old new d (n + 1)) (new ≡ old) → new.book.differs ≡ old.book.differs
 raise_agreed old new d n c true raises made = stored_agreed old new d (n + 1) made.found made.is
 raise_agreed old new d n c false raises made = ap (λ (k : Known). k.book.differs) made
@@ -314,7 +314,7 @@ module _ (old a a2 b m new : Known) (d v n h : ℕ) (same : h ≡ head_of (watch
   at_a : a.at ≡ head_of (watch.Done d)
   at_a = ap (λ (k : Known). k.at) l.is ∙ same
 
-  pub complete_counted : Counted a2 d v
+  pub complete_counted : HasCountedDone a2 d v
   complete_counted = record {
     held = loaded.head ∙ (ap (λ (k : Known). k.book.head) l.is ∙ ap Some same);
     loaded = count_after_step d a a2 (step.Load (watch.Done d) v) (history_after a a2 _ is)

@@ -23,24 +23,24 @@ use Rattle.wait_rule.proofs.KnownLaws.CalledPermits.{shows_none}
 use Rattle.wait_class.specs.Posts.{IsOut}
 use Rattle.wait_event.specs.Ends.{wait_change}
 use Rattle.wait_class.specs.Posts.{EndsWith, own_of}
-use Rattle.wait_event.specs.Waits.{queues}
+use Rattle.wait_event.specs.Waits.{has_queued_in}
 use Rattle.wait_class.proofs.Wholes.{begins, none_of}
-use Rattle.completion_cell.specs.AwaitEnds.{EndsAwait, HasAwaited, end_in}
+use Rattle.completion_cell.specs.AwaitEnds.{EndsAwait, HasAwaited, await_end_in}
 use Rattle.wait_class.specs.Tables.{Advances, IsAt, IsEnded, Plan}
 use Rattle.wait_class.specs.declared.stages.Run.{Run}
 use Rattle.wait_class.specs.declared.stages.Turn.TheVariants as turn
 use Rattle.completion_cell.specs.Awaits.{
   CellKeeps,
-  FoundNoPlace,
+  FoundNoPlaceForCell,
   HasGivenBack,
-  IsFresh,
-  TrailEnd,
-  WasSignalled,
+  IsFreshAwait,
+  AwaitTrailEnd,
+  WasAwaitSignalled,
   WhyStopped,
-  answer_in,
+  answer_to_await,
   await_table,
   await_watch,
-  left_by,
+  await_left_by,
 }
 use Rattle.completion_cell.specs.declared.awaits.AwaitOutcome.{AwaitOutcome}
 use Rattle.completion_cell.specs.declared.awaits.AwaitOutcome.TheVariants as outcome
@@ -50,13 +50,13 @@ use Rattle.completion_cell.specs.declared.awaits.AwaitStage.TheVariants as stage
 use Rattle.completion_cell.proofs.OtherCells.{wait_stays_off}
 
 -- a task that is idle, with its entry off, may begin
-pub begins_at : (k : Known) (r : Run AwaitCall) (d : ℕ) (st : SleepState) → IsFresh r.of d st → d < COMPLETIONS
+pub begins_at : (k : Known) (r : Run AwaitCall) (d : ℕ) (st : SleepState) → IsFreshAwait r.of d st → d < COMPLETIONS
     → LeftOff d k → IsTold k → IsUp k → IsIdle k → IsOut k → IsAt await_table k r stage.First
 begins_at k r d st fresh small left told up idle out = begins await_table k r stage.First
     (subst (λ (n : ℕ). n < COMPLETIONS) (sym fresh.cell) small) refl refl refl refl
     (subst (λ (n : ℕ). LeftOff n k) (sym fresh.cell) left) told up idle out
 
-pub given_back : (k : Known) (r : AwaitCall) (o : AwaitOutcome) → TrailEnd k r o → HasGivenBack k r
+pub given_back : (k : Known) (r : AwaitCall) (o : AwaitOutcome) → AwaitTrailEnd k r o → HasGivenBack k r
 given_back k r outcome.Over u = u
 given_back k r (outcome.Signalled found) u = u.0
 given_back k r outcome.Worn u = u.0
@@ -140,14 +140,14 @@ ends_clean old new r q s o a clean told = clean_by old new q o a.lands a.went.ke
     (ends_off old new r q s o a (told.head ∙ clean.free.head)) clean
 
 -- what it says at its end
-module _ (old new : Known) (r q : Run AwaitCall) (d : ℕ) (st : SleepState) (fresh : IsFresh r.of d st) where
+module _ (old new : Known) (r q : Run AwaitCall) (d : ℕ) (st : SleepState) (fresh : IsFreshAwait r.of d st) where
   begun : (o : AwaitOutcome) (a : Advances await_table old new r q stage.First (turn.Done o))
-      → HasAwaited old new d st (answer_in o) (queues a.went.runs.transitions)
+      → HasAwaited old new d st (answer_to_await o) (has_queued_in a.went.runs.transitions)
   begun o a = record {
     runs = record {
       transitions = a.went.runs.transitions;
       goes = subst (λ (f : Program). Goes f old (next.Go (at.Await (awaiting.Lock false))) a.went.runs.transitions new
-          (next.Ends (answer_in o)))
+          (next.Ends (answer_to_await o)))
           (λ i. call_program old.view.number 0 (calls.WaitFor (fresh.cell i) (fresh.state_is i))) a.went.runs.goes;
     };
     tells = refl;
@@ -155,8 +155,8 @@ module _ (old new : Known) (r q : Run AwaitCall) (d : ℕ) (st : SleepState) (fr
   }
 
   queued_is : (o : AwaitOutcome) (a : Advances await_table old new r q stage.First (turn.Done o))
-      → q.of.queued ≡ queues a.went.runs.transitions
-  queued_is o a = a.went.tells.queued ∙ ap (λ (b : Bool). b || queues a.went.runs.transitions) fresh.queued
+      → q.of.queued ≡ has_queued_in a.went.runs.transitions
+  queued_is o a = a.went.tells.queued ∙ ap (λ (b : Bool). b || has_queued_in a.went.runs.transitions) fresh.queued
 
   cell_is : (o : AwaitOutcome) → Advances await_table old new r q stage.First (turn.Done o) → q.of.cell ≡ d
   cell_is o a = a.went.tells.cell ∙ fresh.cell
@@ -165,31 +165,31 @@ module _ (old new : Known) (r q : Run AwaitCall) (d : ℕ) (st : SleepState) (fr
   state_is o a = a.went.tells.state ∙ fresh.state_is
 
   pub ends_await : (o : AwaitOutcome) → Advances await_table old new r q stage.First (turn.Done o)
-      → EndsAwait old new d st (end_in q.of o)
+      → EndsAwait old new d st (await_end_in q.of o)
   ends_await outcome.Over a = record {
-    queued = queues a.went.runs.transitions;
+    queued = has_queued_in a.went.runs.transitions;
     awaited = begun outcome.Over a;
     cause = tt;
   }
   ends_await (outcome.Signalled found) a =
-      let t : WasSignalled new q.of found = subst (λ (b : Bool). WhyStopped b new q.of found)
+      let t : WasAwaitSignalled new q.of found = subst (λ (b : Bool). WhyStopped b new q.of found)
       (ap (λ (x : Plan). x.asked) a.same ∙ fresh.unasked) a.lands.trail.1 in record {
-        queued = queues a.went.runs.transitions;
+        queued = has_queued_in a.went.runs.transitions;
         awaited = begun (outcome.Signalled found) a;
         cause = record {
           look = t.look;
           entry = t.entry;
           showed = ap (λ (x : SleepState). pending (state_mask x) (task_of t.look))
               (sym (state_is (outcome.Signalled found) a)) ∙ t.pends;
-          ends = subst (λ (c : ℕ). EndsWith new (left_by c (own_of new) t.look t.entry))
+          ends = subst (λ (c : ℕ). EndsWith new (await_left_by c (own_of new) t.look t.entry))
               (cell_is (outcome.Signalled found) a) t.ends;
           unset = refl;
           selects = λ i. queued_is (outcome.Signalled found) a i && not (t.queued i);
         };
       }
   ends_await outcome.Worn a =
-      let t : FoundNoPlace new q.of = a.lands.trail.1 in record {
-        queued = queues a.went.runs.transitions;
+      let t : FoundNoPlaceForCell new q.of = a.lands.trail.1 in record {
+        queued = has_queued_in a.went.runs.transitions;
         awaited = begun outcome.Worn a;
         cause = record {
           head = ap (λ (c : ℕ). head_of (watch.Done c)) (cell_is outcome.Worn a);

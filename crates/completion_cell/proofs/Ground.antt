@@ -67,8 +67,8 @@ use Rattle.wq_head.specs.Holds.{HasLocked}
 use Rattle.wq_head.proofs.LockWaits.{turn_looks, turn_of}
 use Rattle.wait_event.specs.Entries.{hold_change}
 use Rattle.wait_class.specs.Posts.{Runs}
-use Rattle.wait_event.specs.Waits.{is_queue, queues}
-use Rattle.wait_class.specs.Findings.{nothing, with_value}
+use Rattle.wait_event.specs.Waits.{is_queue, has_queued_in}
+use Rattle.wait_class.specs.Findings.{saw_nothing, with_value}
 use Rattle.wait_event.proofs.Entering.{runs_lock, unlock_looks}
 use Rattle.wait_class.proofs.Ways.{either_event}
 use Rattle.wait_class.proofs.Ground.Going.{runs_one}
@@ -90,7 +90,7 @@ count_after_step d old new e more = ap (count_in d) more ∙ value_snoc (watch.D
 
 -- a run in which nothing is queued
 abbrev pub QuietRuns : Program → Known → Known → Point → Next → Type 0
-QuietRuns f old new p n = (runs : Runs f old new (next.Go p) n) × (queues runs.transitions ≡ false)
+QuietRuns f old new p n = (runs : Runs f old new (next.Go p) n) × (has_queued_in runs.transitions ≡ false)
 
 -- one event, by what the program plans
 pub quiet_runs : (f : Program) (p : Point) (old knew new : Known) (seen : Seen) (did : StepOrLook) (plan : Planned)
@@ -158,7 +158,7 @@ module _ (me : ℕ) (call : Call) (d : ℕ) (about : watch.Done d ≡ call_watch
       let turn = turn_of old a h (walk_of_hold h None) l in
       let locked = at_head h (added turn (item.Made (step.Lock h (walk_of_hold h None) l.found))) in
       runs_lock f (next.Go (at.Count counting.Lock)) (next.Go (at.Count (count_from call))) old a h l
-      (runs_one f (at.Count counting.Lock) old turn locked nothing
+      (runs_one f (at.Count counting.Lock) old turn locked saw_nothing
       (by_step (step.Lock h (walk_of_hold h None) l.found)) (turn_looks old a h (walk_of_hold h None) l)
       (here, ap (λ (i : ℕ). walk_of_hold i None) here) (tt, tt, tt) (only_none locked))
 
@@ -171,7 +171,7 @@ module _ (me : ℕ) (call : Call) (d : ℕ) (about : watch.Done d ≡ call_watch
   pub count_unlocks : (hit : Bool) (old new : Known) → old.at ≡ h → new ≡ unlocked_with old old.at false
       → Runs f old new (next.Go (at.Count (counting.Unlock hit)))
       (next.Ends (answer.Number (if hit then pos 1 else pos 0)))
-  count_unlocks hit old new there is = runs_one f (at.Count (counting.Unlock hit)) old old new nothing
+  count_unlocks hit old new there is = runs_one f (at.Count (counting.Unlock hit)) old old new saw_nothing
       (by_step (step.Unlock old.at false)) (only_none old) (there ∙ here, refl) (tt, tt, tt)
       (unlock_looks old new is)
 

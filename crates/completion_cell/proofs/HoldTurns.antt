@@ -41,7 +41,7 @@ use Rattle.wait_rule.specs.LeftEntries.{Order}
 use Rattle.wait_rule.specs.Interleavings.{table_of}
 use Rattle.wait_rule.proofs.KnownLaws.HandedSteps.{OrderStep, order_step, order_view}
 use Rattle.wait_rule.proofs.KnownLaws.Moments.{kept_of}
-use Rattle.completion_cell.specs.HeldPermits.{Waits}
+use Rattle.completion_cell.specs.HeldPermits.{WaitsForPermit}
 
 -- the hold begins
 module _ (d a : ℕ) (front : List Step) (aim : Option Aim) (w : ℕ) where
@@ -67,7 +67,7 @@ module _ (d a : ℕ) (front : List Step) (aim : Option Aim) (w : ℕ) where
   begun_count = ap (λ (u : Dealt). u.count) begun
       ∙ ap (λ (b : Bool). if b then None else (dealt d a front).count) same
 
-  pub begins_off : (dealt d a front).left ≡ false → Waits d a first None 0
+  pub begins_off : (dealt d a front).left ≡ false → WaitsForPermit d a first None 0
   begins_off left = record {
     head = begun_head;
     seen = λ is. absurd (clash (dealt d a first).left is (ap (λ (u : Dealt). u.left) begun ∙ left));
@@ -97,7 +97,7 @@ module _ (d a : ℕ) (front : List Step) (aim : Option Aim) (w : ℕ) where
         (not_unseen (look_at (Some (done_head d)) (entry_of f)) (look_seen (done_head d) (entry_of f))))
         (λ ne. absurd (ne refl)))
 
-    pub begins_looking : Waits d a (first ++ saw ∷ []) None found
+    pub begins_looking : WaitsForPermit d a (first ++ saw ∷ []) None found
     begins_looking = record {
       head = ap (λ (v : View). v.hold.head) (after_snoc blank first saw) ∙ begun_head;
       seen = λ left. looked;

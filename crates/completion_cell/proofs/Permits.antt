@@ -51,7 +51,7 @@ use Rattle.wait_rule.proofs.KnownLaws.TaskHistories.{history_after}
 use Rattle.wait_rule.proofs.TableSteps.ItemLists.{steps_append}
 use Rattle.wq_head.specs.Holds.{HasLocked}
 use Rattle.wq_head.specs.Looks.{Looks}
-use Rattle.wq_head.specs.Selects.{HasSelected, Selects, SelectsFirst, ShowsNoEntry}
+use Rattle.wq_head.specs.Selects.{HasSelected, SelectsMany, SelectsFirst, ShowsNoEntry}
 use Rattle.wait_class.proofs.Histories.{stored_history, two_more}
 use Rattle.completion_cell.proofs.Asking.{locked_history}
 
@@ -192,7 +192,7 @@ first_inside d old new s = inside_join d old s.seen new (λ k. k) (λ k. k - 1) 
     wake : Step
     wake = step.Wake (owner s.member.at) (mask_of mode.Normal) s.found
 
-selects_inside : (d : ℕ) (old : Known) (n : ℕ) (new : Known) → Selects old n new → Inside d old new (λ k. k - n)
+selects_inside : (d : ℕ) (old : Known) (n : ℕ) (new : Known) → SelectsMany old n new → Inside d old new (λ k. k - n)
 selects_inside d old zero new s = record {
   made = [];
   is = ap history_of s ∙ sym (append-nil (history_of old));

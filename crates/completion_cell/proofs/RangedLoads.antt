@@ -39,9 +39,9 @@ use Rattle.wait_rule.specs.Transitions.{
   call_program,
 }
 use Rattle.wait_rule.proofs.SaidEvents.Fronts.{history_grows, looks_history, step_history, steps_made}
-use Rattle.wait_class.specs.Laws.{is_quiet}
+use Rattle.wait_class.specs.Laws.{is_quiet_event}
 use Rattle.wait_class.specs.Posts.{Runs}
-use Rattle.completion_cell.specs.Asks.{HasCalled}
+use Rattle.completion_cell.specs.Asks.{HasMadeCall}
 use Rattle.completion_cell.specs.LoadedCounts.{AreInRange, InRange}
 
 -- parts of a run
@@ -49,7 +49,7 @@ pub ranged_on : (ts us : List Transition) → AreInRange ts → AreInRange us �
 ranged_on [] us one two = two
 ranged_on (t ∷ ts) us one two = (one.0, ranged_on ts us one.1 two)
 
-pub quiet_ranged : (d : StepOrLook) → is_quiet d ≡ true → InRange d
+pub quiet_ranged : (d : StepOrLook) → is_quiet_event d ≡ true → InRange d
 quiet_ranged (by_step (step.Load w v)) quiet = absurd (cc)
 quiet_ranged (by_step e) quiet = tt
 quiet_ranged (by_look xs) quiet = tt
@@ -113,7 +113,7 @@ ranged_by f old new (next.Go p) m (t ∷ ts) g es is small =
 
 pub called_by : (old new : Known) (call : Call) (p : Point) (a : Answer)
     → Runs (call_program old.view.number 0 call) old new (next.Go p) (next.Ends a) → (es : List Step)
-    → history_of new ≡ history_of old ++ es → AreSmall es → HasCalled old new call p a
+    → history_of new ≡ history_of old ++ es → AreSmall es → HasMadeCall old new call p a
 called_by old new call p a runs es is small = record {
   transitions = runs.transitions;
   goes = runs.goes;

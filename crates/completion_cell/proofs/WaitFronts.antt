@@ -55,13 +55,13 @@ use Rattle.wait_rule.proofs.KnownLaws.HandedPermits.{cell_is}
 use Rattle.wait_rule.proofs.KnownLaws.HandedSteps.{order_front}
 use Rattle.completion_cell.specs.HeldPermits.{
   Deals,
-  HasLoaded,
+  HasLoadedCount,
   Held,
   IsOfWait,
-  Waits,
+  WaitsForPermit,
   WaitsIn,
-  counted,
-  still_owed,
+  counted_in_cell,
+  still_owed_in_cell,
 }
 
 pub wait_head : (v : View) (x : ℕ) (o : Option ℕ) (e : Step) → IsOfWait x o e → (after e v).hold.head ≡ v.hold.head
@@ -105,7 +105,7 @@ wait_seen h v x o (step.Consume (watch.Done c) m r) is held seen = seen
 wait_seen h v x o e is held seen = absurd is
 
 wait_count : (d : ℕ) (v : View) (was : Option ℕ) (x : ℕ) (o : Option ℕ) (e : Step) → IsOfWait x o e
-    → is_in d v ≡ true → was ≡ o → count_after d v was e ≡ counted d e o
+    → is_in d v ≡ true → was ≡ o → count_after d v was e ≡ counted_in_cell d e o
 wait_count d v was x o (step.Saw y w) is inside same = same
 wait_count d v was x o (step.Look w) is inside same = same
 wait_count d v was x o (step.State σ) is inside same = same
@@ -129,7 +129,7 @@ none_found true false s c seen = refl
 none_found true true s c seen = ap (λ (t : Bool). not t && c) (seen refl)
 
 wait_debt : (d : ℕ) (v : View) (w : Dealt) (x : ℕ) (o : Option ℕ) (n : ℕ) (e : Step) → IsOfWait x o e
-    → (w.left ≡ true → v.hold.book x ≢ unseen) → w.debt ≡ n → debt_after d x v w e ≡ still_owed d e n
+    → (w.left ≡ true → v.hold.book x ≢ unseen) → w.debt ≡ n → debt_after d x v w e ≡ still_owed_in_cell d e n
 wait_debt d v w x o n (step.Saw y f) is seen debt =
     let none = none_found (is_in d v && (y == x)) w.left (is_seen (v.hold.book x))
     (not (stands_at (entry_of f) (done_head d))) (λ left. seen_of (v.hold.book x) (seen left)) in
@@ -150,8 +150,8 @@ wait_debt d v w x o n (step.State σ) is seen debt = debt
 wait_debt d v w x o n (step.Queue y e) is seen debt = debt
 wait_debt d v w x o n e is seen debt = absurd is
 
-waits_next : (d a : ℕ) (front : List Step) (o : Option ℕ) (n : ℕ) (e : Step) → Waits d a front o n
-    → IsOfWait (own a) o e → Waits d a (front ++ e ∷ []) (counted d e o) (still_owed d e n)
+waits_next : (d a : ℕ) (front : List Step) (o : Option ℕ) (n : ℕ) (e : Step) → WaitsForPermit d a front o n
+    → IsOfWait (own a) o e → WaitsForPermit d a (front ++ e ∷ []) (counted_in_cell d e o) (still_owed_in_cell d e n)
 waits_next d a front o n e w is = record {
   head = ap (λ (v : View). v.hold.head) (after_snoc blank front e)
       ∙ (wait_head (view_of front) (own a) o e is ∙ w.head);
@@ -167,20 +167,20 @@ waits_next d a front o n e w is = record {
       ∙ wait_debt d (view_of front) (dealt d a front) (own a) o n e is w.seen w.debt;
 }
 
-waits_all : (d a : ℕ) (front es : List Step) (o p : Option ℕ) (n m : ℕ) → Waits d a front o n
-    → Deals d (own a) es o n p m → Waits d a (front ++ es) p m
-waits_all d a front [] o p n m w k = subst (λ (l : List Step). Waits d a l p m) (sym (append-nil front))
-    (subst (λ (c : Option ℕ). Waits d a front c m) k.0 (subst (λ (i : ℕ). Waits d a front o i) k.1 w))
-waits_all d a front (e ∷ es) o p n m w k = subst (λ (l : List Step). Waits d a l p m) (append_assoc front (e ∷ []) es)
-    (waits_all d a (front ++ e ∷ []) es (counted d e o) p (still_owed d e n) m (waits_next d a front o n e w k.0) k.1)
+waits_all : (d a : ℕ) (front es : List Step) (o p : Option ℕ) (n m : ℕ) → WaitsForPermit d a front o n
+    → Deals d (own a) es o n p m → WaitsForPermit d a (front ++ es) p m
+waits_all d a front [] o p n m w k = subst (λ (l : List Step). WaitsForPermit d a l p m) (sym (append-nil front))
+    (subst (λ (c : Option ℕ). WaitsForPermit d a front c m) k.0 (subst (λ (i : ℕ). WaitsForPermit d a front o i) k.1 w))
+waits_all d a front (e ∷ es) o p n m w k = subst (λ (l : List Step). WaitsForPermit d a l p m) (append_assoc front (e ∷ []) es)
+    (waits_all d a (front ++ e ∷ []) es (counted_in_cell d e o) p (still_owed_in_cell d e n) m (waits_next d a front o n e w k.0) k.1)
 
 -- a part of a hold
 pub waits_on : (d : ℕ) (old new : Known) (o p : Option ℕ) (n m : ℕ) → Held d old new o n p m → WaitsIn d old o n
     → WaitsIn d new p m
 waits_on d old new o p n m h w order =
     let front = order_as old.view.number new (history_of old ++ h.made) h.number h.is order in
-    subst (λ (i : ℕ). Waits d i (history_of new) p m) (sym h.number)
-    (subst (λ (l : List Step). Waits d old.view.number l p m) (sym h.is)
+    subst (λ (i : ℕ). WaitsForPermit d i (history_of new) p m) (sym h.number)
+    (subst (λ (l : List Step). WaitsForPermit d old.view.number l p m) (sym h.is)
     (waits_all d old.view.number (history_of old) h.made o p n m
     (w (order_front old.view.number (history_of old) h.made front)) h.deals))
 
@@ -192,11 +192,11 @@ waits_may_end d k o at w = inr (λ order.
     (here.seen, inl here.debt))
 
 -- the count is known as 0, and so nothing is owed
-pub zero_waits : (d : ℕ) (k : Known) → HasLoaded d k 0 → WaitsIn d k (Some 0) 0
+pub zero_waits : (d : ℕ) (k : Known) → HasLoadedCount d k 0 → WaitsIn d k (Some 0) 0
 zero_waits d k h = subst (λ (n : ℕ). WaitsIn d k (Some 0) n) (h.settled.2 refl) h.waits
 
 pub loaded_on : (d : ℕ) (old new : Known) (n : ℕ) → ((k : ℕ) → Held d old new (Some n) k (Some n) k)
-    → HasLoaded d old n → HasLoaded d new n
+    → HasLoadedCount d old n → HasLoadedCount d new n
 loaded_on d old new n held h = record {
   owes = h.owes;
   settled = h.settled;

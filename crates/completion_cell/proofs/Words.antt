@@ -18,8 +18,8 @@ use Rattle.wait_rule.proofs.SaidEvents.Fronts.{number_stays}
 use Rattle.wait_event.specs.Words.{call_says}
 use Rattle.wait_event.specs.declared.wait_events.WaitEnd.TheVariants as wait_end
 use Rattle.wait_event.proofs.Words.{list_of}
-use Rattle.completion_cell.specs.AwaitEnds.{answer_of}
-use Rattle.completion_cell.specs.Asks.{yes_or_no}
+use Rattle.completion_cell.specs.AwaitEnds.{answer_of_await}
+use Rattle.completion_cell.specs.Asks.{hit_answer}
 use Rattle.completion_cell.specs.LoadedCounts.{AreInRange}
 use Rattle.completion_cell.specs.Words.{
   AllsFollow,
@@ -52,11 +52,11 @@ alls_follow old new d law h = call_follows d (calls.CompleteAll d) refl refl old
     (λ w. absurd (cc)) h.transitions h.ranged h.goes
 
 pub tries_follow : TryWaitsFollow
-tries_follow old new d hit law h = call_follows d (calls.TryWait d) refl refl old new (yes_or_no hit) law
+tries_follow old new d hit law h = call_follows d (calls.TryWait d) refl refl old new (hit_answer hit) law
     (λ w. absurd (cc)) h.runs.transitions h.runs.ranged h.runs.goes
 
 pub asks_follow : AsksFollow
-asks_follow old new d hit law h = call_follows d (calls.IsDone d) refl refl old new (yes_or_no hit) law
+asks_follow old new d hit law h = call_follows d (calls.IsDone d) refl refl old new (hit_answer hit) law
     (λ w. absurd (cc)) h.runs.transitions h.runs.ranged h.runs.goes
 
 pub resets_follow : ResetsFollow
@@ -64,7 +64,7 @@ resets_follow old new d law h = call_follows d (calls.Reinit d) refl refl old ne
     h.transitions h.ranged h.goes
 
 pub awaits_follow : AwaitsFollow
-awaits_follow old new d st result law out e = call_follows d (calls.WaitFor d st) refl refl old new (answer_of result)
+awaits_follow old new d st result law out e = call_follows d (calls.WaitFor d st) refl refl old new (answer_of_await result)
     law (λ _. out) e.awaited.runs.transitions e.awaited.ranged e.awaited.runs.goes
 
 pub awaits_heed : AwaitsHeed

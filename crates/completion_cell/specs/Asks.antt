@@ -41,13 +41,13 @@ use Rattle.wait_rule.specs.Transitions.{Goes, Transition, call_program}
 use Rattle.completion_cell.specs.LoadedCounts.{AreInRange}
 
 -- the task went through the whole program of a call, to this answer; the counts that it loaded have 32 bits
-pub record HasCalled (old new : Known) (call : Call) (p : Point) (a : Answer) : Type 0 where
+pub record HasMadeCall (old new : Known) (call : Call) (p : Point) (a : Answer) : Type 0 where
   pub transitions : List Transition
   pub goes : Goes (call_program old.view.number 0 call) old (next.Go p) transitions new (next.Ends a)
   pub ranged : AreInRange transitions
 
-abbrev pub yes_or_no : Bool → Answer
-yes_or_no hit = answer.Number (if hit then pos 1 else pos 0)
+abbrev pub hit_answer : Bool → Answer
+hit_answer hit = answer.Number (if hit then pos 1 else pos 0)
 
 -- its history has this first step more, and maybe others
 abbrev pub BeginsWith : Known → Known → Step → Type 0
@@ -55,13 +55,13 @@ BeginsWith old new e = (rest : List Step) × (history_of new ≡ history_of old 
 
 -- The first load decides: the count was not 0 exactly where the answer is yes.
 pub record HasAsked (old new : Known) (d : ℕ) (hit : Bool) : Type 0 where
-  pub runs : HasCalled old new (calls.IsDone d) (at.Count counting.Peek) (yes_or_no hit)
+  pub runs : HasMadeCall old new (calls.IsDone d) (at.Count counting.Peek) (hit_answer hit)
   pub count : ℕ
   pub loads : BeginsWith old new (step.Load (watch.Done d) count)
   pub tells : hit ≡ not (count == 0)
 
 abbrev pub HasReset : Known → Known → ℕ → Type 0
-HasReset old new d = HasCalled old new (calls.Reinit d) (at.Count counting.Lock) zero_answer
+HasReset old new d = HasMadeCall old new (calls.Reinit d) (at.Count counting.Lock) zero_answer
 
 -- The load that decides: the first one, where it found 0, and else that of the hold, which comes right behind its lock.
 abbrev pub Decides : Bool → Known → Known → ℕ → ℕ → ℕ → Type 0
@@ -70,8 +70,8 @@ Decides false old new d first count = (aim : Option Aim) × (word : ℕ) × (res
     × (history_of new ≡ history_of old ++ step.Load (watch.Done d) first ∷ step.Lock (head_of (watch.Done d)) aim word
     ∷ step.Load (watch.Done d) count ∷ rest)
 
-pub record HasTried (old new : Known) (d : ℕ) (hit : Bool) : Type 0 where
-  pub runs : HasCalled old new (calls.TryWait d) (at.Count counting.Peek) (yes_or_no hit)
+pub record HasTriedCell (old new : Known) (d : ℕ) (hit : Bool) : Type 0 where
+  pub runs : HasMadeCall old new (calls.TryWait d) (at.Count counting.Peek) (hit_answer hit)
   pub first : ℕ
   pub loads : BeginsWith old new (step.Load (watch.Done d) first)
   pub count : ℕ
@@ -79,7 +79,7 @@ pub record HasTried (old new : Known) (d : ℕ) (hit : Bool) : Type 0 where
   pub tells : hit ≡ not (count == 0)
 
 -- the hold has loaded this count
-pub record Counted (k : Known) (d n : ℕ) : Type 0 where
+pub record HasCountedDone (k : Known) (d n : ℕ) : Type 0 where
   pub held : HoldsCount k d
   pub loaded : count_in d (history_of k) ≡ Some n
   pub small : n ≤ ALL_DONE

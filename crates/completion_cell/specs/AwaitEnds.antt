@@ -22,8 +22,8 @@ use Rattle.wait_event.specs.declared.wait_events.WaitEnd.{WaitEnd}
 use Rattle.wait_event.specs.declared.wait_events.WaitEnd.TheVariants as wait_end
 use Rattle.wait_class.specs.Posts.{Runs}
 use Rattle.wait_class.specs.Posts.{EndsWith, own_of}
-use Rattle.wait_event.specs.Waits.{queues}
-use Rattle.completion_cell.specs.Awaits.{await_head, left_by}
+use Rattle.wait_event.specs.Waits.{has_queued_in}
+use Rattle.completion_cell.specs.Awaits.{await_head, await_left_by}
 use Rattle.completion_cell.specs.declared.awaits.AwaitOutcome.{AwaitOutcome}
 use Rattle.completion_cell.specs.declared.awaits.AwaitOutcome.TheVariants as outcome
 use Rattle.completion_cell.specs.declared.awaits.AwaitCall.{AwaitCall}
@@ -33,7 +33,7 @@ use Rattle.completion_cell.specs.LoadedCounts.{AreInRange}
 pub record HasAwaited (old new : Known) (d : ℕ) (st : SleepState) (a : Answer) (queued : Bool) : Type 0 where
   pub runs : Runs (call_program old.view.number 0 (calls.WaitFor d st)) old new
       (next.Go (at.Await (awaiting.Lock false))) (next.Ends a)
-  pub tells : queued ≡ queues runs.transitions
+  pub tells : queued ≡ has_queued_in runs.transitions
   pub ranged : AreInRange runs.transitions
 
 -- A wait that was signalled: its last hold loaded the count as 0, which is `seen`, and the look at the own word showed
@@ -42,7 +42,7 @@ pub record IsSignalled (k : Known) (d : ℕ) (st : SleepState) (seen : ℕ) (sel
   pub look : ℕ
   pub entry : ℕ
   pub showed : pending (state_mask st) (task_of look) ≡ true
-  pub ends : EndsWith k (left_by d (own_of k) look entry)
+  pub ends : EndsWith k (await_left_by d (own_of k) look entry)
   pub unset : seen ≡ 0
   pub selects : selected ≡ (queued && not (is_some (entry_of entry)))
 
@@ -53,24 +53,24 @@ pub record IsWorn (k : Known) (d h place : ℕ) : Type 0 where
   pub zero : count_in d (history_of k) ≡ Some 0
 
 -- the answer of a wait that has ended
-abbrev pub end_in : AwaitCall → AwaitOutcome → Result (Unit {0}) WaitEnd
-end_in r outcome.Over = Ok tt
-end_in r (outcome.Signalled found) = Err (wait_end.Signal 0 (r.queued && not found))
-end_in r outcome.Worn = Err (wait_end.Worn (await_head r) r.place)
+abbrev pub await_end_in : AwaitCall → AwaitOutcome → Result (Unit {0}) WaitEnd
+await_end_in r outcome.Over = Ok tt
+await_end_in r (outcome.Signalled found) = Err (wait_end.Signal 0 (r.queued && not found))
+await_end_in r outcome.Worn = Err (wait_end.Worn (await_head r) r.place)
 
 -- the answer of the call, and its cause
-abbrev pub answer_of : Result (Unit {0}) WaitEnd → Answer
-answer_of (Ok u) = zero_answer
-answer_of (Err (wait_end.Signal seen selected)) = signalled
-answer_of (Err (wait_end.Worn h place)) = answer.Worn
+abbrev pub answer_of_await : Result (Unit {0}) WaitEnd → Answer
+answer_of_await (Ok u) = zero_answer
+answer_of_await (Err (wait_end.Signal seen selected)) = signalled
+answer_of_await (Err (wait_end.Worn h place)) = answer.Worn
 
-abbrev pub IsCause : Known → ℕ → SleepState → Bool → Result (Unit {0}) WaitEnd → Type 0
-IsCause k d st queued (Ok u) = Unit {0}
-IsCause k d st queued (Err (wait_end.Signal seen selected)) = IsSignalled k d st seen selected queued
-IsCause k d st queued (Err (wait_end.Worn h place)) = IsWorn k d h place
+abbrev pub IsAwaitCause : Known → ℕ → SleepState → Bool → Result (Unit {0}) WaitEnd → Type 0
+IsAwaitCause k d st queued (Ok u) = Unit {0}
+IsAwaitCause k d st queued (Err (wait_end.Signal seen selected)) = IsSignalled k d st seen selected queued
+IsAwaitCause k d st queued (Err (wait_end.Worn h place)) = IsWorn k d h place
 
 -- The task went through the whole call, and the answer is that of its program, with its cause.
 pub record EndsAwait (old new : Known) (d : ℕ) (st : SleepState) (result : Result (Unit {0}) WaitEnd) : Type 0 where
   pub queued : Bool
-  pub awaited : HasAwaited old new d st (answer_of result) queued
-  pub cause : IsCause new d st queued result
+  pub awaited : HasAwaited old new d st (answer_of_await result) queued
+  pub cause : IsAwaitCause new d st queued result

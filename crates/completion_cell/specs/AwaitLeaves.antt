@@ -15,8 +15,8 @@ use Rattle.wait_leave.specs.declared.exits.Until.{Until}
 use Rattle.wait_leave.specs.declared.exits.Until.TheVariants as until
 use Rattle.wait_leave.specs.Leaves.{Exits}
 use Rattle.wait_leave.specs.OnTheWay.{OnTheWay}
-use Rattle.completion_cell.specs.AwaitEnds.{IsSignalled, IsWorn, end_in}
-use Rattle.completion_cell.specs.Awaits.{IsFresh, WasAwaitLeft, await_table}
+use Rattle.completion_cell.specs.AwaitEnds.{IsSignalled, IsWorn, await_end_in}
+use Rattle.completion_cell.specs.Awaits.{IsFreshAwait, WasAwaitLeft, await_table}
 use Rattle.completion_cell.specs.declared.awaits.AwaitCall.{AwaitCall}
 use Rattle.completion_cell.specs.declared.awaits.AwaitOutcome.{AwaitOutcome}
 use Rattle.completion_cell.specs.declared.awaits.AwaitOutcome.TheVariants as outcome
@@ -50,12 +50,12 @@ await_exits = record {
 -- the answer: one whose hold had loaded 0 was left where it was asked, or a signal had ended it
 abbrev pub await_stopped : Bool → AwaitCall → Bool → Until (Result (Unit {0}) WaitEnd)
 await_stopped true r found = until.Left 0
-await_stopped false r found = until.Over (end_in r (outcome.Signalled found))
+await_stopped false r found = until.Over (await_end_in r (outcome.Signalled found))
 
 abbrev pub await_until : AwaitCall → AwaitOutcome → Until (Result (Unit {0}) WaitEnd)
-await_until r outcome.Over = until.Over (end_in r outcome.Over)
+await_until r outcome.Over = until.Over (await_end_in r outcome.Over)
 await_until r (outcome.Signalled found) = await_stopped r.asked r found
-await_until r outcome.Worn = until.Over (end_in r outcome.Worn)
+await_until r outcome.Worn = until.Over (await_end_in r outcome.Worn)
 
 -- Its cause. Left: its last hold had loaded the count as 0, which is `seen`, and took the own entry off or found it off.
 -- Signal: a look showed a signal that the state admits, and `selected` is that the hold found the entry off that the
@@ -89,6 +89,6 @@ pub record LeavesAwait (A : Type 0) (old new : Known) (r : Run AwaitCall) (s : A
 pub record EndsAwaitUntil (A : Type 0) (old new : Known) (d : ℕ) (st : SleepState)
     (result : Until (Result (Unit {0}) WaitEnd)) : Type 0 where
   pub first : Run AwaitCall
-  pub fresh : IsFresh first.of d st
+  pub fresh : IsFreshAwait first.of d st
   pub leaves : LeavesAwait A old new first stage.First result
   pub asked : IsAwaitLeftFor A result

@@ -41,9 +41,9 @@ use Rattle.wait_class.specs.declared.stages.Doing.TheVariants as doing
 use Rattle.wait_class.specs.declared.stages.Run.{Run}
 use Rattle.wait_class.specs.declared.stages.Turn.{Turn}
 use Rattle.wait_class.specs.declared.stages.Turn.TheVariants as turn
-use Rattle.wait_event.specs.Waits.{queues}
+use Rattle.wait_event.specs.Waits.{has_queued_in}
 use Rattle.wait_leave.specs.Leaves.{with_asked}
-use Rattle.completion_cell.specs.HeldPermits.{HasBegun, Knows, WaitsIn}
+use Rattle.completion_cell.specs.HeldPermits.{HasBegunHold, Knows, WaitsIn}
 use Rattle.completion_cell.specs.LoadedCounts.{AreInRange}
 use Rattle.completion_cell.specs.declared.awaits.AwaitCall.{AwaitCall}
 use Rattle.completion_cell.specs.declared.awaits.AwaitOutcome.{AwaitOutcome}
@@ -52,25 +52,25 @@ use Rattle.completion_cell.specs.declared.awaits.AwaitStage.{AwaitStage}
 use Rattle.completion_cell.specs.declared.awaits.AwaitStage.TheVariants as stage
 
 -- The stages: the point of the program, what is done there, and whether the ticket of its lock is drawn.
-abbrev pub point_of : AwaitStage → Point
-point_of stage.First = at.Await (awaiting.Lock false)
-point_of stage.FirstTurn = at.Await (awaiting.Lock false)
-point_of stage.FirstLoad = at.Await (awaiting.Load false)
-point_of stage.Again = at.Await (awaiting.Lock true)
-point_of stage.AgainTurn = at.Await (awaiting.Lock true)
-point_of stage.AgainLoad = at.Await (awaiting.Load true)
-point_of stage.Look = at.Prepare preparing.Look
-point_of stage.Queue = at.Prepare preparing.Queue
-point_of stage.State = at.Prepare preparing.State
-point_of stage.Unlock = at.Prepare preparing.Unlock
-point_of stage.Sleep = at.Sleep
-point_of stage.LeaveState = at.Await (awaiting.Run true)
-point_of stage.LeaveQueue = at.Await (awaiting.Off true)
-point_of stage.LeaveUnlock = at.Await (awaiting.Last true)
-point_of stage.TakeState = at.Await (awaiting.Run false)
-point_of stage.TakeQueue = at.Await (awaiting.Off false)
-point_of stage.TakeStore = at.Await (awaiting.Last false)
-point_of stage.TakeUnlock = at.Await awaiting.Unlock
+abbrev pub await_point_at : AwaitStage → Point
+await_point_at stage.First = at.Await (awaiting.Lock false)
+await_point_at stage.FirstTurn = at.Await (awaiting.Lock false)
+await_point_at stage.FirstLoad = at.Await (awaiting.Load false)
+await_point_at stage.Again = at.Await (awaiting.Lock true)
+await_point_at stage.AgainTurn = at.Await (awaiting.Lock true)
+await_point_at stage.AgainLoad = at.Await (awaiting.Load true)
+await_point_at stage.Look = at.Prepare preparing.Look
+await_point_at stage.Queue = at.Prepare preparing.Queue
+await_point_at stage.State = at.Prepare preparing.State
+await_point_at stage.Unlock = at.Prepare preparing.Unlock
+await_point_at stage.Sleep = at.Sleep
+await_point_at stage.LeaveState = at.Await (awaiting.Run true)
+await_point_at stage.LeaveQueue = at.Await (awaiting.Off true)
+await_point_at stage.LeaveUnlock = at.Await (awaiting.Last true)
+await_point_at stage.TakeState = at.Await (awaiting.Run false)
+await_point_at stage.TakeQueue = at.Await (awaiting.Off false)
+await_point_at stage.TakeStore = at.Await (awaiting.Last false)
+await_point_at stage.TakeUnlock = at.Await awaiting.Unlock
 
 abbrev pub await_doing : AwaitStage → Doing
 await_doing stage.First = doing.Draw
@@ -156,10 +156,10 @@ abbrev pub is_await_slept : AwaitStage → Bool
 is_await_slept stage.Again = true
 is_await_slept _ = false
 
-abbrev pub answer_in : AwaitOutcome → Answer
-answer_in outcome.Over = zero_answer
-answer_in (outcome.Signalled found) = signalled
-answer_in outcome.Worn = answer.Worn
+abbrev pub answer_to_await : AwaitOutcome → Answer
+answer_to_await outcome.Over = zero_answer
+answer_to_await (outcome.Signalled found) = signalled
+answer_to_await outcome.Worn = answer.Worn
 
 -- the completion that the call waits for, and the call
 abbrev pub await_watch : AwaitCall → Watch
@@ -176,15 +176,15 @@ abbrev pub CellFits : AwaitCall → Type 0
 CellFits r = r.cell < COMPLETIONS
 
 -- a wait that has not begun
-pub record IsFresh (r : AwaitCall) (d : ℕ) (st : SleepState) : Type 0 where
+pub record IsFreshAwait (r : AwaitCall) (d : ℕ) (st : SleepState) : Type 0 where
   pub cell : r.cell ≡ d
   pub state_is : r.state ≡ st
   pub queued : r.queued ≡ false
   pub unasked : r.asked ≡ false
 
 -- the wait is over: the task is awake, RUNNING, holds no head, and its entry is off
-abbrev pub end_post : AwaitCall → AwaitOutcome → Post
-end_post r o = record {
+abbrev pub await_end_post : AwaitCall → AwaitOutcome → Post
+await_end_post r o = record {
   head = None;
   ticket = no_ticket;
   stirs = false;
@@ -197,7 +197,7 @@ end_post r o = record {
 pub record AwaitTells (r q : AwaitCall) (ts : List Transition) : Type 0 where
   pub cell : q.cell ≡ r.cell
   pub state : q.state ≡ r.state
-  pub queued : q.queued ≡ (r.queued || queues ts)
+  pub queued : q.queued ≡ (r.queued || has_queued_in ts)
   pub ranged : AreInRange ts
 
 -- The stages at which a wait leaves its loop, for a signal or to take one of the count: before its entry is taken off,
@@ -218,17 +218,17 @@ take_stage found = if found then stage.TakeStore else stage.TakeQueue
 
 -- The last steps of a wait that was signalled: its last hold loaded 0, looked at the own word, which showed a signal
 -- that the state admits, stored RUNNING, took the own entry off or found it off, and gave the head back.
-abbrev pub left_by : ℕ → ℕ → ℕ → ℕ → List Step
-left_by d x w e = step.Load (watch.Done d) 0 ∷ step.Look w ∷ step.State 0 ∷ step.Saw x e
+abbrev pub await_left_by : ℕ → ℕ → ℕ → ℕ → List Step
+await_left_by d x w e = step.Load (watch.Done d) 0 ∷ step.Look w ∷ step.State 0 ∷ step.Saw x e
     ∷ (if is_some (entry_of e) then step.Unqueue x ∷ step.Unlock (head_of (watch.Done d)) false ∷ []
     else step.Unlock (head_of (watch.Done d)) false ∷ [])
 
-pub record WasSignalled (k : Known) (r : AwaitCall) (found : Bool) : Type 0 where
+pub record WasAwaitSignalled (k : Known) (r : AwaitCall) (found : Bool) : Type 0 where
   pub look : ℕ
   pub entry : ℕ
   pub pends : pending (state_mask r.state) (task_of look) ≡ true
   pub queued : found ≡ is_some (entry_of entry)
-  pub ends : EndsWith k (left_by r.cell (own_of k) look entry)
+  pub ends : EndsWith k (await_left_by r.cell (own_of k) look entry)
 
 -- so far
 pub record LeavesBy (k : Known) (r : AwaitCall) (more : List Step) : Type 0 where
@@ -266,10 +266,10 @@ pub record WasAwaitLeft (k : Known) (d : ℕ) (found : Bool) : Type 0 where
 -- why a wait stopped whose hold had loaded 0: it was asked to leave, or a signal ended it
 abbrev pub WhyStopped : Bool → Known → AwaitCall → Bool → Type 0
 WhyStopped true k r found = WasAwaitLeft k r.cell found
-WhyStopped false k r found = WasSignalled k r found
+WhyStopped false k r found = WasAwaitSignalled k r found
 
 -- The last hold of a wait that found no place noted it, and had loaded 0.
-pub record FoundNoPlace (k : Known) (r : AwaitCall) : Type 0 where
+pub record FoundNoPlaceForCell (k : Known) (r : AwaitCall) : Type 0 where
   pub noted : WasWorn k.view.number k.view.items (await_head r) r.place
   pub zero : count_in r.cell (history_of k) ≡ Some 0
 
@@ -289,7 +289,7 @@ FoundSome k r = Knows k r.cell r.count × (r.count ≢ 0)
 abbrev pub AwaitTrail : Known → AwaitCall → AwaitStage → Type 0
 AwaitTrail k r stage.First = LeftOff r.cell k
 AwaitTrail k r stage.FirstTurn = LeftOff r.cell k
-AwaitTrail k r stage.FirstLoad = HasBegun r.cell k
+AwaitTrail k r stage.FirstLoad = HasBegunHold r.cell k
 AwaitTrail k r stage.AgainLoad = HasJustLocked k r.cell
 AwaitTrail k r stage.Look = Knows k r.cell 0 × EndsWith k (step.Load (await_watch r) 0 ∷ [])
 AwaitTrail k r stage.Queue = Knows k r.cell 0
@@ -305,10 +305,10 @@ AwaitTrail k r stage.TakeUnlock = (o : Option ℕ) × WaitsIn r.cell k o 0
 AwaitTrail k r _ = Unit {0}
 
 -- The head was given back last, and the answer has its cause.
-abbrev pub TrailEnd : Known → AwaitCall → AwaitOutcome → Type 0
-TrailEnd k r outcome.Over = HasGivenBack k r
-TrailEnd k r (outcome.Signalled found) = HasGivenBack k r × WhyStopped r.asked k r found
-TrailEnd k r outcome.Worn = HasGivenBack k r × FoundNoPlace k r
+abbrev pub AwaitTrailEnd : Known → AwaitCall → AwaitOutcome → Type 0
+AwaitTrailEnd k r outcome.Over = HasGivenBack k r
+AwaitTrailEnd k r (outcome.Signalled found) = HasGivenBack k r × WhyStopped r.asked k r found
+AwaitTrailEnd k r outcome.Worn = HasGivenBack k r × FoundNoPlaceForCell k r
 
 -- what stays of the task meanwhile, but that it may leave its entry at the completion
 abbrev pub CellKeeps : ℕ → Known → Known → Type 0
@@ -320,7 +320,7 @@ await_table = record {
   Fits = CellFits;
   worn_at = λ r p. record r { place = p };
   joined_at = λ r s. record r { queued = true };
-  point_of = point_of;
+  point_of = await_point_at;
   doing = await_doing;
   drawn = is_await_turn;
   took = λ s. false;
@@ -335,12 +335,12 @@ await_table = record {
   asleep_at = is_await_slept;
   added_to = λ r s a. joined_to a;
   state_at = await_state;
-  answer_of = answer_in;
+  answer_of = answer_to_await;
   has_taken = λ o. false;
-  end_post = end_post;
+  end_post = await_end_post;
   Tells = AwaitTells;
   Trail = AwaitTrail;
-  TrailEnd = TrailEnd;
+  AwaitTrailEnd = AwaitTrailEnd;
   Keeps = λ i c g h old new. CellKeeps i old new;
 }
 
@@ -364,7 +364,7 @@ pub record QuitsFrom (start k : Known) (r : Run AwaitCall) (found : Bool) : Type
   pub left : HasPared k r.of found
 
 -- The own entry was looked at, and taken off where it was queued.
-abbrev pub Pares : Known → Known → Run AwaitCall → Bool → Bool → Type 0
-Pares old new r stopped true = Turned await_table old new r r (off_stage stopped) (turn.Again (last_stage stopped))
-Pares old new r true false = QuitsFrom old new r false
-Pares old new r false false = TakesFrom old new r false
+abbrev pub ParesAwait : Known → Known → Run AwaitCall → Bool → Bool → Type 0
+ParesAwait old new r stopped true = Turned await_table old new r r (off_stage stopped) (turn.Again (last_stage stopped))
+ParesAwait old new r true false = QuitsFrom old new r false
+ParesAwait old new r false false = TakesFrom old new r false

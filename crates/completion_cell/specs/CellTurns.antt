@@ -26,11 +26,11 @@ use Rattle.completion_cell.specs.declared.cell_turns.CellStage.{CellStage}
 use Rattle.completion_cell.specs.declared.cell_turns.CellStage.TheVariants as stage
 use Rattle.completion_cell.specs.declared.cell_turns.CellTurn.{CellTurn}
 use Rattle.completion_cell.specs.declared.cell_turns.CellTurn.TheVariants as turn
-use Rattle.completion_cell.specs.Asks.{HasAsked, HasReset, HasTried}
+use Rattle.completion_cell.specs.Asks.{HasAsked, HasReset, HasTriedCell}
 use Rattle.completion_cell.specs.Completes.{HasCompleted, HasCompletedAll}
 
 -- this call, on this completion
-pub record IsFresh (r : CellRun) (c : CellCall) (d : ℕ) : Type 0 where
+pub record IsFreshCell (r : CellRun) (c : CellCall) (d : ℕ) : Type 0 where
   pub call_is : r.call ≡ c
   pub cell : r.cell ≡ d
 
@@ -38,12 +38,12 @@ abbrev pub cell_head : ℕ → ℕ
 cell_head d = head_of (watch.Done d)
 
 -- the calls that load the count before they lock, and are over where it is 0
-abbrev pub peeks : CellCall → Bool
-peeks call.Complete = false
-peeks call.CompleteAll = false
-peeks call.IsDone = true
-peeks call.Reinit = false
-peeks call.TryWait = true
+abbrev pub peeks_first : CellCall → Bool
+peeks_first call.Complete = false
+peeks_first call.CompleteAll = false
+peeks_first call.IsDone = true
+peeks_first call.Reinit = false
+peeks_first call.TryWait = true
 
 -- what such a call did first, and that it goes on
 pub record HasPeeked (d : ℕ) (start base : Known) : Type 0 where
@@ -54,46 +54,46 @@ pub record HasPeeked (d : ℕ) (start base : Known) : Type 0 where
   pub carries : Carries unchanged start base
 
 -- what a call did before it drew its ticket
-abbrev pub HasBegun : Bool → ℕ → Known → Known → Type 0
-HasBegun true d start base = HasPeeked d start base
-HasBegun false d start base = start ≡ base
+abbrev pub HasBegunCell : Bool → ℕ → Known → Known → Type 0
+HasBegunCell true d start base = HasPeeked d start base
+HasBegunCell false d start base = start ≡ base
 
-pub record HasDrawn (start now : Known) (r : CellRun) : Type 0 where
+pub record HasDrawnForCell (start now : Known) (r : CellRun) : Type 0 where
   pub told : IsTold start
   pub base : Known
-  pub begun : HasBegun (peeks r.call) r.cell start base
+  pub begun : HasBegunCell (peeks_first r.call) r.cell start base
   pub awaits : AwaitsLock base now (cell_head r.cell) r.ticket
 
 -- whether the ticket of its lock is drawn
-abbrev pub StandsAt : Known → Known → CellRun → CellStage → Type 0
-StandsAt start now r stage.First = now ≡ start
-StandsAt start now r stage.Turn = HasDrawn start now r
+abbrev pub StandsAtCell : Known → Known → CellRun → CellStage → Type 0
+StandsAtCell start now r stage.First = now ≡ start
+StandsAtCell start now r stage.Turn = HasDrawnForCell start now r
 
 -- The call began at `start` with a task that was up, held no lock, and had left its own entry off at the completion.
-pub record IsAt (start now : Known) (r : CellRun) (s : CellStage) : Type 0 where
+pub record IsAtCell (start now : Known) (r : CellRun) (s : CellStage) : Type 0 where
   pub up : IsUp start
   pub free : IsFree start
   pub there : r.cell < COMPLETIONS
   pub left : LeftOff r.cell start
-  pub stands : StandsAt start now r s
+  pub stands : StandsAtCell start now r s
 
 -- the task has taken the lock of the call's hold
-pub record HoldsFor (c : CellCall) (d : ℕ) (start now : Known) : Type 0 where
+pub record HoldsForCell (c : CellCall) (d : ℕ) (start now : Known) : Type 0 where
   pub up : IsUp start
   pub free : IsFree start
   pub left : LeftOff d start
   pub told : IsTold start
   pub base : Known
-  pub begun : HasBegun (peeks c) d start base
+  pub begun : HasBegunCell (peeks_first c) d start base
   pub took : TookLock base now (cell_head d)
 
 -- what a call made, with its answer
-abbrev pub Ends : CellCall → ℕ → Bool → Known → Known → Type 0
-Ends call.Complete d hit start new = HasCompleted start new d
-Ends call.CompleteAll d hit start new = HasCompletedAll start new d
-Ends call.IsDone d hit start new = HasAsked start new d hit
-Ends call.Reinit d hit start new = HasReset start new d
-Ends call.TryWait d hit start new = HasTried start new d hit
+abbrev pub EndsCellCall : CellCall → ℕ → Bool → Known → Known → Type 0
+EndsCellCall call.Complete d hit start new = HasCompleted start new d
+EndsCellCall call.CompleteAll d hit start new = HasCompletedAll start new d
+EndsCellCall call.IsDone d hit start new = HasAsked start new d hit
+EndsCellCall call.Reinit d hit start new = HasReset start new d
+EndsCellCall call.TryWait d hit start new = HasTriedCell start new d hit
 
 -- and what it changes of the task
 abbrev pub change_of : CellCall → ℕ → ℕ → Change
@@ -104,23 +104,23 @@ change_of call.Reinit d h = hold_change h
 change_of call.TryWait d h = hold_change h
 
 -- What a call did that is over: all that the whole calls say.
-pub record IsOver (c : CellCall) (d : ℕ) (hit : Bool) (start new : Known) : Type 0 where
-  pub ends : Ends c d hit start new
+pub record IsCellOver (c : CellCall) (d : ℕ) (hit : Bool) (start new : Known) : Type 0 where
+  pub ends : EndsCellCall c d hit start new
   pub up : IsUp new
   pub free : IsFree new
   pub carries : Carries (change_of c d new.at) start new
   pub off : StaysOff start new
 
 -- It stopped in its hold: so many tries of one wake failed as no run makes.
-pub record HasStarved (d : ℕ) (new : Known) (failed : FailedTries) : Type 0 where
+pub record HasCellStarved (d : ℕ) (new : Known) (failed : FailedTries) : Type 0 where
   pub tries : IsStarved failed
   pub held : new.book.head ≡ Some (cell_head d)
 
 -- what a stretch did
-abbrev pub TurnsTo : Known → Known → CellRun → CellTurn → Type 0
-TurnsTo start new r turn.Locked = IsAt start new r stage.Turn
-TurnsTo start new r (turn.Done hit) = IsOver r.call r.cell hit start new
-TurnsTo start new r (turn.Starved failed) = HasStarved r.cell new failed
+abbrev pub CellTurnsTo : Known → Known → CellRun → CellTurn → Type 0
+CellTurnsTo start new r turn.Locked = IsAtCell start new r stage.Turn
+CellTurnsTo start new r (turn.Done hit) = IsCellOver r.call r.cell hit start new
+CellTurnsTo start new r (turn.Starved failed) = HasCellStarved r.cell new failed
 
 -- where another ticket was served, the last item is the look that found its number
 abbrev pub FoundServed : Known → CellRun → CellTurn → Type 0
@@ -128,12 +128,12 @@ FoundServed new r turn.Locked = (base : Known) × FindsOther base new (cell_head
 FoundServed new r _ = Unit {0}
 
 -- it is the same call
-pub record HasTurned (start new : Known) (r s : CellRun) (t : CellTurn) : Type 0 where
-  pub fresh : IsFresh s r.call r.cell
-  pub turns : TurnsTo start new s t
+pub record HasCellTurned (start new : Known) (r s : CellRun) (t : CellTurn) : Type 0 where
+  pub fresh : IsFreshCell s r.call r.cell
+  pub turns : CellTurnsTo start new s t
 
 -- where a stretch leaves the call, whenever that began; after its end the task is up and holds no lock
-abbrev pub Rests : Known → CellRun → CellTurn → Type 0
-Rests now r turn.Locked = (start : Known) × IsAt start now r stage.Turn
-Rests now r (turn.Done hit) = IsUp now × IsFree now
-Rests now r (turn.Starved failed) = HasStarved r.cell now failed
+abbrev pub CellRests : Known → CellRun → CellTurn → Type 0
+CellRests now r turn.Locked = (start : Known) × IsAtCell start now r stage.Turn
+CellRests now r (turn.Done hit) = IsUp now × IsFree now
+CellRests now r (turn.Starved failed) = HasCellStarved r.cell now failed

@@ -7,14 +7,14 @@ use Rattle.wait_model.specs.declared.points.Point.TheVariants as at
 use Rattle.wait_model.specs.declared.points.SelectPoint.TheVariants as selecting
 use Rattle.wait_model.specs.Programs.{zero_answer}
 use Rattle.wait_rule.specs.Known.{Known}
-use Rattle.completion_cell.specs.Asks.{HasCalled}
+use Rattle.completion_cell.specs.Asks.{HasMadeCall}
 
 -- the task went through the whole call
 abbrev pub HasCompleted : Known → Known → ℕ → Type 0
-HasCompleted old new d = HasCalled old new (calls.Complete d) (at.Select selecting.Lock) zero_answer
+HasCompleted old new d = HasMadeCall old new (calls.Complete d) (at.Select selecting.Lock) zero_answer
 
 abbrev pub HasCompletedAll : Known → Known → ℕ → Type 0
-HasCompletedAll old new d = HasCalled old new (calls.CompleteAll d) (at.Select selecting.Lock) zero_answer
+HasCompletedAll old new d = HasMadeCall old new (calls.CompleteAll d) (at.Select selecting.Lock) zero_answer
 
 -- a count that is not at its end is raised by one
 abbrev pub RaisesOne : ℕ → Bool → Type 0

@@ -16,17 +16,17 @@ use Rattle.wait_rule.specs.Known.{Known}
 use Rattle.wait_rule.specs.Says.{history_of}
 
 -- the count that a hold of the head of d knows after one more step, and what it owes
-abbrev pub counted : ℕ → Step → Option ℕ → Option ℕ
-counted d (step.Load (watch.Done c) r) o = if c == d then Some r else o
-counted d (step.Publish (watch.Done c) m r) o = if c == d then Some m else o
-counted d (step.Consume (watch.Done c) m r) o = if c == d then Some m else o
-counted d e o = o
+abbrev pub counted_in_cell : ℕ → Step → Option ℕ → Option ℕ
+counted_in_cell d (step.Load (watch.Done c) r) o = if c == d then Some r else o
+counted_in_cell d (step.Publish (watch.Done c) m r) o = if c == d then Some m else o
+counted_in_cell d (step.Consume (watch.Done c) m r) o = if c == d then Some m else o
+counted_in_cell d e o = o
 
-abbrev pub still_owed : ℕ → Step → ℕ → ℕ
-still_owed d (step.Load (watch.Done c) r) n = if c == d then after_read r n else n
-still_owed d (step.Publish (watch.Done c) m r) n = if c == d then after_store m r n else n
-still_owed d (step.Consume (watch.Done c) m r) n = if c == d then after_store m r n else n
-still_owed d e n = n
+abbrev pub still_owed_in_cell : ℕ → Step → ℕ → ℕ
+still_owed_in_cell d (step.Load (watch.Done c) r) n = if c == d then after_read r n else n
+still_owed_in_cell d (step.Publish (watch.Done c) m r) n = if c == d then after_store m r n else n
+still_owed_in_cell d (step.Consume (watch.Done c) m r) n = if c == d then after_store m r n else n
+still_owed_in_cell d e n = n
 
 -- The steps of a wait in a hold: it looks, loads and stores its count, stores its state, takes its own entry off, and
 -- queues that one where it knows that the count is 0.
@@ -44,7 +44,7 @@ IsOfWait x o e = ⊥
 -- such steps lead from what a hold knows and owes to what it knows and owes then
 abbrev pub Deals : ℕ → ℕ → List Step → Option ℕ → ℕ → Option ℕ → ℕ → Type 0
 Deals d x [] o n p m = (o ≡ p) × (n ≡ m)
-Deals d x (e ∷ es) o n p m = IsOfWait x o e × Deals d x es (counted d e o) (still_owed d e n) p m
+Deals d x (e ∷ es) o n p m = IsOfWait x o e × Deals d x es (counted_in_cell d e o) (still_owed_in_cell d e n) p m
 
 pub record Held (d : ℕ) (old new : Known) (o : Option ℕ) (n : ℕ) (p : Option ℕ) (m : ℕ) : Type 0 where
   pub made : List Step
@@ -53,37 +53,37 @@ pub record Held (d : ℕ) (old new : Known) (o : Option ℕ) (n : ℕ) (p : Opti
   pub number : new.view.number ≡ old.view.number
 
 -- a wait that has loaded this count takes what it owes by lowering it by one
-abbrev pub IsSettled : ℕ → ℕ → Type 0
-IsSettled count n = (n ≤ 1) × (ALL_DONE ≤ count → n ≡ 0) × (count ≡ 0 → n ≡ 0)
+abbrev pub IsDebtSettled : ℕ → ℕ → Type 0
+IsDebtSettled count n = (n ≤ 1) × (ALL_DONE ≤ count → n ≡ 0) × (count ≡ 0 → n ≡ 0)
 
 -- In a hold of the head the task has looked at its own entry, or had left none there; what it knows of the count, and
 -- what it owes.
-pub record Waits (d a : ℕ) (front : List Step) (o : Option ℕ) (n : ℕ) : Type 0 where
+pub record WaitsForPermit (d a : ℕ) (front : List Step) (o : Option ℕ) (n : ℕ) : Type 0 where
   pub head : (view_of front).hold.head ≡ Some (done_head d)
   pub seen : (dealt d a front).left ≡ true → (view_of front).hold.book (own a) ≢ unseen
   pub count : (dealt d a front).count ≡ o
   pub debt : (dealt d a front).debt ≡ n
 
 abbrev pub WaitsIn : ℕ → Known → Option ℕ → ℕ → Type 0
-WaitsIn d k o n = OrderOf k → Waits d k.view.number (history_of k) o n
+WaitsIn d k o n = OrderOf k → WaitsForPermit d k.view.number (history_of k) o n
 
 -- how a hold stands before its load of the count, and after it
-pub record HasBegun (d : ℕ) (k : Known) : Type 0 where
+pub record HasBegunHold (d : ℕ) (k : Known) : Type 0 where
   pub knows : Option ℕ
   pub owes : ℕ
   pub few : owes ≤ 1
   pub waits : WaitsIn d k knows owes
 
-pub record HasLoaded (d : ℕ) (k : Known) (count : ℕ) : Type 0 where
+pub record HasLoadedCount (d : ℕ) (k : Known) (count : ℕ) : Type 0 where
   pub owes : ℕ
-  pub settled : IsSettled count owes
+  pub settled : IsDebtSettled count owes
   pub waits : WaitsIn d k (Some count) owes
 
 -- The latest hold has loaded or stored this count last.
-abbrev pub Counts : Known → ℕ → ℕ → Type 0
-Counts k d n = (count_in d (history_of k) ≡ Some n) × (n ≤ ALL_DONE)
+abbrev pub CountsDone : Known → ℕ → ℕ → Type 0
+CountsDone k d n = (count_in d (history_of k) ≡ Some n) × (n ≤ ALL_DONE)
 
 -- The hold has loaded this count last, and knows what of it is the task's to take.
 pub record Knows (k : Known) (d n : ℕ) : Type 0 where
-  pub counts : Counts k d n
-  pub loaded : HasLoaded d k n
+  pub counts : CountsDone k d n
+  pub loaded : HasLoadedCount d k n

@@ -17,8 +17,8 @@ use Rattle.wait_rule.specs.Says.{MeetsLaw}
 use Rattle.wait_class.specs.Posts.{IsOut}
 use Rattle.wait_event.specs.Words.{call_says}
 use Rattle.wait_event.specs.declared.wait_events.WaitEnd.{WaitEnd}
-use Rattle.completion_cell.specs.AwaitEnds.{EndsAwait, answer_of}
-use Rattle.completion_cell.specs.Asks.{HasAsked, HasReset, HasTried, yes_or_no}
+use Rattle.completion_cell.specs.AwaitEnds.{EndsAwait, answer_of_await}
+use Rattle.completion_cell.specs.Asks.{HasAsked, HasReset, HasTriedCell, hit_answer}
 use Rattle.completion_cell.specs.Completes.{HasCompleted, HasCompletedAll}
 
 -- A completion is completed, for one and for all; a load of the base word after the call (`Task::witness`) shows the
@@ -35,14 +35,14 @@ AllsFollow = (old new : Known) (d : ℕ) → MeetsLaw new.view → (h : HasCompl
 
 -- One is taken where one is there, the count is asked, and it is cleared.
 abbrev pub TryWaitsFollow : Type 0
-TryWaitsFollow = (old new : Known) (d : ℕ) (hit : Bool) → MeetsLaw new.view → (h : HasTried old new d hit)
+TryWaitsFollow = (old new : Known) (d : ℕ) (hit : Bool) → MeetsLaw new.view → (h : HasTriedCell old new d hit)
     → Follows old.view.number (calls.TryWait d) (call_says old.view.number (calls.TryWait d) h.runs.transitions)
-    (yes_or_no hit)
+    (hit_answer hit)
 
 abbrev pub AsksFollow : Type 0
 AsksFollow = (old new : Known) (d : ℕ) (hit : Bool) → MeetsLaw new.view → (h : HasAsked old new d hit)
     → Follows old.view.number (calls.IsDone d) (call_says old.view.number (calls.IsDone d) h.runs.transitions)
-    (yes_or_no hit)
+    (hit_answer hit)
 
 abbrev pub ResetsFollow : Type 0
 ResetsFollow = (old new : Known) (d : ℕ) → MeetsLaw new.view → (h : HasReset old new d)
@@ -52,7 +52,7 @@ ResetsFollow = (old new : Known) (d : ℕ) → MeetsLaw new.view → (h : HasRes
 abbrev pub AwaitsFollow : Type 0
 AwaitsFollow = (old new : Known) (d : ℕ) (st : SleepState) (result : Result (Unit {0}) WaitEnd) → MeetsLaw new.view
     → IsOut old → (e : EndsAwait old new d st result) → Follows old.view.number (calls.WaitFor d st)
-    (call_says old.view.number (calls.WaitFor d st) e.awaited.runs.transitions) (answer_of result)
+    (call_says old.view.number (calls.WaitFor d st) e.awaited.runs.transitions) (answer_of_await result)
 
 -- The latest event gives the completion's head back. Before it the latest events are those of a hold that a signal
 -- ended: it loaded the count as 0, found an admissible signal, stored RUNNING, and left its entry off
@@ -65,5 +65,5 @@ pub record EndsStopped (me d : ℕ) (trail : List Event) : Type 0 where
 -- a wait that answers for a signal ends so
 abbrev pub AwaitsHeed : Type 0
 AwaitsHeed = (old new : Known) (d : ℕ) (st : SleepState) (e : WaitEnd) (ends : EndsAwait old new d st (Err e))
-    → answer_of (Err e) ≡ signalled → EndsStopped old.view.number d
+    → answer_of_await (Err e) ≡ signalled → EndsStopped old.view.number d
     (trail_of [] (call_says old.view.number (calls.WaitFor d st) ends.awaited.runs.transitions))

@@ -12,8 +12,8 @@ ghost use Rattle.wait_rule.specs.Stays.{Carries};
 ghost use Rattle.wait_event.specs.Entries.{hold_change};
 ghost use Rattle.wq_head.specs.Roused.{RousesNone};
 ghost use Rattle.completion_cell.specs.declared.cell_turns.CellCall.TheVariants as call;
-ghost use Rattle.completion_cell.specs.CellTurns.{HoldsFor, IsOver};
-ghost use Rattle.completion_cell.specs.Asks.{HasAsked, HasTried, HasReset, Counted, TakesOne};
+ghost use Rattle.completion_cell.specs.CellTurns.{HoldsForCell, IsCellOver};
+ghost use Rattle.completion_cell.specs.Asks.{HasAsked, HasTriedCell, HasReset, HasCountedDone, TakesOne};
 
 use crate::cell_turns::{CellCall, run_cell};
 use std::sync::Wait;
@@ -33,10 +33,10 @@ pub(crate) fn is_done_hold(
     requires of { task.old.domain ≡ domain.now }
     requires passes { PassesNone passing.old }
     requires cell { cell < COMPLETIONS }
-    requires holds { (start : Known) × HoldsFor call.IsDone cell start task.old }
+    requires holds { (start : Known) × HoldsForCell call.IsDone cell start task.old }
     ensures of { task.new.domain ≡ domain.now }
-    ensures over { (start : Known) → HoldsFor call.IsDone cell start task.old
-        → IsOver call.IsDone cell result start task.new }
+    ensures over { (start : Known) → HoldsForCell call.IsDone cell start task.old
+        → IsCellOver call.IsDone cell result start task.new }
     ensures rouses { RousesNone task.old task.new }
 {
     let _ = cell;
@@ -49,10 +49,10 @@ pub(crate) fn reinit_hold(domain: &Domain, task: &mut Task, cell: u8, passing: &
     requires of { task.old.domain ≡ domain.now }
     requires passes { PassesNone passing.old }
     requires cell { cell < COMPLETIONS }
-    requires holds { (start : Known) × HoldsFor call.Reinit cell start task.old }
+    requires holds { (start : Known) × HoldsForCell call.Reinit cell start task.old }
     ensures of { task.new.domain ≡ domain.now }
-    ensures over { (start : Known) → HoldsFor call.Reinit cell start task.old
-        → IsOver call.Reinit cell result start task.new }
+    ensures over { (start : Known) → HoldsForCell call.Reinit cell start task.old
+        → IsCellOver call.Reinit cell result start task.new }
     ensures rouses { RousesNone task.old task.new }
 {
     done_store(domain, task, cell, 0);
@@ -101,7 +101,7 @@ pub(crate) fn take_one(domain: &Domain, task: &mut Task, cell: u8, count: u32) -
     requires of { task.old.domain ≡ domain.now }
     requires up { IsUp task.old }
     requires cell { cell < COMPLETIONS }
-    requires counted { Counted task.old cell count }
+    requires counted { HasCountedDone task.old cell count }
     ensures stores { MatchBool result (StoresCount task.old task.new cell (count - 1)) (task.new ≡ task.old) }
     ensures took { TakesOne count result }
 {
@@ -122,10 +122,10 @@ pub(crate) fn try_wait_hold(
     requires of { task.old.domain ≡ domain.now }
     requires passes { PassesNone passing.old }
     requires cell { cell < COMPLETIONS }
-    requires holds { (start : Known) × HoldsFor call.TryWait cell start task.old }
+    requires holds { (start : Known) × HoldsForCell call.TryWait cell start task.old }
     ensures of { task.new.domain ≡ domain.now }
-    ensures over { (start : Known) → HoldsFor call.TryWait cell start task.old
-        → IsOver call.TryWait cell result start task.new }
+    ensures over { (start : Known) → HoldsForCell call.TryWait cell start task.old
+        → IsCellOver call.TryWait cell result start task.new }
     ensures rouses { RousesNone task.old task.new }
 {
     let count = done_load(domain, task, cell);
@@ -143,7 +143,7 @@ pub fn try_wait<R: Wait>(rt: &R, domain: &Domain, task: &mut Task, cell: u8) -> 
     requires free { IsFree task.old }
     requires cell { cell < COMPLETIONS }
     requires left { LeftOff cell task.old }
-    ensures tried { HasTried task.old task.new cell result }
+    ensures tried { HasTriedCell task.old task.new cell result }
     ensures up { IsUp task.new }
     ensures free { IsFree task.new }
     ensures carries { Carries (hold_change task.new.at) task.old task.new }

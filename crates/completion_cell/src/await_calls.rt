@@ -13,8 +13,8 @@ ghost use Rattle.wait_class.specs.Tables.{Advances, IsAt};
 ghost use Rattle.wait_class.specs.UnderWay.{IsUnderWay};
 ghost use Rattle.wait_event.specs.Ends.{wait_change};
 ghost use Rattle.completion_cell.specs.declared.awaits.AwaitStage.TheVariants as stage;
-ghost use Rattle.completion_cell.specs.Awaits.{IsFresh, await_table};
-ghost use Rattle.completion_cell.specs.AwaitEnds.{EndsAwait, end_in};
+ghost use Rattle.completion_cell.specs.Awaits.{IsFreshAwait, await_table};
+ghost use Rattle.completion_cell.specs.AwaitEnds.{EndsAwait, await_end_in};
 
 use crate::awaits::{AwaitCall, AwaitOutcome, AwaitRun, AwaitStage};
 use std::sync::Wait;
@@ -35,7 +35,7 @@ pub fn begin_await(task: &Task, cell: u8, state: SleepState) -> AwaitRun
     requires out { IsOut task.now }
     requires left { LeftOff cell task.now }
     ensures at { IsAt await_table task.now result stage.First }
-    ensures fresh { IsFresh result.of cell state }
+    ensures fresh { IsFreshAwait result.of cell state }
     ensures told { IsTold task.now }
     ensures under { IsClean task.now
         → IsUnderWay await_table (await_table.plan_of result.of) task.now result (turn.Again stage.First) }
@@ -86,7 +86,7 @@ pub fn wait_for<R: Wait>(
 
 /// The answer of a wait that has ended, as `wait_for` gives it: for who went on with it by stretches.
 pub fn end_of(call: AwaitCall, outcome: AwaitOutcome) -> Result<(), WaitEnd>
-    ensures { result ≡ end_in call outcome }
+    ensures { result ≡ await_end_in call outcome }
 {
     match outcome {
         AwaitOutcome::Over => Ok(()),
@@ -104,9 +104,9 @@ pub fn end_of(call: AwaitCall, outcome: AwaitOutcome) -> Result<(), WaitEnd>
 /// The answer of a wait that went on by stretches and has ended. Who owed nothing when it began owes nothing, and the
 /// answer of one that began at `start` is as that of `wait_for`.
 pub fn end_await(task: &Task, wait: &AwaitRun, outcome: AwaitOutcome) -> Result<(), WaitEnd>
-    ensures is { result ≡ end_in wait.now.of outcome }
+    ensures is { result ≡ await_end_in wait.now.of outcome }
     ensures clean { (c : _) → IsUnderWay await_table c task.now wait.now (turn.Done outcome) → IsClean task.now }
-    ensures ends { (start : _) → (f : _) → (cell : _) → (state : _) → IsFresh f.of cell state
+    ensures ends { (start : _) → (f : _) → (cell : _) → (state : _) → IsFreshAwait f.of cell state
         → Advances await_table start task.now f wait.now stage.First (turn.Done outcome)
         → EndsAwait start task.now cell state result }
 {

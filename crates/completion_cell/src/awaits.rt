@@ -11,7 +11,7 @@ ghost use Rattle.wait_class.specs.Handing.{LastGiven};
 ghost use Rattle.wait_class.specs.Laws.{AddsOwn, MayAdd};
 ghost use Rattle.wait_class.specs.Tables.{IsAt, IsStop, SleepsNot, Turned, falls};
 ghost use Rattle.completion_cell.specs.declared.awaits.AwaitStage.TheVariants as stage;
-ghost use Rattle.completion_cell.specs.Awaits.{Pares, QuitsFrom, TakesFrom, await_table, counted_to};
+ghost use Rattle.completion_cell.specs.Awaits.{ParesAwait, QuitsFrom, TakesFrom, await_table, counted_to};
 ghost use Rattle.completion_cell.specs.Awaits.{off_stage, quit_stage, take_stage};
 
 use crate::asks::take_one;
@@ -134,7 +134,7 @@ fn again_event(domain: &Domain, task: &mut Task, run: &mut AwaitRun) -> AwaitTur
 fn pare(domain: &Domain, task: &mut Task, run: &AwaitRun, stopped: bool) -> bool
     requires of { task.old.domain ≡ domain.now }
     requires at { IsAt await_table task.old run.now (off_stage stopped) }
-    ensures pares { Pares task.old task.new run.now stopped result }
+    ensures pares { ParesAwait task.old task.new run.now stopped result }
     ensures given { LastGiven task.old task.new HEADS }
     ensures awake { SleepsNot task.old task.new }
 {

@@ -8,7 +8,7 @@ ghost use Rattle.wait_rule.specs.PassedLocks.{PassesNone};
 ghost use Rattle.wait_rule.specs.Says.{IsFree, IsUp};
 ghost use Rattle.wq_head.specs.Roused.{IsRousing, RousesNone, tasks_in};
 ghost use Rattle.completion_cell.specs.declared.cell_turns.CellStage.TheVariants as stages;
-ghost use Rattle.completion_cell.specs.CellTurns.{HasStarved, HasTurned, HoldsFor, IsAt, IsFresh, IsOver, Rests, peeks};
+ghost use Rattle.completion_cell.specs.CellTurns.{HasCellStarved, HasCellTurned, HoldsForCell, IsAtCell, IsFreshCell, IsCellOver, CellRests, peeks_first};
 ghost use Rattle.completion_cell.specs.CellTurns.{FoundServed};
 
 use crate::asks::{is_done_hold, reinit_hold, try_wait_hold};
@@ -63,7 +63,7 @@ pub struct CellRun {
 impl CellRun {
     /// A call that has not begun, on completion `cell`, below `COMPLETIONS`.
     pub fn new(call: CellCall, cell: u8) -> CellRun
-        ensures { IsFresh result call cell }
+        ensures { IsFreshCell result call cell }
     {
         CellRun {
             call,
@@ -92,12 +92,12 @@ pub fn cell_stretch(
 ) -> CellTurn
     requires of { task.old.domain ≡ domain.now }
     requires passes { PassesNone passing.old }
-    requires at { (start : Known) × IsAt start task.old run.old stage }
+    requires at { (start : Known) × IsAtCell start task.old run.old stage }
     requires none { tasks_in rousing.old ≡ [] }
     ensures of { task.new.domain ≡ domain.now }
-    ensures turned { (start : Known) → IsAt start task.old run.old stage
-        → HasTurned start task.new run.old run.new result }
-    ensures rests { Rests task.new run.new result }
+    ensures turned { (start : Known) → IsAtCell start task.old run.old stage
+        → HasCellTurned start task.new run.old run.new result }
+    ensures rests { CellRests task.new run.new result }
     ensures refused { FoundServed task.new run.new result }
     ensures rouses { IsRousing task.old task.new rousing.new }
 {
@@ -120,12 +120,12 @@ pub fn cell_stretch(
 /// Draws the ticket of the call's lock, unless it is drawn: false where the call is over before.
 fn draw_turn(domain: &Domain, task: &mut Task, run: &mut CellRun, stage: CellStage) -> bool
     requires of { task.old.domain ≡ domain.now }
-    requires at { (start : Known) × IsAt start task.old run.old stage }
+    requires at { (start : Known) × IsAtCell start task.old run.old stage }
     ensures of { task.new.domain ≡ domain.now }
-    ensures fresh { IsFresh run.new run.old.call run.old.cell }
-    ensures drawn { (start : Known) → IsAt start task.old run.old stage
-        → MatchBool result (IsAt start task.new run.new stages.Turn)
-        (IsOver run.old.call run.old.cell false start task.new) }
+    ensures fresh { IsFreshCell run.new run.old.call run.old.cell }
+    ensures drawn { (start : Known) → IsAtCell start task.old run.old stage
+        → MatchBool result (IsAtCell start task.new run.new stages.Turn)
+        (IsCellOver run.old.call run.old.cell false start task.new) }
     ensures rouses { RousesNone task.old task.new }
 {
     match stage {
@@ -136,7 +136,7 @@ fn draw_turn(domain: &Domain, task: &mut Task, run: &mut CellRun, stage: CellSta
 
 /// Whether the call loads the count before it locks, and is over where that is 0.
 fn peeks(call: CellCall) -> bool
-    ensures { result ≡ peeks call }
+    ensures { result ≡ peeks_first call }
 {
     match call {
         CellCall::IsDone => true,
@@ -153,9 +153,9 @@ fn begin(domain: &Domain, task: &mut Task, run: &mut CellRun) -> bool
     requires there { run.old.cell < COMPLETIONS }
     requires left { LeftOff run.old.cell task.old }
     ensures of { task.new.domain ≡ domain.now }
-    ensures fresh { IsFresh run.new run.old.call run.old.cell }
-    ensures drawn { MatchBool result (IsAt task.old task.new run.new stages.Turn)
-        (IsOver run.old.call run.old.cell false task.old task.new) }
+    ensures fresh { IsFreshCell run.new run.old.call run.old.cell }
+    ensures drawn { MatchBool result (IsAtCell task.old task.new run.new stages.Turn)
+        (IsCellOver run.old.call run.old.cell false task.old task.new) }
     ensures rouses { RousesNone task.old task.new }
 {
     task.told();
@@ -182,11 +182,11 @@ fn hold(
     requires of { task.old.domain ≡ domain.now }
     requires passes { PassesNone passing.old }
     requires there { run.cell < COMPLETIONS }
-    requires holds { (start : Known) × HoldsFor run.call run.cell start task.old }
+    requires holds { (start : Known) × HoldsForCell run.call run.cell start task.old }
     requires none { tasks_in rousing.old ≡ [] }
     ensures of { task.new.domain ≡ domain.now }
-    ensures over { (start : Known) → HoldsFor run.call run.cell start task.old
-        → MatchResult result (λ hit. IsOver run.call run.cell hit start task.new) (HasStarved run.cell task.new) }
+    ensures over { (start : Known) → HoldsForCell run.call run.cell start task.old
+        → MatchResult result (λ hit. IsCellOver run.call run.cell hit start task.new) (HasCellStarved run.cell task.new) }
     ensures rouses { IsRousing task.old task.new rousing.new }
 {
     match run.call {
@@ -211,7 +211,7 @@ pub(crate) fn run_cell<R: Wait>(
     requires free { IsFree task.old }
     requires there { cell < COMPLETIONS }
     requires left { LeftOff cell task.old }
-    ensures { IsOver call cell result task.old task.new }
+    ensures { IsCellOver call cell result task.old task.new }
 {
     let head = head_of(Watch::Done { cell });
     let mut rousing = Rousing::new();

@@ -14,8 +14,8 @@ ghost use Rattle.wait_rule.specs.Stays.{Carries};
 ghost use Rattle.wait_event.specs.Conds.{set_change};
 ghost use Rattle.wq_head.specs.Roused.{IsRousing, tasks_in};
 ghost use Rattle.completion_cell.specs.declared.cell_turns.CellCall.TheVariants as call;
-ghost use Rattle.completion_cell.specs.Asks.{Counted};
-ghost use Rattle.completion_cell.specs.CellTurns.{HasStarved, HoldsFor, IsOver};
+ghost use Rattle.completion_cell.specs.Asks.{HasCountedDone};
+ghost use Rattle.completion_cell.specs.CellTurns.{HasCellStarved, HoldsForCell, IsCellOver};
 ghost use Rattle.completion_cell.specs.Completes.{HasCompleted, HasCompletedAll, RaisesOne};
 
 use crate::cell_turns::{CellCall, run_cell};
@@ -35,7 +35,7 @@ fn raise_one(domain: &Domain, task: &mut Task, cell: u8, count: u32) -> bool
     requires of { task.old.domain ≡ domain.now }
     requires up { IsUp task.old }
     requires cell { cell < COMPLETIONS }
-    requires counted { Counted task.old cell count }
+    requires counted { HasCountedDone task.old cell count }
     ensures stores { MatchBool result (StoresCount task.old task.new cell (count + 1)) (task.new ≡ task.old) }
     ensures raises { RaisesOne count result }
 {
@@ -57,11 +57,11 @@ pub(crate) fn complete_hold(
     requires of { task.old.domain ≡ domain.now }
     requires passes { PassesNone passing.old }
     requires cell { cell < COMPLETIONS }
-    requires holds { (start : Known) × HoldsFor call.Complete cell start task.old }
+    requires holds { (start : Known) × HoldsForCell call.Complete cell start task.old }
     requires none { tasks_in rousing.old ≡ [] }
     ensures of { task.new.domain ≡ domain.now }
-    ensures over { (start : Known) → HoldsFor call.Complete cell start task.old
-        → MatchResult result (λ hit. IsOver call.Complete cell hit start task.new) (HasStarved cell task.new) }
+    ensures over { (start : Known) → HoldsForCell call.Complete cell start task.old
+        → MatchResult result (λ hit. IsCellOver call.Complete cell hit start task.new) (HasCellStarved cell task.new) }
     ensures rouses { IsRousing task.old task.new rousing.new }
 {
     let count = done_load(domain, task, cell);
@@ -82,11 +82,11 @@ pub(crate) fn complete_all_hold(
     requires of { task.old.domain ≡ domain.now }
     requires passes { PassesNone passing.old }
     requires cell { cell < COMPLETIONS }
-    requires holds { (start : Known) × HoldsFor call.CompleteAll cell start task.old }
+    requires holds { (start : Known) × HoldsForCell call.CompleteAll cell start task.old }
     requires none { tasks_in rousing.old ≡ [] }
     ensures of { task.new.domain ≡ domain.now }
-    ensures over { (start : Known) → HoldsFor call.CompleteAll cell start task.old
-        → MatchResult result (λ hit. IsOver call.CompleteAll cell hit start task.new) (HasStarved cell task.new) }
+    ensures over { (start : Known) → HoldsForCell call.CompleteAll cell start task.old
+        → MatchResult result (λ hit. IsCellOver call.CompleteAll cell hit start task.new) (HasCellStarved cell task.new) }
     ensures rouses { IsRousing task.old task.new rousing.new }
 {
     done_store(domain, task, cell, ALL_DONE as u32);

@@ -13,7 +13,7 @@ ghost use Rattle.wait_class.specs.declared.stages.Turn.TheVariants as turn;
 ghost use Rattle.wait_event.specs.Ends.{wait_change};
 ghost use Rattle.wait_leave.specs.OnTheWay.{IsOnWay, OnTheWay};
 ghost use Rattle.completion_cell.specs.AwaitLeaves.{EndsAwaitUntil, LeavesAwait, await_exits, await_until};
-ghost use Rattle.completion_cell.specs.Awaits.{CellKeeps, IsFresh, await_table};
+ghost use Rattle.completion_cell.specs.Awaits.{CellKeeps, IsFreshAwait, await_table};
 ghost use Rattle.completion_cell.specs.declared.awaits.AwaitStage.TheVariants as stage;
 
 use crate::await_calls::{begin_await, end_of};
@@ -110,7 +110,7 @@ pub fn end_await_until(
     ensures is { result ≡ await_until wait.now.of outcome }
     ensures clean { (c : _) → IsOnWay (Unit {0}) await_table await_exits c task.now wait.now (turn.Done outcome)
         → IsClean task.now }
-    ensures ends { (start : _) → (f : _) → (cell : _) → (state : _) → IsFresh f.of cell state
+    ensures ends { (start : _) → (f : _) → (cell : _) → (state : _) → IsFreshAwait f.of cell state
         → OnTheWay (Unit {0}) await_table await_exits start f stage.First task.now wait.now (turn.Done outcome)
         → EndsAwaitUntil (Unit {0}) start task.now cell state result }
 {

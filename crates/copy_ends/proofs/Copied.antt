@@ -33,7 +33,7 @@ use Rattle.copy_plan.specs.Plans.{due_at, fatal_of}
 use Rattle.copy_turns.specs.Raises.{kills_in}
 use Rattle.copy_plan.specs.Stops.{IfFinished, IfTaken}
 use Rattle.copy_turns.specs.Turns.{IsReaderStop, IsRelayStop, IsWriterStop}
-use Rattle.copy_turns.specs.Watched.{Shows}
+use Rattle.copy_turns.specs.Watched.{ShowsPieces}
 use Rattle.copy_turns.specs.Work.{TookKill}
 use Rattle.copy_ends.proofs.Crews.{delivers, nobody, of_each}
 use Rattle.copy_ends.proofs.JoinedFour.{four, four_has_all, has_one, has_two, has_three}
@@ -287,11 +287,11 @@ module _ (domain : TableId) (one two three fourth : Known) (left_old left_new : 
             (finished_of reader.stop _ reader_finished reads.whole)
             (writes.held ∙ ap (append_known held_old) (sym writer_got))
 
-        pub shows_all : IfSome left_old (λ bytes. Shows seen_old seen_new bytes (Some stop.Finished))
-        shows_all = gave_all (λ bytes. Shows seen_old seen_new bytes (Some stop.Finished)) left_old left_new reads.given
+        pub shows_all : IfSome left_old (λ bytes. ShowsPieces seen_old seen_new bytes (Some stop.Finished))
+        shows_all = gave_all (λ bytes. ShowsPieces seen_old seen_new bytes (Some stop.Finished)) left_old left_new reads.given
             reads.left (finished_of reader.stop _ reader_finished reads.whole)
-            (subst (λ (bytes : List ℕ). Shows seen_old seen_new bytes (Some stop.Finished)) (sym writer_got)
-            (subst (λ (s : Stop). Shows seen_old seen_new writes.front (Some s)) writer_finished writes.shows))
+            (subst (λ (bytes : List ℕ). ShowsPieces seen_old seen_new bytes (Some stop.Finished)) (sym writer_got)
+            (subst (λ (s : Stop). ShowsPieces seen_old seen_new writes.front (Some s)) writer_finished writes.shows))
 
         -- and each byte was counted three times
         pub counted_all : amounts_of COUNTED_PAGE one.view.items + amounts_of COUNTED_PAGE two.view.items

@@ -61,7 +61,7 @@ use Rattle.wait_rule.proofs.KnownLaws.AsideCalls.{calls_grow_aside}
 use Rattle.wait_rule.proofs.KnownLaws.CarriedEnds.{programs_leave_ends}
 use Rattle.wait_event.specs.Conds.{set_change}
 use Rattle.completion_cell.specs.Completes.{HasCompleted}
-use Rattle.wait_pipe.specs.Pieces.{Ends, IsAtEnd, OthersStay}
+use Rattle.wait_pipe.specs.Pieces.{EndsPipe, IsAtEnd, OtherPipesStay}
 use Rattle.copy_plan.specs.declared.TheConstants.{ENDED_CELL}
 use Rattle.copy_ends.specs.Did.{IsIdler}
 use Rattle.copy_turns.specs.Work.{IsAtWork, SignalsStay, SumsStay, but_ends}
@@ -173,7 +173,7 @@ pub record Closes (k : ℕ) (old new : Known) : Type 0 where
   pub work : IsAtWork new
   pub owes : (x : Excuse) → Owes (with_end k x) old → Owes x new
   pub own : end_at k new ≡ closed (end_at k old)
-  pub others : OthersStay k old new
+  pub others : OtherPipesStay k old new
   pub claims : (j : ℕ) → (end_at j new).mine ≡ (end_at j old).mine
 
 -- the worker's completion was completed
@@ -277,7 +277,7 @@ module _ (k found : ℕ) (got : Bool) (old new : Known) (is : new ≡ added old 
 
 -- a close
 pub closes : (k : ℕ) (old new : Known) → IsAtWork old → end_at k new ≡ closed (end_at k old)
-    → OthersStay k old new → Ends k old new → Closes k old new
+    → OtherPipesStay k old new → EndsPipe k old new → Closes k old new
 closes k old new work own others r = record {
   leaves = record {
     domain = r.carries.domain;

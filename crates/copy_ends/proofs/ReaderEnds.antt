@@ -8,7 +8,7 @@ use Rattle.wait_rule.specs.Pipes.{End, moved_bytes, write_end}
 use Rattle.wait_rule.specs.PipeSays.{EndsStay, end_at}
 use Rattle.wait_rule.specs.Says.{OwesNothing, no_excuse}
 use Rattle.wait_rule.specs.Stays.{with_end}
-use Rattle.wait_pipe.specs.Pieces.{IsOpened, IsSettled}
+use Rattle.wait_pipe.specs.Pieces.{IsPipeOpened, IsSettled}
 use Rattle.copy_plan.specs.declared.plan.Planned.{Planned}
 use Rattle.copy_plan.specs.declared.stop.ReaderEnd.{ReaderEnd}
 use Rattle.copy_plan.specs.declared.stop.Stop.{Stop}
@@ -51,7 +51,7 @@ module _ (n : ℕ) where
   not_taken a b risen how is e = subst (IsReaderStop n a b risen) e is
 
   -- its end after the sends of its beginning
-  pub still_settled : (b c : Known) → IsOpened (end_at pen b) → EndsStay b c → IsSettled (end_at pen c)
+  pub still_settled : (b c : Known) → IsPipeOpened (end_at pen b) → EndsStay b c → IsSettled (end_at pen c)
   still_settled b c o ends = subst IsSettled (sym (ends pen)) o.settled
 
   -- its end was opened, the signals were sent that were due, turns of it went up to a stop, and its end was closed

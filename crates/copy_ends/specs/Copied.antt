@@ -26,7 +26,7 @@ use Rattle.copy_plan.specs.declared.stop.Stop.TheVariants as stop
 use Rattle.copy_plan.specs.declared.stop.WorkerEnd.{WorkerEnd}
 use Rattle.copy_plan.specs.Kinds.{copy_stop}
 use Rattle.copy_ends.specs.Did.{ReaderDid, RelayDid, Served, WriterDid}
-use Rattle.copy_turns.specs.Watched.{Shows}
+use Rattle.copy_turns.specs.Watched.{ShowsPieces}
 use Rattle.copy_turns.specs.Work.{SignalsStay, SumsStay}
 
 -- A controller waited, and read the tally of the page: it owes nothing, as before, touched no pipe, added nothing and
@@ -135,7 +135,7 @@ pub record Watched (left_old left_new held_old held_new : Option (List ℕ)) (se
   pub left : left_old ≡ prepend_known given left_new
   pub parts : given ≡ front ++ rest
   pub held : held_new ≡ append_known held_old front
-  pub shows : Shows seen_old seen_new front (Some how)
+  pub shows : ShowsPieces seen_old seen_new front (Some how)
 
 -- All workers finished.
 pub record AllFinished (reader : ReaderEnd) (relay writer : WorkerEnd) : Type 0 where
@@ -149,7 +149,7 @@ pub record HoldsAll (left_old held_old held_new : Option (List ℕ)) (seen_old s
     (reader : ReaderEnd) (relay writer : WorkerEnd) (tally : ℕ) : Type 0 where
   pub all : AllFinished reader relay writer
   pub bytes : IfSome left_old (λ bytes. held_new ≡ append_known held_old bytes)
-  pub shows : IfSome left_old (λ bytes. Shows seen_old seen_new bytes (Some stop.Finished))
+  pub shows : IfSome left_old (λ bytes. ShowsPieces seen_old seen_new bytes (Some stop.Finished))
   pub moved : tally ≡ 3 * reader.read % 2 ^ 64
 
 abbrev pub IsNotTaken : Stop → Type 0

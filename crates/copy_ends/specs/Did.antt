@@ -17,8 +17,8 @@ use Rattle.copy_plan.specs.declared.stop.ReaderEnd.{ReaderEnd}
 use Rattle.copy_plan.specs.declared.stop.WorkerEnd.{WorkerEnd}
 use Rattle.copy_plan.specs.Plans.{fatal_of, up_to}
 use Rattle.copy_plan.specs.Stops.{IfFinished, IfTaken}
-use Rattle.copy_turns.specs.Turns.{IsLong, IsReaderStop, IsRelayStop, IsWriterStop, RaisedFor, SinkRises}
-use Rattle.copy_turns.specs.Watched.{Shows}
+use Rattle.copy_turns.specs.Turns.{IsTooLong, IsReaderStop, IsRelayStop, IsWriterStop, RaisedFor, SinkRises}
+use Rattle.copy_turns.specs.Watched.{ShowsPieces}
 use Rattle.copy_turns.specs.Work.{Counted, SignalsStay}
 
 -- A task that is to do the work of a worker owes nothing, and left no entry at the completion of the copy; so it is
@@ -68,7 +68,7 @@ pub record ReaderWorked (p : ℕ) (old new : Known) (left_old left_new : Option 
   pub dues : IfTaken ended.stop (due ≡ []) (due ≡ up_to ended.read plan)
   pub sends : ended.sent ≡ length due
   pub kills : ended.kills ≡ length (fatal_of due)
-  pub long : IsLong (Some ended.stop) ended.read
+  pub long : IsTooLong (Some ended.stop) ended.read
   pub later : faults_old ≤ faults_new
   pub cause : IfTaken ended.stop (Unit {0}) (IsReaderStop p old new (HasRisen faults_old faults_new) ended.stop)
 
@@ -101,7 +101,7 @@ pub record WriterWorked (p : ℕ) (old new : Known) (held_old held_new : Option 
   pub front : List ℕ
   pub rest : List ℕ
   pub held : held_new ≡ append_known held_old front
-  pub shows : Shows seen_old seen_new front (Some ended.stop)
+  pub shows : ShowsPieces seen_old seen_new front (Some ended.stop)
   pub got : IfTaken ended.stop (front ≡ []) (moved_bytes (reading p new) ≡ front ++ rest)
   pub all : IfFinished ended.stop (rest ≡ [])
   pub n : ℕ

@@ -25,7 +25,7 @@ use Rattle.wait_rule.proofs.KnownLaws.PipeItems.{end_append}
 use Rattle.wait_rule.proofs.KnownLaws.TallySteps.{amounts_append}
 use Rattle.wait_rule.proofs.TableSteps.ItemLists.{steps_append}
 use Rattle.wait_class.specs.Posts.{IsOut}
-use Rattle.wait_pipe.specs.Pieces.{Rests}
+use Rattle.wait_pipe.specs.Pieces.{RestsBehindPiece}
 use Rattle.copy_plan.specs.declared.TheConstants.{ENDED_CELL}
 use Rattle.copy_turns.specs.Work.{Apart, IsAtWork, SumsStay, TookKill, TookNoKill, TookOwn, Works, but_ends}
 use Rattle.copy_turns.proofs.PartLaws.{grows_then, total_append}
@@ -199,7 +199,7 @@ module _ (old new : Known) (who : ℕ) (fatal : Bool) (s : HasSignalled old new 
       (item_off old (added old raise) raise refl tt d left)) work
 
 -- a piece that went into a pipe or came out of it, or none where the task waited
-pub piece_works : (k : ℕ) (old new : Known) → IsAtWork old → Rests k old new → Works old new
+pub piece_works : (k : ℕ) (old new : Known) → IsAtWork old → RestsBehindPiece k old new → Works old new
 piece_works k old new work r = record {
   work = record {
     up = r.up;

@@ -25,10 +25,10 @@ use Rattle.wait_rule.specs.Known.{Known}
 use Rattle.wait_rule.specs.PipeSays.{end_at}
 use Rattle.wait_pipe.specs.declared.pieces.PipeEnd.{PipeEnd}
 use Rattle.wait_pipe.specs.declared.pieces.PipeEnd.TheVariants as pipe_end
-use Rattle.wait_pipe.specs.Pieces.{IsCause, IsReadCause, IsSettled, Moved, Rests}
+use Rattle.wait_pipe.specs.Pieces.{IsPipeCause, IsReadCause, IsSettled, Moved, RestsBehindPiece}
 use Rattle.copy_plan.specs.declared.stop.Halt.{Halt}
 use Rattle.copy_plan.specs.declared.stop.Halt.TheVariants as halt
-use Rattle.copy_turns.specs.Turns.{CountedAll, Got, HandedAll, HandedFront}
+use Rattle.copy_turns.specs.Turns.{CountedAll, HasGotBytes, HandedAll, HandedFront}
 use Rattle.copy_turns.specs.Work.{Apart, HaltsBy, IsAtWork, IsHalt, IsOwnHalt}
 use Rattle.copy_turns.proofs.Frames.{own_kills, piece_works}
 use Rattle.copy_turns.proofs.PartLaws.{
@@ -44,7 +44,7 @@ use Rattle.copy_turns.proofs.PartLaws.{
 }
 use Rattle.copy_turns.proofs.Stopping.{own_halt}
 
-pub got_none : (k : ℕ) (a : Known) → IsAtWork a → IsSettled (end_at k a) → Got k a a []
+pub got_none : (k : ℕ) (a : Known) → IsAtWork a → IsSettled (end_at k a) → HasGotBytes k a a []
 got_none k a work settled = record {
   works = works_same a work;
   moved = moved_none k a settled;
@@ -52,7 +52,7 @@ got_none k a work settled = record {
   signals = refl;
 }
 
-pub got_then : (k : ℕ) (a b c : Known) (xs ys : List ℕ) → Got k a b xs → Got k b c ys → Got k a c (xs ++ ys)
+pub got_then : (k : ℕ) (a b c : Known) (xs ys : List ℕ) → HasGotBytes k a b xs → HasGotBytes k b c ys → HasGotBytes k a c (xs ++ ys)
 got_then k a b c xs ys one two = record {
   works = works_then a b c one.works two.works;
   moved = moved_then k a b c xs ys one.moved two.moved;
@@ -60,7 +60,7 @@ got_then k a b c xs ys one two = record {
   signals = two.signals ∙ one.signals;
 }
 
-pub got_apart : (k : ℕ) (a b c : Known) (xs : List ℕ) → Got k a b xs → Apart b c → Got k a c xs
+pub got_apart : (k : ℕ) (a b c : Known) (xs : List ℕ) → HasGotBytes k a b xs → Apart b c → HasGotBytes k a c xs
 got_apart k a b c xs one two = record {
   works = works_then a b c one.works two.works;
   moved = moved_ends k a b c xs one.moved two.ends;
@@ -68,7 +68,7 @@ got_apart k a b c xs one two = record {
   signals = two.signals ∙ one.signals;
 }
 
-pub piece_got : (k : ℕ) (a b : Known) (xs : List ℕ) → IsAtWork a → Rests k a b → Moved k a b xs → Got k a b xs
+pub piece_got : (k : ℕ) (a b : Known) (xs : List ℕ) → IsAtWork a → RestsBehindPiece k a b → Moved k a b xs → HasGotBytes k a b xs
 piece_got k a b xs work rests moved = record {
   works = piece_works k a b work rests;
   moved = moved;
@@ -77,30 +77,30 @@ piece_got k a b xs work rests moved = record {
 }
 
 -- a piece behind others, and none behind others
-pub got_more : (k : ℕ) (a b c : Known) (xs ys : List ℕ) → Got k a b xs → Rests k b c → Moved k b c ys
-    → Got k a c (xs ++ ys)
+pub got_more : (k : ℕ) (a b c : Known) (xs ys : List ℕ) → HasGotBytes k a b xs → RestsBehindPiece k b c → Moved k b c ys
+    → HasGotBytes k a c (xs ++ ys)
 got_more k a b c xs ys one rests moved = got_then k a b c xs ys one (piece_got k b c ys one.works.work rests moved)
 
-pub got_still : (k : ℕ) (a b c : Known) (xs : List ℕ) → Got k a b xs → Rests k b c → Moved k b c [] → Got k a c xs
-got_still k a b c xs one rests moved = subst (Got k a c) (append-nil xs) (got_more k a b c xs [] one rests moved)
+pub got_still : (k : ℕ) (a b c : Known) (xs : List ℕ) → HasGotBytes k a b xs → RestsBehindPiece k b c → Moved k b c [] → HasGotBytes k a c xs
+got_still k a b c xs one rests moved = subst (HasGotBytes k a c) (append-nil xs) (got_more k a b c xs [] one rests moved)
 
 -- a front of a piece, and more of it
-pub put_more : (k : ℕ) (a b c : Known) (text : List ℕ) (n m : ℕ) → Got k a b (take n text) → Rests k b c
-    → Moved k b c (take m (take (length text - n) (drop n text))) → Got k a c (take (n + m) text)
-put_more k a b c text n m one rests moved = subst (Got k a c)
+pub put_more : (k : ℕ) (a b c : Known) (text : List ℕ) (n m : ℕ) → HasGotBytes k a b (take n text) → RestsBehindPiece k b c
+    → Moved k b c (take m (take (length text - n) (drop n text))) → HasGotBytes k a c (take (n + m) text)
+put_more k a b c text n m one rests moved = subst (HasGotBytes k a c)
     (ap (λ l. take n text ++ take m l) (take-rest text n) ∙ sym (take-add n m text))
     (got_more k a b c (take n text) (take m (take (length text - n) (drop n text))) one rests moved)
 
-pub put_all : (k : ℕ) (a b : Known) (text : List ℕ) (n : ℕ) → Got k a b (take n text) → n ≡ length text
-    → Got k a b text
-put_all k a b text n one whole = subst (Got k a b) (take_all n text (omega arith)) one
+pub put_all : (k : ℕ) (a b : Known) (text : List ℕ) (n : ℕ) → HasGotBytes k a b (take n text) → n ≡ length text
+    → HasGotBytes k a b text
+put_all k a b text n one whole = subst (HasGotBytes k a b) (take_all n text (omega arith)) one
 
 -- why it was halted, told from an earlier moment
 module _ (k : ℕ) (a c d : Known) (grows : Grows a c) where
   same_halt : (h : Halt) → d ≡ c → IsHalt k a c h → IsHalt k a d h
   same_halt h same is = subst (λ (x : Known). IsHalt k a x h) (sym same) is
 
-  pub halts : (e : PipeEnd) (h : Halt) → IsCause k c e → HaltsBy c d e h → IsHalt k a d h
+  pub halts : (e : PipeEnd) (h : Halt) → IsPipeCause k c e → HaltsBy c d e h → IsHalt k a d h
   halts pipe_end.Broken h cause by = subst (IsHalt k a d) (sym by.0) (same_halt halt.Broken by.1 cause)
   halts (pipe_end.Interrupted seen) h cause by = subst (IsHalt k a d) (sym by.0)
       (took_before a c d grows (own_kills c d by.1))
@@ -115,8 +115,8 @@ module _ (k : ℕ) (a c d : Known) (grows : Grows a c) where
       (subst (λ (x : Known). IsOwnHalt a x (halt.Worn head place)) (sym by.1) cause.ends.noted)
 
 -- a front that went in before the part was halted
-pub put_front : (k : ℕ) (a b c d : Known) (text : List ℕ) (n : ℕ) (e : PipeEnd) (h : Halt) → Got k a b (take n text)
-    → Rests k b c → Moved k b c [] → IsCause k c e → Apart c d → HaltsBy c d e h → HandedFront k a d text h
+pub put_front : (k : ℕ) (a b c d : Known) (text : List ℕ) (n : ℕ) (e : PipeEnd) (h : Halt) → HasGotBytes k a b (take n text)
+    → RestsBehindPiece k b c → Moved k b c [] → IsPipeCause k c e → Apart c d → HaltsBy c d e h → HandedFront k a d text h
 put_front k a b c d text n e h one rests moved cause apart by =
     let still = got_still k a b c (take n text) one rests moved in
     let all = got_apart k a c d (take n text) still apart in
@@ -132,7 +132,7 @@ put_front k a b c d text n e h one rests moved cause apart by =
     }
 
 -- it went in whole, and was counted, or was not
-pub handed_all : (k : ℕ) (a b c : Known) (text : List ℕ) → Got k a b text → CountedAll (length text) b c
+pub handed_all : (k : ℕ) (a b c : Known) (text : List ℕ) → HasGotBytes k a b text → CountedAll (length text) b c
     → HandedAll k a c text
 handed_all k a b c text one two = record {
   works = works_then a b c one.works two.works;
@@ -141,7 +141,7 @@ handed_all k a b c text one two = record {
   signals = two.signals ∙ one.signals;
 }
 
-pub handed_uncounted : (k : ℕ) (a b c : Known) (text : List ℕ) (h : Halt) → Got k a b text → Apart b c
+pub handed_uncounted : (k : ℕ) (a b c : Known) (text : List ℕ) (h : Halt) → HasGotBytes k a b text → Apart b c
     → IsOwnHalt b c h → HandedFront k a c text h
 handed_uncounted k a b c text h one two is =
     let all = got_apart k a b c text one two in
@@ -156,7 +156,7 @@ handed_uncounted k a b c text h one two is =
       cause = halt_before k a b c h one.works.grows (own_halt b c h is k);
     }
 
-pub handed_end : (k : ℕ) (a b c : Known) (text : List ℕ) (r : Result (Unit {0}) Halt) → Got k a b text
+pub handed_end : (k : ℕ) (a b c : Known) (text : List ℕ) (r : Result (Unit {0}) Halt) → HasGotBytes k a b text
     → MatchResult r (λ _. CountedAll (length text) b c) (λ _. Apart b c) → IfErr r (IsOwnHalt b c)
     → MatchResult r (λ _. HandedAll k a c text) (λ h. HandedFront k a c text h)
 handed_end k a b c text (Ok u) one two is = handed_all k a b c text one two

@@ -18,7 +18,7 @@ use Rattle.copy_plan.specs.declared.stop.Stop.TheVariants as stop
 use Rattle.copy_plan.specs.Plans.{due_at, due_in}
 use Rattle.copy_turns.specs.Raises.{sent_to}
 use Rattle.copy_plan.specs.Stops.{stop_of}
-use Rattle.copy_turns.specs.Turns.{HandedAll, HandedFront, IfEnded, IsLong, IsReaderStop, RaisedFor, Reading}
+use Rattle.copy_turns.specs.Turns.{HandedAll, HandedFront, IfEnded, IsTooLong, IsReaderStop, RaisedFor, Reading}
 use Rattle.copy_turns.specs.Work.{Apart, IsAtWork, IsHalt, SignalsStay, SumsStay, Works}
 use Rattle.copy_plan.proofs.DueTimes.{due_at_then, rises_then}
 use Rattle.copy_turns.proofs.PartLaws.{counted_none, counted_same, counted_then, ends_moved, ends_then, halt_before, moved_none, moved_ends, moved_then, sums_counted, sums_then, took_before, works_same, works_then}
@@ -94,7 +94,7 @@ module _ (q : ℕ) where
   halt_ended halt.Killed X = tt
   halt_ended (halt.Worn h p) X = tt
 
-  halt_long : (h : Halt) (n : ℕ) → n ≤ LONGEST → IsLong (Some (stop_of h)) n
+  halt_long : (h : Halt) (n : ℕ) → n ≤ LONGEST → IsTooLong (Some (stop_of h)) n
   halt_long halt.Broken n few = few
   halt_long halt.Killed n few = few
   halt_long (halt.Worn h p) n few = few
@@ -163,7 +163,7 @@ module _ (q : ℕ) where
       (settled : IsSettled (writing q a)) (apart : Apart a b) (left : l0 ≡ prepend_known [] l1)
       (later : f0 ≤ f1)
     where
-      pub read_nothing : (how : Stop) → IsLong (Some how) r → IfEnded (Some how) (IfSome l1 (λ bytes. bytes ≡ []))
+      pub read_nothing : (how : Stop) → IsTooLong (Some how) r → IfEnded (Some how) (IfSome l1 (λ bytes. bytes ≡ []))
           → IsReaderStop q a b (HasRisen f0 f1) how
           → Reading q a b l0 l1 f0 f1 r r targets plan (Some how)
       read_nothing how long whole cause = record {

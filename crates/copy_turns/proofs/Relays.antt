@@ -13,7 +13,7 @@ use Rattle.copy_plan.specs.declared.stop.Halt.TheVariants as halt
 use Rattle.copy_plan.specs.declared.stop.Stop.{Stop}
 use Rattle.copy_plan.specs.declared.stop.Stop.TheVariants as stop
 use Rattle.copy_plan.specs.Stops.{stop_of}
-use Rattle.copy_turns.specs.Turns.{Got, HandedAll, HandedFront, IsRelayStop, Relaying}
+use Rattle.copy_turns.specs.Turns.{HasGotBytes, HandedAll, HandedFront, IsRelayStop, Relaying}
 use Rattle.copy_turns.specs.Work.{Apart, IsAtWork, IsHalt, IsOwnHalt, TookKill}
 use Rattle.copy_turns.proofs.PartLaws.{counted_none, counted_same, counted_then, ends_moved, sums_counted, sums_then, took_before, works_same, works_then}
 use Rattle.copy_turns.proofs.Stopping.{finished, halted_whole, own_halt, stopped_map, whole_map}
@@ -134,7 +134,7 @@ module _ (src snk : ℕ) (apart_pipes : src ≢ snk) where
 
   -- The turn got a piece, or none.
   module _ (a b c : Known) (m : ℕ) (small : m < 2 ^ 64) (pen : IsSettled (writing snk a)) (apart : Apart a b)
-      (bytes : List ℕ) (g : Got (read_end src) b c bytes) where
+      (bytes : List ℕ) (g : HasGotBytes (read_end src) b c bytes) where
     got_moved : Moved (read_end src) a c bytes
     got_moved = ends_moved (read_end src) a b c bytes apart.ends g.moved
 

@@ -9,7 +9,7 @@ use Rattle.func_head.specs.Walks.{EntryState, shown, shown_all}
 use Rattle.copy_plan.specs.declared.stop.Stop.{Stop}
 use Rattle.copy_plan.specs.declared.TheConstants.{PIECE}
 use Rattle.copy_plan.specs.declared.stop.Stop.TheVariants as stop
-use Rattle.copy_turns.specs.Watched.{IsPiece, Shows, UnlessFailed}
+use Rattle.copy_turns.specs.Watched.{IsPiece, ShowsPieces, UnlessFailed}
 
 unless : (how : Option Stop) (X : Type 0) → X → UnlessFailed how X
 unless None X x = x
@@ -29,7 +29,7 @@ no_pieces = []
 abbrev no_part : List ℕ
 no_part = []
 
-pub shows_none : (s : List EntryState) (how : Option Stop) → Shows s s [] how
+pub shows_none : (s : List EntryState) (how : Option Stop) → ShowsPieces s s [] how
 shows_none s how = record {
   pieces = no_pieces;
   part = no_part;
@@ -40,7 +40,7 @@ shows_none s how = record {
 }
 
 pub shows_one : (s0 s1 : List EntryState) (piece : List ℕ) (how : Option Stop) → IsPiece piece → s1 ≡ shown piece s0
-    → Shows s0 s1 piece how
+    → ShowsPieces s0 s1 piece how
 shows_one s0 s1 piece how is seen = record {
   pieces = piece ∷ [];
   part = no_part;
@@ -58,7 +58,7 @@ is_piece n bytes some within room =
 
 -- a part of a piece in whose midst the sink failed
 pub shows_part : (s : List EntryState) (part : List ℕ) (how : Option Stop) → UnlessFailed how (part ≡ [])
-    → Shows s s part how
+    → ShowsPieces s s part how
 shows_part s part how none = record {
   pieces = no_pieces;
   part = part;
@@ -72,12 +72,12 @@ shown_then : (ps qs : List (List ℕ)) (s : List EntryState) → shown_all (ps +
 shown_then [] qs s = refl
 shown_then (p ∷ ps) qs s = shown_then ps qs (shown p s)
 
-module _ (s0 s1 s2 : List EntryState) (xs ys : List ℕ) (how : Option Stop) (one : Shows s0 s1 xs None)
-    (two : Shows s1 s2 ys how) where
+module _ (s0 s1 s2 : List EntryState) (xs ys : List ℕ) (how : Option Stop) (one : ShowsPieces s0 s1 xs None)
+    (two : ShowsPieces s1 s2 ys how) where
   front_is : xs ≡ concat one.pieces
   front_is = one.whole ∙ (ap (λ (l : List ℕ). concat one.pieces ++ l) one.none ∙ append-nil (concat one.pieces))
 
-  pub shows_then : Shows s0 s2 (xs ++ ys) how
+  pub shows_then : ShowsPieces s0 s2 (xs ++ ys) how
   shows_then = record {
     pieces = one.pieces ++ two.pieces;
     part = two.part;

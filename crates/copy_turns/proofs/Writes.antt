@@ -17,7 +17,7 @@ use Rattle.copy_plan.specs.declared.stop.Halt.TheVariants as halt
 use Rattle.copy_plan.specs.declared.stop.Stop.{Stop}
 use Rattle.copy_plan.specs.declared.stop.Stop.TheVariants as stop
 use Rattle.copy_plan.specs.Stops.{stop_of}
-use Rattle.copy_turns.specs.Turns.{CountedAll, Got, IfWhole, IsWriterStop, SinkRises, Writing}
+use Rattle.copy_turns.specs.Turns.{CountedAll, HasGotBytes, IfWhole, IsWriterStop, SinkRises, Writing}
 use Rattle.copy_turns.specs.Watched.{IsPiece, UnlessFailed}
 use Rattle.copy_turns.specs.Work.{Apart, IsAtWork, IsOwnHalt, TookKill}
 use Rattle.copy_turns.proofs.PartLaws.{counted_none, counted_same, counted_then, ends_moved, moved_ends, moved_none, moved_then, sums_counted, sums_then, took_before, works_same, works_then}
@@ -150,7 +150,7 @@ module _ (q : ℕ) where
 
   -- The turn got a piece, or none.
   module _ (a b c : Known) (m : ℕ) (small : m < 2 ^ 64) (apart : Apart a b)
-      (bytes : List ℕ) (g : Got (read_end q) b c bytes) where
+      (bytes : List ℕ) (g : HasGotBytes (read_end q) b c bytes) where
     got_moved : Moved (read_end q) a c bytes
     got_moved = ends_moved (read_end q) a b c bytes apart.ends g.moved
 

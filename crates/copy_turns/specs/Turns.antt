@@ -20,7 +20,7 @@ use Rattle.copy_plan.specs.declared.stop.Stop.TheVariants as stop
 use Rattle.copy_plan.specs.Plans.{Rises, due_at}
 use Rattle.copy_plan.specs.Stops.{IfFinished}
 use Rattle.copy_turns.specs.Raises.{sent_to}
-use Rattle.copy_turns.specs.Watched.{Shows}
+use Rattle.copy_turns.specs.Watched.{ShowsPieces}
 use Rattle.copy_turns.specs.Work.{Counted, IsHalt, SignalsStay, SumsStay, TookKill, Works}
 
 -- All of a piece was put into the pipe of end k and counted; or a front of it was put, and nothing counted.
@@ -41,7 +41,7 @@ pub record HandedFront (k : ℕ) (old new : Known) (bytes : List ℕ) (halt : Ha
   pub cause : IsHalt k old new halt
 
 -- Bytes came out of the pipe of end k, or went into it, and none was counted; where it was halted none came out.
-pub record Got (k : ℕ) (old new : Known) (bytes : List ℕ) : Type 0 where
+pub record HasGotBytes (k : ℕ) (old new : Known) (bytes : List ℕ) : Type 0 where
   pub works : Works old new
   pub moved : Moved k old new bytes
   pub sums : SumsStay old new
@@ -68,9 +68,9 @@ abbrev pub IfEnded : Option Stop → Type 0 → Type 0
 IfEnded how X = IfStopped how (λ s. IfFinished s X)
 
 -- The source has given at most `LONGEST` bytes, or the stop says that it gave more.
-abbrev pub IsLong : Option Stop → ℕ → Type 0
-IsLong (Some stop.Long) n = LONGEST < n
-IsLong _ n = n ≤ LONGEST
+abbrev pub IsTooLong : Option Stop → ℕ → Type 0
+IsTooLong (Some stop.Long) n = LONGEST < n
+IsTooLong _ n = n ≤ LONGEST
 
 -- Why a reader that writes into pipe p stops before the end of its source.
 abbrev pub IsReaderStop : ℕ → Known → Known → Type 0 → Stop → Type 0
@@ -107,7 +107,7 @@ pub record Reading (p : ℕ) (old new : Known) (left_old left_new : Option (List
   pub counted : Counted n old new
   pub counts : IfWhole how (n ≡ length given)
   pub signals : RaisedFor old new targets (read_old + 1) read_new plan
-  pub long : IsLong how read_new
+  pub long : IsTooLong how read_new
   pub later : faults_old ≤ faults_new
   pub cause : IfStopped how (IsReaderStop p old new (HasRisen faults_old faults_new))
 
@@ -169,7 +169,7 @@ pub record Writing (p : ℕ) (old new : Known) (held_old held_new : Option (List
   pub rest : List ℕ
   pub taken : Moved (read_end p) old new got
   pub held : held_new ≡ append_known held_old front
-  pub shows : Shows seen_old seen_new front how
+  pub shows : ShowsPieces seen_old seen_new front how
   pub parts : got ≡ front ++ rest
   pub all : IfWhole how (rest ≡ [])
   pub n : ℕ

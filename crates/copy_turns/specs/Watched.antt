@@ -19,7 +19,7 @@ IsPiece piece = (0 < length piece) × (length piece ≤ PIECE)
 
 -- The bytes that went into the sink are pieces, and each of these was shown, in their order. Where the sink failed in
 -- the midst of a piece, a part of it stands behind them, and that was not shown.
-pub record Shows (seen_old seen_new : List EntryState) (bytes : List ℕ) (how : Option Stop) : Type 0 where
+pub record ShowsPieces (seen_old seen_new : List EntryState) (bytes : List ℕ) (how : Option Stop) : Type 0 where
   pub pieces : List (List ℕ)
   pub part : List ℕ
   pub whole : bytes ≡ concat pieces ++ part

@@ -6,7 +6,7 @@ ghost use Rattle.wait_rule.specs.Pipes.{read_end, write_end};
 ghost use Rattle.wait_rule.specs.PipeSays.{reading, writing};
 ghost use Rattle.wait_pipe.specs.Pieces.{IsAtEnd, IsSettled};
 ghost use Rattle.copy_turns.specs.Transfers.{GetsPiece, PutsWhole};
-ghost use Rattle.copy_turns.specs.Turns.{Got, HandedFront};
+ghost use Rattle.copy_turns.specs.Turns.{HasGotBytes, HandedFront};
 ghost use Rattle.copy_turns.specs.Work.{Apart, GoesOnBy, HaltsBy, IsAtWork, IsOwnHalt};
 
 use crate::signals::is_killed;
@@ -27,7 +27,7 @@ pub fn put_whole<R: Wait>(
     requires work { IsAtWork task.old }
     requires pipe { pipe < PIPES }
     requires settled { IsSettled (writing pipe task.old) }
-    ensures put { MatchResult result (λ _. Got (write_end pipe) task.old task.new bytes.now)
+    ensures put { MatchResult result (λ _. HasGotBytes (write_end pipe) task.old task.new bytes.now)
         (λ halt. HandedFront (write_end pipe) task.old task.new bytes.now halt) }
     ensures goes { PutsWhole (write_end pipe) task.old task.new bytes.now result }
 {
@@ -85,8 +85,8 @@ pub fn get<R: Wait>(
     requires buf { 7 ≤ length buf.old }
     ensures same { length buf.new ≡ length buf.old }
     ensures most { IfOk result (λ n. n ≤ length buf.new) }
-    ensures got { MatchResult result (λ n. Got (read_end pipe) task.old task.new (take n buf.new))
-        (λ _. Got (read_end pipe) task.old task.new []) }
+    ensures got { MatchResult result (λ n. HasGotBytes (read_end pipe) task.old task.new (take n buf.new))
+        (λ _. HasGotBytes (read_end pipe) task.old task.new []) }
     ensures end { IfOk result (λ n. n ≡ 0 → IsAtEnd (reading pipe task.new)) }
     ensures cause { IfErr result (IsOwnHalt task.old task.new) }
     ensures goes { GetsPiece (read_end pipe) task.old task.new buf.new result }

@@ -35,7 +35,7 @@ use Rattle.count_sem.specs.declared.downs.DownOutcome.{DownOutcome}
 use Rattle.count_sem.specs.declared.downs.DownOutcome.TheVariants as outcome
 use Rattle.count_sem.specs.declared.downs.DownStage.{DownStage}
 use Rattle.count_sem.specs.declared.downs.DownStage.TheVariants as stage
-use Rattle.count_sem.specs.DownEnds.{end_in}
+use Rattle.count_sem.specs.DownEnds.{down_end_in}
 use Rattle.count_sem.specs.DownLeaves.{ClosesDown, LeavesDown, down_exit, down_exits, end_until, stopped_until}
 use Rattle.count_sem.specs.Downs.{down_answer, down_table}
 use Rattle.count_sem.specs.SemAnswers.{LeftDownsAreCounted, UntilCounts}
@@ -244,7 +244,7 @@ module _ (old new : Known) (c : ℕ) (never : FindsNoEnd c (history_of new)) whe
   until_counts r outcome.Over is = counts_by old new c never (Ok tt) is
   until_counts r outcome.Passing is = counts_by old new c never (Ok tt) is
   until_counts r outcome.Interrupted is = stopped_counts r.asked r is
-  until_counts r outcome.Worn is = counts_by old new c never (end_in r outcome.Worn) is
+  until_counts r outcome.Worn is = counts_by old new c never (down_end_in r outcome.Worn) is
 
 leaves_counted : (A : Type 0) (old new : Known) (r : Run DownCall) (result : Until (Result (Unit {0}) SemEnd))
     → OrderOf new → LeftOff r.of.cell old → FindsNoEnd r.of.cell (history_of new)

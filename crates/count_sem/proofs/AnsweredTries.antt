@@ -51,7 +51,7 @@ use Rattle.wait_rule.specs.Transitions.{Finds, FindsStep, IsMadeFor, IsStepFor, 
 use Rattle.wait_rule.proofs.KnownLaws.HandedSteps.{OrderStep, away_next, order_front}
 use Rattle.wait_rule.proofs.SaidEvents.Fronts.{history_grows, number_stays}
 use Rattle.wait_class.specs.Tables.{plan_program}
-use Rattle.completion_cell.specs.Asks.{yes_or_no}
+use Rattle.completion_cell.specs.Asks.{hit_answer}
 use Rattle.count_sem.specs.SemAnswers.{CountsMore, TriesAreCounted}
 use Rattle.count_sem.specs.SemPermits.{IsRaise, IsSemStep, permits_given, permits_taken, takes_permit}
 use Rattle.count_sem.specs.SemPrograms.{sem_head, try_down_plan}
@@ -229,17 +229,17 @@ tries_counted old new c hit o left never tried =
     let f = plan_program me 0 (try_down_plan c) in
     let runs = tried.runs in
     let from = next.Go (at.Count counting.Lock) in
-    let number = number_stays f old new from (next.Ends (yes_or_no hit)) runs.transitions runs.goes in
-    let grows = history_grows f old new from (next.Ends (yes_or_no hit)) runs.transitions runs.goes in
+    let number = number_stays f old new from (next.Ends (hit_answer hit)) runs.transitions runs.goes in
+    let grows = history_grows f old new from (next.Ends (hit_answer hit)) runs.transitions runs.goes in
     let order : Order me (history_of new) = subst (λ (n : ℕ). Order n (history_of new)) number o in
     let before : Order me (history_of old) = order_front me (history_of old) grows.0 (subst (Order me) grows.1 order) in
     let g = permits_given c me (history_of old) in
     let t = permits_taken c me (history_of old) in
     by hit (run_holds me f (TryPlace c me g t) (try_looks c me g t) (try_points c me g t) runs.transitions from
-    (next.Ends (yes_or_no hit)) old new runs.goes order (left before, record { gave = refl; took = refl }))
+    (next.Ends (hit_answer hit)) old new runs.goes order (left before, record { gave = refl; took = refl }))
   where
     by : (b : Bool) → TryPlace c old.view.number (permits_given c old.view.number (history_of old))
-        (permits_taken c old.view.number (history_of old)) (next.Ends (yes_or_no b)) (history_of new)
+        (permits_taken c old.view.number (history_of old)) (next.Ends (hit_answer b)) (history_of new)
         → CountsMore old new c 0 (flag b)
     by b (inr l) = absurd (l.many (never l.count l.front l.rest l.is))
     by true (inl s) = record { gave = let one = s.has.gave in omega (arith, one); took = s.has.took }

@@ -52,7 +52,7 @@ use Rattle.wait_rule.proofs.KnownLaws.Transitions.{only_none}
 use Rattle.wait_class.specs.Findings.{with_value}
 use Rattle.wait_class.specs.Posts.{EndsWith, HasSeenOwn, Post, Stands, own_of}
 use Rattle.wait_class.specs.Tables.{IsAt, Turned, falls, next_in, post_of}
-use Rattle.wait_class.specs.Laws.{IsPlain, TurnTrail, turn_post}
+use Rattle.wait_class.specs.Laws.{IsPlainTurn, TurnTrail, turn_post}
 use Rattle.wait_class.specs.declared.stages.Run.{Run}
 use Rattle.wait_class.specs.declared.stages.Turn.TheVariants as turn
 use Rattle.wait_class.proofs.CalmSteps.{calm_saw}
@@ -70,7 +70,7 @@ use Rattle.wait_class.proofs.Ground.Standing.{
 use Rattle.wait_class.proofs.OwnSteps.{own_goes}
 use Rattle.wait_class.proofs.Turns.{GoesOn, advance_by}
 use Rattle.wait_event.specs.Waits.{is_queue}
-use Rattle.completion_cell.specs.HeldPermits.{HasBegun, Knows, WaitsIn}
+use Rattle.completion_cell.specs.HeldPermits.{HasBegunHold, Knows, WaitsIn}
 use Rattle.completion_cell.proofs.AwaitCounts.{still_stands_at}
 use Rattle.completion_cell.proofs.AwaitTrails.{again_begun, load_loaded}
 use Rattle.completion_cell.proofs.Ground.{count_after_step, step_behind}
@@ -106,7 +106,7 @@ first_next true false ends = refl
 first_next false looks true = refl
 first_next false looks false = refl
 
-first_plain : (zero looks ends : Bool) → IsPlain down_table (turn.Again (first_by zero looks ends))
+first_plain : (zero looks ends : Bool) → IsPlainTurn down_table (turn.Again (first_by zero looks ends))
 first_plain true true ends = refl
 first_plain true false ends = refl
 first_plain false looks true = refl
@@ -132,7 +132,7 @@ again_goes false true looks ends = refl
 again_goes false false looks true = refl
 again_goes false false looks false = refl
 
-again_plain : (queued zero looks ends : Bool) → IsPlain down_table (again_by queued zero looks ends)
+again_plain : (queued zero looks ends : Bool) → IsPlainTurn down_table (again_by queued zero looks ends)
 again_plain true true true ends = refl
 again_plain true true false ends = refl
 again_plain true false looks ends = refl
@@ -159,7 +159,7 @@ pub at_end : (v : ℕ) → v ≤ ALL_DONE → is_at_end v ≡ (v == ALL_DONE)
 at_end v small = ap (λ (m : ℕ). m == ALL_DONE) (shown_count v small)
 
 -- what a load makes known, in any hold
-module _ (r : DownCall) (knew new : Known) (v : ℕ) (begun : HasBegun r.cell knew)
+module _ (r : DownCall) (knew new : Known) (v : ℕ) (begun : HasBegunHold r.cell knew)
     (is : new ≡ added knew (item.Made (step.Load (watch.Done r.cell) v))) (finds : FindsCount knew r.cell v)
     (carries : Carries unchanged knew new) where
   abbrev e : Step
@@ -302,7 +302,7 @@ module _ (old mid : Known) (run : Run DownCall) (o : Option Entry) (h : HasSeenO
     abbrev q : DownCall
     q = record r { count = v; again = true }
 
-    begun : HasBegun r.cell mid
+    begun : HasBegunHold r.cell mid
     begun = again_begun r.cell old mid h.word seen_history h.carries.number a.trail.0
 
     number : new.view.number ≡ old.view.number

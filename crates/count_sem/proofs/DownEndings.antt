@@ -35,14 +35,14 @@ use Rattle.wait_class.specs.declared.stages.Turn.{Turn}
 use Rattle.wait_class.specs.declared.stages.Turn.TheVariants as turn
 use Rattle.wait_class.proofs.Wholes.{begins, none_of}
 use Rattle.wait_event.specs.Ends.{wait_change}
-use Rattle.wait_event.specs.Waits.{queues}
+use Rattle.wait_event.specs.Waits.{has_queued_in}
 use Rattle.completion_cell.proofs.HoldTurns.{head_apart}
 use Rattle.completion_cell.proofs.OtherCells.{IsAside, aside_stays}
 use Rattle.count_sem.specs.SemPrograms.{down_plan, down_program, joined, joins, sem_head}
 use Rattle.count_sem.specs.Downs.{
   DownKeeps,
   FoundNoSeat,
-  FoundSignal,
+  FoundDownSignal,
   IsFreshDown,
   OutFor,
   StoodThere,
@@ -54,7 +54,7 @@ use Rattle.count_sem.specs.Downs.{
   found_zero,
   left_queue,
 }
-use Rattle.count_sem.specs.DownEnds.{EndsDown, end_in}
+use Rattle.count_sem.specs.DownEnds.{EndsDown, down_end_in}
 use Rattle.count_sem.specs.declared.downs.DownCall.{DownCall}
 use Rattle.count_sem.specs.declared.downs.DownOutcome.{DownOutcome}
 use Rattle.count_sem.specs.declared.downs.DownOutcome.TheVariants as outcome
@@ -216,8 +216,8 @@ module _ (old new : Known) (r q : Run DownCall) (d : ℕ) (st : SleepState) (fre
         a.went.runs.goes);
   }
 
-  queued_is : q.of.queued ≡ queues a.went.runs.transitions
-  queued_is = a.went.tells.queued ∙ ap (λ (b : Bool). b || queues a.went.runs.transitions) fresh.queued
+  queued_is : q.of.queued ≡ has_queued_in a.went.runs.transitions
+  queued_is = a.went.tells.queued ∙ ap (λ (b : Bool). b || has_queued_in a.went.runs.transitions) fresh.queued
 
   pub cell_is : q.of.cell ≡ d
   cell_is = a.went.tells.cell ∙ fresh.cell
@@ -228,7 +228,7 @@ module _ (old new : Known) (r q : Run DownCall) (d : ℕ) (st : SleepState) (fre
 -- what it says at its end
 pub ends_down : (old new : Known) (r q : Run DownCall) (d : ℕ) (st : SleepState) → IsFreshDown r.of d st
     → (o : DownOutcome) → IsPlainEnd o → Advances down_table old new r q stage.First (turn.Done o)
-    → EndsDown old new d st (end_in q.of o)
+    → EndsDown old new d st (down_end_in q.of o)
 ends_down old new r q d st fresh outcome.Passing plain a = absurd plain
 ends_down old new r q d st fresh outcome.Over plain a = record {
   runs = begun_runs old new r q d st fresh outcome.Over a;
@@ -236,7 +236,7 @@ ends_down old new r q d st fresh outcome.Over plain a = record {
 }
 ends_down old new r q d st fresh outcome.Interrupted plain a =
     let t : WentOutOfDown new q.of = a.lands.trail.1 in
-    let f : FoundSignal new q.of (left_queue (own_of new) q.of.cell t.entry) =
+    let f : FoundDownSignal new q.of (left_queue (own_of new) q.of.cell t.entry) =
     subst (λ (b : Bool). OutFor b new q.of (left_queue (own_of new) q.of.cell t.entry))
     (ap (λ (x : Plan). x.asked) a.same ∙ fresh.unasked) t.why in record {
       runs = begun_runs old new r q d st fresh outcome.Interrupted a;

@@ -19,7 +19,7 @@ use Rattle.wait_class.specs.Laws.{
   Calm,
   DrawLaw,
   HasJoined,
-  IsLawfulTable,
+  IsLawfulCallTable,
   LawOf,
   LockLaw,
   LookLaw,
@@ -35,7 +35,7 @@ use Rattle.wait_class.proofs.Ground.Standing.{owner_own}
 use Rattle.wait_class.proofs.Stays.{stays_but}
 use Rattle.wait_class.proofs.Turns.{may_by}
 use Rattle.wait_class.proofs.Ways.{look_by, sleep_by, way}
-use Rattle.wait_event.specs.Waits.{is_queue, queues}
+use Rattle.wait_event.specs.Waits.{is_queue, has_queued_in}
 use Rattle.wait_event.proofs.Tellings.{or_none, queues_append, quiet_queues}
 use Rattle.completion_cell.specs.HeldPermits.{Knows}
 use Rattle.completion_cell.proofs.AwaitTrails.{
@@ -396,7 +396,7 @@ depth_most stage.TakeStore = omega arith
 depth_most stage.TakeUnlock = omega arith
 depth_most s = omega arith
 
-pub down_lawful : IsLawfulTable down_table
+pub down_lawful : IsLawfulCallTable down_table
 down_lawful = record {
   keeps = stays_but with_left_entry;
   tells = record {
@@ -404,7 +404,7 @@ down_lawful = record {
     on = λ r q w ts us a b. record {
       cell = b.cell ∙ a.cell;
       state = b.state ∙ a.state;
-      queued = b.queued ∙ (ap (λ (c : Bool). c || queues us) a.queued ∙ queues_append r.queued ts us);
+      queued = b.queued ∙ (ap (λ (c : Bool). c || has_queued_in us) a.queued ∙ queues_append r.queued ts us);
     };
     quiet = λ r x quiet. told_by r r x refl refl refl (quiet_queues x.did quiet);
   };

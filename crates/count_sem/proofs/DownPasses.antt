@@ -40,7 +40,7 @@ use Rattle.completion_cell.proofs.OtherCells.{IsAside}
 use Rattle.count_sem.specs.SemPrograms.{down_program, pass_point, sem_head}
 use Rattle.count_sem.specs.Downs.{DownKeeps, IsFreshDown, down_table, down_watch}
 use Rattle.count_sem.specs.DownEnds.{EndsDown}
-use Rattle.count_sem.specs.Passes.{HasPassed, pass_change}
+use Rattle.count_sem.specs.Passes.{HasPassedOn, pass_change}
 use Rattle.count_sem.specs.declared.downs.DownCall.{DownCall}
 use Rattle.count_sem.specs.declared.downs.DownOutcome.TheVariants as outcome
 use Rattle.count_sem.specs.declared.downs.DownStage.{DownStage}
@@ -100,7 +100,7 @@ given_by new d sp back none order =
 
 -- how the task stands behind one that handed on, and where it has left its entry
 module _ (mid new : Known) (q : Run DownCall) (ended : IsEnded down_table mid q outcome.Passing)
-    (p : HasPassed mid new q.of) where
+    (p : HasPassedOn mid new q.of) where
   passed_out : IsOut new
   passed_out = ap (told_of new).bits.stored (own_same mid new p.carries.number)
       ∙ p.carries.out (own_of mid) refl
@@ -125,7 +125,7 @@ module _ (mid new : Known) (q : Run DownCall) (ended : IsEnded down_table mid q 
 
 -- a part of a call that ended as one that hands on, and what came behind it
 module _ (old mid new : Known) (r q : Run DownCall) (s : DownStage)
-    (a : Advances down_table old mid r q s (turn.Done outcome.Passing)) (p : HasPassed mid new q.of) where
+    (a : Advances down_table old mid r q s (turn.Done outcome.Passing)) (p : HasPassedOn mid new q.of) where
   rest_runs : Runs (down_program old.view.number r.of.cell r.of.state) mid new (next.Go pass_point)
       (next.Ends zero_answer)
   rest_runs = subst (λ (n : ℕ). Runs (down_program n r.of.cell r.of.state) mid new (next.Go pass_point)
@@ -143,7 +143,7 @@ module _ (old mid new : Known) (r q : Run DownCall) (s : DownStage)
 
 -- what it says at its end
 pub passed_down : (old mid new : Known) (r q : Run DownCall) (d : ℕ) (st : SleepState) → IsFreshDown r.of d st
-    → Advances down_table old mid r q stage.First (turn.Done outcome.Passing) → HasPassed mid new q.of
+    → Advances down_table old mid r q stage.First (turn.Done outcome.Passing) → HasPassedOn mid new q.of
     → EndsDown old new d st (Ok tt)
 passed_down old mid new r q d st fresh a p = record {
   runs = subst (λ (c : ℕ). Runs (down_program old.view.number c st) old new

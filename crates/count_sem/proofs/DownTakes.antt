@@ -27,11 +27,11 @@ use Rattle.wait_rule.proofs.KnownLaws.TaskHistories.{history_after}
 use Rattle.wait_rule.proofs.KnownLaws.Transitions.{only_none}
 use Rattle.wq_head.specs.Adds.{HasRemoved}
 use Rattle.wq_head.specs.Holds.{IsHolding}
-use Rattle.wait_class.specs.Findings.{nothing, with_value}
+use Rattle.wait_class.specs.Findings.{saw_nothing, with_value}
 use Rattle.wait_class.specs.Handing.{LastGiven, given_back_by}
 use Rattle.wait_class.specs.Posts.{Post, Stands, own_of}
 use Rattle.wait_class.specs.Tables.{IsAt, SleepsNot, Turned, falls, is_sleep, next_in, post_of}
-use Rattle.wait_class.specs.Laws.{Calm, IsPlain, TurnTrail, turn_post}
+use Rattle.wait_class.specs.Laws.{Calm, IsPlainTurn, TurnTrail, turn_post}
 use Rattle.wait_class.specs.declared.stages.Run.{Run}
 use Rattle.wait_class.specs.declared.stages.Turn.TheVariants as turn
 use Rattle.wait_class.proofs.CalmSteps.{calm_removed}
@@ -42,7 +42,7 @@ use Rattle.wait_class.proofs.Handed.{given_as, given_step}
 use Rattle.wait_class.proofs.OwnSteps.{own_goes}
 use Rattle.wait_class.proofs.Turns.{GoesOn, advance_by}
 use Rattle.wait_event.specs.Waits.{is_queue}
-use Rattle.completion_cell.specs.Asks.{Counted}
+use Rattle.completion_cell.specs.Asks.{HasCountedDone}
 use Rattle.completion_cell.specs.HeldPermits.{Deals, Knows, WaitsIn}
 use Rattle.completion_cell.proofs.AwaitCounts.{still_stands_at}
 use Rattle.completion_cell.proofs.AwaitTrails.{knows_by}
@@ -62,7 +62,7 @@ takes_next : (ends : Bool) → ◌≡◌ {A = Next} (next.Go (at.Await (if ends 
 takes_next true = refl
 takes_next false = refl
 
-takes_plain : (ends : Bool) → IsPlain down_table (turn.Again (takes_by ends))
+takes_plain : (ends : Bool) → IsPlainTurn down_table (turn.Again (takes_by ends))
 takes_plain true = refl
 takes_plain false = refl
 
@@ -141,7 +141,7 @@ module _ (old : Known) (run : Run DownCall) (a : IsAt down_table old run stage.T
 
     goes : GoesOn down_table old new c c stage.TakeQueue (turn.Again (takes_to c))
     goes = own_goes down_table old old new c c stage.TakeQueue (turn.Again (takes_to c)) (step.Unqueue x)
-        (record nothing { entry = Some a.trail.1.0; value = c.count }) (only_none old)
+        (record saw_nothing { entry = Some a.trail.1.0; value = c.count }) (only_none old)
         (subst (OnlyLooks (added old (item.Made (step.Unqueue x)))) (sym removed) (bit_looks old (step.Unqueue x)))
         (λ y did. told_by c c y refl refl refl (ap is_queue did)) (keeps_taken x old new taken)
         (ap (λ (b : Bool). next.Go (at.Await (if b then awaiting.Unlock else awaiting.Last false)))
@@ -189,7 +189,7 @@ module _ (old : Known) (run : Run DownCall) (a : IsAt down_table old run stage.T
   abbrev known : Knows old d n
   known = a.trail.0.knows
 
-  pub take_counted : Counted old d n
+  pub take_counted : HasCountedDone old d n
   take_counted = record { held = a.stands.head; loaded = known.counts.0; small = known.counts.1 }
 
   pub take_some : 0 < n

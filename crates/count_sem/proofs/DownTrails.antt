@@ -45,12 +45,12 @@ use Rattle.completion_cell.proofs.WaitFronts.{waits_on}
 use Rattle.count_sem.specs.SemPrograms.{sem_head}
 use Rattle.count_sem.specs.Downs.{
   DownTrail,
-  FoundSignal,
+  FoundDownSignal,
   FoundZero,
   GaveBack,
   HasCount,
   HasFoundZero,
-  HasLeft,
+  HasLeftDown,
   HasWalk,
   OutFor,
   SeesOwn,
@@ -82,8 +82,8 @@ zero_on old new r es fs c u = record {
   stood = u.stood;
 }
 
-signal_on : (old new : Known) (r : DownCall) (es fs : List Step) → Calm fs old new → FoundSignal old r es
-    → FoundSignal new r (es ++ fs)
+signal_on : (old new : Known) (r : DownCall) (es fs : List Step) → Calm fs old new → FoundDownSignal old r es
+    → FoundDownSignal new r (es ++ fs)
 signal_on old new r es fs c u = record {
   look = u.look;
   pends = u.pends;
@@ -116,7 +116,7 @@ out_signal false k r w is z = record { look = w; pends = is; zero = z }
 -- the own entry was found queued in a hold that it goes out of, and taken off; or found off, and the head given back
 module _ (old new : Known) (r : DownCall) (w : ℕ) (u : OutFor r.asked old r []) where
   pub left_taken : Calm (step.Saw (own_of old) w ∷ step.Unqueue (own_of old) ∷ []) old new
-      → is_some (entry_of w) ≡ true → HasLeft new r
+      → is_some (entry_of w) ≡ true → HasLeftDown new r
   left_taken c some = record {
     entry = w;
     queued = some;
@@ -139,7 +139,7 @@ module _ (old new : Known) (r : DownCall) (w : ℕ) (u : OutFor r.asked old r []
 
 -- and then the head is given back
 pub left_given : (old new : Known) (r : DownCall) → Calm (step.Unlock (sem_head r.cell) false ∷ []) old new
-    → HasLeft old r → WentOutOfDown new r
+    → HasLeftDown old r → WentOutOfDown new r
 left_given old new r c u = record {
   entry = u.entry;
   why = out_as r.asked new r _ _ (ap (λ (b : Bool). step.Saw (own_of new) u.entry

@@ -31,19 +31,19 @@ use Rattle.wait_rule.proofs.KnownLaws.Transitions.{only_none}
 use Rattle.wait_rule.proofs.KnownLaws.Turns.{serve_looks}
 use Rattle.wq_head.specs.Holds.{IsHolding}
 use Rattle.wq_head.specs.Looks.{Looks}
-use Rattle.wq_head.specs.Selects.{HasSelected, IsSimpleHold, KeepsHold, Selects, ShowsNoEntry, simple_aim}
+use Rattle.wq_head.specs.Selects.{HasSelected, IsSimpleHold, KeepsHold, SelectsMany, ShowsNoEntry, simple_aim}
 use Rattle.wq_head.specs.Walking.{IsUnder}
 use Rattle.wq_head.proofs.CarriedHolds.{unlock_carried}
 use Rattle.wq_head.proofs.FirstEntries.{no_entry}
 use Rattle.wq_head.proofs.KeptHolds.{hold_carried, hold_holds, hold_looks, hold_same, hold_simple}
 use Rattle.wq_head.proofs.LookingHold.{looks_only}
 use Rattle.wq_head.proofs.MemberStands.{look_is_shown}
-use Rattle.wait_class.specs.Findings.{nothing, with_value}
+use Rattle.wait_class.specs.Findings.{saw_nothing, with_value}
 use Rattle.wait_class.specs.Posts.{own_of}
 use Rattle.wait_class.specs.Tables.{IsEnded}
 use Rattle.wait_class.specs.declared.stages.Run.{Run}
 use Rattle.wait_class.proofs.Ground.Going.{runs_looks, runs_on, runs_one}
-use Rattle.completion_cell.specs.Asks.{Counted}
+use Rattle.completion_cell.specs.Asks.{HasCountedDone}
 use Rattle.completion_cell.proofs.Completing.{done_simple, stored_agreed}
 use Rattle.completion_cell.proofs.Ground.{looked_count, quiet_store}
 use Rattle.completion_cell.proofs.Permits.{
@@ -58,7 +58,7 @@ use Rattle.completion_cell.proofs.Permits.{
 }
 use Rattle.count_sem.specs.SemPrograms.{down_program, gives_to, joined, pass_gives, pass_point, sem_head}
 use Rattle.count_sem.specs.Downs.{down_table}
-use Rattle.count_sem.specs.Passes.{HasPassed, HasWaiter, pass_change}
+use Rattle.count_sem.specs.Passes.{HasPassedOn, HasWaiter, pass_change}
 use Rattle.count_sem.specs.declared.downs.DownCall.{DownCall}
 use Rattle.count_sem.specs.declared.downs.DownOutcome.TheVariants as outcome
 use Rattle.count_sem.proofs.DownTakes.{lowers_none, takes_owed}
@@ -169,7 +169,7 @@ module _ (old : Known) (run : Run DownCall) (a : IsEnded down_table old run outc
 
     -- somebody waits: one is taken of the count
     module _ (whole : IsWholeBook l) (waits : HasWaiter l) where
-      pub looking_counted : Counted l d r.count
+      pub looking_counted : HasCountedDone l d r.count
       looking_counted = record {
         held = looking_holds.locked ∙ ap Some at_l;
         loaded = looked_count d old l looked ∙ a.trail.count.knows.counts.0;
@@ -213,7 +213,7 @@ module _ (old : Known) (run : Run DownCall) (a : IsEnded down_table old run outc
               kept : (◌≢◌ {A = ℕ} 1 0 → n < 1) → shown_entry m waits.0 ≡ Some waits.1
               kept few =
                   let none : n ≡ 0 = let l = few (λ z. absurd (cc)) in omega (arith, l) in
-                  let seen : m ≡ s.seen = subst (λ (j : ℕ). Selects s.seen j m) none s.selects in
+                  let seen : m ≡ s.seen = subst (λ (j : ℕ). SelectsMany s.seen j m) none s.selects in
                   let shows = s.looks.from.shows waits.0 waits.1
                   (ap (λ (f : ℕ → Look). f waits.0) (book_store l b d (r.count - 1) made.found made.is).book
                   ∙ look_is_shown ((told_of l).hold.book waits.0) waits.1 waits.3) in
@@ -256,7 +256,7 @@ module _ (old : Known) (run : Run DownCall) (a : IsEnded down_table old run outc
               (inl (ap (λ (j : ℕ). j - n) lowered_owes ∙ omega arith))
 
           module _ (new : Known) (gave : new ≡ unlocked_with m m.at true) where
-            pub passed_on : HasPassed old new r
+            pub passed_on : HasPassedOn old new r
             passed_on =
                 let f = down_program old.view.number d r.state in
                 let over = next.Ends zero_answer in
@@ -270,7 +270,7 @@ module _ (old : Known) (run : Run DownCall) (a : IsEnded down_table old run outc
                       over
                       (gives_runs f 1 (at.Select selecting.Store) (λ c seen is. by c seen seen.called is)
                       (λ who seen. refl) refl b m (subst (λ (j : ℕ). HasSelected b m 1 j) given_one s))
-                      (runs_one f (at.Select selecting.Store) m m new nothing (by_step (step.Unlock m.at true))
+                      (runs_one f (at.Select selecting.Store) m m new saw_nothing (by_step (step.Unlock m.at true))
                       (only_none m) (at_m, refl) (tt, tt, tt)
                       (subst (OnlyLooks (added m (item.Made (step.Unlock m.at true)))) (sym gave)
                       (serve_looks m m.at true))));
@@ -294,12 +294,12 @@ module _ (old : Known) (run : Run DownCall) (a : IsEnded down_table old run outc
           (inr (nobody (done_head d) l whole none))
 
       module _ (new : Known) (gave : new ≡ unlocked_with l l.at false) where
-        pub kept_alone : HasPassed old new r
+        pub kept_alone : HasPassedOn old new r
         kept_alone =
             let f = down_program old.view.number d r.state in record {
               runs = runs_on f old l new (next.Go pass_point) (next.Go pass_point) (next.Ends zero_answer)
                   (runs_looks f old l (next.Go pass_point) looked)
-                  (runs_one f pass_point l l new nothing (by_step (step.Unlock l.at false)) (only_none l) (at_l, refl)
+                  (runs_one f pass_point l l new saw_nothing (by_step (step.Unlock l.at false)) (only_none l) (at_l, refl)
                   (tt, (whole, sym (ap (called_by (shown_entry l)) (no_entry l none))), tt)
                   (subst (OnlyLooks (added l (item.Made (step.Unlock l.at false)))) (sym gave)
                   (serve_looks l l.at false)));

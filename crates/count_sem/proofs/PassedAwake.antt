@@ -16,7 +16,7 @@ use Rattle.wait_class.proofs.AwakeSteps.{sleeps_not_on, sleeps_not_same}
 use Rattle.wait_leave.specs.ExitLaws.{AwakeOn}
 use Rattle.wait_leave.proofs.Awake.{goes_awake}
 use Rattle.count_sem.specs.DownLeaves.{ClosesDown}
-use Rattle.count_sem.specs.Passes.{HasPassed}
+use Rattle.count_sem.specs.Passes.{HasPassedOn}
 use Rattle.count_sem.specs.SemPrograms.{down_program, joined, pass_gives, pass_next, pass_point}
 use Rattle.count_sem.specs.declared.downs.DownCall.{DownCall}
 use Rattle.count_sem.specs.declared.downs.DownOutcome.{DownOutcome}
@@ -45,7 +45,7 @@ pass_stays me c st (at.Select (selecting.Off n who)) seen here = (refl, refl)
 pass_stays me c st (at.Select p) seen here = (refl, refl)
 pass_stays me c st p seen here = absurd (cc)
 
-passed_awake : (old new : Known) (r : DownCall) → HasPassed old new r → SleepsNot old new
+passed_awake : (old new : Known) (r : DownCall) → HasPassedOn old new r → SleepsNot old new
 passed_awake old new r passed = goes_awake (down_program old.view.number r.cell r.state) pass_awake
     (λ p seen here. pass_stays old.view.number r.cell r.state p seen here) old (next.Go pass_point)
     passed.runs.transitions new (next.Ends zero_answer) refl passed.runs.goes

@@ -78,12 +78,12 @@ use Rattle.wq_head.proofs.LookingHold.{looks_only}
 use Rattle.wq_head.proofs.SelectedRuns.{lock_goes}
 use Rattle.wq_head.proofs.SimpleHolds.{own_done, simple_ended}
 use Rattle.wait_event.specs.Conds.{set_change}
-use Rattle.wait_class.specs.Findings.{nothing, with_value}
+use Rattle.wait_class.specs.Findings.{saw_nothing, with_value}
 use Rattle.wait_class.specs.Posts.{Runs}
 use Rattle.wait_class.specs.Tables.{plan_program}
 use Rattle.wait_class.proofs.Ground.Going.{runs_looks, runs_on, runs_one}
 use Rattle.wait_class.proofs.Histories.{unlocked_history}
-use Rattle.completion_cell.specs.Asks.{Counted}
+use Rattle.completion_cell.specs.Asks.{HasCountedDone}
 use Rattle.completion_cell.proofs.Asking.{none_held}
 use Rattle.completion_cell.proofs.Completing.{done_simple, stored_agreed}
 use Rattle.completion_cell.proofs.Ground.{count_after_step, quiet_store, step_behind}
@@ -161,7 +161,7 @@ module _ (me d : ℕ) where
   up_locks old a l =
       let g = lock_goes me 0 (calls.Complete d) old a (sem_head d) l (done_simple d) (own_done d) refl refl in record {
         transitions = record {
-          seen = nothing;
+          seen = saw_nothing;
           knew = turn_of old a (sem_head d) (walk_of_hold (sem_head d) None) l;
           did = by_step (step.Lock (sem_head d) (walk_of_hold (sem_head d) None) l.found);
         } ∷ [];
@@ -178,19 +178,19 @@ module _ (me d : ℕ) where
 
   up_spends : (m new : Known) → m.at ≡ sem_head d → new ≡ unlocked_with m m.at true
       → Runs up_program m new (next.Go (at.Select selecting.Store)) (next.Ends zero_answer)
-  up_spends m new here is = runs_one up_program (at.Select selecting.Store) m m new nothing
+  up_spends m new here is = runs_one up_program (at.Select selecting.Store) m m new saw_nothing
       (by_step (step.Unlock m.at true)) (only_none m) (here, refl) (tt, tt, tt)
       (subst (OnlyLooks (added m (item.Made (step.Unlock m.at true)))) (sym is) (serve_looks m m.at true))
 
   up_unlocks : (m new : Known) → m.at ≡ sem_head d → new ≡ unlocked_with m m.at false
       → Runs up_program m new (next.Go (at.Count (counting.Unlock true))) (next.Ends zero_answer)
-  up_unlocks m new here is = runs_one up_program (at.Count (counting.Unlock true)) m m new nothing
+  up_unlocks m new here is = runs_one up_program (at.Count (counting.Unlock true)) m m new saw_nothing
       (by_step (step.Unlock m.at false)) (only_none m) (here, refl) (tt, tt, tt)
       (subst (OnlyLooks (added m (item.Made (step.Unlock m.at false)))) (sym is) (serve_looks m m.at false))
 
   up_refuses : (m new : Known) → m.at ≡ sem_head d → new ≡ unlocked_with m m.at false
       → Runs up_program m new (next.Go (at.Count (counting.Unlock false))) (next.Ends full_answer)
-  up_refuses m new here is = runs_one up_program (at.Count (counting.Unlock false)) m m new nothing
+  up_refuses m new here is = runs_one up_program (at.Count (counting.Unlock false)) m m new saw_nothing
       (by_step (step.Unlock m.at false)) (only_none m) (here, refl) (tt, tt, tt)
       (subst (OnlyLooks (added m (item.Made (step.Unlock m.at false)))) (sym is) (serve_looks m m.at false))
 
@@ -252,7 +252,7 @@ module _ (d : ℕ) (old m : Known) (f : FoundNobody old m d) where
 
   module _ (b : Known) (v : ℕ) (is : b ≡ added m (item.Made (step.Load (watch.Done d) v))) (finds : FindsCount m d v)
       (loaded : Carries unchanged m b) where
-    pub found_counted : Counted b d v
+    pub found_counted : HasCountedDone b d v
     found_counted = record {
       held = loaded.head ∙ (found_holds.locked ∙ ap Some at_m);
       loaded = count_after_step d m b (step.Load (watch.Done d) v) (history_after m b _ is)

@@ -44,7 +44,7 @@ use Rattle.wait_event.specs.Entries.{hold_change}
 use Rattle.wait_class.specs.Posts.{Runs}
 use Rattle.wait_class.proofs.Ground.Going.{runs_on}
 use Rattle.wait_class.proofs.Histories.{unlocked_history}
-use Rattle.completion_cell.specs.Asks.{Counted, TakesOne, yes_or_no}
+use Rattle.completion_cell.specs.Asks.{HasCountedDone, TakesOne, hit_answer}
 use Rattle.completion_cell.proofs.Asking.{
   locked_history,
   none_held,
@@ -69,7 +69,7 @@ module _ (d n h : ℕ) (old a b : Known) (same : h ≡ head_of (watch.Done d)) (
     (l : HasLocked old a h (walk_of_hold h None)) (lock : Carries (lock_change h) old a) (held : IsHolding a)
     (is : b ≡ added a (item.Made (step.Load (watch.Done d) n))) (finds : FindsCount a d n)
     (loaded : Carries unchanged a b) where
-  pub permit_counted : Counted b d n
+  pub permit_counted : HasCountedDone b d n
   permit_counted = record {
     held = loaded.head ∙ (ap (λ (k : Known). k.book.head) l.is ∙ ap Some same);
     loaded = count_after_step d a b (step.Load (watch.Done d) n) (history_after a b _ is)
@@ -124,7 +124,7 @@ module _ (d n h : ℕ) (old a b : Known) (same : h ≡ head_of (watch.Done d)) (
       has_taken_permit hit tells =
           let me = old.view.number in
           let f = call_program me 0 (calls.TryWait d) in
-          let over = next.Ends (yes_or_no (not (n == 0))) in
+          let over = next.Ends (hit_answer (not (n == 0))) in
           let runs : Runs f old new (next.Go (at.Count counting.Lock)) over =
           runs_on f old a new (next.Go (at.Count counting.Lock)) (next.Go (at.Count counting.Load)) over
           (count_locks me (calls.TryWait d) d refl old a locked)
@@ -136,7 +136,7 @@ module _ (d n h : ℕ) (old a b : Known) (same : h ≡ head_of (watch.Done d)) (
           (next.Go (at.Count (counting.Unlock (not (n == 0)))))) (loaded.number ∙ lock.number)
           (take_runs b c d n permit_counted took takes made))
           (count_unlocks me (calls.TryWait d) d refl (not (n == 0)) c new at_c gave))) in record {
-            runs = subst (λ (b : Bool). Runs f old new (next.Go (at.Count counting.Lock)) (next.Ends (yes_or_no b)))
+            runs = subst (λ (b : Bool). Runs f old new (next.Go (at.Count counting.Lock)) (next.Ends (hit_answer b)))
                 (sym tells) runs;
             count = n;
             decides = (

@@ -15,7 +15,7 @@ use Rattle.wait_rule.specs.HeldValues.{count_in}
 use Rattle.wait_rule.specs.Known.{Known}
 use Rattle.wait_rule.specs.Says.{history_of}
 use Rattle.wait_class.specs.Posts.{EndsWith, Runs, own_of}
-use Rattle.wait_event.specs.Waits.{queues}
+use Rattle.wait_event.specs.Waits.{has_queued_in}
 use Rattle.count_sem.specs.SemPrograms.{down_program, sem_head}
 use Rattle.count_sem.specs.Downs.{StoodThere, down_head, found_zero, left_queue}
 use Rattle.count_sem.specs.declared.down_calls.SemEnd.{SemEnd}
@@ -25,11 +25,11 @@ use Rattle.count_sem.specs.declared.downs.DownOutcome.{DownOutcome}
 use Rattle.count_sem.specs.declared.downs.DownOutcome.TheVariants as outcome
 
 -- the answer of one that has ended
-abbrev pub end_in : DownCall → DownOutcome → Result (Unit {0}) SemEnd
-end_in r outcome.Over = Ok tt
-end_in r outcome.Passing = Ok tt
-end_in r outcome.Interrupted = Err sem_end.Interrupted
-end_in r outcome.Worn = Err (sem_end.Worn (down_head r) r.place)
+abbrev pub down_end_in : DownCall → DownOutcome → Result (Unit {0}) SemEnd
+down_end_in r outcome.Over = Ok tt
+down_end_in r outcome.Passing = Ok tt
+down_end_in r outcome.Interrupted = Err sem_end.Interrupted
+down_end_in r outcome.Worn = Err (sem_end.Worn (down_head r) r.place)
 
 abbrev pub end_answer : Result (Unit {0}) SemEnd → Answer
 end_answer (Ok u) = zero_answer
@@ -39,7 +39,7 @@ end_answer (Err (sem_end.Worn h place)) = answer.Worn
 -- One that was interrupted: its last hold loaded the count as 0; where the call had queued its entry before, the hold
 -- had found it queued before that load; a look at the own word showed a signal that the state admits, and the entry was
 -- taken off where it was queued. So who was given a permit is never interrupted.
-pub record IsInterrupted (k : Known) (d : ℕ) (st : SleepState) (queued : Bool) : Type 0 where
+pub record IsDownInterrupted (k : Known) (d : ℕ) (st : SleepState) (queued : Bool) : Type 0 where
   pub again : Bool
   pub word : ℕ
   pub stood : StoodThere again queued word
@@ -56,7 +56,7 @@ pub record IsWornDown (k : Known) (d h place : ℕ) : Type 0 where
 
 abbrev pub IsDownCause : Known → ℕ → SleepState → Bool → Result (Unit {0}) SemEnd → Type 0
 IsDownCause k d st queued (Ok u) = Unit {0}
-IsDownCause k d st queued (Err sem_end.Interrupted) = IsInterrupted k d st queued
+IsDownCause k d st queued (Err sem_end.Interrupted) = IsDownInterrupted k d st queued
 IsDownCause k d st queued (Err (sem_end.Worn h place)) = IsWornDown k d h place
 
 -- The task went through the whole call, and the answer is that of its program, with its cause; `queued` is whether the
@@ -64,4 +64,4 @@ IsDownCause k d st queued (Err (sem_end.Worn h place)) = IsWornDown k d h place
 pub record EndsDown (old new : Known) (d : ℕ) (st : SleepState) (result : Result (Unit {0}) SemEnd) : Type 0 where
   pub runs : Runs (down_program old.view.number d st) old new (next.Go (at.Await (awaiting.Lock false)))
       (next.Ends (end_answer result))
-  pub cause : IsDownCause new d st (queues runs.transitions) result
+  pub cause : IsDownCause new d st (has_queued_in runs.transitions) result

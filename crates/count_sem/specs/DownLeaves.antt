@@ -14,8 +14,8 @@ use Rattle.wait_leave.specs.declared.exits.Until.TheVariants as until
 use Rattle.wait_leave.specs.Leaves.{Exits}
 use Rattle.wait_leave.specs.OnTheWay.{OnTheWay}
 use Rattle.count_sem.specs.Downs.{IsFreshDown, StoodThere, down_table, found_zero, left_queue, looked_by}
-use Rattle.count_sem.specs.DownEnds.{IsDownCause, end_in}
-use Rattle.count_sem.specs.Passes.{HasPassed}
+use Rattle.count_sem.specs.DownEnds.{IsDownCause, down_end_in}
+use Rattle.count_sem.specs.Passes.{HasPassedOn}
 use Rattle.count_sem.specs.declared.down_calls.SemEnd.{SemEnd}
 use Rattle.count_sem.specs.declared.downs.DownCall.{DownCall}
 use Rattle.count_sem.specs.declared.downs.DownOutcome.{DownOutcome}
@@ -47,13 +47,13 @@ down_exits = record {
 -- the answer: one that went out of a hold which had loaded 0 was left where it was asked, or a signal ended it
 abbrev pub stopped_until : Bool → DownCall → Until (Result (Unit {0}) SemEnd)
 stopped_until true r = until.Left 0
-stopped_until false r = until.Over (end_in r outcome.Interrupted)
+stopped_until false r = until.Over (down_end_in r outcome.Interrupted)
 
 abbrev pub end_until : DownCall → DownOutcome → Until (Result (Unit {0}) SemEnd)
-end_until r outcome.Over = until.Over (end_in r outcome.Over)
-end_until r outcome.Passing = until.Over (end_in r outcome.Passing)
+end_until r outcome.Over = until.Over (down_end_in r outcome.Over)
+end_until r outcome.Passing = until.Over (down_end_in r outcome.Passing)
 end_until r outcome.Interrupted = stopped_until r.asked r
-end_until r outcome.Worn = until.Over (end_in r outcome.Worn)
+end_until r outcome.Worn = until.Over (down_end_in r outcome.Worn)
 
 -- Its cause. Left: its last hold loaded the count as 0, which is `seen`; where the call had queued its entry before,
 -- the hold had found it queued before that load; and the entry was taken off where it was queued. So who was given a
@@ -78,7 +78,7 @@ IsDownLeftFor A (until.Left seen) = A
 
 -- one that was given a permit, and found more, hands on
 abbrev pub ClosesDown : Known → Known → DownCall → DownOutcome → Type 0
-ClosesDown ended new r outcome.Passing = HasPassed ended new r
+ClosesDown ended new r outcome.Passing = HasPassedOn ended new r
 ClosesDown ended new r _ = new ≡ ended
 
 -- The task went on from a stage, was asked there or later to leave, for this cause; or the call had ended before.

@@ -58,9 +58,9 @@ use Rattle.wait_class.specs.declared.stages.Doing.{Doing}
 use Rattle.wait_class.specs.declared.stages.Doing.TheVariants as doing
 use Rattle.wait_class.specs.declared.stages.Turn.{Turn}
 use Rattle.wait_class.specs.declared.stages.Turn.TheVariants as turn
-use Rattle.wait_event.specs.Waits.{queues}
+use Rattle.wait_event.specs.Waits.{has_queued_in}
 use Rattle.wait_leave.specs.Leaves.{with_asked}
-use Rattle.completion_cell.specs.HeldPermits.{HasBegun, Knows, WaitsIn}
+use Rattle.completion_cell.specs.HeldPermits.{HasBegunHold, Knows, WaitsIn}
 use Rattle.count_sem.specs.SemPrograms.{down_plan, sem_head}
 use Rattle.count_sem.specs.declared.downs.DownCall.{DownCall}
 use Rattle.count_sem.specs.declared.downs.DownOutcome.{DownOutcome}
@@ -232,7 +232,7 @@ down_post r _ = record {
 pub record DownTells (r q : DownCall) (ts : List Transition) : Type 0 where
   pub cell : q.cell ≡ r.cell
   pub state : q.state ≡ r.state
-  pub queued : q.queued ≡ (r.queued || queues ts)
+  pub queued : q.queued ≡ (r.queued || has_queued_in ts)
 
 -- the count that it has loaded, and that is not 0
 pub record HasCount (k : Known) (r : DownCall) : Type 0 where
@@ -255,7 +255,7 @@ pub record FoundZero (k : Known) (r : DownCall) (more : List Step) : Type 0 wher
   pub stood : StoodThere r.again r.queued word
 
 -- and then a look at the own word showed a signal that the state admits
-pub record FoundSignal (k : Known) (r : DownCall) (more : List Step) : Type 0 where
+pub record FoundDownSignal (k : Known) (r : DownCall) (more : List Step) : Type 0 where
   pub look : ℕ
   pub pends : pending (state_mask r.state) (task_of look) ≡ true
   pub zero : FoundZero k r (step.Look look ∷ more)
@@ -272,7 +272,7 @@ pub record HasFoundZero (k : Known) (r : DownCall) (more : List Step) : Type 0 w
 -- It goes out of such a hold, and has made these steps since: it was asked to leave, or found a signal.
 abbrev pub OutFor : Bool → Known → DownCall → List Step → Type 0
 OutFor true k r more = HasFoundZero k r more
-OutFor false k r more = FoundSignal k r more
+OutFor false k r more = FoundDownSignal k r more
 
 -- and then its entry was taken off where it was queued, and the head given back
 abbrev pub left_queue : ℕ → ℕ → ℕ → List Step
@@ -285,7 +285,7 @@ pub record WentOutOfDown (k : Known) (r : DownCall) : Type 0 where
   pub why : OutFor r.asked k r (left_queue (own_of k) r.cell entry)
 
 -- so far
-pub record HasLeft (k : Known) (r : DownCall) : Type 0 where
+pub record HasLeftDown (k : Known) (r : DownCall) : Type 0 where
   pub entry : ℕ
   pub queued : is_some (entry_of entry) ≡ true
   pub why : OutFor r.asked k r (step.Saw (own_of k) entry ∷ step.Unqueue (own_of k) ∷ [])
@@ -322,14 +322,14 @@ pub record MayPass (k : Known) (r : DownCall) : Type 0 where
 abbrev pub DownTrail : Known → DownCall → DownStage → Type 0
 DownTrail k r stage.First = LeftOff r.cell k × (r.queued ≡ false)
 DownTrail k r stage.FirstTurn = LeftOff r.cell k × (r.queued ≡ false)
-DownTrail k r stage.FirstLoad = HasBegun r.cell k × (r.queued ≡ false)
+DownTrail k r stage.FirstLoad = HasBegunHold r.cell k × (r.queued ≡ false)
 DownTrail k r stage.AgainLoad = JustLocked k r.cell × HasWalk k r.cell
 DownTrail k r stage.Look = Knows k r.cell 0 × FoundZero k r []
 DownTrail k r stage.Queue = Knows k r.cell 0 × HasFoundZero k r []
 DownTrail k r stage.State = Knows k r.cell 0
 DownTrail k r stage.Unlock = Knows k r.cell 0
 DownTrail k r stage.LeaveQueue = Knows k r.cell 0 × OutFor r.asked k r []
-DownTrail k r stage.LeaveUnlock = Knows k r.cell 0 × HasLeft k r
+DownTrail k r stage.LeaveUnlock = Knows k r.cell 0 × HasLeftDown k r
 DownTrail k r stage.TakeQueue = HasCount k r × SeesOwn k
 DownTrail k r stage.TakeStore = HasCount k r × ((r.count == ALL_DONE) ≡ false)
 DownTrail k r stage.TakeUnlock = (o : Option ℕ) × WaitsIn r.cell k o 0

@@ -24,7 +24,7 @@ abbrev pub pass_change : Change
 pass_change = record only_looks { head = λ _. None; ticket = λ _. no_ticket }
 
 -- it went through the rest of its program
-pub record HasPassed (old new : Known) (r : DownCall) : Type 0 where
+pub record HasPassedOn (old new : Known) (r : DownCall) : Type 0 where
   pub runs : Runs (down_program old.view.number r.cell r.state) old new (next.Go pass_point) (next.Ends zero_answer)
   pub carries : Carries pass_change old new
   pub spent : Bool

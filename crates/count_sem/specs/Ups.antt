@@ -19,7 +19,7 @@ use Rattle.wait_class.specs.Posts.{EndsWith, Runs}
 use Rattle.wait_class.specs.Tables.{plan_program}
 use Rattle.wq_head.specs.LockTurns.{TookLock}
 use Rattle.wq_head.specs.Selects.{HasSelected, IsSimpleHold, KeepsHold, ShowsNoEntry}
-use Rattle.completion_cell.specs.Asks.{yes_or_no}
+use Rattle.completion_cell.specs.Asks.{hit_answer}
 use Rattle.count_sem.specs.declared.ups.TheConstants.{FULL}
 use Rattle.count_sem.specs.declared.ups.SemFull.{SemFull}
 use Rattle.count_sem.specs.SemPrograms.{full_answer, sem_head, try_down_plan, up_plan}
@@ -46,7 +46,7 @@ pub record HasRaised (old new : Known) (d : ℕ) (result : Result (Unit {0}) Sem
 -- The first load of its hold decides.
 pub record HasTakenPermit (old new : Known) (d : ℕ) (hit : Bool) : Type 0 where
   pub runs : Runs (plan_program old.view.number 0 (try_down_plan d)) old new (next.Go (at.Count counting.Lock))
-      (next.Ends (yes_or_no hit))
+      (next.Ends (hit_answer hit))
   pub count : ℕ
   pub decides : (aim : Option Aim) × (word : ℕ) × (rest : List Step)
       × (history_of new ≡ history_of old ++ step.Lock (sem_head d) aim word ∷ step.Load (watch.Done d) count ∷ rest)

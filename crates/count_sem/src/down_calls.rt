@@ -15,7 +15,7 @@ ghost use Rattle.wait_event.specs.Ends.{wait_change};
 ghost use Rattle.count_sem.specs.declared.downs.DownOutcome.TheVariants as ended;
 ghost use Rattle.count_sem.specs.declared.downs.DownStage.TheVariants as stage;
 ghost use Rattle.count_sem.specs.Downs.{IsFreshDown, down_table};
-ghost use Rattle.count_sem.specs.DownEnds.{EndsDown, end_in};
+ghost use Rattle.count_sem.specs.DownEnds.{EndsDown, down_end_in};
 
 use crate::downs::{DownCall, DownOutcome, DownRun, DownStage};
 use crate::passes::pass;
@@ -103,7 +103,7 @@ pub fn down<R: Wait>(
 
 /// The answer of a `down` that has ended: for who went on with it by stretches.
 pub fn end_of(call: DownCall, outcome: DownOutcome) -> Result<(), SemEnd>
-    ensures { result ≡ end_in call outcome }
+    ensures { result ≡ down_end_in call outcome }
 {
     match outcome {
         DownOutcome::Over => Ok(()),
@@ -120,7 +120,7 @@ pub fn end_of(call: DownCall, outcome: DownOutcome) -> Result<(), SemEnd>
 /// owes nothing, and the answer of one that began at `start` is as that of `down`.
 pub fn end_down(task: &Task, wait: &DownRun, outcome: DownOutcome) -> Result<(), SemEnd>
     requires over { outcome ≢ ended.Passing }
-    ensures is { result ≡ end_in wait.now.of outcome }
+    ensures is { result ≡ down_end_in wait.now.of outcome }
     ensures clean { (c : _) → IsUnderWay down_table c task.now wait.now (turn.Done outcome) → IsClean task.now }
     ensures ends { (start : _) → (f : _) → (cell : _) → (state : _) → IsFreshDown f.of cell state
         → Advances down_table start task.now f wait.now stage.First (turn.Done outcome)

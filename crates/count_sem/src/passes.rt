@@ -20,7 +20,7 @@ ghost use Rattle.wait_leave.specs.declared.exits.Until.TheVariants as until;
 ghost use Rattle.count_sem.specs.DownEnds.{EndsDown};
 ghost use Rattle.count_sem.specs.DownLeaves.{EndsDownUntil, down_exits};
 ghost use Rattle.count_sem.specs.Downs.{IsFreshDown, down_table};
-ghost use Rattle.count_sem.specs.Passes.{HasPassed, HasWaiter};
+ghost use Rattle.count_sem.specs.Passes.{HasPassedOn, HasWaiter};
 
 use crate::downs::DownRun;
 use crate::ups::lower_one;
@@ -73,7 +73,7 @@ pub fn hand_on(
     requires passes { PassesNone passing.old }
     requires ended { IsEnded down_table task.old wait.now outcome.Passing }
     requires none { tasks_in rousing.old ≡ [] }
-    ensures passed { IfOk result (λ _. HasPassed task.old task.new wait.now.of) }
+    ensures passed { IfOk result (λ _. HasPassedOn task.old task.new wait.now.of) }
     ensures starved { IfErr result (λ failed. IsStarved failed) }
     ensures rouses { IsRousing task.old task.new rousing.new }
     ensures clean { (c : _) → IsUnderWay down_table c task.old wait.now (turn.Done outcome.Passing)
@@ -104,7 +104,7 @@ pub fn hand_on(
 pub(crate) fn pass<R: Wait>(rt: &R, domain: &Domain, task: &mut Task, wait: &DownRun)
     requires of { task.old.domain ≡ domain.now }
     requires ended { IsEnded down_table task.old wait.now outcome.Passing }
-    ensures { HasPassed task.old task.new wait.now.of }
+    ensures { HasPassedOn task.old task.new wait.now.of }
 {
     let mut rousing = Rousing::new();
     let mut passing = Passing::none();

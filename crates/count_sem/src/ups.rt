@@ -12,7 +12,7 @@ ghost use Rattle.wait_rule.specs.Says.{IsFree, IsUp};
 ghost use Rattle.wait_rule.specs.Stays.{Carries};
 ghost use Rattle.wait_event.specs.Conds.{set_change};
 ghost use Rattle.wait_event.specs.Entries.{hold_change};
-ghost use Rattle.completion_cell.specs.Asks.{Counted, TakesOne};
+ghost use Rattle.completion_cell.specs.Asks.{HasCountedDone, TakesOne};
 ghost use Rattle.count_sem.specs.declared.ups.TheConstants.{FULL};
 ghost use Rattle.count_sem.specs.Ups.{FoundNobody, HasRaised, HasTakenPermit};
 
@@ -39,7 +39,7 @@ fn take_one(domain: &Domain, task: &mut Task, cell: u8, count: u32) -> bool
     requires of { task.old.domain ≡ domain.now }
     requires up { IsUp task.old }
     requires cell { cell < COMPLETIONS }
-    requires counted { Counted task.old cell count }
+    requires counted { HasCountedDone task.old cell count }
     ensures stores { MatchBool result (StoresCount task.old task.new cell (count - 1)) (task.new ≡ task.old) }
     ensures took { TakesOne count result }
 {
@@ -79,7 +79,7 @@ fn add_one(domain: &Domain, task: &mut Task, cell: u8, count: u32)
     requires of { task.old.domain ≡ domain.now }
     requires up { IsUp task.old }
     requires cell { cell < COMPLETIONS }
-    requires counted { Counted task.old cell count }
+    requires counted { HasCountedDone task.old cell count }
     requires below { count < FULL }
     ensures { StoresCount task.old task.new cell (count + 1) }
 {
@@ -92,7 +92,7 @@ pub(crate) fn lower_one(domain: &Domain, task: &mut Task, cell: u8, count: u32)
     requires of { task.old.domain ≡ domain.now }
     requires up { IsUp task.old }
     requires cell { cell < COMPLETIONS }
-    requires counted { Counted task.old cell count }
+    requires counted { HasCountedDone task.old cell count }
     requires some { 0 < count }
     ensures { StoresCount task.old task.new cell (count - 1) }
 {

@@ -6,7 +6,7 @@ ghost use Rattle.wait_model.specs.declared.queues.Walked.{Walked};
 ghost use Rattle.wait_model.specs.declared.watches.Mode.TheVariants as mode;
 ghost use Rattle.wait_rule.specs.Known.{Known};
 ghost use Rattle.wait_rule.specs.Says.{IsClean};
-ghost use Rattle.wait_event.specs.Conds.{HasSet, HasTaken};
+ghost use Rattle.wait_event.specs.Conds.{HasSet, HasTakenCond};
 ghost use Rattle.examples_threads.specs.Causes.{WaitEnded};
 
 use std::sync::Wait;
@@ -40,7 +40,7 @@ impl<'d> Worker<'d> {
     pub fn claim<R: Wait>(&mut self, rt: &R, cond: u8, how: How) -> Result<u64, WaitEnd>
         requires cond { cond < FIRST_SIMPLE }
         ensures some { IfOk result (λ value. 0 < value) }
-        ensures took { IfOk result (λ value. (k : Known) × HasTaken k self.new.task cond value) }
+        ensures took { IfOk result (λ value. (k : Known) × HasTakenCond k self.new.task cond value) }
         ensures ended { IfErr result (WaitEnded self.new.task cond how) }
     {
         for _ in rt.forever() {

@@ -31,7 +31,7 @@ use Rattle.wait_event.specs.declared.wait_events.WaitEnd.TheVariants as wait_end
 use Rattle.wait_class.specs.Posts.{IsOut}
 use Rattle.wait_event.specs.Ends.{wait_change}
 use Rattle.wait_class.specs.Posts.{Runs}
-use Rattle.completion_cell.specs.AwaitEnds.{EndsAwait, answer_of}
+use Rattle.completion_cell.specs.AwaitEnds.{EndsAwait, answer_of_await}
 use Rattle.bit_wait.specs.declared.wait_calls.BitEnd.{BitEnd}
 use Rattle.bit_wait.specs.declared.wait_calls.BitEnd.TheVariants as bit_end
 use Rattle.bit_wait.specs.Clears.{HasClearedBit}
@@ -56,18 +56,18 @@ admits_none t is = by t.signal t.fatal is
 module _ (old new : Known) (result : Result (Unit {0}) WaitEnd)
     (waited : EndsAwait old new ENDED_CELL states.Uninterruptible result) where
   abbrev runs : Runs (call_program old.view.number 0 (calls.WaitFor ENDED_CELL states.Uninterruptible)) old new
-      (next.Go (at.Await (awaiting.Lock false))) (next.Ends (answer_of result))
+      (next.Go (at.Await (awaiting.Lock false))) (next.Ends (answer_of_await result))
   runs = waited.awaited.runs
 
   awaited_aside : GrowsAside old new
   awaited_aside = calls_grow_aside old.view.number 0 (calls.WaitFor ENDED_CELL states.Uninterruptible) old new
-      (next.Go (at.Await (awaiting.Lock false))) (next.Ends (answer_of result)) runs.transitions tt (λ e. absurd (cc))
+      (next.Go (at.Await (awaiting.Lock false))) (next.Ends (answer_of_await result)) runs.transitions tt (λ e. absurd (cc))
       runs.goes
 
   awaited_ends : EndsStay old new
   awaited_ends = programs_leave_ends (call_program old.view.number 0 (calls.WaitFor ENDED_CELL states.Uninterruptible))
       (λ p v o e. let f : watch.Done ENDED_CELL ≡ watch.Var v o = e in absurd (cc)) old new
-      (next.Go (at.Await (awaiting.Lock false))) (next.Ends (answer_of result)) runs.transitions runs.goes
+      (next.Go (at.Await (awaiting.Lock false))) (next.Ends (answer_of_await result)) runs.transitions runs.goes
 
   pub awaited_apart : IsAtWork old → IsUp new → IsIdle new → IsOut new
       → Carries (wait_change (index old.view.number 0) new.at) old new → StaysOff old new → Apart old new

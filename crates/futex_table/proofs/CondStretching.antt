@@ -18,7 +18,7 @@ use Rattle.wq_head.specs.declared.adds.Worn.{Worn}
 use Rattle.wq_head.specs.declared.wakes.WakeRun.{WakeRun}
 use Rattle.wq_head.specs.declared.wakes.WakeStage.{WakeStage}
 use Rattle.wq_head.specs.declared.wakes.WakeStage.TheVariants as wakes
-use Rattle.wq_head.specs.Turns.{IsAt, IsOver}
+use Rattle.wq_head.specs.Turns.{IsAtWake, IsWakeOver}
 use Rattle.wq_head.specs.Walks.{IsFull, MayWake}
 use Rattle.wait_class.specs.Posts.{IsOut}
 use Rattle.wait_class.specs.Tables.{Advances, Lands, SleepsNot}
@@ -104,7 +104,7 @@ cond_loaded c v m old now loaded l is still =
 
 -- a wake of the mutex that begins
 pub give_begins : (m : ℕ) (k : Known) (r : WakeRun) → r.aim ≡ futex_aim m 1 → r.aim.count < 2 ^ 32 → m < FIRST_SIMPLE
-    → IsUp k → IsIdle k → IsAt k k r wakes.First
+    → IsUp k → IsIdle k → IsAtWake k k r wakes.First
 give_begins m k r aim small low up idle = record {
   up = up;
   idle = idle;
@@ -117,7 +117,7 @@ give_begins m k r aim small low up idle = record {
 -- in the wake that gives the mutex back
 module _ (w : CondWait) (old now new : Known) (seen : ℕ) (r p : WakeRun) (s : WakeStage)
     (x : IsGivingBack w old now seen r s) (aim : p.aim ≡ r.aim) where
-  pub gives_on : (n : WakeStage) → IsAt x.stored new p n → IsGivingBack w old new seen p n
+  pub gives_on : (n : WakeStage) → IsAtWake x.stored new p n → IsGivingBack w old new seen p n
   gives_on n walks = record {
     loaded = x.loaded;
     loads = x.loads;
@@ -132,9 +132,9 @@ module _ (w : CondWait) (old now new : Known) (seen : ℕ) (r p : WakeRun) (s : 
   }
 
   -- and behind it
-  module _ (walked : Walked) (ended : IsOver p.aim x.stored new walked) where
-    over : IsOver (futex_aim w.lock 1) x.stored new walked
-    over = subst (λ (a : Aim). IsOver a x.stored new walked) (aim ∙ x.aim) ended
+  module _ (walked : Walked) (ended : IsWakeOver p.aim x.stored new walked) where
+    over : IsWakeOver (futex_aim w.lock 1) x.stored new walked
+    over = subst (λ (a : Aim). IsWakeOver a x.stored new walked) (aim ∙ x.aim) ended
 
     pub given_freed : HasFreedMutex x.loaded new w.lock
     given_freed = record {

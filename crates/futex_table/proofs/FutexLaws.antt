@@ -29,8 +29,8 @@ use Rattle.wait_class.specs.Laws.{
   DrawLaw,
   GiveLaw,
   HeedLaw,
-  IsLawfulTable,
-  IsPlain,
+  IsLawfulCallTable,
+  IsPlainTurn,
   LawOf,
   LoadLaw,
   LockLaw,
@@ -283,7 +283,7 @@ module _ (r : FutexWait) where
     trail = λ k x. x;
   }
 
-  plain_off : (b : Bool) → IsPlain futex_table (leaves_first b)
+  plain_off : (b : Bool) → IsPlainTurn futex_table (leaves_first b)
   plain_off true = refl
   plain_off false = refl
 
@@ -574,7 +574,7 @@ depth_most (stage.Leave fresh) = omega arith
 depth_most (stage.LeaveUnlock fresh) = omega arith
 depth_most s = omega arith
 
-pub futex_lawful : IsLawfulTable futex_table
+pub futex_lawful : IsLawfulCallTable futex_table
 futex_lawful = record {
   keeps = wait_stays;
   tells = record { none = λ r. tt; on = λ r q w ts us a b. tt; quiet = λ r x is. tt };

@@ -16,7 +16,7 @@ use Rattle.wq_head.specs.declared.wakes.WakeTurn.{WakeTurn}
 use Rattle.wq_head.specs.declared.wakes.WakeTurn.TheVariants as wake
 use Rattle.wq_head.specs.declared.rousing.Rousing.{Rousing}
 use Rattle.wq_head.specs.Roused.{IsRousing, tasks_in}
-use Rattle.wq_head.specs.Turns.{HasTurned, IsAt}
+use Rattle.wq_head.specs.Turns.{HasTurned, IsAtWake}
 use Rattle.wq_head.specs.Walks.{HasStarved}
 use Rattle.wait_class.specs.Posts.{IsOut}
 use Rattle.wait_class.specs.Tables.{SleepsNot, Turned}
@@ -71,7 +71,7 @@ pub record IsGivingBack (w : CondWait) (old new : Known) (seen : ℕ) (r : WakeR
   pub stores : stored ≡ added loaded (item.Made (step.Publish (watch.Plain w.lock) 1 found))
   pub owes : Carries (publish_change (watch.Plain w.lock)) loaded stored
   pub aim : r.aim ≡ futex_aim w.lock 1
-  pub walks : IsAt stored new r s
+  pub walks : IsAtWake stored new r s
 
 -- It loaded the word, gave the mutex back, and came in the wait for another value than it loaded to here.
 pub record IsForCond (A : Type 0) (w : CondWait) (old new : Known) (q : Run FutexWait) (u : FutexWaitTurn) : Type 0 where
@@ -170,7 +170,7 @@ pub record GivesMutexBack (w : CondWait) (old new : Known) (seen : ℕ) (r : Wak
   where
     pub wake : WakeRun
     pub did : WakeTurn
-    pub turned : (start : Known) → IsAt start old r s → HasTurned start new r wake did
+    pub turned : (start : Known) → IsAtWake start old r s → HasTurned start new r wake did
     pub to : GivesTo w seen wake did u
 
 abbrev pub CondTurned : CondWait → Known → Known → CondStage → CondTurn → Type 0

@@ -6,7 +6,7 @@ use Rattle.wait_model.specs.declared.tasks.SleepState.TheVariants as states
 use Rattle.wait_model.specs.declared.watches.Mode.TheVariants as mode
 use Rattle.wait_rule.specs.Known.{Known}
 use Rattle.wq_head.specs.declared.adds.Worn.{Worn}
-use Rattle.wait_event.specs.Conds.{HasSet, HasTaken}
+use Rattle.wait_event.specs.Conds.{HasSet, HasTakenCond}
 use Rattle.futex_table.specs.declared.futexes.FutexEnd.{FutexEnd}
 use Rattle.futex_table.specs.declared.futexes.FutexEnd.TheVariants as futex_end
 use Rattle.futex_table.specs.FutexEnds.{EndsFutexWait}
@@ -19,7 +19,7 @@ pub record HasFreedMutex (old new : Known) (m : ℕ) : Type 0 where
 -- One take, which found a value or 0.
 pub record HasTriedMutex (old new : Known) (m : ℕ) (hit : Bool) : Type 0 where
   pub found : ℕ
-  pub took : HasTaken old new m found
+  pub took : HasTakenCond old new m found
   pub tells : hit ≡ not (found == 0)
 
 -- that no place was left for a wait

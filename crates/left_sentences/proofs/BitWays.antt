@@ -31,7 +31,7 @@ use Rattle.wait_class.specs.Posts.{IsOut}
 use Rattle.wait_leave.specs.declared.exits.Exit.{Exit}
 use Rattle.wait_leave.specs.declared.exits.Until.TheVariants as until
 use Rattle.bit_wait.specs.BitLeaves.{EndsBitWaitUntil, bit_exit, bit_exits, bit_failed_in, bit_until_in}
-use Rattle.bit_wait.specs.BitTables.{answer_in, bit_table, is_worn}
+use Rattle.bit_wait.specs.BitTables.{answer_to_bit, bit_table, is_bit_worn}
 use Rattle.bit_wait.specs.LockLeaves.{EndsBitLockUntil, failed_in, lock_exit, lock_exits, until_in}
 use Rattle.bit_wait.specs.LockTables.{lock_table}
 use Rattle.bit_wait.specs.LockTables as locks
@@ -256,7 +256,7 @@ bit_failed_asked true r seen is = refl
 bit_failed_asked false r seen is = absurd (cc)
 
 bit_left_asked : (r : WaitBit) (d : BitOutcome) (seen : ℕ) → until.Left seen ≡ bit_until_in r d
-    → (r.asked ≡ true) × (answer_in d ≡ minus_4)
+    → (r.asked ≡ true) × (answer_to_bit d ≡ minus_4)
 bit_left_asked r outcome.Interrupted seen is = (bit_failed_asked r.asked r seen is, refl)
 bit_left_asked r d seen is = absurd (cc)
 
@@ -265,7 +265,7 @@ lock_failed_asked true r seen is = refl
 lock_failed_asked false r seen is = absurd (cc)
 
 lock_left_asked : (r : LockBit) (d : LockOutcome) (seen : ℕ) → until.Left seen ≡ until_in r d
-    → (r.asked ≡ true) × (locks.answer_in d ≡ minus_4)
+    → (r.asked ≡ true) × (locks.answer_to_lock d ≡ minus_4)
 lock_left_asked r lock_outcome.Interrupted seen is = (lock_failed_asked r.asked r seen is, refl)
 lock_left_asked r d seen is = absurd (cc)
 
@@ -287,8 +287,8 @@ module _ (old new : Known) (w b : ℕ) (st : SleepState) (seen : ℕ) (law : Mee
         (turn.Done e.leaves.outcome) e.leaves.came).number
 
     bit_before : Before law.table me e.leaves.ended
-    bit_before = before_rest law.table me (is_worn e.leaves.outcome) e.leaves.ended new e.leaves.rests
-        (before_law new law me (rested_number (is_worn e.leaves.outcome) e.leaves.ended new me e.leaves.rests
+    bit_before = before_rest law.table me (is_bit_worn e.leaves.outcome) e.leaves.ended new e.leaves.rests
+        (before_law new law me (rested_number (is_bit_worn e.leaves.outcome) e.leaves.ended new me e.leaves.rests
         bit_number))
 
     pub bit_left : IsLeftWord me (calls.WaitBit w b st) (bit_ways me w b st)

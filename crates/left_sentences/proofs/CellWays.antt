@@ -63,7 +63,7 @@ use Rattle.wait_class.specs.Posts.{IsOut}
 use Rattle.wait_leave.specs.declared.exits.Exit.{Exit}
 use Rattle.wait_leave.specs.declared.exits.Until.TheVariants as until
 use Rattle.completion_cell.specs.AwaitLeaves.{EndsAwaitUntil, await_exit, await_exits, await_stopped, await_until}
-use Rattle.completion_cell.specs.Awaits.{answer_in, await_table, point_of}
+use Rattle.completion_cell.specs.Awaits.{answer_to_await, await_table, await_point_at}
 use Rattle.completion_cell.specs.LoadedCounts.{AreInRange, InRange}
 use Rattle.completion_cell.specs.declared.awaits.AwaitCall.{AwaitCall}
 use Rattle.completion_cell.specs.declared.awaits.AwaitOutcome.{AwaitOutcome}
@@ -398,7 +398,7 @@ module _ (me d : ℕ) (st : SleepState) where
   Out s e = LeadsOut await_table me call (cell_ways me d st) CellAt s e
 
   out_of_hold : (s : AwaitStage) (e : Exit AwaitStage AwaitOutcome) → hold_exit ≡ e
-      → ((trail : List Event) → CellAt (point_of s) trail → CellFrom d st in_hold trail) → Out s e
+      → ((trail : List Event) → CellAt (await_point_at s) trail → CellFrom d st in_hold trail) → Out s e
   out_of_hold s e is from = subst (Out s) is (record {
     way = in_hold;
     from = from;
@@ -418,7 +418,7 @@ module _ (me d : ℕ) (st : SleepState) where
   cell_outs s e is = absurd (cc)
 
   exit_takes : (s : AwaitStage) (e : Exit AwaitStage AwaitOutcome) → await_exit s ≡ Some e
-      → is_taking (point_of s) ≡ true → ⊥
+      → is_taking (await_point_at s) ≡ true → ⊥
   exit_takes stage.Look e is z = absurd (cc)
   exit_takes stage.Queue e is z = absurd (cc)
   exit_takes stage.Sleep e is z = absurd (cc)
@@ -440,7 +440,7 @@ stopped_asked true r found seen is = refl
 stopped_asked false r found seen is = absurd (cc)
 
 await_left_asked : (r : AwaitCall) (o : AwaitOutcome) (seen : ℕ) → until.Left seen ≡ await_until r o
-    → (r.asked ≡ true) × (answer_in o ≡ minus_512)
+    → (r.asked ≡ true) × (answer_to_await o ≡ minus_512)
 await_left_asked r (outcome.Signalled found) seen is = (stopped_asked r.asked r found seen is, refl)
 await_left_asked r o seen is = absurd (cc)
 
@@ -474,7 +474,7 @@ module _ {A : Type 0} (old new : Known) (d : ℕ) (st : SleepState) (seen : ℕ)
       (Fine who d st) (cell_speech who d st) law.table law.ruled.whole.interleaved old e.first stage.First cell_is
       (λ _ _. out) (λ v a h. h) tt new e.leaves.at e.leaves.outcome e.leaves.came (gone_by await_table await_exits old
       e.first stage.First new e.leaves.at (turn.Done e.leaves.outcome) e.leaves.came asked.0 e.fresh.unasked)
-      (λ r q ts tells. (tells.ranged, takes_none (answer_in e.leaves.outcome) asked.1)) cell_before)
+      (λ r q ts tells. (tells.ranged, takes_none (answer_to_await e.leaves.outcome) asked.1)) cell_before)
 
 pub left_awaits_follow : (A : Type 0) → LeftAwaitsFollow A
 left_awaits_follow A old new d st seen law out e = cell_left old new d st seen law out e

@@ -45,7 +45,7 @@ use Rattle.wait_event.specs.declared.wait_leaves.WaitUntil.{WaitUntil}
 use Rattle.wait_event.specs.declared.wait_leaves.WaitUntil.TheVariants as until
 use Rattle.wait_event.specs.WaitLeaves.{EndsWaitUntil, parted_in, wait_exit, wait_exits, wait_until_in}
 use Rattle.wait_event.specs.WaitPlans.{plan, wait_plan}
-use Rattle.wait_event.specs.Waits.{answer_in, point_of, wait_table}
+use Rattle.wait_event.specs.Waits.{answer_to_wait, wait_point_at, wait_table}
 use Rattle.wait_event.proofs.Plans.{plain_program, program_is}
 use Rattle.swait_queue.specs.SimpleWaits.{tail_in}
 use Rattle.var_wait.specs.VarLeaves.{until_loaded}
@@ -207,7 +207,7 @@ module _ (me : ℕ) (call : Call) (loops : (p : Point) (w : List Event) (a : Ans
   abbrev Out : WaitStage → Exit WaitStage WaitOutcome → Type 0
   Out s e = LeadsOut wait_table me call (cond_ways me call) Trails s e
 
-  out_of_hold : (s : WaitStage) → ((trail : List Event) → Trails (point_of s) trail
+  out_of_hold : (s : WaitStage) → ((trail : List Event) → Trails (wait_point_at s) trail
       → IsInPrepare (call_watch call) trail) → Out s hold_exit
   out_of_hold s from = record {
     way = in_hold;
@@ -216,7 +216,7 @@ module _ (me : ℕ) (call : Call) (loops : (p : Point) (w : List Event) (a : Ans
     start = tt;
   }
 
-  out_behind : (s : WaitStage) → ((trail : List Event) → Trails (point_of s) trail
+  out_behind : (s : WaitStage) → ((trail : List Event) → Trails (wait_point_at s) trail
       → CondFrom call behind_prepare trail) → Out s turn_exit
   out_behind s from = record {
     way = behind_prepare;
@@ -266,7 +266,7 @@ parted_asked true r found seen selected is = refl
 parted_asked false r found seen selected is = absurd (cc)
 
 left_asked : (r : WaitCall) (d : WaitOutcome) (seen : ℕ) (selected : Bool)
-    → until.Left seen selected ≡ wait_until_in r d → (r.asked ≡ true) × (answer_in d ≡ minus_512)
+    → until.Left seen selected ≡ wait_until_in r d → (r.asked ≡ true) × (answer_to_wait d ≡ minus_512)
 left_asked r (outcome.Signalled found) seen selected is = (parted_asked r.asked r found seen selected is, refl)
 left_asked r d seen selected is = absurd (cc)
 
@@ -294,7 +294,7 @@ module _ {A : Type 0} (old new : Known) (w : Watch) (how : How) (call : Call)
       e.first
       stage.First is new e.leaves.at (turn.Done e.leaves.outcome) e.leaves.came).number
 
-  cond_ended : IsWordTo me call (cond_ways me call) (cond_says old new w how result e) (answer_in e.leaves.outcome)
+  cond_ended : IsWordTo me call (cond_ways me call) (cond_says old new w how result e) (answer_to_wait e.leaves.outcome)
   cond_ended = ended_word wait_table wait_exits me call (cond_ways me call) Latest AnyRun speech law.table
       law.ruled.whole.interleaved old e.first stage.First is (λ _ _. out) start tt new e.leaves.at e.leaves.outcome
       e.leaves.came (λ r q ts tells. tt) before

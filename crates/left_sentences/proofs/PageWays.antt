@@ -26,7 +26,7 @@ use Rattle.wait_class.specs.Posts.{IsOut}
 use Rattle.wait_leave.specs.declared.exits.Exit.{Exit}
 use Rattle.wait_leave.specs.declared.exits.Until.TheVariants as until
 use Rattle.page_lock.specs.PageLeaves.{EndsPageUntil, page_exit, page_exits, page_failed, page_until}
-use Rattle.page_lock.specs.PageTables.{answer_in, page_table, point_of}
+use Rattle.page_lock.specs.PageTables.{answer_to_page, page_table, page_point_at}
 use Rattle.page_lock.specs.declared.waits.LockPage.{LockPage}
 use Rattle.page_lock.specs.declared.waits.PageOutcome.{PageOutcome}
 use Rattle.page_lock.specs.declared.waits.PageOutcome.TheVariants as outcome
@@ -128,7 +128,7 @@ module _ (me p : ℕ) (st : SleepState) where
   Out s e = LeadsOut page_table me call (page_ways me p) At s e
 
   out_at_once : (s : PageStage) (e : Exit PageStage PageOutcome) → over_exit ≡ e
-      → ((trail : List Event) → At (point_of s) trail → PageFrom p at_once trail) → Out s e
+      → ((trail : List Event) → At (page_point_at s) trail → PageFrom p at_once trail) → Out s e
   out_at_once s e is from = subst (Out s) is (record {
     way = at_once;
     from = from;
@@ -137,7 +137,7 @@ module _ (me p : ℕ) (st : SleepState) where
   })
 
   out_by_finish : (s : PageStage) (e : Exit PageStage PageOutcome) → finish_exit ≡ e
-      → ((trail : List Event) → At (point_of s) trail → PageFrom p by_finish trail) → Out s e
+      → ((trail : List Event) → At (page_point_at s) trail → PageFrom p by_finish trail) → Out s e
   out_by_finish s e is from = subst (Out s) is (record {
     way = by_finish;
     from = from;
@@ -169,7 +169,7 @@ page_failed_asked true r seen is = refl
 page_failed_asked false r seen is = absurd (cc)
 
 page_left_asked : (r : LockPage) (d : PageOutcome) (seen : ℕ) → until.Left seen ≡ page_until r d
-    → (r.asked ≡ true) × (answer_in d ≡ minus_4)
+    → (r.asked ≡ true) × (answer_to_page d ≡ minus_4)
 page_left_asked r outcome.Interrupted seen is = (page_failed_asked r.asked r seen is, refl)
 page_left_asked r d seen is = absurd (cc)
 

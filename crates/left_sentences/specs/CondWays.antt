@@ -22,7 +22,7 @@ use Rattle.wait_rule.specs.Says.{MeetsLaw}
 use Rattle.wait_class.specs.declared.stages.Turn.TheVariants as turns
 use Rattle.wait_class.specs.Posts.{IsOut}
 use Rattle.wait_event.specs.WaitLeaves.{EndsWaitUntil, wait_exits}
-use Rattle.wait_event.specs.Waits.{answer_in, wait_table}
+use Rattle.wait_event.specs.Waits.{answer_to_wait, wait_table}
 use Rattle.wait_event.specs.declared.wait_events.WaitEnd.{WaitEnd}
 use Rattle.wait_event.specs.declared.wait_leaves.WaitUntil.{WaitUntil}
 use Rattle.wait_event.specs.declared.wait_leaves.WaitUntil.TheVariants as until
@@ -119,4 +119,4 @@ abbrev pub AskedWaitsFollow : Type 0 → Type 0
 AskedWaitsFollow A = (old new : Known) (c : ℕ) (how : How) (result : WaitUntil (Result (Unit {0}) WaitEnd))
     → MeetsLaw new.view → IsOut old → (e : EndsWaitUntil A old new (watch.Plain c) how result)
     → IsWordTo old.view.number (calls.Wait c how) (cond_ways old.view.number (calls.Wait c how))
-    (cond_says old new (watch.Plain c) how result e) (answer_in e.leaves.outcome)
+    (cond_says old new (watch.Plain c) how result e) (answer_to_wait e.leaves.outcome)

@@ -33,7 +33,7 @@ use Rattle.wait_rule.specs.SaidEvents.{said}
 use Rattle.wait_rule.specs.Transitions.{Goes, Program, Transition, after_transition, call_program}
 use Rattle.bit_wait.proofs.Heeding.{worn_not, zero_not}
 use Rattle.wait_class.specs.Posts.{own_of as own_in}
-use Rattle.page_lock.specs.PageEnds.{WasInterrupted, are_calm}
+use Rattle.page_lock.specs.PageEnds.{WasPageInterrupted, are_calm}
 use Rattle.page_lock.specs.PageWords.{EndsPageGivenUp, PageLocksHeed}
 use Rattle.page_lock.proofs.LookedSteps.{calm_later, has_looked, looked_after, looked_append, looked_in, looked_on, looked_still, told_by}
 
@@ -215,7 +215,7 @@ module _ (me w : ℕ) (st : SleepState) where
       (leads (has_looked old) trail p t.seen h))
 
 -- a wait that was interrupted has looked since
-interrupted_looked : (k : Known) (p : ℕ) (st : SleepState) (seen : ℕ) → WasInterrupted k p st seen
+interrupted_looked : (k : Known) (p : ℕ) (st : SleepState) (seen : ℕ) → WasPageInterrupted k p st seen
     → has_looked k ≡ true
 interrupted_looked k p st seen i =
     let calm : are_calm (step.Look i.look ∷ i.later) ≡ true = calm_later i.front (step.Look i.look) i.later

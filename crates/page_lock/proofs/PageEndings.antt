@@ -22,20 +22,20 @@ use Rattle.wait_class.specs.declared.stages.Turn.TheVariants as turn
 use Rattle.wait_class.specs.Tables.{Advances, IsAt, IsEnded, Plan, call_plan}
 use Rattle.wait_class.specs.UnderWay.{IsUnderWay}
 use Rattle.wait_class.proofs.Wholes.{begins, ended_runs, none_of}
-use Rattle.bit_wait.specs.BitEnds.{answer_of}
+use Rattle.bit_wait.specs.BitEnds.{answer_of_bit_end}
 use Rattle.bit_wait.specs.Holders.{IsHolder}
 use Rattle.bit_wait.specs.declared.wait_calls.BitEnd.{BitEnd}
 use Rattle.bit_wait.proofs.Holders.{none_taken}
 use Rattle.page_lock.specs.PageStays.{PageKeeps, TakesPage}
-use Rattle.page_lock.specs.PageEnds.{EndsPageLock, IsCause, end_in, has_taken as given}
+use Rattle.page_lock.specs.PageEnds.{EndsPageLock, IsPageCause, page_end_in, has_taken_page as given}
 use Rattle.wait_leave.specs.Leaves.{with_asked}
 use Rattle.page_lock.specs.PageTables.{
-  IsFresh,
-  IsRunning,
+  IsFreshPageWait,
+  IsRunningPageWait,
   PageCauseIn,
   WhyPageFailed,
-  answer_in,
-  is_over,
+  answer_to_page,
+  is_page_over,
   page_in,
   page_table,
   page_took,
@@ -48,7 +48,7 @@ use Rattle.page_lock.specs.declared.waits.PageStage.TheVariants as stage
 use Rattle.page_lock.proofs.PageGround.{amid_from, amid_to, unasked_asks}
 
 -- a task that is idle, with its entry off, and that asks for no page, may begin
-pub begins_at : (k : Known) (r : Run LockPage) → IsRunning r.of → IsTold k → IsUp k → IsIdle k → IsOut k → AsksNoPage k
+pub begins_at : (k : Known) (r : Run LockPage) → IsRunningPageWait r.of → IsTold k → IsUp k → IsIdle k → IsOut k → AsksNoPage k
     → IsAt page_table k r stage.First
 begins_at k r runs told up idle out asks = begins page_table k r stage.First runs refl refl refl refl
     (asks_no_page k asks) told up idle out
@@ -106,22 +106,22 @@ module _ (old new : Known) (p : ℕ) (g : Bool) (k : PageKeeps (own_of old) (pag
 
 -- the cause of an answer, by the call
 abbrev CauseOf : Known → Watch → SleepState → Result (Unit {0}) BitEnd → Type 0
-CauseOf k (watch.Bit p b) st x = IsCause k p st x
+CauseOf k (watch.Bit p b) st x = IsPageCause k p st x
 CauseOf k _ st x = ⊥
 
-answer_is : (e : LockPage) (o : PageOutcome) → answer_in o ≡ answer_of (end_in e o)
+answer_is : (e : LockPage) (o : PageOutcome) → answer_to_page o ≡ answer_of_bit_end (page_end_in e o)
 answer_is e outcome.Over = refl
 answer_is e outcome.Interrupted = refl
 answer_is e outcome.Worn = refl
 
-pub taken_is : (e : LockPage) (o : PageOutcome) → is_over o ≡ given (end_in e o)
+pub taken_is : (e : LockPage) (o : PageOutcome) → is_page_over o ≡ given (page_end_in e o)
 taken_is e outcome.Over = refl
 taken_is e outcome.Interrupted = refl
 taken_is e outcome.Worn = refl
 
 -- a wait that was not asked to leave
 cause_is : (k : Known) (e : LockPage) (o : PageOutcome) → e.asked ≡ false → PageCauseIn k e o
-    → IsCause k e.page e.state (end_in e o)
+    → IsPageCause k e.page e.state (page_end_in e o)
 cause_is k e outcome.Over none x = tt
 cause_is k e outcome.Interrupted none x = subst (λ (b : Bool). WhyPageFailed b k e) none x
 cause_is k e outcome.Worn none x = x
@@ -129,7 +129,7 @@ cause_is k e outcome.Worn none x = x
 -- A call that ended; it was asked to leave on its way or not.
 module _ (old new : Known) (r q : Run LockPage) (s : PageStage) (o : PageOutcome)
     (same : page_in q.of ≡ page_in r.of) (ended : IsEnded page_table new q o)
-    (keeps : PageKeeps (own_of old) (page_in r.of) (page_took s) (is_over o) old new) where
+    (keeps : PageKeeps (own_of old) (page_in r.of) (page_took s) (is_page_over o) old new) where
   pub out_by : IsOut new
   out_by = none_of (page_in q.of) ((told_of new).bits.stored (own_of new)) ended.stands.home
 
@@ -142,12 +142,12 @@ module _ (old new : Known) (r q : Run LockPage) (s : PageStage) (o : PageOutcome
   }
 
   -- and keeps the page or not that had not taken it
-  pub takes_by : page_took s ≡ false → (p : ℕ) → page_in r.of ≡ page p → (g : Bool) → is_over o ≡ g → IsUp old → IsIdle old → IsOut old
+  pub takes_by : page_took s ≡ false → (p : ℕ) → page_in r.of ≡ page p → (g : Bool) → is_page_over o ≡ g → IsUp old → IsIdle old → IsOut old
       → (told_of old).hold.head ≡ None → TakesPage old new p g
   takes_by nothing p begun g is up idle out held = takes_page old new p g
       (subst (λ (h : Bool). PageKeeps (own_of old) (page p) false h old new) is
-      (subst (λ (c : Watch). PageKeeps (own_of old) c false (is_over o) old new) begun
-      (subst (λ (had : Bool). PageKeeps (own_of old) (page_in r.of) had (is_over o) old new) nothing keeps)))
+      (subst (λ (c : Watch). PageKeeps (own_of old) c false (is_page_over o) old new) begun
+      (subst (λ (had : Bool). PageKeeps (own_of old) (page_in r.of) had (is_page_over o) old new) nothing keeps)))
       up idle out held ended.up (idle_by idle.unmarked) ended.stands.told
       (ap (λ (n : ℕ). (told_of new).bits.stored (index n 0)) (sym keeps.number) ∙ out_by) ended.trail.asks
       (λ yes. ap (told_of new).bits.keeps (sym (same ∙ begun)) ∙ ended.trail.keeps (is ∙ yes))
@@ -156,7 +156,7 @@ pub page_is : (r : LockPage) (p : ℕ) → r.page ≡ p → page_in r ≡ page p
 page_is r p is = ap page is
 
 -- from its first stage
-module _ (old new : Known) (r q : Run LockPage) (p : ℕ) (st : SleepState) (fresh : IsFresh r.of p st) (o : PageOutcome)
+module _ (old new : Known) (r q : Run LockPage) (p : ℕ) (st : SleepState) (fresh : IsFreshPageWait r.of p st) (o : PageOutcome)
     (a : Advances page_table old new r q stage.First (turn.Done o)) where
   same_page : page_in q.of ≡ page_in r.of
   same_page = ap (λ (x : Plan). x.watch) a.same
@@ -171,19 +171,19 @@ module _ (old new : Known) (r q : Run LockPage) (p : ℕ) (st : SleepState) (fre
   ends_idle = idle_by old new r q stage.First o same_page a.lands a.went.keeps
 
   pub ends_takes : IsUp old → IsIdle old → IsOut old → (told_of old).hold.head ≡ None
-      → TakesPage old new p (given (end_in q.of o))
+      → TakesPage old new p (given (page_end_in q.of o))
   ends_takes = takes_by old new r q stage.First o same_page a.lands a.went.keeps refl p (page_is r.of p fresh.page)
-      (given (end_in q.of o)) (taken_is q.of o)
+      (given (page_end_in q.of o)) (taken_is q.of o)
 
   began : page_table.plan_of r.of ≡ call_plan (calls.LockPage p st)
   began i = with_asked (fresh.unasked i) (call_plan (calls.LockPage (fresh.page i) (fresh.state i)))
 
   -- what it says at its end
-  pub ends_wait : EndsPageLock old new p st (end_in q.of o)
+  pub ends_wait : EndsPageLock old new p st (page_end_in q.of o)
   ends_wait = record {
     runs = ended_runs page_table old new r q stage.First o a (call_plan (calls.LockPage p st)) began
-        (answer_of (end_in q.of o)) (answer_is q.of o);
-    cause = subst (λ (x : Plan). CauseOf new x.watch x.state (end_in q.of o)) (a.same ∙ began)
+        (answer_of_bit_end (page_end_in q.of o)) (answer_is q.of o);
+    cause = subst (λ (x : Plan). CauseOf new x.watch x.state (page_end_in q.of o)) (a.same ∙ began)
         (cause_is new q.of o (ap (λ (x : Plan). x.asked) (a.same ∙ began)) a.lands.trail.cause);
   }
 
@@ -206,7 +206,7 @@ locks_clean old new p clean up idle false t = record {
 -- of a call that went on by stretches
 pub under_clean : (c : Plan) (k : Known) (q : Run LockPage) (o : PageOutcome)
     → IsUnderWay page_table c k q (turn.Done o)
-    → MatchBool (given (end_in q.of o)) (IsHolder k c.watch) (IsClean k)
+    → MatchBool (given (page_end_in q.of o)) (IsHolder k c.watch) (IsClean k)
 under_clean c k q o i =
     let r = i.began in
     let p = r.of.page in
@@ -217,9 +217,9 @@ under_clean c k q o i =
       unmarked = i.clean.settled.unmarked;
     } in
     let out : IsOut i.old = i.clean.settled.unqueued (own_of i.old) in
-    subst (λ (w : Watch). MatchBool (given (end_in q.of o)) (IsHolder k w) (IsClean k))
+    subst (λ (w : Watch). MatchBool (given (page_end_in q.of o)) (IsHolder k w) (IsClean k))
     (ap (λ (x : Plan). x.watch) i.plan)
     (locks_clean i.old k p i.clean i.came.lands.up
-    (idle_by i.old k r q i.start o same i.came.lands i.came.went.keeps was.unmarked) (given (end_in q.of o))
-    (takes_by i.old k r q i.start o same i.came.lands i.came.went.keeps i.nothing p refl (given (end_in q.of o))
+    (idle_by i.old k r q i.start o same i.came.lands i.came.went.keeps was.unmarked) (given (page_end_in q.of o))
+    (takes_by i.old k r q i.start o same i.came.lands i.came.went.keeps i.nothing p refl (given (page_end_in q.of o))
     (taken_is q.of o) i.clean.up was out (i.told.head ∙ i.clean.free.head)))

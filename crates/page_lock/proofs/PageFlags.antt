@@ -36,20 +36,20 @@ use Rattle.wait_rule.proofs.KnownLaws.ToldFlags.{told_more}
 use Rattle.wait_rule.proofs.KnownLaws.TaskHistories.{history_after}
 use Rattle.wait_rule.proofs.KnownLaws.Transitions.{only_none}
 use Rattle.wait_class.specs.Posts.{own_of}
-use Rattle.wait_class.specs.Findings.{nothing}
+use Rattle.wait_class.specs.Findings.{saw_nothing}
 use Rattle.wait_class.proofs.Ground.Keeping.{keeps_of}
 use Rattle.wait_class.proofs.Histories.{ends_more}
 use Rattle.wait_class.specs.declared.stages.Run.{Run}
 use Rattle.wait_class.specs.declared.stages.Turn.TheVariants as turn
 use Rattle.wait_class.specs.Tables.{IsAt, Turned, falls, post_of}
-use Rattle.wait_class.specs.Laws.{IsPlain, turn_post}
+use Rattle.wait_class.specs.Laws.{IsPlainTurn, turn_post}
 use Rattle.wait_class.proofs.OwnSteps.{own_goes, stands_same}
 use Rattle.wait_class.proofs.Turns.{GoesOn, advance_by}
 use Rattle.wait_class.proofs.Wholes.{none_of}
 use Rattle.page_lock.specs.PageStays.{PageKeeps}
 use Rattle.page_lock.specs.PageTables.{
   FlagsAt,
-  FoundSignal,
+  FoundPageSignal,
   IsQuiet,
   IsUnasked,
   PageTurn,
@@ -107,7 +107,7 @@ module _ (old : Known) (run : Run LockPage) where
   clear_from : Carries unchanged old cleared → IsAt page_table old run stage.Unflag
       → GoesOn page_table old cleared run.of run.of stage.Unflag (turn.Again stage.QueueLock)
   clear_from carries a = own_goes page_table old old cleared run.of run.of stage.Unflag (turn.Again stage.QueueLock)
-      (step.Unflag (own_of old) None) nothing (only_none old) (only_none cleared) (λ x did. tt)
+      (step.Unflag (own_of old) None) saw_nothing (only_none old) (only_none cleared) (λ x did. tt)
       (step_keeps old cleared (page_in run.of) carries) refl (refl, inl refl) (tt, tt, tt) a.up
       (stands_same old (step.Unflag (own_of old) None) (post_of page_table run.of stage.Unflag)
       (turn_post page_table run.of (turn.Again stage.QueueLock)) a.stands refl refl refl refl a.stands.state
@@ -233,7 +233,7 @@ module _ (old : Known) (run : Run LockPage) (w : ℕ) where
         | inr asks ↦ asks
       ]
 
-      signal : WhyOut false old r → flag_of w ≡ false → FoundSignal old r
+      signal : WhyOut false old r → flag_of w ≡ false → FoundPageSignal old r
       signal why set = elim why [
         | inl told ↦ not_both (is_told (own_of old) (history_of old)) told (none (is_unasked set)).0
         | inr found ↦ found
@@ -308,17 +308,17 @@ module _ (old : Known) (run : Run LockPage) (w : ℕ) where
     flag_from given none stage.Last own a = last_from a given none (flag_of w) refl
     flag_from given none s own a = absurd own
 
-plain_turns : (hit looks : Bool) → IsPlain page_table (if hit then turn.Again stage.FinishState
+plain_turns : (hit looks : Bool) → IsPlainTurn page_table (if hit then turn.Again stage.FinishState
     else if looks then turn.Again stage.Look else turn.Again stage.Sleep)
 plain_turns true looks = refl
 plain_turns false true = refl
 plain_turns false false = refl
 
-plain_last : (hit : Bool) → IsPlain page_table (if hit then turn.Again stage.Clear else turn.Done outcome.Interrupted)
+plain_last : (hit : Bool) → IsPlainTurn page_table (if hit then turn.Again stage.Clear else turn.Done outcome.Interrupted)
 plain_last true = refl
 plain_last false = tt
 
-plain_flags : (r : LockPage) (s : PageStage) → FlagsAt s → (hit : Bool) → IsPlain page_table (flagged_to r s hit)
+plain_flags : (r : LockPage) (s : PageStage) → FlagsAt s → (hit : Bool) → IsPlainTurn page_table (flagged_to r s hit)
 plain_flags r stage.Flag own hit = plain_turns hit (looks_in r.state)
 plain_flags r stage.Last own hit = plain_last hit
 plain_flags r s own hit = absurd own
@@ -374,7 +374,7 @@ module _ (old : Known) (run : Run LockPage) (a : IsAt page_table old run stage.C
 
   note_from : KeepsBitOf noted (page run.of.page)
       → GoesOn page_table old noted run.of run.of stage.Clear (turn.Done outcome.Over)
-  note_from keeps = own_goes page_table old old noted run.of run.of stage.Clear (turn.Done outcome.Over) n nothing
+  note_from keeps = own_goes page_table old old noted run.of run.of stage.Clear (turn.Done outcome.Over) n saw_nothing
       (only_none old) (only_none noted) (λ x did. tt)
       (page_keeps_noted (own_of old) (own_of old) run.of.page old noted refl) refl
       (refl, inr (sym (note_given old run a))) (tt, tt, tt) a.up

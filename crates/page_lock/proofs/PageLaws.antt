@@ -15,7 +15,7 @@ use Rattle.wait_class.proofs.Ways.{look_by, sleep_by, way}
 use Rattle.wait_class.specs.declared.stages.Turn.TheVariants as turn
 use Rattle.wait_class.specs.Laws.{
   DrawLaw,
-  IsLawfulTable,
+  IsLawfulCallTable,
   LawOf,
   LockLaw,
   LookLaw,
@@ -25,7 +25,7 @@ use Rattle.wait_class.specs.Laws.{
   StateLaw,
   UnlockLaw,
 }
-use Rattle.page_lock.specs.PageTables.{page_depth, doing_at, head_in, page_in, page_table}
+use Rattle.page_lock.specs.PageTables.{page_depth, page_doing, page_head_in, page_in, page_table}
 use Rattle.page_lock.specs.declared.waits.LockPage.{LockPage}
 use Rattle.page_lock.specs.declared.waits.PageStage.{PageStage}
 use Rattle.page_lock.specs.declared.waits.PageStage.TheVariants as stage
@@ -100,7 +100,7 @@ module _ (r : LockPage) where
     home = λ o h. h;
     trail = λ old new c u. over_end new r (c.keeps (page_in r) ∙ u.1)
         (asks_calm old new r (step.Unlock _ false ∷ []) c refl (λ k. refl) u.0);
-    permits = λ k fits at u. owes_low k (head_in r) at (page_low r.page);
+    permits = λ k fits at u. owes_low k (page_head_in r) at (page_low r.page);
   }
   unlock_queue false = record {
     held = record { holds = refl; head = refl };
@@ -117,7 +117,7 @@ module _ (r : LockPage) where
     state = λ σ s. s;
     home = λ o h. h;
     trail = λ old new c u. waits_calm old new r (step.Unlock _ false ∷ []) c refl (λ k. refl) u;
-    permits = λ k fits at u. owes_low k (head_in r) at (page_low r.page);
+    permits = λ k fits at u. owes_low k (page_head_in r) at (page_low r.page);
   }
 
   -- a turn: the state, a look for a signal, and the sleep
@@ -279,8 +279,8 @@ module _ (r : LockPage) where
       leaves = record { head = refl; ticket = refl };
       state = λ σ s. s;
       home = tt;
-      permits = λ old mid w c fits at u. owes_low mid (head_in r) at (page_low r.page);
-      trail = λ old new w c shows u. pared_none old new r w (head_in r) c shows u;
+      permits = λ old mid w c fits at u. owes_low mid (page_head_in r) at (page_low r.page);
+      trail = λ old new w c shows u. pared_none old new r w (page_head_in r) c shows u;
     };
   }
 
@@ -303,10 +303,10 @@ module _ (r : LockPage) where
       off_calm old new r (step.Unlock _ false ∷ []) c refl (λ k. refl) u.0,
       left_calm old new r (step.Unlock _ false ∷ []) c refl refl u.1,
     );
-    permits = λ k fits at u. owes_low k (head_in r) at (page_low r.page);
+    permits = λ k fits at u. owes_low k (page_head_in r) at (page_low r.page);
   }
 
-  laws_at : (s : PageStage) → LawOf (doing_at s) page_table r s
+  laws_at : (s : PageStage) → LawOf (page_doing s) page_table r s
   laws_at stage.First = tt
   laws_at stage.Unflag = tt
   laws_at stage.QueueLock = draw_queue
@@ -338,7 +338,7 @@ depth_most stage.FinishQueue = omega arith
 depth_most stage.FinishUnlock = omega arith
 depth_most s = omega arith
 
-pub page_lawful : IsLawfulTable page_table
+pub page_lawful : IsLawfulCallTable page_table
 page_lawful = record {
   keeps = page_stays;
   tells = record { none = λ r. tt; on = λ r q w ts us a b. tt; quiet = λ r x quiet. tt };

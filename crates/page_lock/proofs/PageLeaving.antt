@@ -44,7 +44,7 @@ use Rattle.page_lock.specs.PageLeaves.{
   takes_page_until,
 }
 use Rattle.page_lock.specs.PageStays.{PageKeeps, TakesPage}
-use Rattle.page_lock.specs.PageTables.{IsFresh, IsWaiting, PageCauseIn, TrailAt, WhyPageFailed, is_over, page_in, page_table, page_took}
+use Rattle.page_lock.specs.PageTables.{IsFreshPageWait, IsWaitingForPage, PageCauseIn, PageWaitTrail, WhyPageFailed, is_page_over, page_in, page_table, page_took}
 use Rattle.page_lock.specs.declared.waits.LockPage.{LockPage}
 use Rattle.page_lock.specs.declared.waits.PageOutcome.{PageOutcome}
 use Rattle.page_lock.specs.declared.waits.PageOutcome.TheVariants as outcome
@@ -65,7 +65,7 @@ abbrev finishes : PageExit
 finishes = record { to = turn.Again stage.FinishState; rests = false }
 
 -- who waits waits on, asked or not
-waits_asked : (k : Known) (r : LockPage) → IsWaiting k r → IsWaiting k (page_exits.asks r)
+waits_asked : (k : Known) (r : LockPage) → IsWaitingForPage k r → IsWaitingForPage k (page_exits.asks r)
 waits_asked k r w = record {
   asks = w.asks;
   quiet = w.quiet;
@@ -84,7 +84,7 @@ finish_exit : (r : LockPage) (s : PageStage) → page_table.drawn s ≡ false �
     → no_ticket ≡ (post_of page_table r s).ticket → page_took s ≡ false
     → StateGoes page_table r s (page_exits.asks r) (turn.Again stage.FinishState)
     → HomeGoes page_table r s (page_exits.asks r) (turn.Again stage.FinishState)
-    → ((k : Known) → TrailAt k r s → IsWaiting k r) → ExitLaw page_table page_exits r s finishes
+    → ((k : Known) → PageWaitTrail k r s → IsWaitingForPage k r) → ExitLaw page_table page_exits r s finishes
 finish_exit r s fresh head ticket took state home waits = record {
   fresh = fresh;
   plain = refl;
@@ -105,7 +105,7 @@ end_exit : (r : LockPage) (s : PageStage) → page_table.drawn s ≡ false → N
     → no_ticket ≡ (post_of page_table r s).ticket → page_took s ≡ false
     → StateGoes page_table r s (page_exits.asks r) (turn.Done outcome.Interrupted)
     → HomeGoes page_table r s (page_exits.asks r) (turn.Done outcome.Interrupted)
-    → ((k : Known) → TrailAt k r s
+    → ((k : Known) → PageWaitTrail k r s
     → page_table.TrailEnd k (page_exits.asks r) outcome.Interrupted) → ExitLaw page_table page_exits r s ends_now
 end_exit r s fresh head ticket took state home ends = record {
   fresh = fresh;
@@ -250,7 +250,7 @@ failed_taken : (b : Bool) (e : LockPage) → false ≡ takes_page_until (page_fa
 failed_taken true e = refl
 failed_taken false e = refl
 
-until_taken : (e : LockPage) (o : PageOutcome) → is_over o ≡ takes_page_until (page_until e o)
+until_taken : (e : LockPage) (o : PageOutcome) → is_page_over o ≡ takes_page_until (page_until e o)
 until_taken e outcome.Over = refl
 until_taken e outcome.Interrupted = failed_taken e.asked e
 until_taken e outcome.Worn = refl
@@ -269,7 +269,7 @@ module _ (A : Type 0) (old new : Known) (r q : Run LockPage) (s : PageStage) (o 
   lands : IsEnded page_table new q o
   lands = way_lands A page_table page_exits page_may_leave page_lawful old r s new q (turn.Done o) w
 
-  kept : PageKeeps (own_of old) (page_in r.of) (page_took s) (is_over o) old new
+  kept : PageKeeps (own_of old) (page_in r.of) (page_took s) (is_page_over o) old new
   kept = way_keeps A page_table page_exits page_may_leave page_lawful old r s new q (turn.Done o) w
 
   same_plan : with_asked false (page_table.plan_of q.of) ≡ with_asked false (page_table.plan_of r.of)
@@ -314,7 +314,7 @@ module _ (A : Type 0) (old new : Known) (r q : Run LockPage) (s : PageStage) (o 
       (λ is. way_asked A page_table page_exits page_may_leave page_lawful old r s new q (turn.Done o) w unasked is)
 
 -- a whole call
-pub ends_until : (A : Type 0) (old new : Known) (r q : Run LockPage) (p : ℕ) (st : SleepState) → IsFresh r.of p st
+pub ends_until : (A : Type 0) (old new : Known) (r q : Run LockPage) (p : ℕ) (st : SleepState) → IsFreshPageWait r.of p st
     → (o : PageOutcome) → OnTheWay A page_table page_exits old r stage.First new q (turn.Done o)
     → EndsPageUntil A old new p st (page_until q.of o)
 ends_until A old new r q p st fresh o w = record {

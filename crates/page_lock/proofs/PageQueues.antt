@@ -34,7 +34,7 @@ use Rattle.wq_head.specs.Looks.{Looks}
 use Rattle.wq_head.proofs.CarriedHolds.{looks_carried}
 use Rattle.wq_head.proofs.PermitHeads.{owes_low, page_low}
 use Rattle.wait_class.specs.Posts.{Post, Stands, own_of}
-use Rattle.wait_class.specs.Findings.{nothing, with_worn}
+use Rattle.wait_class.specs.Findings.{saw_nothing, with_worn}
 use Rattle.wait_class.proofs.FormPlaces.{form_is, form_left, form_worn}
 use Rattle.wait_class.proofs.Ground.Standing.{carried_stands, owner_own}
 use Rattle.wait_class.proofs.Histories.{stored_history, unlocked_history}
@@ -47,7 +47,7 @@ use Rattle.wait_class.specs.declared.stages.Turn.TheVariants as turn
 use Rattle.wait_class.specs.Tables.{IsAt, Turned, post_of}
 use Rattle.wait_class.specs.Laws.{turn_post}
 use Rattle.page_lock.specs.PageEnds.{are_calm}
-use Rattle.page_lock.specs.PageTables.{HasJoinedPage, IsQuiet, head_in, page_in, page_table}
+use Rattle.page_lock.specs.PageTables.{HasJoinedPage, IsQuiet, page_head_in, page_in, page_table}
 use Rattle.page_lock.specs.declared.waits.LockPage.{LockPage}
 use Rattle.page_lock.specs.declared.waits.PageStage.TheVariants as stage
 use Rattle.page_lock.proofs.PageGround.{page_keeps_on, page_keeps_queued, page_stays, unasked_asks}
@@ -110,8 +110,8 @@ module _ (old : Known) (run : Run LockPage) (a : IsAt page_table old run stage.Q
     number : new.view.number ≡ old.view.number
     number = x.carries.number
 
-    seen_at : x.seen.at ≡ head_in r
-    seen_at = ap (λ (k : Known). k.at) x.looks.is ∙ a.stands.at (head_in r) refl
+    seen_at : x.seen.at ≡ page_head_in r
+    seen_at = ap (λ (k : Known). k.at) x.looks.is ∙ a.stands.at (page_head_in r) refl
 
     by_own : new ≡ stored_with x.seen (step.Queue (own_of x.seen) e)
     by_own = x.is ∙ ap (λ (n : ℕ). stored_with x.seen (step.Queue (index n 0) e)) (sym seen_number)
@@ -132,7 +132,7 @@ module _ (old : Known) (run : Run LockPage) (a : IsAt page_table old run stage.Q
     }
 
     join_from : GoesOn page_table old new r r stage.Queue (turn.Again stage.Try)
-    join_from = own_goes page_table old x.seen new r r stage.Queue (turn.Again stage.Try) (step.Queue i e) nothing
+    join_from = own_goes page_table old x.seen new r r stage.Queue (turn.Again stage.Try) (step.Queue i e) saw_nothing
         (only_looked old x.seen x.looks.items x.looks.same x.looks.looks x.looks.is)
         (subst (OnlyLooks (added x.seen (item.Made (step.Queue i e)))) (sym x.is)
         (record { items = item.Member ∷ []; looks = (tt, tt); is = refl }))
@@ -163,8 +163,8 @@ module _ (old : Known) (run : Run LockPage) (a : IsAt page_table old run stage.Q
     mid_stands = carried_stands only_looks old mid p p carried a.stands (λ j at. held.agreed) refl a.stands.at refl
         a.stands.state (subst (IsHome absent (page_in r)) (sym (carried.out i refl out_old)) tt)
 
-    mid_at : mid.at ≡ head_in r
-    mid_at = mid_stands.at (head_in r) refl
+    mid_at : mid.at ≡ page_head_in r
+    mid_at = mid_stands.at (page_head_in r) refl
 
     note_on : WasWorn new.view.number new.view.items w.head w.place
     note_on = subst (λ (k : Known). WasWorn k.view.number k.view.items w.head w.place) (sym is)
@@ -189,7 +189,7 @@ module _ (old : Known) (run : Run LockPage) (a : IsAt page_table old run stage.Q
           asks_more mid new (step.Unlock mid.at false ∷ []) (unlocked_history mid new is) ∙ unasked,
           record {
             noted = subst (λ (h : ℕ). WasWorn new.view.number new.view.items h w.place)
-                (x.head ∙ a.stands.at (head_in r) refl) note_on;
+                (x.head ∙ a.stands.at (page_head_in r) refl) note_on;
             ends = (
               history_of mid,
               unlocked_history mid new is ∙ ap (λ (h : ℕ). history_of mid ++ step.Unlock h false ∷ []) mid_at,
@@ -204,9 +204,9 @@ queue_out old r a = out_old old r a
 
 pub queue_holds : (old : Known) (r : Run LockPage) → IsAt page_table old r stage.Queue → IsHolding old
 queue_holds old r a = record {
-  locked = a.stands.head ∙ ap Some (sym (a.stands.at (head_in r.of) refl));
-  agreed = a.stands.agreed (head_in r.of) refl;
-  told = a.stands.told ∙ ap Some (sym (a.stands.at (head_in r.of) refl));
+  locked = a.stands.head ∙ ap Some (sym (a.stands.at (page_head_in r.of) refl));
+  agreed = a.stands.agreed (page_head_in r.of) refl;
+  told = a.stands.told ∙ ap Some (sym (a.stands.at (page_head_in r.of) refl));
 }
 
 pub queue_asks : (old : Known) (r : Run LockPage) → IsAt page_table old r stage.Queue → AsksNoPage old
@@ -214,7 +214,7 @@ queue_asks old r a = unasked_asks old a.trail.0
 
 pub worn_owes : (old mid : Known) (r : Run LockPage) → IsAt page_table old r stage.Queue → mid.at ≡ old.at
     → OwesNoPermit mid
-worn_owes old mid r a same = owes_low mid (head_in r.of) (same ∙ a.stands.at (head_in r.of) refl) (page_low r.of.page)
+worn_owes old mid r a same = owes_low mid (page_head_in r.of) (same ∙ a.stands.at (page_head_in r.of) refl) (page_low r.of.page)
 
 pub join_advances : (old new : Known) (r : Run LockPage) → IsAt page_table old r stage.Queue → IsHolding new
     → HasAddedForPage old new r.of.page → Turned page_table old new r r stage.Queue (turn.Again stage.Try)
@@ -241,9 +241,9 @@ off_may old r a me mine = record {
 
 pub off_holds : (old : Known) (r : Run LockPage) → IsAt page_table old r stage.Off → IsHolding old
 off_holds old r a = record {
-  locked = a.stands.head ∙ ap Some (sym (a.stands.at (head_in r.of) refl));
-  agreed = a.stands.agreed (head_in r.of) refl;
-  told = a.stands.told ∙ ap Some (sym (a.stands.at (head_in r.of) refl));
+  locked = a.stands.head ∙ ap Some (sym (a.stands.at (page_head_in r.of) refl));
+  agreed = a.stands.agreed (page_head_in r.of) refl;
+  told = a.stands.told ∙ ap Some (sym (a.stands.at (page_head_in r.of) refl));
 }
 
 -- who takes its entry off itself asks for no page
@@ -259,7 +259,7 @@ off_from : (old new : Known) (run : Run LockPage) → IsAt page_table old run st
 off_from old new run a x held =
     let r = run.of in
     let i = own_of old in
-    own_goes page_table old old new r r stage.Off (turn.Again (stage.QueueUnlock true)) (step.Unqueue i) nothing
+    own_goes page_table old old new r r stage.Off (turn.Again (stage.QueueUnlock true)) (step.Unqueue i) saw_nothing
     (only_none old)
     (subst (OnlyLooks (added old (item.Made (step.Unqueue i)))) (sym x.is)
     (record { items = item.Member ∷ []; looks = (tt, tt); is = refl }))

@@ -25,7 +25,7 @@ use Rattle.wait_class.specs.Tables.{has_sleep}
 use Rattle.wait_class.specs.Laws.{Calm, Unmoved}
 use Rattle.wait_class.proofs.Histories.{awake_more, found_still}
 use Rattle.page_lock.specs.PageEnds.{are_calm, is_calm}
-use Rattle.page_lock.specs.PageTables.{PageEndTrail, FoundFirst, FoundSet, FoundSignal, HasLeft, IsOff, IsQuiet, IsUnasked, IsWaiting, TrailAt, WhyOut, head_in, page_in}
+use Rattle.page_lock.specs.PageTables.{PageEndTrail, FoundFirst, FoundSet, FoundPageSignal, HasLeftPage, IsPageOff, IsQuiet, IsUnasked, IsWaitingForPage, PageWaitTrail, WhyOut, page_head_in, page_in}
 use Rattle.page_lock.specs.declared.waits.LockPage.{LockPage}
 use Rattle.page_lock.specs.declared.waits.PageOutcome.TheVariants as outcome
 use Rattle.page_lock.specs.declared.waits.PageStage.{PageStage}
@@ -144,7 +144,7 @@ module _ (old new : Known) (r : LockPage) (es : List Step) (number : new.view.nu
     calm = calm_more f.more es f.calm calm;
   }
 
-  pub signal_on : has_sleep es ≡ false → FoundSignal old r → FoundSignal new r
+  pub signal_on : has_sleep es ≡ false → FoundPageSignal old r → FoundPageSignal new r
   signal_on awake f = record {
     found = set_on f.found;
     front = f.front;
@@ -164,12 +164,12 @@ module _ (old new : Known) (r : LockPage) (es : List Step) (number : new.view.nu
       ∙ calm_told (own_of old) (view_of (history_of old)) (is_quiet (own_of old) (history_of old)) es calm)))
   out_on awake false (inr f) = inr (signal_on awake f)
 
-  pub left_on : has_sleep es ≡ false → HasLeft old r → HasLeft new r
+  pub left_on : has_sleep es ≡ false → HasLeftPage old r → HasLeftPage new r
   left_on awake h = out_on awake r.asked h
 
   -- that ask for nothing else
-  pub waiting_on : asked_steps (waits_for (own_of old) r.page) es ≡ waits_for (own_of old) r.page → IsWaiting old r
-      → IsWaiting new r
+  pub waiting_on : asked_steps (waits_for (own_of old) r.page) es ≡ waits_for (own_of old) r.page → IsWaitingForPage old r
+      → IsWaitingForPage new r
   waiting_on same w = record {
     asks = asks_more old new es more ∙ (ap (λ (k : Asked). asked_steps k es) w.asks
         ∙ (same ∙ ap (λ (n : ℕ). waits_for (index n 0) r.page) (sym number)));
@@ -178,8 +178,8 @@ module _ (old new : Known) (r : LockPage) (es : List Step) (number : new.view.nu
   }
 
   -- by which the entry is off
-  pub given_on : asked_steps (waits_for (own_of old) r.page) es ≡ was_given (own_of old) r.page → IsWaiting old r
-      → IsOff new r
+  pub given_on : asked_steps (waits_for (own_of old) r.page) es ≡ was_given (own_of old) r.page → IsWaitingForPage old r
+      → IsPageOff new r
   given_on given w = record {
     asks = inl (asks_more old new es more ∙ (ap (λ (k : Asked). asked_steps k es) w.asks
         ∙ (given ∙ ap (λ (n : ℕ). was_given (index n 0) r.page) (sym number))));
@@ -187,14 +187,14 @@ module _ (old new : Known) (r : LockPage) (es : List Step) (number : new.view.nu
     found = set_on w.found;
   }
 
-  pub taken_on : asked_steps (waits_for (own_of old) r.page) es ≡ nothing_asked → IsWaiting old r → IsOff new r
+  pub taken_on : asked_steps (waits_for (own_of old) r.page) es ≡ nothing_asked → IsWaitingForPage old r → IsPageOff new r
   taken_on none w = record {
     asks = inr (asks_more old new es more ∙ (ap (λ (k : Asked). asked_steps k es) w.asks ∙ none));
     quiet = quiet_on w.quiet;
     found = set_on w.found;
   }
 
-  pub off_on : ((k : Asked) → asked_steps k es ≡ k) → IsOff old r → IsOff new r
+  pub off_on : ((k : Asked) → asked_steps k es ≡ k) → IsPageOff old r → IsPageOff new r
   off_on same o = record {
     asks = elim o.asks [
       | inl given ↦ inl (asks_more old new es more ∙ (same (asks_for old)
@@ -207,13 +207,13 @@ module _ (old new : Known) (r : LockPage) (es : List Step) (number : new.view.nu
 
 -- the same by steps that take and give back no bit
 module _ (old new : Known) (r : LockPage) (es : List Step) (c : Calm es old new) (calm : are_calm es ≡ true) where
-  pub waits_calm : ((k : Asked) → asked_steps k es ≡ k) → IsWaiting old r → IsWaiting new r
+  pub waits_calm : ((k : Asked) → asked_steps k es ≡ k) → IsWaitingForPage old r → IsWaitingForPage new r
   waits_calm same = waiting_on old new r es c.number c.history calm (same (waits_for (own_of old) r.page))
 
-  pub left_calm : has_sleep es ≡ false → HasLeft old r → HasLeft new r
+  pub left_calm : has_sleep es ≡ false → HasLeftPage old r → HasLeftPage new r
   left_calm awake = left_on old new r es c.number c.history calm awake
 
-  pub off_calm : ((k : Asked) → asked_steps k es ≡ k) → IsOff old r → IsOff new r
+  pub off_calm : ((k : Asked) → asked_steps k es ≡ k) → IsPageOff old r → IsPageOff new r
   off_calm same = off_on old new r es c.number c.history calm same
 
   pub quiet_calm : IsQuiet old → IsQuiet new
@@ -224,14 +224,14 @@ module _ (old new : Known) (r : LockPage) (es : List Step) (c : Calm es old new)
 
 -- a look at the own entry outside of a hold
 module _ (old new : Known) (r : LockPage) (w : ℕ) (c : Calm (step.Peek (index old.view.number 0) w ∷ []) old new) where
-  pub peeked_some : is_some (entry_of w) ≡ true → IsWaiting old r × HasLeft old r → IsWaiting new r × HasLeft new r
+  pub peeked_some : is_some (entry_of w) ≡ true → IsWaitingForPage old r × HasLeftPage old r → IsWaitingForPage new r × HasLeftPage new r
   peeked_some is u =
       let es = step.Peek (index old.view.number 0) w ∷ [] in (
         waiting_on old new r es c.number c.history refl (looked_on (own_of old) r.page (entry_of w) is) u.0,
         left_calm old new r es c refl refl u.1,
       )
 
-  pub peeked_none : is_some (entry_of w) ≡ false → IsWaiting old r × HasLeft old r → IsOff new r × HasLeft new r
+  pub peeked_none : is_some (entry_of w) ≡ false → IsWaitingForPage old r × HasLeftPage old r → IsPageOff new r × HasLeftPage new r
   peeked_none is u =
       let es = step.Peek (index old.view.number 0) w ∷ [] in (
         given_on old new r es c.number c.history refl (looked_off (own_of old) r.page (entry_of w) is) u.0,
@@ -245,7 +245,7 @@ took_own x p k is = ap (ask_step (step.Unqueue x)) is
 
 pub pared_some : (old new : Known) (r : LockPage) (w : ℕ)
     → Calm (step.Saw (index old.view.number 0) w ∷ step.Unqueue (index old.view.number 0) ∷ []) old new
-    → is_some (entry_of w) ≡ true → IsWaiting old r × HasLeft old r → IsOff new r × HasLeft new r
+    → is_some (entry_of w) ≡ true → IsWaitingForPage old r × HasLeftPage old r → IsPageOff new r × HasLeftPage new r
 pared_some old new r w c is u =
     let x = index old.view.number 0 in
     let es = step.Saw x w ∷ step.Unqueue x ∷ [] in (
@@ -257,7 +257,7 @@ pared_some old new r w c is u =
 
 pub pared_none : (old new : Known) (r : LockPage) (w h : ℕ)
     → Calm (step.Saw (index old.view.number 0) w ∷ step.Unlock h false ∷ []) old new
-    → is_some (entry_of w) ≡ false → IsWaiting old r × HasLeft old r → IsOff new r × HasLeft new r
+    → is_some (entry_of w) ≡ false → IsWaitingForPage old r × HasLeftPage old r → IsPageOff new r × HasLeftPage new r
 pared_none old new r w h c is u =
     let x = index old.view.number 0 in
     let es = step.Saw x w ∷ step.Unlock h false ∷ [] in (
@@ -266,8 +266,8 @@ pared_none old new r w h c is u =
     )
 
 -- a signal is found
-pub signalled : (old new : Known) (r : LockPage) (w : ℕ) (c : Calm (step.Look w ∷ []) old new) (u : IsWaiting old r)
-    → pending (state_mask r.state) (task_of w) ≡ true → FoundSignal new r
+pub signalled : (old new : Known) (r : LockPage) (w : ℕ) (c : Calm (step.Look w ∷ []) old new) (u : IsWaitingForPage old r)
+    → pending (state_mask r.state) (task_of w) ≡ true → FoundPageSignal new r
 signalled old new r w c u pends = record {
   found = set_on old new r (step.Look w ∷ []) c.number c.history refl u.found;
   front = u.found.more;
@@ -289,13 +289,13 @@ module _ (old new : Known) (r : LockPage) (still : Unmoved old new) where
   asks_still : asks_for new ≡ asks_for old
   asks_still = asks_more old new [] none_more
 
-  waits_still : IsWaiting old r → IsWaiting new r
+  waits_still : IsWaitingForPage old r → IsWaitingForPage new r
   waits_still = waiting_on old new r [] still.number none_more refl refl
 
-  left_still : HasLeft old r → HasLeft new r
+  left_still : HasLeftPage old r → HasLeftPage new r
   left_still = left_on old new r [] still.number none_more refl refl
 
-  off_still : IsOff old r → IsOff new r
+  off_still : IsPageOff old r → IsPageOff new r
   off_still = off_on old new r [] still.number none_more refl (λ k. refl)
 
   quiet_still : IsQuiet old → IsQuiet new
@@ -321,7 +321,7 @@ module _ (old new : Known) (r : LockPage) (still : Unmoved old new) where
   asked_still : asks_for old ≡ waits_for (own_of old) r.page → asks_for new ≡ waits_for (own_of new) r.page
   asked_still asks = asks_still ∙ (asks ∙ ap (λ (n : ℕ). waits_for (index n 0) r.page) (sym still.number))
 
-  pub still_by : (s : PageStage) → TrailAt old r s → TrailAt new r s
+  pub still_by : (s : PageStage) → PageWaitTrail old r s → PageWaitTrail new r s
   still_by stage.First u = asks_still ∙ u
   still_by stage.Unflag u = (asks_still ∙ u.0, first_still u.1)
   still_by stage.QueueLock u = ((asks_still ∙ u.0.0, quiet_still u.0.1), cleared_still u.1)
@@ -347,7 +347,7 @@ module _ (old new : Known) (r : LockPage) (still : Unmoved old new) where
   still_by (stage.QueueUnlock false) u = waits_still u
   still_by stage.Worn u = (
     asks_still ∙ u.0,
-    found_still old new (head_in r) r.place still u.1,
+    found_still old new (page_head_in r) r.place still u.1,
   )
   still_by stage.State u = waits_still u
   still_by stage.Flag u = waits_still u

@@ -37,11 +37,11 @@ use Rattle.wait_class.proofs.Histories.{ends_more}
 use Rattle.wait_class.specs.declared.stages.Run.{Run}
 use Rattle.wait_class.specs.declared.stages.Turn.TheVariants as turn
 use Rattle.wait_class.specs.Tables.{IsAt, Turned, falls, post_of}
-use Rattle.wait_class.specs.Laws.{IsPlain, turn_post}
+use Rattle.wait_class.specs.Laws.{IsPlainTurn, turn_post}
 use Rattle.wait_class.proofs.OwnSteps.{own_goes, stands_same}
 use Rattle.wait_class.proofs.Turns.{GoesOn, advance_by}
 use Rattle.page_lock.specs.PageStays.{PageKeeps}
-use Rattle.page_lock.specs.PageTables.{PageTurn, TriesAt, head_in, page_call, page_in, page_table, page_tried_to, tries_page}
+use Rattle.page_lock.specs.PageTables.{PageTurn, TriesAt, page_head_in, page_call, page_in, page_table, page_tried_to, tries_page}
 use Rattle.page_lock.specs.declared.waits.LockPage.{LockPage}
 use Rattle.page_lock.specs.declared.waits.PageOutcome.TheVariants as outcome
 use Rattle.page_lock.specs.declared.waits.PageStage.{PageStage}
@@ -168,9 +168,9 @@ module _ (old : Known) (run : Run LockPage) (v : ℕ) where
         (record {
           cause = record {
             head = refl;
-            noted = notes_stay old.view.number old.view.items (item.Made e ∷ []) (head_in r) r.place a.trail.1.noted;
+            noted = notes_stay old.view.number old.view.items (item.Made e ∷ []) (page_head_in r) r.place a.trail.1.noted;
             found = v;
-            ends = ends_more old new (step.Unlock (head_in r) false ∷ []) (tries_page q) a.trail.1.ends history;
+            ends = ends_more old new (step.Unlock (page_head_in r) false ∷ []) (tries_page q) a.trail.1.ends history;
             set = set;
           };
           keeps = λ is. absurd (cc);
@@ -185,7 +185,7 @@ module _ (old : Known) (run : Run LockPage) (v : ℕ) where
         (over_end new q (keeps_page set) (asks ∙ a.trail.0))
     try_from s own a b set = absurd own
 
-plain_tries : (s : PageStage) → TriesAt s → (b : Bool) → IsPlain page_table (page_tried_to s b)
+plain_tries : (s : PageStage) → TriesAt s → (b : Bool) → IsPlainTurn page_table (page_tried_to s b)
 plain_tries stage.First own true = refl
 plain_tries stage.First own false = tt
 plain_tries stage.Try own true = refl

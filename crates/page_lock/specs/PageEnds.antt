@@ -18,7 +18,7 @@ use Rattle.wait_rule.specs.Says.{history_of}
 use Rattle.wait_rule.specs.Transitions.{call_program}
 use Rattle.wait_class.specs.Posts.{EndsWith, Runs, own_of as own_in}
 use Rattle.wait_class.specs.Tables.{has_sleep}
-use Rattle.bit_wait.specs.BitEnds.{answer_of}
+use Rattle.bit_wait.specs.BitEnds.{answer_of_bit_end}
 use Rattle.bit_wait.specs.declared.wait_calls.BitEnd.{BitEnd}
 use Rattle.bit_wait.specs.declared.wait_calls.BitEnd.TheVariants as bit_end
 use Rattle.page_lock.specs.declared.waits.PageOutcome.{PageOutcome}
@@ -26,10 +26,10 @@ use Rattle.page_lock.specs.declared.waits.PageOutcome.TheVariants as outcome
 use Rattle.page_lock.specs.declared.waits.LockPage.{LockPage}
 
 -- the answer of a wait that has ended
-abbrev pub end_in : LockPage → PageOutcome → Result (Unit {0}) BitEnd
-end_in r outcome.Over = Ok tt
-end_in r outcome.Interrupted = Err (bit_end.Interrupted r.seen)
-end_in r outcome.Worn = Err (bit_end.Worn (head_of (page r.page)) r.place)
+abbrev pub page_end_in : LockPage → PageOutcome → Result (Unit {0}) BitEnd
+page_end_in r outcome.Over = Ok tt
+page_end_in r outcome.Interrupted = Err (bit_end.Interrupted r.seen)
+page_end_in r outcome.Worn = Err (bit_end.Worn (head_of (page r.page)) r.place)
 
 -- steps that try no bit, queue no entry and clear no flag
 abbrev pub is_calm : Step → Bool
@@ -45,7 +45,7 @@ are_calm (e ∷ es) = is_calm e && are_calm es
 -- The steps of a wait that a signal ended. As soon as its entry was queued, in the same hold, the test-and-set found
 -- `seen`, with the page set, and the task made no further one. After that its own word showed a signal that the state
 -- admits, and it has not slept since. Last of all its flag read no.
-pub record WasInterrupted (k : Known) (p : ℕ) (st : SleepState) (seen : ℕ) : Type 0 where
+pub record WasPageInterrupted (k : Known) (p : ℕ) (st : SleepState) (seen : ℕ) : Type 0 where
   pub before : List Step
   pub entry : Entry
   pub more : List Step
@@ -88,26 +88,26 @@ WasPageLeft k p seen = LeftUnqueued k p seen ⊎ LeftQueued k p seen
 
 -- The last steps of a wait that found no place: its hold noted it, and gave the head back; then the test-and-set found
 -- the page set.
-pub record FoundNoPlace (k : Known) (p h place : ℕ) : Type 0 where
+pub record FoundNoPlaceForPage (k : Known) (p h place : ℕ) : Type 0 where
   pub head : h ≡ head_of (page p)
   pub noted : WasWorn k.view.number k.view.items h place
   pub found : ℕ
   pub ends : EndsWith k (step.Unlock h false ∷ step.Consume (page p) 1 found ∷ [])
   pub set : bit_at found 0 ≡ true
 
-abbrev pub IsCause : Known → ℕ → SleepState → Result (Unit {0}) BitEnd → Type 0
-IsCause k p st (Ok u) = Unit {0}
-IsCause k p st (Err (bit_end.Interrupted seen)) = WasInterrupted k p st seen
-IsCause k p st (Err (bit_end.Worn h place)) = FoundNoPlace k p h place
+abbrev pub IsPageCause : Known → ℕ → SleepState → Result (Unit {0}) BitEnd → Type 0
+IsPageCause k p st (Ok u) = Unit {0}
+IsPageCause k p st (Err (bit_end.Interrupted seen)) = WasPageInterrupted k p st seen
+IsPageCause k p st (Err (bit_end.Worn h place)) = FoundNoPlaceForPage k p h place
 
 -- whether the call took the page
-abbrev pub has_taken : Result (Unit {0}) BitEnd → Bool
-has_taken (Ok u) = true
-has_taken (Err e) = false
+abbrev pub has_taken_page : Result (Unit {0}) BitEnd → Bool
+has_taken_page (Ok u) = true
+has_taken_page (Err e) = false
 
 -- The task went through the whole call, and the answer is that of its program, with its cause.
 pub record EndsPageLock (old new : Known) (p : ℕ) (st : SleepState) (result : Result (Unit {0}) BitEnd) :
     Type 0 where
   pub runs : Runs (call_program old.view.number 0 (calls.LockPage p st)) old new (next.Go (at.Page paging.First))
-      (next.Ends (answer_of result))
-  pub cause : IsCause new p st result
+      (next.Ends (answer_of_bit_end result))
+  pub cause : IsPageCause new p st result

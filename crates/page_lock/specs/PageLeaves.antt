@@ -14,8 +14,8 @@ use Rattle.wait_leave.specs.declared.exits.Until.TheVariants as until
 use Rattle.wait_leave.specs.Leaves.{Exits}
 use Rattle.wait_leave.specs.OnTheWay.{IsAwakeSince, OnTheWay}
 use Rattle.bit_wait.specs.declared.wait_calls.BitEnd.{BitEnd}
-use Rattle.page_lock.specs.PageEnds.{IsCause, WasPageLeft, end_in, has_taken}
-use Rattle.page_lock.specs.PageTables.{IsFresh, page_table}
+use Rattle.page_lock.specs.PageEnds.{IsPageCause, WasPageLeft, page_end_in, has_taken_page}
+use Rattle.page_lock.specs.PageTables.{IsFreshPageWait, page_table}
 use Rattle.page_lock.specs.declared.waits.LockPage.{LockPage}
 use Rattle.page_lock.specs.declared.waits.PageOutcome.{PageOutcome}
 use Rattle.page_lock.specs.declared.waits.PageOutcome.TheVariants as outcome
@@ -52,20 +52,20 @@ page_exits = record {
 -- the answer: one that failed was left where it was asked, or a signal had ended it
 abbrev pub page_failed : Bool → LockPage → Until (Result (Unit {0}) BitEnd)
 page_failed true r = until.Left r.seen
-page_failed false r = until.Over (end_in r outcome.Interrupted)
+page_failed false r = until.Over (page_end_in r outcome.Interrupted)
 
 abbrev pub page_until : LockPage → PageOutcome → Until (Result (Unit {0}) BitEnd)
-page_until r outcome.Over = until.Over (end_in r outcome.Over)
+page_until r outcome.Over = until.Over (page_end_in r outcome.Over)
 page_until r outcome.Interrupted = page_failed r.asked r
-page_until r outcome.Worn = until.Over (end_in r outcome.Worn)
+page_until r outcome.Worn = until.Over (page_end_in r outcome.Worn)
 
 -- its cause
 abbrev pub IsPageUntil : Known → ℕ → SleepState → Until (Result (Unit {0}) BitEnd) → Type 0
-IsPageUntil k p st (until.Over x) = IsCause k p st x
+IsPageUntil k p st (until.Over x) = IsPageCause k p st x
 IsPageUntil k p st (until.Left seen) = WasPageLeft k p seen
 
 abbrev pub takes_page_until : Until (Result (Unit {0}) BitEnd) → Bool
-takes_page_until (until.Over x) = has_taken x
+takes_page_until (until.Over x) = has_taken_page x
 takes_page_until (until.Left seen) = false
 
 -- Left for nobody who was not asked
@@ -88,6 +88,6 @@ pub record LeavesPage (A : Type 0) (old new : Known) (r : Run LockPage) (s : Pag
 pub record EndsPageUntil (A : Type 0) (old new : Known) (p : ℕ) (st : SleepState)
     (result : Until (Result (Unit {0}) BitEnd)) : Type 0 where
   pub first : Run LockPage
-  pub fresh : IsFresh first.of p st
+  pub fresh : IsFreshPageWait first.of p st
   pub leaves : LeavesPage A old new first stage.First result
   pub asked : IsLeftFor A result

@@ -30,14 +30,14 @@ use Rattle.wait_rule.specs.Quiet.{is_quiet, is_told}
 use Rattle.wait_rule.specs.Says.{asks_for, history_of, told_of}
 use Rattle.wait_rule.specs.Tickets.{no_ticket}
 use Rattle.wait_class.specs.Posts.{EndsWith, FoundWorn, Post, own_of}
-use Rattle.wait_class.specs.Findings.{nothing}
+use Rattle.wait_class.specs.Findings.{saw_nothing}
 use Rattle.wait_class.specs.Tables.{CallTable, call_plan, has_sleep}
 use Rattle.wait_class.specs.declared.stages.Doing.{Doing}
 use Rattle.wait_class.specs.declared.stages.Doing.TheVariants as doing
 use Rattle.wait_class.specs.declared.stages.Turn.{Turn}
 use Rattle.wait_class.specs.declared.stages.Turn.TheVariants as turn
 use Rattle.wait_leave.specs.Leaves.{with_asked}
-use Rattle.page_lock.specs.PageEnds.{FoundNoPlace, WasInterrupted, WasPageLeft, are_calm}
+use Rattle.page_lock.specs.PageEnds.{FoundNoPlaceForPage, WasPageInterrupted, WasPageLeft, are_calm}
 use Rattle.page_lock.specs.PageStays.{PageKeeps}
 use Rattle.page_lock.specs.declared.waits.LockPage.{LockPage}
 use Rattle.page_lock.specs.declared.waits.PageOutcome.{PageOutcome}
@@ -46,48 +46,48 @@ use Rattle.page_lock.specs.declared.waits.PageStage.{PageStage}
 use Rattle.page_lock.specs.declared.waits.PageStage.TheVariants as stage
 
 -- The stages: the point of the program, what is done there, and whether the ticket of its lock is drawn.
-abbrev pub point_of : PageStage → Point
-point_of stage.First = at.Page paging.First
-point_of stage.Unflag = at.Page paging.Unflag
-point_of stage.QueueLock = at.Page paging.Lock
-point_of stage.QueueTurn = at.Page paging.Lock
-point_of stage.Queue = at.Page paging.Queue
-point_of stage.Try = at.Page paging.Try
-point_of stage.Off = at.Page paging.Off
-point_of (stage.QueueUnlock got) = at.Page (paging.Unlock got)
-point_of stage.Worn = at.Worn
-point_of stage.State = at.Page paging.State
-point_of stage.Flag = at.Page paging.Flag
-point_of stage.Look = at.Page paging.Look
-point_of stage.Sleep = at.Page paging.Sleep
-point_of stage.FinishState = at.Page (paging.Finish finishing.State)
-point_of stage.FinishLook = at.Page (paging.Finish finishing.Look)
-point_of stage.FinishLock = at.Page (paging.Finish finishing.Lock)
-point_of stage.FinishTurn = at.Page (paging.Finish finishing.Lock)
-point_of stage.FinishQueue = at.Page (paging.Finish finishing.Queue)
-point_of stage.FinishUnlock = at.Page (paging.Finish finishing.Unlock)
-point_of stage.Last = at.Page paging.Last
-point_of stage.Clear = at.Page paging.Clear
+abbrev pub page_point_at : PageStage → Point
+page_point_at stage.First = at.Page paging.First
+page_point_at stage.Unflag = at.Page paging.Unflag
+page_point_at stage.QueueLock = at.Page paging.Lock
+page_point_at stage.QueueTurn = at.Page paging.Lock
+page_point_at stage.Queue = at.Page paging.Queue
+page_point_at stage.Try = at.Page paging.Try
+page_point_at stage.Off = at.Page paging.Off
+page_point_at (stage.QueueUnlock got) = at.Page (paging.Unlock got)
+page_point_at stage.Worn = at.Worn
+page_point_at stage.State = at.Page paging.State
+page_point_at stage.Flag = at.Page paging.Flag
+page_point_at stage.Look = at.Page paging.Look
+page_point_at stage.Sleep = at.Page paging.Sleep
+page_point_at stage.FinishState = at.Page (paging.Finish finishing.State)
+page_point_at stage.FinishLook = at.Page (paging.Finish finishing.Look)
+page_point_at stage.FinishLock = at.Page (paging.Finish finishing.Lock)
+page_point_at stage.FinishTurn = at.Page (paging.Finish finishing.Lock)
+page_point_at stage.FinishQueue = at.Page (paging.Finish finishing.Queue)
+page_point_at stage.FinishUnlock = at.Page (paging.Finish finishing.Unlock)
+page_point_at stage.Last = at.Page paging.Last
+page_point_at stage.Clear = at.Page paging.Clear
 
-abbrev pub doing_at : PageStage → Doing
-doing_at stage.QueueLock = doing.Draw
-doing_at stage.QueueTurn = doing.Lock
-doing_at (stage.QueueUnlock got) = doing.Unlock
-doing_at stage.State = doing.State
-doing_at stage.Look = doing.Look
-doing_at stage.Sleep = doing.Sleep
-doing_at stage.FinishState = doing.State
-doing_at stage.FinishLook = doing.Peek
-doing_at stage.FinishLock = doing.Draw
-doing_at stage.FinishTurn = doing.Lock
-doing_at stage.FinishQueue = doing.Pare
-doing_at stage.FinishUnlock = doing.Unlock
-doing_at _ = doing.Own
+abbrev pub page_doing : PageStage → Doing
+page_doing stage.QueueLock = doing.Draw
+page_doing stage.QueueTurn = doing.Lock
+page_doing (stage.QueueUnlock got) = doing.Unlock
+page_doing stage.State = doing.State
+page_doing stage.Look = doing.Look
+page_doing stage.Sleep = doing.Sleep
+page_doing stage.FinishState = doing.State
+page_doing stage.FinishLook = doing.Peek
+page_doing stage.FinishLock = doing.Draw
+page_doing stage.FinishTurn = doing.Lock
+page_doing stage.FinishQueue = doing.Pare
+page_doing stage.FinishUnlock = doing.Unlock
+page_doing _ = doing.Own
 
-abbrev pub is_turn : PageStage → Bool
-is_turn stage.QueueTurn = true
-is_turn stage.FinishTurn = true
-is_turn _ = false
+abbrev pub is_page_turn : PageStage → Bool
+is_page_turn stage.QueueTurn = true
+is_page_turn stage.FinishTurn = true
+is_page_turn _ = false
 
 -- the stages of own events of which there are several: test-and-sets, and looks at the flag
 abbrev pub TriesAt : PageStage → Type 0
@@ -107,9 +107,9 @@ page_took stage.Off = true
 page_took (stage.QueueUnlock got) = got
 page_took _ = false
 
-abbrev pub is_over : PageOutcome → Bool
-is_over outcome.Over = true
-is_over _ = false
+abbrev pub is_page_over : PageOutcome → Bool
+is_page_over outcome.Over = true
+is_page_over _ = false
 
 -- how many events are left at most until no head is held
 abbrev pub page_depth : PageStage → ℕ
@@ -131,21 +131,21 @@ drawn_to stage.QueueLock = stage.QueueTurn
 drawn_to stage.FinishLock = stage.FinishTurn
 drawn_to s = s
 
-abbrev pub next_of : PageStage → PageTurn
-next_of stage.QueueTurn = turn.Again stage.Queue
-next_of (stage.QueueUnlock true) = turn.Done outcome.Over
-next_of (stage.QueueUnlock false) = turn.Again stage.State
-next_of stage.State = turn.Again stage.Flag
-next_of stage.FinishState = turn.Again stage.FinishLook
-next_of stage.FinishTurn = turn.Again stage.FinishQueue
-next_of stage.FinishUnlock = turn.Again stage.Last
-next_of s = turn.Again s
+abbrev pub page_next_of : PageStage → PageTurn
+page_next_of stage.QueueTurn = turn.Again stage.Queue
+page_next_of (stage.QueueUnlock true) = turn.Done outcome.Over
+page_next_of (stage.QueueUnlock false) = turn.Again stage.State
+page_next_of stage.State = turn.Again stage.Flag
+page_next_of stage.FinishState = turn.Again stage.FinishLook
+page_next_of stage.FinishTurn = turn.Again stage.FinishQueue
+page_next_of stage.FinishUnlock = turn.Again stage.Last
+page_next_of s = turn.Again s
 
-abbrev pub found_to : PageStage → Bool → PageTurn
-found_to stage.Look hit = if hit then turn.Again stage.FinishState else turn.Again stage.Sleep
-found_to stage.FinishLook hit = if hit then turn.Again stage.FinishLock else turn.Again stage.Last
-found_to stage.FinishQueue hit = if hit then turn.Again stage.FinishUnlock else turn.Again stage.Last
-found_to s hit = turn.Again s
+abbrev pub page_found_to : PageStage → Bool → PageTurn
+page_found_to stage.Look hit = if hit then turn.Again stage.FinishState else turn.Again stage.Sleep
+page_found_to stage.FinishLook hit = if hit then turn.Again stage.FinishLock else turn.Again stage.Last
+page_found_to stage.FinishQueue hit = if hit then turn.Again stage.FinishUnlock else turn.Again stage.Last
+page_found_to s hit = turn.Again s
 
 abbrev pub page_tried_to : PageStage → Bool → PageTurn
 page_tried_to stage.Try set = if set then turn.Again (stage.QueueUnlock false) else turn.Again stage.Off
@@ -157,43 +157,43 @@ flagged_to r stage.Last hit = if hit then turn.Again stage.Clear else turn.Done 
 flagged_to r _ hit = if hit then turn.Again stage.FinishState
     else if looks_in r.state then turn.Again stage.Look else turn.Again stage.Sleep
 
-abbrev pub state_at : LockPage → PageStage → ℕ
-state_at r stage.State = state_mask r.state
-state_at r _ = 0
+abbrev pub page_state_at : LockPage → PageStage → ℕ
+page_state_at r stage.State = state_mask r.state
+page_state_at r _ = 0
 
 -- where a wait goes on that was put asleep
 abbrev pub is_behind_sleep : PageStage → Bool
 is_behind_sleep stage.State = true
 is_behind_sleep _ = false
 
-abbrev pub answer_in : PageOutcome → Answer
-answer_in outcome.Over = zero_answer
-answer_in outcome.Interrupted = interrupted
-answer_in outcome.Worn = answer.Worn
+abbrev pub answer_to_page : PageOutcome → Answer
+answer_to_page outcome.Over = zero_answer
+answer_to_page outcome.Interrupted = interrupted
+answer_to_page outcome.Worn = answer.Worn
 
 -- the page that the call waits for, and the call
 abbrev pub page_in : LockPage → Watch
 page_in r = page r.page
 
-abbrev pub head_in : LockPage → ℕ
-head_in r = head_of (page_in r)
+abbrev pub page_head_in : LockPage → ℕ
+page_head_in r = head_of (page_in r)
 
 abbrev pub page_call : LockPage → Call
 page_call r = calls.LockPage r.page r.state
 
 -- the numbers of a wait are in their ranges
-abbrev pub IsRunning : LockPage → Type 0
-IsRunning r = r.page < BIT_WORDS
+abbrev pub IsRunningPageWait : LockPage → Type 0
+IsRunningPageWait r = r.page < BIT_WORDS
 
 -- a wait that has not begun
-pub record IsFresh (r : LockPage) (p : ℕ) (st : SleepState) : Type 0 where
+pub record IsFreshPageWait (r : LockPage) (p : ℕ) (st : SleepState) : Type 0 where
   pub page : r.page ≡ p
   pub state : r.state ≡ st
   pub unasked : r.asked ≡ false
 
 -- The wait has ended: the task is RUNNING, holds no head, and its entry is off.
-abbrev pub end_post : LockPage → PageOutcome → Post
-end_post r o = record {
+abbrev pub page_end_post : LockPage → PageOutcome → Post
+page_end_post r o = record {
   head = None;
   ticket = no_ticket;
   stirs = false;
@@ -204,7 +204,7 @@ end_post r o = record {
 
 -- what the flag shows
 abbrev pub with_flag : Bool → Seen
-with_flag hit = record nothing { flag = hit }
+with_flag hit = record saw_nothing { flag = hit }
 
 -- what a test-and-set of the page adds, as the last one found it
 abbrev pub tries_page : LockPage → List Step
@@ -226,7 +226,7 @@ pub record FoundSet (k : Known) (r : LockPage) : Type 0 where
   pub calm : are_calm more ≡ true
 
 -- After that the own word showed a signal that the state admits. The task has not slept since.
-pub record FoundSignal (k : Known) (r : LockPage) : Type 0 where
+pub record FoundPageSignal (k : Known) (r : LockPage) : Type 0 where
   pub found : FoundSet k r
   pub front : List Step
   pub look : ℕ
@@ -255,14 +255,14 @@ pub record HasJoinedPage (k : Known) (r : LockPage) : Type 0 where
   pub ends : EndsWith k (step.Queue (own_of k) entry ∷ [])
 
 -- and it has taken the page in it
-pub record HasGot (k : Known) (r : LockPage) : Type 0 where
+pub record HasGotPage (k : Known) (r : LockPage) : Type 0 where
   pub asks : asks_for k ≡ waits_for (own_of k) r.page
   pub entry : Entry
   pub shows : (told_of k).hold.book (own_of k) ≡ shown entry
   pub keeps : KeepsBitOf k (page_in r)
 
 -- it has found the page set, and waits for it
-pub record IsWaiting (k : Known) (r : LockPage) : Type 0 where
+pub record IsWaitingForPage (k : Known) (r : LockPage) : Type 0 where
   pub asks : asks_for k ≡ waits_for (own_of k) r.page
   pub quiet : IsQuiet k
   pub found : FoundSet k r
@@ -270,80 +270,80 @@ pub record IsWaiting (k : Known) (r : LockPage) : Type 0 where
 -- it waits no more: it was asked to leave; or its flag told of the page, or it found a signal
 abbrev pub WhyOut : Bool → Known → LockPage → Type 0
 WhyOut true k r = Unit {0}
-WhyOut false k r = (is_told (own_of k) (history_of k) ≡ true) ⊎ FoundSignal k r
+WhyOut false k r = (is_told (own_of k) (history_of k) ≡ true) ⊎ FoundPageSignal k r
 
-abbrev pub HasLeft : Known → LockPage → Type 0
-HasLeft k r = WhyOut r.asked k r
+abbrev pub HasLeftPage : Known → LockPage → Type 0
+HasLeftPage k r = WhyOut r.asked k r
 
 -- its entry is off: it found it off, and has been given the page, or it took it off itself
-pub record IsOff (k : Known) (r : LockPage) : Type 0 where
+pub record IsPageOff (k : Known) (r : LockPage) : Type 0 where
   pub asks : IsGiven k r ⊎ IsUnasked k
   pub quiet : IsQuiet k
   pub found : FoundSet k r
 
 -- what a stage says of what the task asks for, and of the last steps
-abbrev pub TrailAt : Known → LockPage → PageStage → Type 0
-TrailAt k r stage.First = IsUnasked k
-TrailAt k r stage.Unflag = IsUnasked k × FoundFirst k r []
-TrailAt k r stage.QueueLock = (IsUnasked k × IsQuiet k) × FoundFirst k r (step.Unflag (own_of k) None ∷ [])
-TrailAt k r stage.QueueTurn = IsUnasked k × IsQuiet k
-TrailAt k r stage.Queue = IsUnasked k × IsQuiet k
-TrailAt k r stage.Try = HasJoinedPage k r
-TrailAt k r stage.Off = HasGot k r
-TrailAt k r (stage.QueueUnlock true) = IsUnasked k × KeepsBitOf k (page_in r)
-TrailAt k r (stage.QueueUnlock false) = IsWaiting k r
-TrailAt k r stage.Worn = IsUnasked k × FoundWorn k (head_in r) r.place []
-TrailAt k r stage.State = IsWaiting k r
-TrailAt k r stage.Flag = IsWaiting k r
-TrailAt k r stage.Look = IsWaiting k r
-TrailAt k r stage.Sleep = IsWaiting k r
-TrailAt k r stage.FinishUnlock = IsOff k r × HasLeft k r
-TrailAt k r stage.Last = IsOff k r × HasLeft k r
-TrailAt k r stage.Clear = IsGiven k r
-TrailAt k r _ = IsWaiting k r × HasLeft k r
+abbrev pub PageWaitTrail : Known → LockPage → PageStage → Type 0
+PageWaitTrail k r stage.First = IsUnasked k
+PageWaitTrail k r stage.Unflag = IsUnasked k × FoundFirst k r []
+PageWaitTrail k r stage.QueueLock = (IsUnasked k × IsQuiet k) × FoundFirst k r (step.Unflag (own_of k) None ∷ [])
+PageWaitTrail k r stage.QueueTurn = IsUnasked k × IsQuiet k
+PageWaitTrail k r stage.Queue = IsUnasked k × IsQuiet k
+PageWaitTrail k r stage.Try = HasJoinedPage k r
+PageWaitTrail k r stage.Off = HasGotPage k r
+PageWaitTrail k r (stage.QueueUnlock true) = IsUnasked k × KeepsBitOf k (page_in r)
+PageWaitTrail k r (stage.QueueUnlock false) = IsWaitingForPage k r
+PageWaitTrail k r stage.Worn = IsUnasked k × FoundWorn k (page_head_in r) r.place []
+PageWaitTrail k r stage.State = IsWaitingForPage k r
+PageWaitTrail k r stage.Flag = IsWaitingForPage k r
+PageWaitTrail k r stage.Look = IsWaitingForPage k r
+PageWaitTrail k r stage.Sleep = IsWaitingForPage k r
+PageWaitTrail k r stage.FinishUnlock = IsPageOff k r × HasLeftPage k r
+PageWaitTrail k r stage.Last = IsPageOff k r × HasLeftPage k r
+PageWaitTrail k r stage.Clear = IsGiven k r
+PageWaitTrail k r _ = IsWaitingForPage k r × HasLeftPage k r
 
 -- the cause of an end: a wait that failed was asked to leave, or a signal ended it
 abbrev pub WhyPageFailed : Bool → Known → LockPage → Type 0
 WhyPageFailed true k r = WasPageLeft k r.page r.seen
-WhyPageFailed false k r = WasInterrupted k r.page r.state r.seen
+WhyPageFailed false k r = WasPageInterrupted k r.page r.state r.seen
 
 abbrev pub PageCauseIn : Known → LockPage → PageOutcome → Type 0
 PageCauseIn k r outcome.Over = Unit {0}
 PageCauseIn k r outcome.Interrupted = WhyPageFailed r.asked k r
-PageCauseIn k r outcome.Worn = FoundNoPlace k r.page (head_in r) r.place
+PageCauseIn k r outcome.Worn = FoundNoPlaceForPage k r.page (page_head_in r) r.place
 
 -- The answer has its cause; the task keeps the page where it took it, and asks for none any more.
 pub record PageEndTrail (k : Known) (r : LockPage) (o : PageOutcome) : Type 0 where
   pub cause : PageCauseIn k r o
-  pub keeps : is_over o ≡ true → KeepsBitOf k (page_in r)
+  pub keeps : is_page_over o ≡ true → KeepsBitOf k (page_in r)
   pub asks : IsUnasked k
 
 abbrev pub page_table : CallTable LockPage PageStage PageOutcome
 page_table = record {
   plan_of = λ r. with_asked r.asked (call_plan (page_call r));
-  Fits = IsRunning;
+  Fits = IsRunningPageWait;
   worn_at = λ r p. record r { place = p };
   joined_at = λ r s. r;
-  point_of = point_of;
-  doing = doing_at;
-  drawn = is_turn;
+  point_of = page_point_at;
+  doing = page_doing;
+  drawn = is_page_turn;
   took = page_took;
   depth = page_depth;
   drawn_to = drawn_to;
-  next_of = λ r s. next_of s;
+  next_of = λ r s. page_next_of s;
   noted = λ r s v. r;
   loaded_to = λ r s v. turn.Again s;
-  found_to = λ r s hit. found_to s hit;
+  found_to = λ r s hit. page_found_to s hit;
   heeded_to = λ r s hit. turn.Again s;
   slept_to = λ r s. stage.State;
   asleep_at = is_behind_sleep;
   added_to = λ r s a. turn.Again s;
-  state_at = state_at;
-  answer_of = answer_in;
-  has_taken = is_over;
-  end_post = end_post;
+  state_at = page_state_at;
+  answer_of = answer_to_page;
+  has_taken = is_page_over;
+  end_post = page_end_post;
   Tells = λ r q ts. Unit {0};
-  Trail = TrailAt;
+  Trail = PageWaitTrail;
   TrailEnd = PageEndTrail;
   Keeps = PageKeeps;
 }

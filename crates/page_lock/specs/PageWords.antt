@@ -14,7 +14,7 @@ use Rattle.wait_rule.specs.Known.{Known}
 use Rattle.wait_rule.specs.Says.{MeetsLaw}
 use Rattle.wait_class.specs.Posts.{IsOut}
 use Rattle.wait_event.specs.Words.{call_says}
-use Rattle.bit_wait.specs.BitEnds.{answer_of}
+use Rattle.bit_wait.specs.BitEnds.{answer_of_bit_end}
 use Rattle.bit_wait.specs.declared.wait_calls.BitEnd.{BitEnd}
 use Rattle.bit_wait.specs.declared.wait_calls.BitEnd.TheVariants as bit_end
 use Rattle.page_lock.specs.PageEnds.{EndsPageLock}
@@ -24,7 +24,7 @@ use Rattle.page_lock.specs.PageEnds.{EndsPageLock}
 abbrev pub PageLocksFollow : Type 0
 PageLocksFollow = (old new : Known) (p : ℕ) (st : SleepState) (result : Result (Unit {0}) BitEnd) → MeetsLaw new.view
     → IsOut old → (e : EndsPageLock old new p st result) → Follows old.view.number (calls.LockPage p st)
-    (call_says old.view.number (calls.LockPage p st) e.runs.transitions) (answer_of result)
+    (call_says old.view.number (calls.LockPage p st) e.runs.transitions) (answer_of_bit_end result)
 
 -- The latest event is a load of the flag, which found it not set. Before it are the events of a finish, and before these
 -- those of a wait for the page that a signal ended: in its last turn it found its flag not set, and an admissible signal

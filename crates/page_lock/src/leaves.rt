@@ -12,7 +12,7 @@ ghost use Rattle.wait_leave.specs.OnTheWay.{IsOnWay, OnTheWay};
 ghost use Rattle.bit_wait.specs.Holders.{IsHolder};
 ghost use Rattle.page_lock.specs.PageLeaves.{EndsPageUntil, LeavesPage, page_exits, page_until, takes_page_until};
 ghost use Rattle.page_lock.specs.PageStays.{PageKeeps, TakesPage};
-ghost use Rattle.page_lock.specs.PageTables.{IsFresh, page_in, page_table};
+ghost use Rattle.page_lock.specs.PageTables.{IsFreshPageWait, page_in, page_table};
 ghost use Rattle.page_lock.specs.declared.waits.PageStage.TheVariants as stage;
 
 use crate::wait_calls::{begin_page, end_of};
@@ -111,7 +111,7 @@ pub fn end_page_until(
     ensures is { result ≡ page_until wait.now.of outcome }
     ensures holder { (c : _) → IsOnWay (Unit {0}) page_table page_exits c task.now wait.now (turn.Done outcome)
         → MatchBool (takes_page_until result) (IsHolder task.now c.watch) (IsClean task.now) }
-    ensures ends { (start : _) → (f : _) → (page : _) → (state : _) → IsFresh f.of page state
+    ensures ends { (start : _) → (f : _) → (page : _) → (state : _) → IsFreshPageWait f.of page state
         → OnTheWay (Unit {0}) page_table page_exits start f stage.First task.now wait.now (turn.Done outcome)
         → EndsPageUntil (Unit {0}) start task.now page state result }
 {

@@ -10,8 +10,8 @@ ghost use Rattle.wait_class.specs.declared.stages.Turn.TheVariants as turn;
 ghost use Rattle.wait_class.specs.Tables.{Advances, IsAt};
 ghost use Rattle.wait_class.specs.UnderWay.{IsUnderWay};
 ghost use Rattle.page_lock.specs.declared.waits.PageStage.TheVariants as stage;
-ghost use Rattle.page_lock.specs.PageTables.{IsFresh, page_table};
-ghost use Rattle.page_lock.specs.PageEnds.{EndsPageLock, end_in, has_taken};
+ghost use Rattle.page_lock.specs.PageTables.{IsFreshPageWait, page_table};
+ghost use Rattle.page_lock.specs.PageEnds.{EndsPageLock, page_end_in, has_taken_page};
 ghost use Rattle.page_lock.specs.PageStays.{TakesPage};
 ghost use Rattle.bit_wait.specs.Holders.{IsHolder};
 
@@ -34,7 +34,7 @@ pub fn begin_page(task: &Task, page: u8, state: SleepState) -> PageRun
     requires out { IsOut task.now }
     requires asks { AsksNoPage task.now }
     ensures at { IsAt page_table task.now result stage.First }
-    ensures fresh { IsFresh result.of page state }
+    ensures fresh { IsFreshPageWait result.of page state }
     ensures told { IsTold task.now }
     ensures under { IsClean task.now
         → IsUnderWay page_table (page_table.plan_of result.of) task.now result (turn.Again stage.First) }
@@ -76,9 +76,9 @@ pub fn lock_page<R: Wait>(
     ensures up { IsUp task.new }
     ensures idle { IsIdle task.new }
     ensures out { IsOut task.new }
-    ensures takes { TakesPage task.old task.new page (has_taken result) }
+    ensures takes { TakesPage task.old task.new page (has_taken_page result) }
     ensures holder { IsClean task.old
-        → MatchBool (has_taken result) (IsHolder task.new (model.page page)) (IsClean task.new) }
+        → MatchBool (has_taken_page result) (IsHolder task.new (model.page page)) (IsClean task.new) }
 {
     let mut call = begin_page(task, page, state);
     let outcome = run(rt, domain, task, &mut call, PageStage::First);
@@ -87,7 +87,7 @@ pub fn lock_page<R: Wait>(
 
 /// The answer of a wait that has ended.
 pub fn end_of(run: LockPage, outcome: PageOutcome) -> Result<(), BitEnd>
-    ensures { result ≡ end_in run outcome }
+    ensures { result ≡ page_end_in run outcome }
 {
     match outcome {
         PageOutcome::Over => Ok(()),
@@ -105,10 +105,10 @@ pub fn end_of(run: LockPage, outcome: PageOutcome) -> Result<(), BitEnd>
 /// The answer of a wait that went on by stretches and has ended. Who owed nothing when it began is a holder of the page
 /// after Ok, and owes nothing after an error; and the answer of one that began at `start` is as that of `lock_page`.
 pub fn end_page(task: &Task, wait: &PageRun, outcome: PageOutcome) -> Result<(), BitEnd>
-    ensures is { result ≡ end_in wait.now.of outcome }
+    ensures is { result ≡ page_end_in wait.now.of outcome }
     ensures holder { (c : _) → IsUnderWay page_table c task.now wait.now (turn.Done outcome)
-        → MatchBool (has_taken result) (IsHolder task.now c.watch) (IsClean task.now) }
-    ensures ends { (start : _) → (f : _) → (page : _) → (state : _) → IsFresh f.of page state
+        → MatchBool (has_taken_page result) (IsHolder task.now c.watch) (IsClean task.now) }
+    ensures ends { (start : _) → (f : _) → (page : _) → (state : _) → IsFreshPageWait f.of page state
         → Advances page_table start task.now f wait.now stage.First (turn.Done outcome)
         → EndsPageLock start task.now page state result }
 {

@@ -13,7 +13,7 @@ use Rattle.wait_rule.specs.Says.{IsFree, IsUp, added}
 use Rattle.wait_rule.specs.Stays.{Carries, state_change, unchanged}
 use Rattle.wq_head.specs.LockTurns.{AwaitsLock, TookLock}
 use Rattle.wait_class.specs.Posts.{HasSeenOwn}
-use Rattle.wait_event.specs.PartSteps.{IsAtHead, Pares}
+use Rattle.wait_event.specs.PartSteps.{IsAtHead, ParesPart}
 use Rattle.wait_event.specs.Prepares.{HasFinished, MayFinish, leave_change}
 use Rattle.wait_event.proofs.Conditions.{low_fits}
 use Rattle.wait_event.proofs.Finishing.{finish_free, finish_home, finish_low, finish_off, finish_on, finish_owes}
@@ -112,7 +112,7 @@ module _ (A : Type 0) (p : Poll) (is : IsPoll p) (start old : Known) (end : Poll
     take_home = finish_home w.before w.stored fin w.stores w.carries w.seen (Some w.entry) w.looks w.entry refl a took.locked
         took.carries
 
-    module _ (b : Known) (found : Bool) (pares : Pares a b found) where
+    module _ (b : Known) (found : Bool) (pares : ParesPart a b found) where
       pub take_owes : OwesNoPermit b
       take_owes = finish_owes w.before w.stored fin w.stores w.carries w.seen (Some w.entry) w.looks w.entry refl a
           took.locked took.carries b (pares_at a b found pares)

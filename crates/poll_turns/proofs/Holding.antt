@@ -14,7 +14,7 @@ use Rattle.wq_head.specs.LockTurns.{AwaitsLock, TookLock}
 use Rattle.wait_class.specs.Posts.{own_of}
 use Rattle.wait_event.specs.declared.prepares.Prepared.TheVariants as prepared
 use Rattle.wait_event.specs.PartSteps.{Heeds}
-use Rattle.wait_event.specs.Prepares.{EndsPrepare, IsPart, MayPrepare, Suits, with_signal}
+use Rattle.wait_event.specs.Prepares.{EndsPrepare, IsPart, MayPrepare, SuitsWait, with_signal}
 use Rattle.wait_event.proofs.Conditions.{low_fits}
 use Rattle.wait_event.proofs.PartSteps.{heeds_none, joins_at}
 use Rattle.wait_event.proofs.Preparing.{ends_carried, ends_keeps, join_ends as prepared_ends, prepare_home, prepare_low, prepare_may}
@@ -41,7 +41,7 @@ module _ (p : Poll) (is : IsPoll p) (start last a : Known) (turned : HasMadeTurn
     home = turned.may.has.first;
   }
 
-  suits : Suits p.first (kind_for p.first) (front_in p.state)
+  suits : SuitsWait p.first (kind_for p.first) (front_in p.state)
   suits = suits_by p.first (front_in p.state) refl is.first
 
   heed : Heeds (record { kind = kind_for p.first; watch = p.first; how = front_in p.state; asks = false }) a a false

@@ -30,7 +30,7 @@ use Rattle.wait_class.specs.declared.stages.Turn.TheVariants as turn
 use Rattle.wait_class.proofs.AwakeSteps.{awake_seen, awake_step, awake_still, awake_stored, only_awake, sleeps_not_on, sleeps_not_same}
 use Rattle.wait_class.proofs.Handed.{given_on, given_seen, given_step, given_still}
 use Rattle.wait_class.proofs.Histories.{awake_more, unlocked_history}
-use Rattle.wait_event.specs.PartSteps.{Pares}
+use Rattle.wait_event.specs.PartSteps.{ParesPart}
 use Rattle.poll_wait.specs.declared.turns.Loads.{Loads}
 use Rattle.poll_wait.specs.declared.turns.Poll.{Poll}
 use Rattle.poll_wait.specs.Polls.{IsPoll, front_in, loaded}
@@ -179,7 +179,7 @@ join_second_awake w is old new (Ok u) x = goes_near _ OnPrepare (join_near old.v
     (next.Go (joined_at x.still)) tt x.runs.goes
 join_second_awake w is old new (Err v) x = only_awake old new x.looks
 
-pub pare_first_awake : (old new : Known) (found : Bool) → Pares old new found → SleepsNot old new
+pub pare_first_awake : (old new : Known) (found : Bool) → ParesPart old new found → SleepsNot old new
 pare_first_awake old new true x = sleeps_not_on old x.seen new (awake_seen old x.seen x.entry x.looked)
     (awake_stored x.seen new (step.Unqueue (index x.seen.view.number 0)) x.takes.is refl)
 pare_first_awake old new false x = sleeps_not_on old x.seen new (awake_seen old x.seen x.entry x.looked)

@@ -2,7 +2,7 @@
 -- What is done in a hold, and the part that is queued there.
 use Rattle.std.specs.Prelude.{◌≡◌, Bool, false, Result}
 use Rattle.wait_model.specs.Watches.{kind_for}
-use Rattle.wait_event.specs.PartSteps.{Joins}
+use Rattle.wait_event.specs.PartSteps.{JoinsPart}
 use Rattle.wait_rule.specs.Known.{Known}
 use Rattle.wait_rule.specs.Says.{unlocked_with}
 use Rattle.wait_rule.specs.Stays.{Carries, unlock_change}
@@ -13,7 +13,7 @@ use Rattle.poll_wait.specs.Polls.{front_in}
 
 -- the first entry of a poll, as a prepare queues it that looks for no signal
 abbrev pub JoinsFirst : Poll → Known → Known → Result Bool Worn → Type 0
-JoinsFirst p old new r = Joins (record { kind = kind_for p.first; watch = p.first; how = front_in p.state; asks = false })
+JoinsFirst p old new r = JoinsPart (record { kind = kind_for p.first; watch = p.first; how = front_in p.state; asks = false })
     old new r
 
 -- the head that is held is given back

@@ -8,7 +8,7 @@ ghost use Rattle.wait_rule.specs.Known.{Known};
 ghost use Rattle.wait_rule.specs.PassedLocks.{PassesNone};
 ghost use Rattle.wait_rule.specs.Says.{IsUp, MayStore, told_of};
 ghost use Rattle.wait_class.specs.Posts.{own_of};
-ghost use Rattle.wait_event.specs.PartSteps.{IsAtHead, Pares};
+ghost use Rattle.wait_event.specs.PartSteps.{IsAtHead, ParesPart};
 ghost use Rattle.wait_event.specs.Prepares.{IsPart};
 ghost use Rattle.wq_head.specs.Holds.{IsHolding};
 ghost use Rattle.poll_wait.specs.Polls.{IsPoll};
@@ -83,7 +83,7 @@ pub(crate) fn pare_first(domain: &Domain, task: &mut Task) -> bool
     requires up { IsUp task.old }
     requires held { IsHolding task.old }
     requires home { IsAtHead task.old }
-    ensures pares { Pares task.old task.new result }
+    ensures pares { ParesPart task.old task.new result }
     ensures held { IsHolding task.new }
 {
     if own_entry(domain, task).is_some() {

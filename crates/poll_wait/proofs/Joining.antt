@@ -36,7 +36,7 @@ use Rattle.wq_head.proofs.CarriedHolds.{looks_carried}
 use Rattle.wq_head.proofs.LockWaits.{turn_looks, turn_of}
 use Rattle.wq_head.proofs.OneMoreLook.{whole_of}
 use Rattle.wq_head.proofs.PermitHeads.{owes_low}
-use Rattle.wait_class.specs.Findings.{nothing, with_worn, with_entry as finds}
+use Rattle.wait_class.specs.Findings.{saw_nothing, with_worn, saw_entry as finds}
 use Rattle.wait_class.specs.Posts.{Runs}
 use Rattle.wait_class.proofs.FormPlaces.{form_is, form_left, form_worn}
 use Rattle.wait_class.proofs.Ground.Going.{runs_looks, runs_on, runs_one}
@@ -242,7 +242,7 @@ module _ (w : Watch) (old a b new : Known) (may : MayJoinSecond old w) (told : I
 
     locks : Runs g old a (next.Go (at.Prepare preparing.Lock)) (next.Go (at.Prepare preparing.Queue))
     locks = runs_lock g (next.Go (at.Prepare preparing.Lock)) (next.Go (at.Prepare preparing.Queue)) old a h l
-        (runs_one g (at.Prepare preparing.Lock) old turn locked nothing
+        (runs_one g (at.Prepare preparing.Lock) old turn locked saw_nothing
         (by_step (step.Lock h (walk_of_hold h None) l.found)) (turn_looks old a h (walk_of_hold h None) l) (refl, refl)
         (tt, tt, tt) (only_none locked))
 
@@ -272,7 +272,7 @@ module _ (w : Watch) (old a b new : Known) (may : MayJoinSecond old w) (told : I
                 ),
                 tt,
               ) (unlock_looks b new u.is)
-          by false is = runs_one g (at.Prepare preparing.Unlock) b b new nothing (by_step (step.Unlock b.at false))
+          by false is = runs_one g (at.Prepare preparing.Unlock) b b new saw_nothing (by_step (step.Unlock b.at false))
               (only_none b) (at_lock x.carries.at, refl) (tt, tt, tt) (unlock_looks b new u.is)
 
       held_none : (told_of old).hold.head ≡ None

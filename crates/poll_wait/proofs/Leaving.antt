@@ -24,7 +24,7 @@ use Rattle.wq_head.specs.Adds.{HasRemoved}
 use Rattle.wq_head.specs.Holds.{HasLocked, HasUnlocked, IsHolding}
 use Rattle.wq_head.proofs.LockWaits.{turn_looks, turn_of}
 use Rattle.wq_head.proofs.PermitHeads.{owes_low}
-use Rattle.wait_class.specs.Findings.{nothing, with_entry as finds}
+use Rattle.wait_class.specs.Findings.{saw_nothing, saw_entry as finds}
 use Rattle.wait_class.specs.Posts.{Runs}
 use Rattle.wait_class.proofs.Ground.Going.{runs_on, runs_one}
 use Rattle.wait_event.specs.PartSteps.{part_change}
@@ -113,7 +113,7 @@ module _ (me : ℕ) (w : Watch) (a c new : Known) (held : IsHolding a) (home : I
       (subst (OnlyLooks (added y.seen (item.Made (step.Unqueue x))))
       (sym (y.takes.is ∙ ap (λ (n : ℕ). stored_with y.seen (step.Unqueue (index n 1))) (y.looked.carries.number ∙ mine)))
       (bit_looks y.seen (step.Unqueue x))))
-      (runs_one g (at.Finish finishing.Unlock false) c c new nothing (by_step (step.Unlock c.at false)) (only_none c)
+      (runs_one g (at.Finish finishing.Unlock false) c c new saw_nothing (by_step (step.Unlock c.at false)) (only_none c)
       (y.takes.carries.at ∙ (y.looked.carries.at ∙ here), refl) (tt, tt, tt) (unlock_looks c new z.is))
 
   by_giving : (y : ParesSecond a c false) (o : Option Entry) → y.entry ≡ o → false ≡ is_some o
@@ -226,7 +226,7 @@ module _ (old k : Known) (o : Option Entry) (may : MayLeave old) (told : IsTold 
 
       locks : Runs f k a (next.Go (at.Finish finishing.Lock false)) (next.Go (at.Finish finishing.Queue false))
       locks = runs_lock f (next.Go (at.Finish finishing.Lock false)) (next.Go (at.Finish finishing.Queue false)) k a here l
-          (runs_one f (at.Finish finishing.Lock false) k turn locked nothing
+          (runs_one f (at.Finish finishing.Lock false) k turn locked saw_nothing
           (by_step (step.Lock here (walk_of_hold here None) l.found)) (turn_looks k a here (walk_of_hold here None) l)
           (ap head_of (sym its_watch), ap (λ (n : ℕ). walk_of_hold n None) (ap head_of (sym its_watch))) (tt, tt, tt)
           (only_none locked))

@@ -22,7 +22,7 @@ use Rattle.wait_rule.specs.Says.{told_of}
 use Rattle.wait_rule.specs.Stays.{Carries, unchanged}
 use Rattle.wait_class.specs.Posts.{own_of}
 use Rattle.wait_class.proofs.Ground.Standing.{bare_head}
-use Rattle.wait_event.specs.Prepares.{EndsPrepare, HasFinished, IsNoWaiter, IsPart, Prepares, Suits, any_how, with_signal}
+use Rattle.wait_event.specs.Prepares.{EndsPrepare, HasFinished, IsNoWaiter, IsPart, Prepares, SuitsWait, any_how, with_signal}
 use Rattle.wait_event.proofs.Conditions.{suits_low}
 use Rattle.wq_head.specs.declared.adds.Worn.{Worn}
 use Rattle.poll_wait.specs.declared.turns.Poll.{Poll}
@@ -31,10 +31,10 @@ use Rattle.poll_wait.specs.Seconds.{EndsJoin, IsPolled, JoinsSecond, MayJoinSeco
 use Rattle.poll_wait.proofs.Near.{Keeps, entry_kept}
 use Rattle.poll_wait.proofs.Programs.{OnFinish, OnPrepare, finish_near, join_near, prepare_near}
 
-pub suits_by : (w : Watch) (how : How) → how.exclusive ≡ false → IsPolled w → Suits w (kind_for w) how
+pub suits_by : (w : Watch) (how : How) → how.exclusive ≡ false → IsPolled w → SuitsWait w (kind_for w) how
 suits_by (watch.Plain c) how front full =
     let low : nat_lt c FIRST_SIMPLE ≡ true = grind (arith, nat_tests, full) in
-    subst (λ (b : Bool). Suits (watch.Plain c) (if b then kind.Autoremove else kind.Simple) how) (sym low) full
+    subst (λ (b : Bool). SuitsWait (watch.Plain c) (if b then kind.Autoremove else kind.Simple) how) (sym low) full
 suits_by (watch.Var v o) how front few = (few, front)
 suits_by w how front never = absurd never
 

@@ -22,7 +22,7 @@ use Rattle.wait_model.specs.Watches.{head_of}
 use Rattle.wait_rule.specs.Transitions.{Program}
 use Rattle.wait_class.specs.Queueing.{wait_form}
 use Rattle.wait_event.specs.Prepares.{finish_program, prepare_program}
-use Rattle.wait_event.specs.WaitPlans.{gives_back, prepares_alone}
+use Rattle.wait_event.specs.WaitPlans.{gives_lock_back, prepares_alone}
 use Rattle.poll_wait.specs.Seconds.{join_program, leave_program}
 use Rattle.poll_wait.proofs.Near.{IsNear}
 
@@ -38,14 +38,14 @@ abbrev prepare_queue : Watch → How → Bool → Bool → Planned
 prepare_queue w how b c = if b
     then go (event.State (state_mask how.state)) (at.Prepare preparing.Unlock)
     else if c
-    then gives_back w (next.Go at.Worn)
+    then gives_lock_back w (next.Go at.Worn)
     else go (event.Queue (head_of w) (wait_form how)) (at.Prepare preparing.State)
 
 abbrev join_queue : Watch → Bool → Bool → Planned
 join_queue w b c = if b
-    then gives_back w (next.Ends zero_answer)
+    then gives_lock_back w (next.Ends zero_answer)
     else if c
-    then gives_back w (next.Ends answer.Worn)
+    then gives_lock_back w (next.Ends answer.Worn)
     else go (event.Queue (head_of w) forms.Front) (at.Prepare preparing.Unlock)
 
 module _ (me : ℕ) (w : Watch) (low : head_of w < FIRST_DONE_HEAD) where
@@ -107,10 +107,10 @@ module _ (me : ℕ) (w : Watch) where
     where
       by : (b : Bool) → IsNear (f.given (at.Finish finishing.Queue false)) (if b
           then go (event.Unqueue me) (at.Finish finishing.Unlock false)
-          else gives_back w (next.Ends zero_answer)).event
+          else gives_lock_back w (next.Ends zero_answer)).event
           × OnFinish (if b
           then go (event.Unqueue me) (at.Finish finishing.Unlock false)
-          else gives_back w (next.Ends zero_answer)).next
+          else gives_lock_back w (next.Ends zero_answer)).next
       by true = (tt, tt)
       by false = (tt, tt)
   finish_plan_near f is (at.Finish finishing.Unlock false) on seen = (tt, tt)

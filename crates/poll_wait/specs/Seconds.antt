@@ -27,7 +27,7 @@ use Rattle.wait_rule.specs.Transitions.{Program}
 use Rattle.wait_class.specs.Posts.{Runs}
 use Rattle.wait_class.specs.Tables.{Plan, plan_program}
 use Rattle.wait_event.specs.Prepares.{IsNoWaiter, IsPart, any_how}
-use Rattle.wait_event.specs.WaitPlans.{gives_back, part_plan}
+use Rattle.wait_event.specs.WaitPlans.{gives_lock_back, part_plan}
 use Rattle.wq_head.specs.declared.adds.Worn.{Worn}
 
 -- what each of the two may be: a plain condition with a full head, or a variable
@@ -49,11 +49,11 @@ abbrev pub join_points : Watch → Point → Seen → Planned
 join_points w (at.Prepare preparing.Lock) seen = go (event.Lock (head_of w)) (at.Prepare preparing.Queue)
 join_points w (at.Prepare preparing.Queue) seen =
     if is_some seen.entry
-    then gives_back w (next.Ends zero_answer)
+    then gives_lock_back w (next.Ends zero_answer)
     else if seen.worn
-    then gives_back w (next.Ends answer.Worn)
+    then gives_lock_back w (next.Ends answer.Worn)
     else go (event.Queue (head_of w) forms.Front) (at.Prepare preparing.Unlock)
-join_points w p seen = gives_back w (next.Ends zero_answer)
+join_points w p seen = gives_lock_back w (next.Ends zero_answer)
 
 abbrev pub join_plan : Watch → Plan
 join_plan w = record (part_plan true w (kind_for w) any_how) { makes = λ me. join_points w }

@@ -19,7 +19,7 @@ use Rattle.std.proofs.result.Result.TheLaws.{the_row_laws as result_laws}
 use Rattle.std_heap.specs.contracts.Global.{the_row as heap_row}
 use Rattle.std_heap.specs.contracts.GlobalAllocator.TheImpl.{ghosts}
 use Rattle.std_heap.proofs.Global.TheLaws.{the_row_laws as heap_laws}
-use Rattle.sugwelan_c.specs.Blocks.{code_in, gives, owned, puts}
+use Rattle.sugwelan_c.specs.Blocks.{code_in, gives_block, owned, puts}
 use Rattle.wq_checked.specs.Checked.{Checked}
 use Rattle.wq_checked.specs.contracts.tasks.CheckedTask.{the_row as R}
 use Rattle.wq_checked.proofs.tasks.CheckedTask.TheLaws.{the_row_laws as handle_laws}
@@ -47,7 +47,7 @@ errno_at n e is = subst IsErrno (sym is) tt
 
 module _ {M : Type 1} {𝓤 : Ura M} (𝓛 : Logic 𝓤) (P : Checked → Type 0) (Q : ℤ → Type 0) (p q : Ptr) where
   abbrev Gives : ℤ → SProp 𝓤
-  Gives r = sem 𝓛 (gives P Q r p q)
+  Gives r = sem 𝓛 (gives_block P Q r p q)
 
   -- what `put` hands on is what the export gives
   pub given : ((e : ℤ) → Q e → IsErrno e) → (m : Made.Denot) (r : ℤ) → MatchResult m (λ b. P b.value) Q

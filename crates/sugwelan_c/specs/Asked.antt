@@ -30,11 +30,11 @@ flag_in zero = Some false
 flag_in (suc zero) = Some true
 flag_in _ = None
 
-abbrev pub state_in : ℕ → Option SleepState
-state_in zero = Some sleep.Uninterruptible
-state_in (suc zero) = Some sleep.Interruptible
-state_in (suc (suc zero)) = Some sleep.Killable
-state_in _ = None
+abbrev pub state_by_number : ℕ → Option SleepState
+state_by_number zero = Some sleep.Uninterruptible
+state_by_number (suc zero) = Some sleep.Interruptible
+state_by_number (suc (suc zero)) = Some sleep.Killable
+state_by_number _ = None
 
 abbrev pub mode_in : ℕ → Option Mode
 mode_in zero = Some mode.Normal
@@ -54,9 +54,9 @@ either None o = o
 -- is none that it may be.
 abbrev pub asks_cond : ℕ → Call → Option TaskCall
 asks_cond n c =
-    if c.kind == WAIT_EVENT then and_then (state_in c.b) (λ st. and_then (flag_in c.c)
+    if c.kind == WAIT_EVENT then and_then (state_by_number c.b) (λ st. and_then (flag_in c.c)
     (λ alone. Some (call.Wait n (record { state = st; exclusive = alone })))) else (
-    if c.kind == SWAIT_EVENT then and_then (state_in c.b) (λ st. Some (call.SimpleWait n st)) else (
+    if c.kind == SWAIT_EVENT then and_then (state_by_number c.b) (λ st. Some (call.SimpleWait n st)) else (
     if c.kind == WAKE_UP then and_then (mode_in c.b) (λ m. Some (call.Wake n m c.c)) else (
     if c.kind == SET_AND_WAKE then Some (call.SetAndWake n c.value c.c) else (
     if c.kind == SWAKE_UP_ONE then Some (call.SimpleWake n false) else (
@@ -67,21 +67,21 @@ asks_cond n c =
 -- about a variable
 abbrev pub asks_var : ℕ → Call → Option TaskCall
 asks_var n c =
-    if c.kind == WAIT_VAR_EVENT then and_then (state_in c.b) (λ st. Some (call.WaitVar n c.value st)) else (
+    if c.kind == WAIT_VAR_EVENT then and_then (state_by_number c.b) (λ st. Some (call.WaitVar n c.value st)) else (
     if c.kind == PUBLISH_VAR_AND_WAKE then Some (call.SetVar n c.value) else None)
 
 -- about a bit of a word
 abbrev pub asks_bit : ℕ → Call → Option TaskCall
 asks_bit n c = and_then (byte_in c.b) (λ b.
-    if c.kind == WAIT_ON_BIT then and_then (state_in c.c) (λ st. Some (call.WaitBit n b st)) else (
-    if c.kind == WAIT_ON_BIT_LOCK then and_then (state_in c.c) (λ st. Some (call.LockBit n b st)) else (
+    if c.kind == WAIT_ON_BIT then and_then (state_by_number c.c) (λ st. Some (call.WaitBit n b st)) else (
+    if c.kind == WAIT_ON_BIT_LOCK then and_then (state_by_number c.c) (λ st. Some (call.LockBit n b st)) else (
     if c.kind == CLEAR_AND_WAKE_UP_BIT then Some (call.ClearBit n b) else (
     if c.kind == TRYLOCK_BIT then Some (call.TryBit n b) else None))))
 
 -- about a page, which is bit 0 of its word
 abbrev pub asks_page : ℕ → Call → Option TaskCall
 asks_page n c =
-    if c.kind == LOCK_PAGE then and_then (state_in c.b) (λ st. Some (call.LockPage n st)) else (
+    if c.kind == LOCK_PAGE then and_then (state_by_number c.b) (λ st. Some (call.LockPage n st)) else (
     if c.kind == UNLOCK_PAGE then Some (call.ClearBit n 0) else (
     if c.kind == TRYLOCK_PAGE then Some (call.TryBit n 0) else (
     if c.kind == ADD_TALLY then Some (call.AddTally n c.value) else None)))
@@ -89,7 +89,7 @@ asks_page n c =
 -- about a completion
 abbrev pub asks_cell : ℕ → Call → Option TaskCall
 asks_cell n c =
-    if c.kind == WAIT_FOR_COMPLETION then and_then (state_in c.b) (λ st. Some (call.WaitFor n st)) else (
+    if c.kind == WAIT_FOR_COMPLETION then and_then (state_by_number c.b) (λ st. Some (call.WaitFor n st)) else (
     if c.kind == COMPLETE then Some (call.Cell cell_call.Complete n) else (
     if c.kind == COMPLETE_ALL then Some (call.Cell cell_call.CompleteAll n) else (
     if c.kind == REINIT_COMPLETION then Some (call.Cell cell_call.Reinit n) else (

@@ -21,8 +21,8 @@ abbrev pub owned : Ptr → Checked → Fml
 owned p t = box_owns freeing the_row p t
 
 -- at the address lies a task for which P holds
-abbrev pub holds : (Checked → Type 0) → Ptr → Fml
-holds P p = fex Checked (λ t. fsep (fex (P t) (λ _. ftrue)) (owned p t))
+abbrev pub holds_block : (Checked → Type 0) → Ptr → Fml
+holds_block P p = fex Checked (λ t. fsep (fex (P t) (λ _. ftrue)) (owned p t))
 
 abbrev pub code_in : {X : Type 0} → Result X ℤ → ℤ
 code_in (Ok x) = pos 0
@@ -35,9 +35,9 @@ puts (Err e) p q = feq Ptr p q
 
 -- The answer 0: at the new address lies a task for which P holds. Another: it is for the reason Q, and the address is
 -- the old one.
-abbrev pub gives : (Checked → Type 0) → (ℤ → Type 0) → ℤ → Ptr → Ptr → Fml
-gives P Q (pos zero) p q = holds P p
-gives P Q r p q = fsep (fex (Q r) (λ _. ftrue)) (feq Ptr p q)
+abbrev pub gives_block : (Checked → Type 0) → (ℤ → Type 0) → ℤ → Ptr → Ptr → Fml
+gives_block P Q (pos zero) p q = holds_block P p
+gives_block P Q r p q = fsep (fex (Q r) (λ _. ftrue)) (feq Ptr p q)
 
 -- The answer 0: the task is no more. Another: it is as it was.
 abbrev pub left : ℤ → Ptr → Checked → Fml

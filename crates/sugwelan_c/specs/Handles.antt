@@ -6,7 +6,7 @@ use Rattle.wait_model.specs.declared.watches.Watch.{Watch}
 use Rattle.wait_model.specs.declared.watches.Watch.TheVariants as watch
 use Rattle.wait_rule.specs.Says.{newcomer}
 use Rattle.wq_checked.specs.Checked.{Checked, shared_by}
-use Rattle.wq_checked.specs.Kept.{IsReady, keeps_in}
+use Rattle.wq_checked.specs.Kept.{IsReadyWith, keeps_in}
 use Rattle.wq_checked.specs.Reasons.{busy_reason}
 use Rattle.wq_checked.specs.declared.calls.Running.TheVariants as running
 use Rattle.wq_checked.specs.declared.kept_bits.KeptBits.{KeptBits}
@@ -18,15 +18,15 @@ use Rattle.sugwelan_c.specs.declared.handles.Unmade.TheVariants as unmade
 use Rattle.sugwelan_c.specs.declared.replies.TheConstants.{DONE, EAGAIN, EBUSY, EINVAL, ENOMEM, ENOTEMPTY}
 
 -- a task that has made no call yet
-pub record IsFresh (t : Checked) : Type 0 where
+pub record IsFreshTask (t : Checked) : Type 0 where
   pub idle : t.running ≡ running.Idle
-  pub ready : IsReady t.kept t.task
+  pub ready : IsReadyWith t.kept t.task
   pub none : (c : Watch) → keeps_in t.kept c ≡ false
 
 -- The first task of a Domain: its number is 0, and all others are spare to it. If there is none, it is for want of
 -- memory.
 abbrev pub IsNew : Checked → Type 0
-IsNew t = IsFresh t × (t.task ≡ newcomer t.task.domain 0 1 (TASKS - 1))
+IsNew t = IsFreshTask t × (t.task ≡ newcomer t.task.domain 0 1 (TASKS - 1))
 
 abbrev pub NoNew : ℤ → Type 0
 NoNew e = e ≡ ENOMEM
@@ -36,7 +36,7 @@ NoNew e = e ≡ ENOMEM
 pub record IsFork (old now : Checked) (share : ℕ) (t : Checked) : Type 0 where
   pub idle : busy_reason old.running ≡ None
   pub spare : 1 + share ≤ old.task.view.spare
-  pub fresh : IsFresh t
+  pub fresh : IsFreshTask t
   pub task : t.task ≡ newcomer old.task.domain old.task.view.next (old.task.view.next + 1) share
   pub shared : now ≡ shared_by share old
 

@@ -4,7 +4,7 @@ use Rattle.std.specs.Prelude.{◌≡◌, ℕ, ℤ, Bool, true, false, List, Opti
 use Rattle.wait_rule.specs.Known.{Known}
 use Rattle.wq_head.specs.Roused.{tasks_in}
 use Rattle.wq_head.specs.declared.rousing.Rousing.{Rousing}
-use Rattle.wq_checked.specs.Begins.{Begins, refusal_to}
+use Rattle.wq_checked.specs.Begins.{BeginsCall, refusal_to}
 use Rattle.wq_checked.specs.Calls.{CameFrom, Rouses, WentOn}
 use Rattle.wq_checked.specs.Checked.{Checked}
 use Rattle.wq_checked.specs.Locks.{IsDrawn, Passes, awaited_in}
@@ -15,7 +15,7 @@ use Rattle.wq_checked.specs.declared.calls.Progress.TheVariants as progress
 use Rattle.wq_checked.specs.declared.calls.Running.{Running}
 use Rattle.wq_checked.specs.declared.reasons.Refused.TheVariants as reason
 use Rattle.sugwelan_c.specs.Asked.{asks}
-use Rattle.sugwelan_c.specs.Told.{Tells, code_of, roused_by}
+use Rattle.sugwelan_c.specs.Told.{TellsReply, code_of, roused_in_reply}
 use Rattle.sugwelan_c.specs.declared.calls.Call.{Call}
 use Rattle.sugwelan_c.specs.declared.calls.Wanted.{Wanted}
 use Rattle.sugwelan_c.specs.declared.calls.Wanted.TheVariants as wanted
@@ -44,7 +44,7 @@ Replies (Some wanted.Leave) k m (reply.On p) = (stopped_reason k.running ≡ Non
 Replies (Some wanted.Number) k m (reply.Value v) = (v ≡ k.task.view.number) × (m ≡ k)
 Replies (Some (wanted.Begin c)) k m (reply.Refused e) = (refusal_to c k ≡ Some e) × (m ≡ k)
 Replies (Some (wanted.Begin c)) k m (reply.On p) =
-    (refusal_to c k ≡ None) × Begins c k.task m.task m.kept p m.running
+    (refusal_to c k ≡ None) × BeginsCall c k.task m.task m.kept p m.running
 Replies _ k m r = ⊥
 
 -- Whom an advance or a leave names to be roused: those whom its stretch has woken.
@@ -60,9 +60,9 @@ GivesLock (Some wanted.Leave) k (reply.On p) before now = Passes (awaited_in k.r
 GivesLock _ k r before now = now ≡ before
 
 -- whether a call asks to leave, and how each further stretch goes on then
-abbrev pub leaves : Option Wanted → Bool
-leaves (Some wanted.Leave) = true
-leaves _ = false
+abbrev pub is_leave : Option Wanted → Bool
+is_leave (Some wanted.Leave) = true
+is_leave _ = false
 
 abbrev pub goes_by : Bool → Wanted
 goes_by true = wanted.Leave
@@ -90,7 +90,7 @@ pub record Serves (k m : Checked) (c : Call) (t : Told) (code : ℤ) : Type 0 wh
   pub reply : Reply
   pub rousing : Rousing
   pub passed : Option ℕ
-  pub further : Further (goes_by (leaves (asks c))) between first (tasks_in named) given m reply (tasks_in rousing)
+  pub further : Further (goes_by (is_leave (asks c))) between first (tasks_in named) given m reply (tasks_in rousing)
       passed
-  pub tells : Tells reply passed (roused_by reply (tasks_in rousing)) t
+  pub tells : TellsReply reply passed (roused_in_reply reply (tasks_in rousing)) t
   pub code_is : code ≡ code_of reply

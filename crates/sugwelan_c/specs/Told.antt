@@ -78,16 +78,16 @@ taken_number taken.Nothing = 0
 taken_number taken.Plain = 1
 taken_number taken.Fatal = 2
 
-abbrev pub value_of : Reply → ℕ
-value_of (reply.On (progress.Done (answer.Changed (Ok v)))) = v
-value_of (reply.On (progress.Done (answer.Left seen selected))) = seen
-value_of (reply.On (progress.Done (answer.Cell b))) = truth b
-value_of (reply.On (progress.Done (answer.Tried b))) = truth b
-value_of (reply.On (progress.Done (answer.Value v))) = v
-value_of (reply.On (progress.Done (answer.Kicked woke rouse))) = truth woke
-value_of (reply.On (progress.Done (answer.Accepted t))) = taken_number t
-value_of (reply.Value v) = v
-value_of _ = 0
+abbrev pub reply_value : Reply → ℕ
+reply_value (reply.On (progress.Done (answer.Changed (Ok v)))) = v
+reply_value (reply.On (progress.Done (answer.Left seen selected))) = seen
+reply_value (reply.On (progress.Done (answer.Cell b))) = truth b
+reply_value (reply.On (progress.Done (answer.Tried b))) = truth b
+reply_value (reply.On (progress.Done (answer.Value v))) = v
+reply_value (reply.On (progress.Done (answer.Kicked woke rouse))) = truth woke
+reply_value (reply.On (progress.Done (answer.Accepted t))) = taken_number t
+reply_value (reply.Value v) = v
+reply_value _ = 0
 
 abbrev pub walk_of : Reply → Walked
 walk_of (reply.On (progress.Done (answer.Walked w))) = w
@@ -107,10 +107,10 @@ head_number (Some h) = h
 head_number None = HEADS
 
 -- whom to rouse: those whom an advance names, or the one whom a signal or a kick woke
-abbrev pub roused_by : Reply → List ℕ → List ℕ
-roused_by (reply.On (progress.Done (answer.Raised (Some who)))) ws = who ∷ []
-roused_by (reply.On (progress.Done (answer.Kicked woke (Some who)))) ws = who ∷ []
-roused_by _ ws = ws
+abbrev pub roused_in_reply : Reply → List ℕ → List ℕ
+roused_in_reply (reply.On (progress.Done (answer.Raised (Some who)))) ws = who ∷ []
+roused_in_reply (reply.On (progress.Done (answer.Kicked woke (Some who)))) ws = who ∷ []
+roused_in_reply _ ws = ws
 
 abbrev pub end_number : End → ℕ
 end_number end.End = 0
@@ -118,20 +118,20 @@ end_number end.Spent = 1
 end_number end.Stopped = 2
 
 -- how many of so many tasks there is room for
-abbrev pub shown : ℕ → ℕ
-shown n = if nat_lt n ROOM then n else ROOM
+abbrev pub shown_length : ℕ → ℕ
+shown_length n = if nat_lt n ROOM then n else ROOM
 
 -- the tasks in their order
 pub record Lists (ws : List ℕ) (n : ℕ) (rouse : List ℕ) : Type 0 where
-  pub count : n ≡ shown (length ws)
+  pub count : n ≡ shown_length (length ws)
   pub tasks : (i : ℕ) → i < n → slice_index rouse i ≡ slice_index ws i
 
-pub record Tells (r : Reply) (passed : Option ℕ) (ws : List ℕ) (t : Told) : Type 0 where
+pub record TellsReply (r : Reply) (passed : Option ℕ) (ws : List ℕ) (t : Told) : Type 0 where
   pub head : t.head ≡ (lock_of r).head
   pub ticket : t.ticket ≡ (lock_of r).ticket
   pub served : t.served ≡ (lock_of r).served
   pub passes : t.passed ≡ head_number passed
-  pub value : t.value ≡ value_of r
+  pub value : t.value ≡ reply_value r
   pub woken : t.woken ≡ (walk_of r).woken
   pub selected : t.selected ≡ (walk_of r).selected
   pub holds : t.holds ≡ (walk_of r).holds

@@ -3,7 +3,7 @@
 ghost use Rattle.std.specs.Prelude.{◌≡◌, Some};
 ghost use Rattle.wq_checked.specs.declared.calls.Call.TheVariants as task_call;
 ghost use Rattle.sugwelan_c.specs.Asked.{asks, asks_begin, asks_bit, asks_cell, asks_cond, asks_page, asks_var};
-ghost use Rattle.sugwelan_c.specs.Asked.{asks_task, byte_in, either, flag_in, mode_in, state_in};
+ghost use Rattle.sugwelan_c.specs.Asked.{asks_task, byte_in, either, flag_in, mode_in, state_by_number};
 
 use crate::kinds::{
     ADD_TALLY, ADVANCE, CLEAR_AND_WAKE_UP_BIT, COMPLETE, COMPLETE_ALL, COMPLETION_DONE, LEAVE,
@@ -62,7 +62,7 @@ fn flag_of(number: u32) -> Option<bool>
 
 /// The state in which a wait sleeps.
 fn state_of(number: u32) -> Option<SleepState>
-    ensures { result ≡ state_in number }
+    ensures { result ≡ state_by_number number }
 {
     match number {
         0 => Some(SleepState::Uninterruptible),

@@ -4,7 +4,7 @@
 
 ghost use Rattle.std.specs.Borrow.{sem};
 ghost use Rattle.wq_checked.specs.Checked.{Checked};
-ghost use Rattle.sugwelan_c.specs.Blocks.{gives, holds, left, owned};
+ghost use Rattle.sugwelan_c.specs.Blocks.{gives_block, holds_block, left, owned};
 ghost use Rattle.sugwelan_c.specs.Handles.{IsFork, IsNew, MayFree, HasNoFork, NoNew};
 ghost use Rattle.sugwelan_c.specs.Served.{Serves};
 
@@ -27,7 +27,7 @@ use wq_checked::CheckedTask;
 /// Makes a Domain and its first task, whose address it writes to `out`: 0, or -ENOMEM, and then `out` is left as it is.
 #[unsafe(no_mangle)]
 pub extern "C" fn sugwelan_new(alloc: Global, out: &mut *mut u8) -> i32
-    ensures* { sem 𝓛 (gives IsNew NoNew result out.new out.old) }
+    ensures* { sem 𝓛 (gives_block IsNew NoNew result out.new out.old) }
 {
     put(begin(alloc), out)
 }
@@ -38,7 +38,7 @@ pub extern "C" fn sugwelan_new(alloc: Global, out: &mut *mut u8) -> i32
 pub unsafe extern "C" fn sugwelan_call(task: *mut u8, call: &Call, told: &mut Told) -> i32
     ghost held: { Checked }
     requires* { sem 𝓛 (owned task held) }
-    ensures* { sem 𝓛 (holds (λ now. Serves held now call.now told.new result) task) }
+    ensures* { sem 𝓛 (holds_block (λ now. Serves held now call.now told.new result) task) }
 {
     serve(&mut *(task as *mut CheckedTask), call, told)
 }
@@ -57,7 +57,7 @@ pub unsafe extern "C" fn sugwelan_fork(
     ghost held: { Checked }
     requires* { sem 𝓛 (owned task held) }
     ensures* { ∃ₛ (λ (now : Checked). sem 𝓛 (owned task now)
-        ∗ sem 𝓛 (gives (IsFork held now share) (HasNoFork held now share) result out.new out.old)) }
+        ∗ sem 𝓛 (gives_block (IsFork held now share) (HasNoFork held now share) result out.new out.old)) }
 {
     put(fork(alloc, &mut *(task as *mut CheckedTask), share), out)
 }

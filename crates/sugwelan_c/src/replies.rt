@@ -2,8 +2,8 @@
 
 ghost use Rattle.std.specs.Prelude.{◌≡◌};
 ghost use Rattle.wq_head.specs.Roused.{tasks_in};
-ghost use Rattle.sugwelan_c.specs.Told.{Lists, Tells, answer_code, bit_code, code_of, end_number, progress_code};
-ghost use Rattle.sugwelan_c.specs.Told.{head_number, lock_of, refusal_code, roused_by, taken_number, truth, value_of, wait_code, walk_of};
+ghost use Rattle.sugwelan_c.specs.Told.{Lists, TellsReply, answer_code, bit_code, code_of, end_number, progress_code};
+ghost use Rattle.sugwelan_c.specs.Told.{head_number, lock_of, refusal_code, roused_in_reply, taken_number, truth, reply_value, wait_code, walk_of};
 
 use bit_wait::BitEnd;
 use wait_event::wait_events::WaitEnd;
@@ -171,7 +171,7 @@ fn taken_number(taken: Taken) -> u64
 /// whether it was done; of a try, whether it took the bit; of a kick, whether the task was in the state of a sleep; the
 /// value, or the signals, that a call at once answers.
 fn value_of(reply: Reply) -> u64
-    ensures { result ≡ value_of reply }
+    ensures { result ≡ reply_value reply }
 {
     match reply {
         Reply::On(Progress::Done(Answer::Changed(Ok(seen)))) => seen,
@@ -253,7 +253,7 @@ fn list_tasks(tasks: &[u8], rouse: &mut [u8; ROOM]) -> u32
 
 /// Writes what is told of a reply, the head whose lock was given back, and the tasks that are to be roused.
 fn tell_with(reply: Reply, passed: Option<u16>, tasks: &[u8], told: &mut Told)
-    ensures { Tells reply passed tasks.now told.new }
+    ensures { TellsReply reply passed tasks.now told.new }
 {
     let lock = lock_of(reply);
     told.head = u32::from(lock.head);
@@ -272,7 +272,7 @@ fn tell_with(reply: Reply, passed: Option<u16>, tasks: &[u8], told: &mut Told)
 /// Writes what is told of a reply; `passed` has the head whose lock was given back, and `rousing` the tasks that an
 /// advance is to rouse.
 pub fn tell(reply: Reply, passed: Option<u16>, rousing: &Rousing, told: &mut Told)
-    ensures { Tells reply passed (roused_by reply (tasks_in rousing.now)) told.new }
+    ensures { TellsReply reply passed (roused_in_reply reply (tasks_in rousing.now)) told.new }
 {
     match reply {
         Reply::On(Progress::Done(Answer::Raised(Some(who)))) => {

@@ -2,7 +2,7 @@
 
 ghost use Rattle.std.specs.Prelude.{◌≡◌, true, Some, []};
 ghost use Rattle.wq_head.specs.Roused.{tasks_in};
-ghost use Rattle.sugwelan_c.specs.Served.{Further, GivesLock, Names, Replies, Serves, goes_by, leaves};
+ghost use Rattle.sugwelan_c.specs.Served.{Further, GivesLock, Names, Replies, Serves, goes_by, is_leave};
 ghost use Rattle.wq_checked.specs.declared.calls.Progress.TheVariants as progress;
 ghost use Rattle.sugwelan_c.specs.declared.calls.Wanted.TheVariants as wanted;
 ghost use Rattle.sugwelan_c.specs.declared.replies.Reply.TheVariants as answered;
@@ -47,9 +47,9 @@ fn go_on(
     rousing: &mut Rousing,
     passed: &mut Option<u16>,
 ) -> Reply
-    ensures replies { Replies (Some (goes_by leaves)) task.old task.new result }
-    ensures names { Names (Some (goes_by leaves)) task.old task.new result rousing.new }
-    ensures gives { GivesLock (Some (goes_by leaves)) task.old result passed.old passed.new }
+    ensures replies { Replies (Some (goes_by is_leave)) task.old task.new result }
+    ensures names { Names (Some (goes_by is_leave)) task.old task.new result rousing.new }
+    ensures gives { GivesLock (Some (goes_by is_leave)) task.old result passed.old passed.new }
 {
     if leaves {
         leave(task, rousing, passed)
@@ -108,7 +108,7 @@ fn go_further(
     rousing: &mut Rousing,
     passed: &mut Option<u16>,
 ) -> Reply
-    ensures { Further (goes_by leaves) task.old first (tasks_in rousing.old) passed.old
+    ensures { Further (goes_by is_leave) task.old first (tasks_in rousing.old) passed.old
         task.new result (tasks_in rousing.new) passed.new }
 {
     let mut reply = first;
@@ -123,7 +123,7 @@ fn go_further(
 
 /// Whether a call asks to leave.
 fn leaves(want: Option<Wanted>) -> bool
-    ensures { result ≡ leaves want }
+    ensures { result ≡ is_leave want }
 {
     match want {
         Some(Wanted::Leave) => true,

@@ -7,7 +7,7 @@ use Rattle.wait_model.specs.declared.tasks.SleepState.{SleepState}
 use Rattle.wait_rule.specs.Known.{Known}
 use Rattle.wait_rule.specs.Transitions.{Goes, Program}
 use Rattle.wait_event.specs.declared.wait_events.WaitEnd.{WaitEnd}
-use Rattle.wait_event.specs.Ends.{EndsWait, answer_of}
+use Rattle.wait_event.specs.Ends.{EndsWait, answer_of_end}
 use Rattle.swait_queue.specs.SimpleWaits.{EndsSimpleWait, tail_in}
 use Rattle.swait_queue.proofs.SimplePrograms.{same_program}
 
@@ -18,7 +18,7 @@ simple_wait old new c st result e = record {
   runs = record {
     transitions = e.waited.runs.transitions;
     goes = subst (λ (f : Program). Goes f old (next.Go at.First) e.waited.runs.transitions new
-        (next.Ends (answer_of result))) (same_program old.view.number c st) e.waited.runs.goes;
+        (next.Ends (answer_of_end result))) (same_program old.view.number c st) e.waited.runs.goes;
   };
   tells = e.waited.tells;
   cause = e.cause;

@@ -30,7 +30,7 @@ use Rattle.wq_head.proofs.LockWaits.{locked_at, locked_stays, locked_told}
 use Rattle.wq_head.proofs.SelectedRuns.{at_next, lock_goes, lock_transition, selected_ends}
 use Rattle.wq_head.proofs.SimpleHolds.{own_plain, simple_carried, simple_idle}
 use Rattle.swait_queue.specs.SimpleWaits.{IsSimpleCond}
-use Rattle.swait_queue.specs.SimpleWakes.{EndsSimpleWake, is_spent, most_of}
+use Rattle.swait_queue.specs.SimpleWakes.{EndsSimpleWake, is_swake_spent, most_of}
 
 -- the head of such a condition is a simple one
 pub head_simple : (c : ℕ) → IsSimpleCond c → FIRST_SIMPLE_HEAD ≤ head_of (watch.Plain c)
@@ -53,7 +53,7 @@ and_some n b is = by (n == 0) refl is
     by true none is_some = absurd (cc)
     by false some is_some = grind (arith, nat_tests)
 
-pub may_rise : (k : Known) (all : Bool) (n : ℕ) → (0 < n → MayRise k true) → (b : Bool) → b ≡ is_spent all n
+pub may_rise : (k : Known) (all : Bool) (n : ℕ) → (0 < n → MayRise k true) → (b : Bool) → b ≡ is_swake_spent all n
     → MayRise k b
 may_rise k all n rises true is = rises (and_some n (n == most_of all) (sym is))
 may_rise k all n rises false is = record { used = λ no. absurd (cc); counts = λ w under no. absurd (cc) }
@@ -75,14 +75,14 @@ pub one_at_most : (k : Known) (n : ℕ) → EndsSelection k 1 n → n ≤ 1
 one_at_most k n (inl enough) = let e = enough.1 in omega (arith, e)
 one_at_most k n (inr none) = let few = none.1 (λ no_one. omega (arith, no_one)) in omega (arith, few)
 
-spent_is : (all : Bool) (n : ℕ) → most_of all ≢ 0 → n ≡ most_of all → is_spent all n ≡ true
+spent_is : (all : Bool) (n : ℕ) → most_of all ≢ 0 → n ≡ most_of all → is_swake_spent all n ≡ true
 spent_is true n some all_of = absurd (some refl)
 spent_is false n some all_of = ap (λ (m : ℕ). not (m == 0) && (m == 1)) all_of
 
 module _ (old locked last new : Known) (c : ℕ) (all : Bool) (n h : ℕ) (simple : IsSimpleCond c)
     (head : h ≡ head_of (watch.Plain c)) (l : HasLocked old locked h (walk_of_hold h None))
     (s : HasSelected locked last (most_of all) n) (k : KeepsHold locked last)
-    (is : new ≡ unlocked_with last last.at (is_spent all n)) where
+    (is : new ≡ unlocked_with last last.at (is_swake_spent all n)) where
   abbrev call : Call
   call = calls.SimpleWake c all
 
@@ -98,7 +98,7 @@ module _ (old locked last new : Known) (c : ℕ) (all : Bool) (n h : ℕ) (simpl
   pub ends_wake : EndsSimpleWake old new c all n
   ends_wake =
       let ends = selected_ends me 0 call (most_of all) n (counts_most c all) locked last new s (at_h ∙ head)
-      (is_spent all n) (ap (λ (m : ℕ). not (n == 0) && (n == m)) (counts_most c all)) is in
+      (is_swake_spent all n) (ap (λ (m : ℕ). not (n == 0) && (n == m)) (counts_most c all)) is in
       let own = ap simple_watch head ∙ own_plain c simple.simple simple.plain in record {
         runs = record {
           transitions = lock_transition me 0 call old locked h l high own refl head ∷ ends.0;
@@ -124,7 +124,7 @@ module _ (old locked last new : Known) (c : ℕ) (all : Bool) (n h : ℕ) (simpl
     mark_last : (told_of last).mark ≡ (told_of old).mark
     mark_last = k.mark ∙ ap (λ (v : Told). v.mark) (locked_told old locked h (walk_of_hold h None) l)
 
-    over : (is_spent all n ≡ true) ⊎ (IsWholeBook last × ShowsNoEntry last)
+    over : (is_swake_spent all n ≡ true) ⊎ (IsWholeBook last × ShowsNoEntry last)
     over = elim s.ends [
       | inl enough ↦ inl (spent_is all n enough.0 enough.1)
       | inr none ↦ inr (s.whole, none.0)
@@ -133,7 +133,7 @@ module _ (old locked last new : Known) (c : ℕ) (all : Bool) (n h : ℕ) (simpl
     pub wake_carries : Carries (wake_all_change (watch.Plain c) mode.Normal new.at) old new
     wake_carries = subst (λ (w : Watch). Carries (wake_all_change w mode.Normal new.at) old new)
         (ap simple_watch (at_h ∙ head) ∙ own_plain c simple.simple simple.plain)
-        (simple_carried old last new (is_spent all n) stays_last owes_last mark_last hold over is idle)
+        (simple_carried old last new (is_swake_spent all n) stays_last owes_last mark_last hold over is idle)
 
     pub wake_idle : IsIdle new
-    wake_idle = simple_idle old last new (is_spent all n) stays_last owes_last mark_last hold over is idle
+    wake_idle = simple_idle old last new (is_swake_spent all n) stays_last owes_last mark_last hold over is idle

@@ -11,16 +11,16 @@ use Rattle.wait_rule.proofs.SaidEvents.Fronts.{number_stays}
 use Rattle.wait_rule.proofs.SaidEvents.FollowedRuns.{runs_follow}
 use Rattle.wait_rule.proofs.SaidEvents.SignalledRuns.{runs_heed}
 use Rattle.wait_event.specs.declared.wait_events.WaitEnd.TheVariants as wait_end
-use Rattle.wait_event.specs.Ends.{answer_of}
+use Rattle.wait_event.specs.Ends.{answer_of_end}
 use Rattle.wait_event.proofs.Words.{list_of}
 use Rattle.swait_queue.specs.SimpleWords.{SimpleWaitsFollow, SimpleWaitsHeed, SimpleWakesFollow}
 
 pub simple_waits_follow : SimpleWaitsFollow
 simple_waits_follow old new c st result law out e =
-    runs_follow law.table law.items law.ruled (calls.SimpleWait c st) 0 old new (answer_of result) []
+    runs_follow law.table law.items law.ruled (calls.SimpleWait c st) 0 old new (answer_of_end result) []
     (list_of new.view law old.view.number (number_stays
     (call_program old.view.number 0 (calls.SimpleWait c st)) old new (next.Go at.First)
-    (next.Ends (answer_of result)) e.runs.transitions e.runs.goes))
+    (next.Ends (answer_of_end result)) e.runs.transitions e.runs.goes))
     (omega arith) refl refl (λ _. out) (record { transitions = e.runs.transitions; goes = e.runs.goes })
 
 pub simple_wakes_follow : SimpleWakesFollow

@@ -17,20 +17,20 @@ use Rattle.swait_queue.specs.declared.swake_turns.SwakeStage.TheVariants as stag
 use Rattle.swait_queue.specs.declared.swake_turns.SwakeTurn.{SwakeTurn}
 use Rattle.swait_queue.specs.declared.swake_turns.SwakeTurn.TheVariants as turn
 use Rattle.swait_queue.specs.SimpleWaits.{IsSimpleCond}
-use Rattle.swait_queue.specs.SimpleWakes.{is_spent, most_of}
-use Rattle.swait_queue.specs.SwakeTurns.{HasTurned, HoldsFor, IsAt, IsOver, Rests, swake_head}
+use Rattle.swait_queue.specs.SimpleWakes.{is_swake_spent, most_of}
+use Rattle.swait_queue.specs.SwakeTurns.{HasSwakeTurned, HoldsForSwake, IsAtSwake, IsSwakeOver, SwakeRests, swake_head}
 use Rattle.swait_queue.proofs.SimpleWakeEnds.{ends_wake, head_simple, wake_carries, wake_idle}
 
 -- before the draw the task is as the wake began
-pub first_up : (start now : Known) (r : SwakeRun) → IsAt start now r stage.First → IsUp now
+pub first_up : (start now : Known) (r : SwakeRun) → IsAtSwake start now r stage.First → IsUp now
 first_up start now r at = subst IsUp (sym at.stands) at.up
 
-pub first_free : (start now : Known) (r : SwakeRun) → IsAt start now r stage.First → IsFree now
+pub first_free : (start now : Known) (r : SwakeRun) → IsAtSwake start now r stage.First → IsFree now
 first_free start now r at = subst IsFree (sym at.stands) at.idle.free
 
 -- after it
 pub draws : (start now new : Known) (r : SwakeRun) (h n : ℕ) → h ≡ swake_head r → AwaitsLock now new h n
-    → IsAt start now r stage.First → IsAt start new (record r { ticket = n }) stage.Turn
+    → IsAtSwake start now r stage.First → IsAtSwake start new (record r { ticket = n }) stage.Turn
 draws start now new r h n same a at = record {
   up = at.up;
   idle = at.idle;
@@ -40,13 +40,13 @@ draws start now new r h n same a at = record {
 }
 
 -- a look at the ticket: another one is served, or the lock is taken
-module _ (start mid new : Known) (r : SwakeRun) (h : ℕ) (same : h ≡ swake_head r) (at : IsAt start mid r stage.Turn)
+module _ (start mid new : Known) (r : SwakeRun) (h : ℕ) (same : h ≡ swake_head r) (at : IsAtSwake start mid r stage.Turn)
   where
     pub awaits : AwaitsLock start mid h r.ticket
     awaits = subst (λ (i : ℕ). AwaitsLock start mid i r.ticket) (sym same) at.stands
 
     pub waits_on : (served : ℕ) → AwaitsLock start new h r.ticket
-        → IsAt start new (record r { served = served }) stage.Turn
+        → IsAtSwake start new (record r { served = served }) stage.Turn
     waits_on served a = record {
       up = at.up;
       idle = at.idle;
@@ -54,7 +54,7 @@ module _ (start mid new : Known) (r : SwakeRun) (h : ℕ) (same : h ≡ swake_he
       stands = subst (λ (i : ℕ). AwaitsLock start new i r.ticket) same a;
     }
 
-    pub holds_for : TookLock start new h → HoldsFor start new r
+    pub holds_for : TookLock start new h → HoldsForSwake start new r
     holds_for t = record {
       idle = at.idle;
       simple = at.simple;
@@ -69,10 +69,10 @@ pub fits : (c h : ℕ) → IsSimpleCond c → h ≡ head_of (watch.Plain c) → 
 fits c h simple same = subst (λ (n : ℕ). n < HEADS) (sym same) (head_fits c simple.plain)
 
 -- after the selection and the unlock
-module _ (start locked last new : Known) (r : SwakeRun) (n : ℕ) (i : HoldsFor start locked r)
+module _ (start locked last new : Known) (r : SwakeRun) (n : ℕ) (i : HoldsForSwake start locked r)
     (s : HasSelected locked last (most_of r.all) n) (k : KeepsHold locked last)
     (keeps : IsSimpleHold locked → IsSimpleHold last)
-    (is : new ≡ unlocked_with last last.at (is_spent r.all n)) where
+    (is : new ≡ unlocked_with last last.at (is_swake_spent r.all n)) where
   abbrev h : ℕ
   h = swake_head r
 
@@ -80,7 +80,7 @@ module _ (start locked last new : Known) (r : SwakeRun) (n : ℕ) (i : HoldsFor 
   carries = wake_carries start locked last new r.cond r.all n h i.simple refl i.took.locked s k is
       (keeps (i.took.simple (high r i.simple))) i.idle
 
-  pub is_over : IsOver start new r.cond r.all n
+  pub is_over : IsSwakeOver start new r.cond r.all n
   is_over = record {
     woken = ends_wake start locked last new r.cond r.all n h i.simple refl i.took.locked s k is;
     up = ap (λ (j : Known). j.book.awake) is ∙ (k.stays.awake ∙ i.took.up);
@@ -91,7 +91,7 @@ module _ (start locked last new : Known) (r : SwakeRun) (n : ℕ) (i : HoldsFor 
   }
 
 -- where a stretch leaves it, for who knows only that it began
-pub rests_of : (start now : Known) (r s : SwakeRun) (t : SwakeTurn) → HasTurned start now r s t → Rests now s t
+pub rests_of : (start now : Known) (r s : SwakeRun) (t : SwakeTurn) → HasSwakeTurned start now r s t → SwakeRests now s t
 rests_of start now r s turn.Locked h = (start, h.turns)
 rests_of start now r s (turn.Done n) h = (h.turns.up, h.turns.idle)
 rests_of start now r s (turn.Starved failed) h = h.turns

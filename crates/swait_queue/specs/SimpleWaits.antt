@@ -9,9 +9,9 @@ use Rattle.wait_model.specs.declared.tasks.How.{How}
 use Rattle.wait_model.specs.declared.tasks.SleepState.{SleepState}
 use Rattle.wait_rule.specs.Known.{Known}
 use Rattle.wait_rule.specs.Transitions.{call_program}
-use Rattle.wait_event.specs.Ends.{IsCause, answer_of}
+use Rattle.wait_event.specs.Ends.{IsCondWaitCause, answer_of_end}
 use Rattle.wait_class.specs.Posts.{Runs}
-use Rattle.wait_event.specs.Waits.{queues}
+use Rattle.wait_event.specs.Waits.{has_queued_in}
 use Rattle.wait_event.specs.declared.wait_events.WaitEnd.{WaitEnd}
 
 -- a plain condition whose head is a simple one
@@ -29,6 +29,6 @@ pub record EndsSimpleWait (old new : Known) (c : ℕ) (st : SleepState) (result 
   where
     pub queued : Bool
     pub runs : Runs (call_program old.view.number 0 (calls.SimpleWait c st)) old new (next.Go at.First)
-        (next.Ends (answer_of result))
-    pub tells : queued ≡ queues runs.transitions
-    pub cause : IsCause new c (tail_in st) queued result
+        (next.Ends (answer_of_end result))
+    pub tells : queued ≡ has_queued_in runs.transitions
+    pub cause : IsCondWaitCause new c (tail_in st) queued result

@@ -22,8 +22,8 @@ most_of true = 0
 most_of false = 1
 
 -- it was to select one and did
-abbrev pub is_spent : Bool → ℕ → Bool
-is_spent all n = not (n == 0) && (n == most_of all)
+abbrev pub is_swake_spent : Bool → ℕ → Bool
+is_swake_spent all n = not (n == 0) && (n == most_of all)
 
 -- The task went through the program of the wake to its answer, in one hold of the condition's head: it selected so many
 -- entries, fewer than asked for only where the hold then shows none, and gave the lock back. The spent count of the
@@ -35,7 +35,7 @@ pub record EndsSimpleWake (old new : Known) (c : ℕ) (all : Bool) (n : ℕ) : T
   pub last : Known
   pub locks : HasLocked old locked (head_of (watch.Plain c)) (walk_of_hold (head_of (watch.Plain c)) None)
   pub selected : HasSelected locked last (most_of all) n
-  pub unlocks : new ≡ unlocked_with last last.at (is_spent all n)
+  pub unlocks : new ≡ unlocked_with last last.at (is_swake_spent all n)
 
 -- but for what the task was excused of before it owes nothing, as before
 abbrev pub OwesAtMost : Known → Known → Type 0

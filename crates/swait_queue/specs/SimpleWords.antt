@@ -12,7 +12,7 @@ use Rattle.wait_rule.specs.Heeding.{EndsSignalled, trail_of}
 use Rattle.wait_rule.specs.Says.{MeetsLaw}
 use Rattle.wait_event.specs.declared.wait_events.WaitEnd.{WaitEnd}
 use Rattle.wait_class.specs.Posts.{IsOut}
-use Rattle.wait_event.specs.Ends.{answer_of}
+use Rattle.wait_event.specs.Ends.{answer_of_end}
 use Rattle.wait_event.specs.Words.{call_says}
 use Rattle.swait_queue.specs.SimpleWaits.{EndsSimpleWait}
 use Rattle.swait_queue.specs.SimpleWakes.{EndsSimpleWake}
@@ -23,7 +23,7 @@ abbrev pub SimpleWaitsFollow : Type 0
 SimpleWaitsFollow = (old new : Known) (c : ℕ) (st : SleepState) (result : Result (Unit {0}) WaitEnd)
     → MeetsLaw new.view → IsOut old → (e : EndsSimpleWait old new c st result)
     → Follows old.view.number (calls.SimpleWait c st)
-    (call_says old.view.number (calls.SimpleWait c st) e.runs.transitions) (answer_of result)
+    (call_says old.view.number (calls.SimpleWait c st) e.runs.transitions) (answer_of_end result)
 
 -- a wake of one or of all
 abbrev pub SimpleWakesFollow : Type 0
@@ -34,6 +34,6 @@ SimpleWakesFollow = (old new : Known) (c : ℕ) (all : Bool) (n : ℕ) → Meets
 -- a wait that answers for a signal ends as the law on signals says
 abbrev pub SimpleWaitsHeed : Type 0
 SimpleWaitsHeed = (old new : Known) (c : ℕ) (st : SleepState) (e : WaitEnd)
-    (ends : EndsSimpleWait old new c st (Err e)) → answer_of (Err e) ≡ signalled
+    (ends : EndsSimpleWait old new c st (Err e)) → answer_of_end (Err e) ≡ signalled
     → EndsSignalled old.view.number (calls.SimpleWait c st)
     (trail_of [] (call_says old.view.number (calls.SimpleWait c st) ends.runs.transitions))

@@ -20,7 +20,7 @@ use Rattle.swait_queue.specs.SimpleWaits.{IsSimpleCond}
 use Rattle.swait_queue.specs.SimpleWakes.{EndsSimpleWake, OwesAtMost}
 
 -- a wake of this condition, of one or of all
-pub record IsFresh (r : SwakeRun) (c : ℕ) (all : Bool) : Type 0 where
+pub record IsFreshSwake (r : SwakeRun) (c : ℕ) (all : Bool) : Type 0 where
   pub cond : r.cond ≡ c
   pub all_is : r.all ≡ all
 
@@ -28,25 +28,25 @@ abbrev pub swake_head : SwakeRun → ℕ
 swake_head r = head_of (watch.Plain r.cond)
 
 -- whether the ticket of its lock is drawn
-abbrev pub StandsAt : Known → Known → SwakeRun → SwakeStage → Type 0
-StandsAt start now r stage.First = now ≡ start
-StandsAt start now r stage.Turn = AwaitsLock start now (swake_head r) r.ticket
+abbrev pub StandsAtSwake : Known → Known → SwakeRun → SwakeStage → Type 0
+StandsAtSwake start now r stage.First = now ≡ start
+StandsAtSwake start now r stage.Turn = AwaitsLock start now (swake_head r) r.ticket
 
 -- The wake began at `start` with an idle task that was up, for a condition with a simple queue.
-pub record IsAt (start now : Known) (r : SwakeRun) (s : SwakeStage) : Type 0 where
+pub record IsAtSwake (start now : Known) (r : SwakeRun) (s : SwakeStage) : Type 0 where
   pub up : IsUp start
   pub idle : IsIdle start
   pub simple : IsSimpleCond r.cond
-  pub stands : StandsAt start now r s
+  pub stands : StandsAtSwake start now r s
 
 -- the task has taken the lock of its hold
-pub record HoldsFor (start now : Known) (r : SwakeRun) : Type 0 where
+pub record HoldsForSwake (start now : Known) (r : SwakeRun) : Type 0 where
   pub idle : IsIdle start
   pub simple : IsSimpleCond r.cond
   pub took : TookLock start now (swake_head r)
 
 -- What a wake did that is over: all that the whole calls say.
-pub record IsOver (start new : Known) (c : ℕ) (all : Bool) (n : ℕ) : Type 0 where
+pub record IsSwakeOver (start new : Known) (c : ℕ) (all : Bool) (n : ℕ) : Type 0 where
   pub woken : EndsSimpleWake start new c all n
   pub up : IsUp new
   pub idle : IsIdle new
@@ -54,15 +54,15 @@ pub record IsOver (start new : Known) (c : ℕ) (all : Bool) (n : ℕ) : Type 0 
   pub owing : OwesAtMost start new
 
 -- It stopped in its hold: so many tries of one wake failed as no run makes.
-pub record HasStarved (c : ℕ) (new : Known) (failed : FailedTries) : Type 0 where
+pub record HasSwakeStarved (c : ℕ) (new : Known) (failed : FailedTries) : Type 0 where
   pub tries : IsStarved failed
   pub held : new.book.head ≡ Some (head_of (watch.Plain c))
 
 -- what a stretch did
-abbrev pub TurnsTo : Known → Known → SwakeRun → SwakeTurn → Type 0
-TurnsTo start new r turn.Locked = IsAt start new r stage.Turn
-TurnsTo start new r (turn.Done n) = IsOver start new r.cond r.all n
-TurnsTo start new r (turn.Starved failed) = HasStarved r.cond new failed
+abbrev pub SwakeTurnsTo : Known → Known → SwakeRun → SwakeTurn → Type 0
+SwakeTurnsTo start new r turn.Locked = IsAtSwake start new r stage.Turn
+SwakeTurnsTo start new r (turn.Done n) = IsSwakeOver start new r.cond r.all n
+SwakeTurnsTo start new r (turn.Starved failed) = HasSwakeStarved r.cond new failed
 
 -- where another ticket was served, the last item is the look that found its number
 abbrev pub FoundOther : Known → SwakeRun → SwakeTurn → Type 0
@@ -70,12 +70,12 @@ FoundOther new r turn.Locked = (base : Known) × FindsOther base new (swake_head
 FoundOther new r _ = Unit {0}
 
 -- it is the same wake
-pub record HasTurned (start new : Known) (r s : SwakeRun) (t : SwakeTurn) : Type 0 where
-  pub fresh : IsFresh s r.cond r.all
-  pub turns : TurnsTo start new s t
+pub record HasSwakeTurned (start new : Known) (r s : SwakeRun) (t : SwakeTurn) : Type 0 where
+  pub fresh : IsFreshSwake s r.cond r.all
+  pub turns : SwakeTurnsTo start new s t
 
 -- where a stretch leaves the wake, whenever that began; after its end the task is up and idle
-abbrev pub Rests : Known → SwakeRun → SwakeTurn → Type 0
-Rests now r turn.Locked = (start : Known) × IsAt start now r stage.Turn
-Rests now r (turn.Done n) = IsUp now × IsIdle now
-Rests now r (turn.Starved failed) = HasStarved r.cond now failed
+abbrev pub SwakeRests : Known → SwakeRun → SwakeTurn → Type 0
+SwakeRests now r turn.Locked = (start : Known) × IsAtSwake start now r stage.Turn
+SwakeRests now r (turn.Done n) = IsUp now × IsIdle now
+SwakeRests now r (turn.Starved failed) = HasSwakeStarved r.cond now failed

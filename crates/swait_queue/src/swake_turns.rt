@@ -5,9 +5,9 @@ ghost use Rattle.wait_rule.specs.Known.{Known};
 ghost use Rattle.wait_rule.specs.PassedLocks.{PassesNone};
 ghost use Rattle.wq_head.specs.Roused.{IsRousing, RousesNone, tasks_in};
 ghost use Rattle.swait_queue.specs.declared.swake_turns.SwakeStage.TheVariants as stages;
-ghost use Rattle.swait_queue.specs.SwakeTurns.{HasStarved, HasTurned, HoldsFor, IsAt, IsFresh, IsOver, Rests};
+ghost use Rattle.swait_queue.specs.SwakeTurns.{HasSwakeStarved, HasSwakeTurned, HoldsForSwake, IsAtSwake, IsFreshSwake, IsSwakeOver, SwakeRests};
 ghost use Rattle.swait_queue.specs.SwakeTurns.{FoundOther};
-ghost use Rattle.swait_queue.specs.SimpleWakes.{is_spent, most_of};
+ghost use Rattle.swait_queue.specs.SimpleWakes.{is_swake_spent, most_of};
 
 use wait_model::heads::head_of;
 use wait_model::watches::Watch;
@@ -48,7 +48,7 @@ impl SwakeRun {
     /// A wake that has not begun, of condition `cond`, from `FIRST_SIMPLE` on and below `PLAIN_CONDITIONS`: of the
     /// first who waits for it, or of all.
     pub fn new(cond: u8, all: bool) -> SwakeRun
-        ensures { IsFresh result cond all }
+        ensures { IsFreshSwake result cond all }
     {
         SwakeRun {
             cond,
@@ -78,12 +78,12 @@ pub fn swake_stretch(
 ) -> SwakeTurn
     requires of { task.old.domain ≡ domain.now }
     requires passes { PassesNone passing.old }
-    requires at { (start : Known) × IsAt start task.old run.old stage }
+    requires at { (start : Known) × IsAtSwake start task.old run.old stage }
     requires none { tasks_in rousing.old ≡ [] }
     ensures of { task.new.domain ≡ domain.now }
-    ensures turned { (start : Known) → IsAt start task.old run.old stage
-        → HasTurned start task.new run.old run.new result }
-    ensures rests { Rests task.new run.new result }
+    ensures turned { (start : Known) → IsAtSwake start task.old run.old stage
+        → HasSwakeTurned start task.new run.old run.new result }
+    ensures rests { SwakeRests task.new run.new result }
     ensures refused { FoundOther task.new run.new result }
     ensures rouses { IsRousing task.old task.new rousing.new }
 {
@@ -104,10 +104,10 @@ pub fn swake_stretch(
 /// Draws the ticket of the wake's lock, unless it is drawn.
 fn draw_turn(domain: &Domain, task: &mut Task, run: &mut SwakeRun, stage: SwakeStage)
     requires of { task.old.domain ≡ domain.now }
-    requires at { (start : Known) × IsAt start task.old run.old stage }
+    requires at { (start : Known) × IsAtSwake start task.old run.old stage }
     ensures of { task.new.domain ≡ domain.now }
-    ensures fresh { IsFresh run.new run.old.cond run.old.all }
-    ensures drawn { (start : Known) → IsAt start task.old run.old stage → IsAt start task.new run.new stages.Turn }
+    ensures fresh { IsFreshSwake run.new run.old.cond run.old.all }
+    ensures drawn { (start : Known) → IsAtSwake start task.old run.old stage → IsAtSwake start task.new run.new stages.Turn }
     ensures rouses { RousesNone task.old task.new }
 {
     match stage {
@@ -128,11 +128,11 @@ fn hold(
 ) -> Result<u32, FailedTries>
     requires of { task.old.domain ≡ domain.now }
     requires passes { PassesNone passing.old }
-    requires holds { (start : Known) × HoldsFor start task.old run }
+    requires holds { (start : Known) × HoldsForSwake start task.old run }
     requires none { tasks_in rousing.old ≡ [] }
     ensures of { task.new.domain ≡ domain.now }
-    ensures over { (start : Known) → HoldsFor start task.old run
-        → MatchResult result (IsOver start task.new run.cond run.all) (HasStarved run.cond task.new) }
+    ensures over { (start : Known) → HoldsForSwake start task.old run
+        → MatchResult result (IsSwakeOver start task.new run.cond run.all) (HasSwakeStarved run.cond task.new) }
     ensures rouses { IsRousing task.old task.new rousing.new }
 {
     let head = head_of(Watch::Plain { cond: run.cond });
@@ -150,7 +150,7 @@ fn most_of(all: bool) -> u32
 
 /// Whether as many were selected as were asked for.
 fn is_spent(all: bool, selected: u32) -> bool
-    ensures { result ≡ is_spent all selected }
+    ensures { result ≡ is_swake_spent all selected }
 {
     selected != 0 && selected == most_of(all)
 }

@@ -13,7 +13,7 @@ ghost use Rattle.wait_class.specs.declared.stages.Turn.TheVariants as turn;
 ghost use Rattle.wait_class.specs.Tables.{Advances, IsAt};
 ghost use Rattle.wait_class.specs.UnderWay.{IsUnderWay};
 ghost use Rattle.wait_event.specs.WaitLeaves.{EndsWaitUntil};
-ghost use Rattle.wait_event.specs.Waits.{IsFresh, wait_table};
+ghost use Rattle.wait_event.specs.Waits.{IsFreshWait, wait_table};
 ghost use Rattle.swait_queue.specs.SimpleWaits.{EndsSimpleWait, IsSimpleCond, tail_in};
 
 use std::sync::Wait;
@@ -36,7 +36,7 @@ pub fn begin_swait(task: &Task, cond: u8, state: SleepState) -> WaitRun
     requires listed { is_killable state ≡ false }
     requires out { IsOut task.now }
     ensures at { IsAt wait_table task.now result stage.First }
-    ensures fresh { IsFresh result.of (watch.Plain cond) (tail_in state) }
+    ensures fresh { IsFreshWait result.of (watch.Plain cond) (tail_in state) }
     ensures told { IsTold task.now }
     ensures under { IsClean task.now
         → IsUnderWay wait_table (wait_table.plan_of result.of) task.now result (turn.Again stage.First) }

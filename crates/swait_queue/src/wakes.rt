@@ -12,7 +12,7 @@ ghost use Rattle.wq_head.specs.Holds.{IsHolding};
 ghost use Rattle.wq_head.specs.Selects.{HasSelected, IsSimpleHold};
 ghost use Rattle.swait_queue.specs.SimpleWaits.{IsSimpleCond};
 ghost use Rattle.swait_queue.specs.SimpleWakes.{EndsSimpleWake, OwesAtMost};
-ghost use Rattle.swait_queue.specs.SwakeTurns.{IsOver};
+ghost use Rattle.swait_queue.specs.SwakeTurns.{IsSwakeOver};
 
 use crate::swake_turns::{SwakeRun, SwakeStage, SwakeTurn, swake_stretch};
 use std::hint::spin_loop;
@@ -68,7 +68,7 @@ fn swake<R: Wait>(rt: &R, domain: &Domain, task: &mut Task, cond: u8, all: bool)
     requires up { IsUp task.old }
     requires idle { IsIdle task.old }
     requires simple { IsSimpleCond cond }
-    ensures { IsOver task.old task.new cond all result }
+    ensures { IsSwakeOver task.old task.new cond all result }
 {
     let head = head_of(Watch::Plain { cond });
     let mut rousing = Rousing::new();

@@ -29,7 +29,7 @@ use Rattle.wq_head.specs.Scanned.{HasEndedAt, HasScanned, unmade}
 use Rattle.wq_head.specs.Walks.{HasEnded, HasWoken, most}
 use Rattle.wait_event.specs.Conds.{set_change}
 use Rattle.wait_class.specs.Posts.{Runs}
-use Rattle.wait_class.specs.Findings.{nothing, with_value}
+use Rattle.wait_class.specs.Findings.{saw_nothing, with_value}
 use Rattle.wait_class.proofs.Ground.Standing.{bare_head}
 use Rattle.wait_class.proofs.Ground.Going.{runs_on, runs_one}
 use Rattle.wait_class.proofs.Ground.WalkedCalls.{walk_ends_held, walk_goes}
@@ -44,7 +44,7 @@ scans_book h b (y ∷ xs) l = absurd l.0
 
 -- what a look finds
 abbrev with_members : Bool → Seen
-with_members hit = record nothing { members = hit }
+with_members hit = record saw_nothing { members = hit }
 
 module _ (before stored looked : Known) (v value found : ℕ)
     (stores : stored ≡ added before (item.Made (step.Publish (watch.Var v 0) value found))) (hit : Bool)

@@ -9,10 +9,10 @@ use Rattle.wait_model.specs.declared.watches.Watch.TheVariants as watch
 use Rattle.wait_model.specs.Watches.{head_of, misses}
 use Rattle.wait_rule.specs.Known.{Known}
 use Rattle.wait_rule.specs.Transitions.{StepOrLook, Transition, by_step}
-use Rattle.wait_event.specs.Ends.{end_in}
+use Rattle.wait_event.specs.Ends.{wait_end_in}
 use Rattle.wait_class.specs.declared.stages.Run.{Run}
 use Rattle.wait_class.specs.Tables.{Advances}
-use Rattle.wait_event.specs.Waits.{IsFresh, IsRunning, last_loaded, loaded_by, wait_table}
+use Rattle.wait_event.specs.Waits.{IsFreshWait, IsRunningWait, last_loaded, loaded_by, wait_table}
 use Rattle.wait_event.specs.declared.waits.WaitOutcome.{WaitOutcome}
 use Rattle.wait_event.specs.declared.waits.WaitOutcome.TheVariants as outcome
 use Rattle.wait_event.specs.declared.waits.WaitCall.{WaitCall}
@@ -40,10 +40,10 @@ differs : (x old : ℕ) → (x == old) ≡ false → x ≢ old
 differs x old unlike is = absurd (grind (arith, nat_tests))
 
 module _ (before new : Known) (r q : Run WaitCall) (v old : ℕ) (st : SleepState)
-    (fresh : IsFresh r.of (watch.Var v old) (shared_in st))
-    (runs : IsRunning r.of) where
+    (fresh : IsFreshWait r.of (watch.Var v old) (shared_in st))
+    (runs : IsRunningWait r.of) where
   pub ends_var : (o : WaitOutcome) → Advances wait_table before new r q stage.First (turn.Done o)
-      → EndsVarWait before new v old st (with_loaded q.of.seen (end_in q.of o))
+      → EndsVarWait before new v old st (with_loaded q.of.seen (wait_end_in q.of o))
   ends_var outcome.Over a =
       let ts = a.went.runs.transitions in
       let ne : q.of.seen ≢ old = differs q.of.seen old (subst (λ (w : Watch). misses w q.of.seen ≡ false)

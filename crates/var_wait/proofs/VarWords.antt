@@ -12,15 +12,15 @@ use Rattle.wait_rule.proofs.SaidEvents.FollowedWakes.{wakes_follow}
 use Rattle.wait_rule.proofs.SaidEvents.SignalledRuns.{runs_heed}
 use Rattle.wait_event.specs.declared.wait_events.WaitEnd.TheVariants as wait_end
 use Rattle.wait_event.proofs.Words.{list_of}
-use Rattle.var_wait.specs.VarWaits.{answer_of}
+use Rattle.var_wait.specs.VarWaits.{answer_of_var_end}
 use Rattle.var_wait.specs.VarWords.{PublishesFollow, VarWaitsFollow, VarWaitsHeed}
 
 pub var_waits_follow : VarWaitsFollow
 var_waits_follow before new v old st result law out e =
-    runs_follow law.table law.items law.ruled (calls.WaitVar v old st) 0 before new (answer_of result) []
+    runs_follow law.table law.items law.ruled (calls.WaitVar v old st) 0 before new (answer_of_var_end result) []
     (list_of new.view law before.view.number (number_stays
     (call_program before.view.number 0 (calls.WaitVar v old st)) before new (next.Go at.First)
-    (next.Ends (answer_of result)) e.runs.transitions e.runs.goes))
+    (next.Ends (answer_of_var_end result)) e.runs.transitions e.runs.goes))
     (omega arith) refl refl (λ _. out) (record { transitions = e.runs.transitions; goes = e.runs.goes })
 
 pub publishes_follow : PublishesFollow

@@ -14,7 +14,7 @@ use Rattle.wait_rule.specs.Known.{Known}
 use Rattle.wait_rule.specs.Transitions.{Transition, call_program}
 use Rattle.wait_event.specs.Ends.{IsEndCause}
 use Rattle.wait_class.specs.Posts.{Runs}
-use Rattle.wait_event.specs.Waits.{last_loaded, queues}
+use Rattle.wait_event.specs.Waits.{last_loaded, has_queued_in}
 use Rattle.wait_event.specs.declared.wait_events.WaitEnd.{WaitEnd}
 use Rattle.wait_event.specs.declared.wait_events.WaitEnd.TheVariants as wait_end
 
@@ -23,21 +23,21 @@ abbrev pub shared_in : SleepState → How
 shared_in st = record { state = st; exclusive = false }
 
 -- the answer of the program, which shows no value
-abbrev pub answer_of : Result ℕ WaitEnd → Answer
-answer_of (Ok value) = zero_answer
-answer_of (Err (wait_end.Signal seen selected)) = signalled
-answer_of (Err (wait_end.Worn h place)) = answer.Worn
+abbrev pub answer_of_var_end : Result ℕ WaitEnd → Answer
+answer_of_var_end (Ok value) = zero_answer
+answer_of_var_end (Err (wait_end.Signal seen selected)) = signalled
+answer_of_var_end (Err (wait_end.Worn h place)) = answer.Worn
 
 -- The cause of each answer, by the transitions of the call: the value is what the last load among them found, and it is
 -- not the old one; or what ended the wait without one (`IsEndCause`), where the last load found the old value.
 abbrev pub IsVarCause : Known → ℕ → ℕ → SleepState → List Transition → Result ℕ WaitEnd → Type 0
 IsVarCause k v old st ts (Ok value) = (last_loaded None ts ≡ Some value) × (value ≢ old)
-IsVarCause k v old st ts (Err e) = IsEndCause k (watch.Var v old) (shared_in st) (queues ts) e
+IsVarCause k v old st ts (Err e) = IsEndCause k (watch.Var v old) (shared_in st) (has_queued_in ts) e
 
 -- The task went through the program of a wait for the variable to this answer, which has its cause.
 pub record EndsVarWait (before new : Known) (v old : ℕ) (st : SleepState) (result : Result ℕ WaitEnd) : Type 0 where
   pub runs : Runs (call_program before.view.number 0 (calls.WaitVar v old st)) before new (next.Go at.First)
-      (next.Ends (answer_of result))
+      (next.Ends (answer_of_var_end result))
   pub cause : IsVarCause new v old st runs.transitions result
 
 -- the answer of a wait of the class, with what its last load found

@@ -15,7 +15,7 @@ use Rattle.wait_event.specs.declared.wait_events.WaitEnd.{WaitEnd}
 use Rattle.wait_class.specs.Posts.{IsOut}
 use Rattle.wait_event.specs.Words.{call_says}
 use Rattle.var_wait.specs.VarPublishes.{HasPublished}
-use Rattle.var_wait.specs.VarWaits.{EndsVarWait, answer_of}
+use Rattle.var_wait.specs.VarWaits.{EndsVarWait, answer_of_var_end}
 
 -- A wait for a variable, whatever it answers; a load of the base word after it (`Task::witness`) shows the table that
 -- is asked for.
@@ -23,7 +23,7 @@ abbrev pub VarWaitsFollow : Type 0
 VarWaitsFollow = (before new : Known) (v old : ℕ) (st : SleepState) (result : Result ℕ WaitEnd)
     → MeetsLaw new.view → IsOut before → (e : EndsVarWait before new v old st result)
     → Follows before.view.number (calls.WaitVar v old st)
-    (call_says before.view.number (calls.WaitVar v old st) e.runs.transitions) (answer_of result)
+    (call_says before.view.number (calls.WaitVar v old st) e.runs.transitions) (answer_of_var_end result)
 
 -- A publish with its wake, whose answer has the numbers of its walk, none above the greatest that a word of it holds.
 abbrev pub PublishesFollow : Type 0
@@ -34,6 +34,6 @@ PublishesFollow = (before new : Known) (v value : ℕ) (walked : Walked) → Mee
 -- a wait that answers for a signal ends as the law on signals says
 abbrev pub VarWaitsHeed : Type 0
 VarWaitsHeed = (before new : Known) (v old : ℕ) (st : SleepState) (e : WaitEnd)
-    (ends : EndsVarWait before new v old st (Err e)) → answer_of (Err e) ≡ signalled
+    (ends : EndsVarWait before new v old st (Err e)) → answer_of_var_end (Err e) ≡ signalled
     → EndsSignalled before.view.number (calls.WaitVar v old st)
     (trail_of [] (call_says before.view.number (calls.WaitVar v old st) ends.runs.transitions))

@@ -8,12 +8,12 @@ ghost use Rattle.wait_rule.specs.Says.{IsClean, IsUp};
 ghost use Rattle.wait_rule.specs.Stays.{Carries};
 ghost use Rattle.wait_event.specs.declared.waits.WaitStage.TheVariants as stage;
 ghost use Rattle.wait_class.specs.Posts.{IsOut};
-ghost use Rattle.wait_event.specs.Ends.{end_in, wait_change};
+ghost use Rattle.wait_event.specs.Ends.{wait_end_in, wait_change};
 ghost use Rattle.wait_class.specs.declared.stages.Turn.TheVariants as turn;
 ghost use Rattle.wait_class.specs.Tables.{Advances, IsAt};
 ghost use Rattle.wait_class.specs.UnderWay.{IsUnderWay};
 ghost use Rattle.wait_event.specs.WaitLeaves.{wait_until_in};
-ghost use Rattle.wait_event.specs.Waits.{IsFresh, wait_table};
+ghost use Rattle.wait_event.specs.Waits.{IsFreshWait, wait_table};
 ghost use Rattle.var_wait.specs.VarLeaves.{EndsVarUntil, until_loaded};
 ghost use Rattle.var_wait.specs.VarWaits.{EndsVarWait, shared_in, with_loaded};
 
@@ -35,7 +35,7 @@ pub fn begin_var(task: &Task, var: u8, old: u64, state: SleepState) -> WaitRun
     requires there { var < VARIABLES }
     requires out { IsOut task.now }
     ensures at { IsAt wait_table task.now result stage.First }
-    ensures fresh { IsFresh result.of (watch.Var var old) (shared_in state) }
+    ensures fresh { IsFreshWait result.of (watch.Var var old) (shared_in state) }
     ensures told { IsTold task.now }
     ensures under { IsClean task.now
         → IsUnderWay wait_table (wait_table.plan_of result.of) task.now result (turn.Again stage.First) }
@@ -90,7 +90,7 @@ pub fn wait_var<R: Wait>(
 /// The answer of a wait for a variable that has ended: the value that its last load found, or why it ended without
 /// another one than the old.
 pub fn end_of_var(wait: WaitCall, outcome: WaitOutcome) -> Result<u64, WaitEnd>
-    ensures { result ≡ with_loaded wait.seen (end_in wait outcome) }
+    ensures { result ≡ with_loaded wait.seen (wait_end_in wait outcome) }
 {
     match end_of(wait, outcome) {
         Ok(()) => Ok(wait.seen),
@@ -101,10 +101,10 @@ pub fn end_of_var(wait: WaitCall, outcome: WaitOutcome) -> Result<u64, WaitEnd>
 /// The answer of a wait that went on by stretches and has ended. Who owed nothing when it began owes nothing, and the
 /// answer of one that began at `start` is as that of `wait_var`.
 pub fn end_var(task: &Task, wait: &WaitRun, outcome: WaitOutcome) -> Result<u64, WaitEnd>
-    ensures is { result ≡ with_loaded wait.now.of.seen (end_in wait.now.of outcome) }
+    ensures is { result ≡ with_loaded wait.now.of.seen (wait_end_in wait.now.of outcome) }
     ensures clean { (c : _) → IsUnderWay wait_table c task.now wait.now (turn.Done outcome) → IsClean task.now }
     ensures ends { (start : _) → (f : _) → (var : _) → (old : _) → (state : _) → IsAt wait_table start f stage.First
-        → IsFresh f.of (watch.Var var old) (shared_in state)
+        → IsFreshWait f.of (watch.Var var old) (shared_in state)
         → Advances wait_table start task.now f wait.now stage.First (turn.Done outcome)
         → EndsVarWait start task.now var old state result }
 {

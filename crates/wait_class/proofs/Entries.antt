@@ -21,7 +21,7 @@ use Rattle.wait_rule.proofs.KnownLaws.Transitions.{only_none}
 use Rattle.wq_head.specs.Adds.{HasRemoved}
 use Rattle.wq_head.specs.Holds.{IsHolding}
 use Rattle.wait_class.specs.Posts.{HasSeenOwn, IsStateFor, Post, Stands, zone_at}
-use Rattle.wait_class.specs.Findings.{with_entry, with_own}
+use Rattle.wait_class.specs.Findings.{saw_entry, with_own}
 use Rattle.wait_class.proofs.Ground.Standing.{bare_head}
 use Rattle.wait_class.proofs.Ground.Standing.{
   carried_stands,
@@ -37,7 +37,7 @@ use Rattle.wait_class.proofs.Ground.Standing.{
 use Rattle.wait_class.specs.declared.stages.Doing.TheVariants as doing
 use Rattle.wait_class.specs.declared.stages.Run.{Run}
 use Rattle.wait_class.specs.declared.stages.Turn.{Turn}
-use Rattle.wait_class.specs.Laws.{GiveLaw, HasShown, HeedLaw, IsHeldStage, IsLawfulTable, MayBeQueued, LawOf, PareLaw, PeekLaw, may_be_queued, mask_in}
+use Rattle.wait_class.specs.Laws.{GiveLaw, HasShown, HeedLaw, IsHeldStage, IsLawfulCallTable, MayBeQueued, LawOf, PareLaw, PeekLaw, may_be_queued, mask_in}
 use Rattle.wait_class.specs.Tables.{head_in}
 use Rattle.wait_class.specs.Tables.{IsAt, IsStop, CallTable, Turned, falls, post_of, stage_watch, watch_in}
 use Rattle.wait_class.specs.Laws.{Calm, turn_post}
@@ -159,7 +159,7 @@ module _ {C S O : Type 0} (t : CallTable C S O) where
           told = h.carries.hold ∙ (told_is old r s held opens.fresh a ∙ ap Some (sym at));
         }
 
-  module _ (law : IsLawfulTable t) where
+  module _ (law : IsLawfulCallTable t) where
     peek_law : (r : C) (s : S) → t.doing s ≡ doing.Peek → (o : Option Entry) → PeekLaw t r s o
     peek_law r s here = subst (λ d. LawOf d t r s) here (law.at r s)
 
@@ -179,7 +179,7 @@ module _ {C S O : Type 0} (t : CallTable C S O) where
         h.is ∙ ap (λ (q : Option ℕ). added old (item.Made (saw q i h.word))) none in
         let w : Stands new p = shown_stands old new r s l.opens a o h in
         record {
-          goes = moves_quiet t law r.of s (with_entry o) ℕ (λ me k w. step.Peek (index me 0) w)
+          goes = moves_quiet t law r.of s (saw_entry o) ℕ (λ me k w. step.Peek (index me 0) w)
               (λ me k w. o ≡ entry_of w) u l.moves old.view.number old old new h.word refl (only_none old) h.reads
               (subst (OnlyLooks (added old (item.Made (step.Peek i h.word)))) (sym is)
               (only_none (added old (item.Made (step.Peek i h.word)))));
@@ -223,7 +223,7 @@ module _ {C S O : Type 0} (t : CallTable C S O) where
         ∙ sym (post_head old r s l.held l.opens.fresh a) in
         let moves = l.takes e in
         record {
-          goes = moves_quiet t law r.of s (with_entry (Some e)) (Unit {0}) (λ me k w. step.Unqueue (index me 0))
+          goes = moves_quiet t law r.of s (saw_entry (Some e)) (Unit {0}) (λ me k w. step.Unqueue (index me 0))
               (λ me k w. HasShown me k (Some e)) u moves old.view.number old mid new tt refl
               (seen_looks old mid (Some e) h (head_in t r.of s) (head_is old r s l.held l.opens.fresh a))
               (shows old mid r s l.held l.opens a (Some e) h (Some e) refl)
@@ -261,7 +261,7 @@ module _ {C S O : Type 0} (t : CallTable C S O) where
         let m = seen_stands old mid None h p absent (stands_plain t old r s opens.fresh a.stands) tt in
         let at : mid.at ≡ head_in t r.of s = h.carries.at ∙ at_is old r s held opens.fresh a in
         record {
-          goes = moves_quiet t law r.of s (with_entry None) (Unit {0}) (λ me k w. step.Unlock k.at false)
+          goes = moves_quiet t law r.of s (saw_entry None) (Unit {0}) (λ me k w. step.Unlock k.at false)
               (λ me k w. (k.at ≡ head_in t r.of s) × HasShown me k None) u l.moves old.view.number old mid new tt refl
               (seen_looks old mid None h (head_in t r.of s) (head_is old r s held opens.fresh a))
               (at, shows old mid r s held opens a None h None refl) (back_looks t law mid new is);

@@ -14,7 +14,7 @@ use Rattle.wait_rule.specs.Tried.{IsOneMore}
 use Rattle.wait_class.specs.declared.stages.Turn.{Turn}
 use Rattle.wait_class.specs.declared.stages.Turn.TheVariants as turn
 use Rattle.wait_class.specs.Handing.{LastGiven}
-use Rattle.wait_class.specs.Tables.{Advances, MadeEvent, Shows, SleptLast, CallTable}
+use Rattle.wait_class.specs.Tables.{Advances, MadeEvent, ShowsTurn, SleptLast, CallTable}
 
 -- it has made nothing yet, or an event
 abbrev pub IsBegun : {C : Type 0} → Known → Known → Run C → Run C → Type 0
@@ -52,23 +52,23 @@ goes_slept old mid new r q (inr made) x = slept_on old mid new made x
 module _ {C S O : Type 0} (t : CallTable C S O) (old mid new : Known) (r q w : Run C) (n : S)
     (begun : IsBegun old mid r q) where
   -- where the head is held a turn has made an event
-  pub goes_made : Shows t mid new q w (turn.Again n) → holds (t.point_of n) ≡ true → MadeEvent old new
+  pub goes_made : ShowsTurn t mid new q w (turn.Again n) → holds (t.point_of n) ≡ true → MadeEvent old new
   goes_made (inl made) held = begun_on old mid new r q begun made
   goes_made (inr failed) held = absurd (let no : true ≡ false = sym held ∙ failed.free in cc)
 
-  pub goes_shown : Shows t mid new q w (turn.Again n) → Shows t old new r w (turn.Again n)
+  pub goes_shown : ShowsTurn t mid new q w (turn.Again n) → ShowsTurn t old new r w (turn.Again n)
   goes_shown (inl made) = inl (begun_on old mid new r q begun made)
   goes_shown (inr failed) = by begun
     where
-      by : IsBegun old mid r q → Shows t old new r w (turn.Again n)
-      by (inl same) = subst (λ (k : Known). Shows t k new r w (turn.Again n)) same.0
-          (subst (λ (p : Run C). Shows t mid new p w (turn.Again n)) same.1 (inr failed))
+      by : IsBegun old mid r q → ShowsTurn t old new r w (turn.Again n)
+      by (inl same) = subst (λ (k : Known). ShowsTurn t k new r w (turn.Again n)) same.0
+          (subst (λ (p : Run C). ShowsTurn t mid new p w (turn.Again n)) same.1 (inr failed))
       by (inr made) = inl (made_on old mid new made [] (failed.still ∙ sym (append-nil (history_of mid))))
 
 -- behind what is no event
 pub shown_behind : {C S O : Type 0} (t : CallTable C S O) (old mid new : Known) (r q w : Run C)
-    → history_of mid ≡ history_of old → q.failed ≡ r.failed → (u : Turn S O) → Shows t mid new q w u
-    → Shows t old new r w u
+    → history_of mid ≡ history_of old → q.failed ≡ r.failed → (u : Turn S O) → ShowsTurn t mid new q w u
+    → ShowsTurn t old new r w u
 shown_behind t old mid new r q w still kept (turn.Again n) (inl made) = inl (record {
   before = made.before;
   event = made.event;

@@ -18,9 +18,9 @@ use Rattle.wait_class.specs.declared.frame_stages.Framed.{Framed}
 use Rattle.wait_class.specs.declared.frame_stages.Stage.{Stage}
 use Rattle.wait_class.specs.declared.frame_stages.Stage.TheVariants as stage
 use Rattle.wait_class.specs.FrameLaws.{FinishLaw, IsLawfulFrame, framed_plan}
-use Rattle.wait_class.specs.Frames.{FrameTable, depth_at, doing_at, framed, is_outside}
+use Rattle.wait_class.specs.Frames.{FrameTable, depth_at, frame_doing, framed, is_outside}
 use Rattle.wait_class.proofs.Histories.{unmoved_by}
-use Rattle.wait_class.specs.Laws.{DrawLaw, IsLawfulTable, LawOf, LockLaw, PareLaw, PeekLaw, QueueLaw, StateLaw, UnlockLaw}
+use Rattle.wait_class.specs.Laws.{DrawLaw, IsLawfulCallTable, LawOf, LockLaw, PareLaw, PeekLaw, QueueLaw, StateLaw, UnlockLaw}
 use Rattle.wait_class.specs.Tables.{Plan, CallTable, next_in}
 use Rattle.wait_class.specs.Laws.{Calm, Unmoved}
 use Rattle.wait_class.proofs.Ground.Standing.{owner_own}
@@ -320,7 +320,7 @@ module _ {W T O : Type 0} (e : FrameTable W T O) (ends : W → Bool → Next)
       permits = λ k fits at u. low k fits at;
     }
 
-  laws_at : (s : Stage T) → LawOf (doing_at f s) t r s
+  laws_at : (s : Stage T) → LawOf (frame_doing f s) t r s
   laws_at (stage.Test x) = tt
   laws_at stage.PrepareLock = draw_prepare
   laws_at stage.PrepareTurn = lock_prepare
@@ -387,7 +387,7 @@ depth_most (stage.FinishUnlock b) = omega arith
 module _ {W T O : Type 0} (e : FrameTable W T O) (ends : W → Bool → Next)
     (goes : (r : W) (failed : Bool) → ends r failed ≡ next_in (framed (stood e ends)) (e.finished r failed))
     (law : IsLawfulFrame (stood e ends)) where
-  stood_lawful : IsLawfulTable (framed (stood e ends))
+  stood_lawful : IsLawfulCallTable (framed (stood e ends))
   stood_lawful = record {
     keeps = law.keeps;
     at = λ r s. laws_at e ends goes law r s;
@@ -402,7 +402,7 @@ module _ {W T O : Type 0} (e : FrameTable W T O) (ends : W → Bool → Next)
     depth = depth_most;
   }
 
-pub framed_lawful : {W T O : Type 0} (f : FrameTable W T O) → IsLawfulFrame f → IsLawfulTable (framed f)
+pub framed_lawful : {W T O : Type 0} (f : FrameTable W T O) → IsLawfulFrame f → IsLawfulCallTable (framed f)
 framed_lawful {W} f law =
     let same : f.plan_of ≡ (λ r. framed_plan f (law.ends r) (f.plan_of r)) = λ j r. law.stands r j in
     let there : IsLawfulFrame (stood f law.ends) = subst (λ (g : W → Plan). IsLawfulFrame (record f { plan_of = g })) same
@@ -410,5 +410,5 @@ framed_lawful {W} f law =
     let goes : (r : W) (failed : Bool) → law.ends r failed ≡ next_in (framed (stood f law.ends)) (f.finished r failed) =
     subst (λ (g : W → Plan). (r : W) (failed : Bool) → law.ends r failed
     ≡ next_in (framed (record f { plan_of = g })) (f.finished r failed)) same law.goes in
-    subst (λ (g : W → Plan). IsLawfulTable (framed (record f { plan_of = g }))) (sym same)
+    subst (λ (g : W → Plan). IsLawfulCallTable (framed (record f { plan_of = g }))) (sym same)
     (stood_lawful f law.ends goes there)

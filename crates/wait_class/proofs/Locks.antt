@@ -27,14 +27,14 @@ use Rattle.wait_rule.proofs.KnownLaws.Transitions.{only_none}
 use Rattle.wait_rule.proofs.KnownLaws.Turns.{finds_turn, other_number, serve_looks}
 use Rattle.wq_head.proofs.CarriedHolds.{unlock_carried}
 use Rattle.wait_class.specs.Posts.{IsStateFor, Post, Stands}
-use Rattle.wait_class.specs.Findings.{nothing}
+use Rattle.wait_class.specs.Findings.{saw_nothing}
 use Rattle.wait_class.proofs.Ground.Going.{runs_looks}
 use Rattle.wait_class.proofs.Ground.Standing.{draw_stands, lock_stands, serving_stands, stands_as, still_stands}
 use Rattle.wait_class.specs.declared.stages.Doing.TheVariants as doing
 use Rattle.wait_class.specs.declared.stages.Run.{Run}
 use Rattle.wait_class.specs.declared.stages.Turn.{Turn}
 use Rattle.wait_class.specs.declared.stages.Turn.TheVariants as turn
-use Rattle.wait_class.specs.Laws.{DrawLaw, IsLawfulTable, LawOf, LockLaw, UnlockLaw}
+use Rattle.wait_class.specs.Laws.{DrawLaw, IsLawfulCallTable, LawOf, LockLaw, UnlockLaw}
 use Rattle.wait_class.specs.Tables.{head_in}
 use Rattle.wait_class.specs.Tables.{Advances, IsAt, IsStop, CallTable, Turned, falls, plan_post, plan_program, post_of, run_post, watch_in}
 use Rattle.wait_class.specs.Laws.{Calm, turn_post}
@@ -42,7 +42,7 @@ use Rattle.wait_class.proofs.CalmSteps.{calm_on, calm_quiet, calm_step, calm_unl
 use Rattle.wait_class.proofs.Turns.{GoesOn, advance_by, drawn_post, free_head, free_ticket, held_head, moves_quiet, stands_plain, stops_by}
 
 -- the head is there
-pub head_fits : {C S O : Type 0} (t : CallTable C S O) (law : IsLawfulTable t) (r : C) (s : S) → t.Fits r → (h : ℕ) → h ≡ head_in t r s
+pub head_fits : {C S O : Type 0} (t : CallTable C S O) (law : IsLawfulCallTable t) (r : C) (s : S) → t.Fits r → (h : ℕ) → h ≡ head_in t r s
     → h < HEADS
 head_fits t law r s fits h same = subst (λ (n : ℕ). n < HEADS) (sym same) (law.few r s fits)
 
@@ -61,7 +61,7 @@ placed_calm es old mid new same state c = record {
   state = λ awake. state ∙ c.state awake;
 }
 
-module _ {C S O : Type 0} (t : CallTable C S O) (law : IsLawfulTable t) where
+module _ {C S O : Type 0} (t : CallTable C S O) (law : IsLawfulCallTable t) where
   pub draw_law : (r : C) (s : S) → t.doing s ≡ doing.Draw → DrawLaw t r s
   draw_law r s here = subst (λ d. LawOf d t r s) here (law.at r s)
 
@@ -218,7 +218,7 @@ module _ {C S O : Type 0} (t : CallTable C S O) (law : IsLawfulTable t) where
 
       lock_from : GoesOn t old locked r.of r.of s u
       lock_from = record {
-        goes = moves_quiet t law r.of s nothing ℕ (λ me k y. step.Lock head (walk_of_hold head None) y)
+        goes = moves_quiet t law r.of s saw_nothing ℕ (λ me k y. step.Lock head (walk_of_hold head None) y)
             (λ me k y. Unit {0}) u l.moves old.view.number old served locked x refl serving_looks tt (only_none locked);
         keeps = subst (λ (g : Bool). t.Keeps (index old.view.number 0) (watch_in t r.of) (t.took s) g old locked)
             l.moves.took
@@ -305,7 +305,7 @@ module _ {C S O : Type 0} (t : CallTable C S O) (law : IsLawfulTable t) where
       let at : old.at ≡ head_in t r.of s = st.at (head_in t r.of s) (unlock_head r.of s l) in
       let u = t.next_of r.of s in
       record {
-        goes = moves_quiet t law r.of s nothing (Unit {0}) (λ me k x. step.Unlock k.at false)
+        goes = moves_quiet t law r.of s saw_nothing (Unit {0}) (λ me k x. step.Unlock k.at false)
             (λ me k x. k.at ≡ head_in t r.of s) u l.moves old.view.number old old new tt refl (only_none old) at
             (back_looks old new is);
         keeps = subst (λ (g : Bool). t.Keeps (index old.view.number 0) (watch_in t r.of) (t.took s) g old new)

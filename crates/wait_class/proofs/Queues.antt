@@ -26,7 +26,7 @@ use Rattle.wq_head.proofs.CarriedHolds.{looks_carried}
 use Rattle.wq_head.proofs.OneMoreLook.{saw_looks, whole_of}
 use Rattle.wait_class.specs.Posts.{HasSeenOwn, IsStateFor, Post, Stands, own_of}
 use Rattle.wait_rule.proofs.KnownLaws.AfterSteps.{told_added}
-use Rattle.wait_class.specs.Findings.{with_entry, with_worn}
+use Rattle.wait_class.specs.Findings.{saw_entry, with_worn}
 use Rattle.wait_class.proofs.Ground.Standing.{state_looks, state_stands, state_up}
 use Rattle.wait_class.proofs.Histories.{unlocked_history}
 use Rattle.wait_class.proofs.WornPlaces.{whole_seen, queue_same}
@@ -42,7 +42,7 @@ use Rattle.wait_class.specs.declared.stages.Added.TheVariants as adds
 use Rattle.wait_class.specs.declared.stages.Doing.TheVariants as doing
 use Rattle.wait_class.specs.declared.stages.Run.{Run}
 use Rattle.wait_class.specs.declared.stages.Turn.{Turn}
-use Rattle.wait_class.specs.Laws.{HasJoined, HasShown, IsLawfulTable, IsWornFor, IsWornOut, LawOf, MayJoin, QueueLaw, is_quiet, mask_in}
+use Rattle.wait_class.specs.Laws.{HasJoined, HasShown, IsLawfulCallTable, IsWornFor, IsWornOut, LawOf, MayJoin, QueueLaw, is_quiet_event, mask_in}
 use Rattle.wait_class.specs.Tables.{head_in}
 use Rattle.wait_class.specs.Tables.{IsAt, IsStop, CallTable, Turned, falls, post_of, watch_in}
 use Rattle.wait_class.specs.Laws.{turn_post}
@@ -82,7 +82,7 @@ note_on mid2 mid3 new w o own2 is noted =
     subst (λ (k : Known). WasWorn k.view.number k.view.items w.head w.place)
     (sym (is ∙ ap (λ (k : Known). unlocked_with k mid3.at false) own2.is)) three
 
-module _ {C S O : Type 0} (t : CallTable C S O) (law : IsLawfulTable t) where
+module _ {C S O : Type 0} (t : CallTable C S O) (law : IsLawfulCallTable t) where
   queue_law : (r : C) (s : S) → t.doing s ≡ doing.Queue → QueueLaw t r s
   queue_law r s here = subst (λ d. LawOf d t r s) here (law.at r s)
 
@@ -129,7 +129,7 @@ module _ {C S O : Type 0} (t : CallTable C S O) (law : IsLawfulTable t) where
         let σ = mask_in t r.of in
         let moves = l.stays e in
         record {
-          goes = moves_quiet t law r.of s (with_entry (Some e)) (Unit {0}) (λ me k x. step.State σ)
+          goes = moves_quiet t law r.of s (saw_entry (Some e)) (Unit {0}) (λ me k x. step.State σ)
               (λ me k x. HasShown me k (Some e)) u moves old.view.number old mid new tt refl (looked (Some e) own)
               (shows t old mid r s l.held l.opens a (Some e) own (Some e) refl) (state_looks mid new σ is carries);
           keeps = subst (λ (g : Bool). t.Keeps i (watch_in t r.of) (t.took s) g old new) moves.took
@@ -164,7 +164,7 @@ module _ {C S O : Type 0} (t : CallTable C S O) (law : IsLawfulTable t) where
         let m = shown_stands t old mid r s l.opens a None own in
         let head : (turn_post t q u).head ≡ p.head = l.joins_leaves.head ∙ sym held_head in
         record {
-          goes = moves_going t r.of q s (with_entry None) Entry (λ me k e. step.Queue (index me 0) e)
+          goes = moves_going t r.of q s (saw_entry None) Entry (λ me k e. step.Queue (index me 0) e)
               (MayJoin h form ((t.plan_of r.of).given (t.point_of s))) u l.joins old.view.number old x.seen new
               x.entry
               (only_on old mid x.seen (looked None own)
@@ -252,7 +252,7 @@ module _ {C S O : Type 0} (t : CallTable C S O) (law : IsLawfulTable t) where
                 worn = ap (is_worn form) queue3 ∙ x.worn;
               })
               (back_looks t law mid3 new is)
-              (λ y did. law.worn_tells r.of w.place y (ap is_quiet did));
+              (λ y did. law.worn_tells r.of w.place y (ap is_quiet_event did));
           keeps = subst (λ (g : Bool). t.Keeps i (watch_in t r.of) (t.took s) g old new) l.wears.took
               (law.keeps.on i (watch_in t r.of) (t.took s) (t.took s) (t.took s) old mid3 new
               (law.keeps.on i (watch_in t r.of) (t.took s) (t.took s) (t.took s) old mid2 mid3

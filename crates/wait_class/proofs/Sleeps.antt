@@ -33,7 +33,7 @@ use Rattle.wait_class.proofs.Ground.Standing.{stands_on}
 use Rattle.wait_class.specs.declared.stages.Doing.TheVariants as doing
 use Rattle.wait_class.specs.declared.stages.Run.{Run}
 use Rattle.wait_class.specs.declared.stages.Turn.TheVariants as turn
-use Rattle.wait_class.specs.Laws.{IsLawfulTable, LawOf, SleepLaw}
+use Rattle.wait_class.specs.Laws.{IsLawfulCallTable, LawOf, SleepLaw}
 use Rattle.wait_class.specs.Tables.{Advances, IsAsleepAt, IsAt, CallTable, SleptLast, Turned, Went, falls, plan_program, post_of, run_post, watch_in}
 use Rattle.wait_class.specs.Laws.{Unmoved}
 use Rattle.wait_class.proofs.CalmSteps.{calm_step}
@@ -49,7 +49,7 @@ use Rattle.wait_class.proofs.Turns.{
   zero_for,
 }
 
-module _ {C S O : Type 0} (t : CallTable C S O) (law : IsLawfulTable t) where
+module _ {C S O : Type 0} (t : CallTable C S O) (law : IsLawfulCallTable t) where
   sleep_law : (r : C) (s : S) → t.doing s ≡ doing.Sleep → SleepLaw t r s (t.slept_to r s)
   sleep_law r s here = subst (λ d. LawOf d t r s) here (law.at r s)
 

@@ -12,19 +12,19 @@ use Rattle.wait_rule.specs.Queues.{IsAgreedHold, index}
 use Rattle.wait_rule.specs.Stays.{Carries, unchanged, state_change}
 use Rattle.wait_rule.specs.Transitions.{OnlyLooks}
 use Rattle.wait_rule.proofs.KnownLaws.Transitions.{only_none}
-use Rattle.wait_class.specs.Findings.{nothing, with_own, with_value}
+use Rattle.wait_class.specs.Findings.{saw_nothing, with_own, with_value}
 use Rattle.wait_class.proofs.Ground.Standing.{state_looks, state_stands, state_up}
 use Rattle.wait_class.proofs.Ground.Standing.{still_stands}
 use Rattle.wait_class.specs.declared.stages.Doing.TheVariants as doing
 use Rattle.wait_class.specs.declared.stages.Run.{Run}
 use Rattle.wait_class.specs.declared.stages.Turn.{Turn}
-use Rattle.wait_class.specs.Laws.{IsLawfulTable, LawOf, LoadLaw, LookLaw, StateLaw, mask_in}
+use Rattle.wait_class.specs.Laws.{IsLawfulCallTable, LawOf, LoadLaw, LookLaw, StateLaw, mask_in}
 use Rattle.wait_class.specs.Tables.{IsAt, CallTable, Turned, falls, post_of, stage_watch, watch_in}
 use Rattle.wait_class.specs.Laws.{turn_post}
 use Rattle.wait_class.proofs.CalmSteps.{calm_step, gone}
 use Rattle.wait_class.proofs.Turns.{GoesOn, advance_by, moves_going, moves_quiet, stands_plain}
 
-module _ {C S O : Type 0} (t : CallTable C S O) (law : IsLawfulTable t) where
+module _ {C S O : Type 0} (t : CallTable C S O) (law : IsLawfulCallTable t) where
   state_law : (r : C) (s : S) → t.doing s ≡ doing.State → StateLaw t r s
   state_law r s here = subst (λ d. LawOf d t r s) here (law.at r s)
 
@@ -46,7 +46,7 @@ module _ {C S O : Type 0} (t : CallTable C S O) (law : IsLawfulTable t) where
       let u = t.next_of r.of s in
       let σ = t.state_at r.of s in
       record {
-        goes = moves_quiet t law r.of s nothing (Unit {0}) (λ me k x. step.State σ) (λ me k x. Unit {0}) u l.moves
+        goes = moves_quiet t law r.of s saw_nothing (Unit {0}) (λ me k x. step.State σ) (λ me k x. Unit {0}) u l.moves
             old.view.number old old new tt refl (only_none old) tt (state_looks old new σ is carries);
         keeps = subst (λ (g : Bool). t.Keeps (index old.view.number 0) (watch_in t r.of) (t.took s) g old new)
             l.moves.took (law.keeps.state (index old.view.number 0) (watch_in t r.of) (t.took s) old new σ is carries);

@@ -22,9 +22,9 @@ use Rattle.wait_class.proofs.Ground.Going.{runs_none, runs_on}
 use Rattle.wait_class.specs.declared.stages.Run.{Run}
 use Rattle.wait_class.specs.declared.stages.Turn.{Turn}
 use Rattle.wait_class.specs.declared.stages.Turn.TheVariants as turn
-use Rattle.wait_class.specs.Laws.{IsLawfulTable, Moves, is_quiet}
-use Rattle.wait_class.specs.Tables.{Advances, MadeEvent, Shows, Turned, IsAt, IsStop, Lands, Plan, CallTable, Went, falls, next_in, plan_post, plan_program, post_of, run_post, took_in, watch_in}
-use Rattle.wait_class.specs.Laws.{IsPlain, TurnTrail, turn_post}
+use Rattle.wait_class.specs.Laws.{IsLawfulCallTable, Moves, is_quiet_event}
+use Rattle.wait_class.specs.Tables.{Advances, MadeEvent, ShowsTurn, Turned, IsAt, IsStop, Lands, Plan, CallTable, Went, falls, next_in, plan_post, plan_program, post_of, run_post, took_in, watch_in}
+use Rattle.wait_class.specs.Laws.{IsPlainTurn, TurnTrail, turn_post}
 
 -- what a point says of the head and of the ticket
 pub free_head : (o : Option ℕ) (plan : Plan) (p : Point) → holds p ≡ false → (plan_post o plan p).head ≡ None
@@ -97,7 +97,7 @@ module _ {C S O : Type 0} (t : CallTable C S O) where
   stands_plain k r s is = subst (Stands k) (plain_post r s is)
 
   -- a turn behind which no head is held stops
-  pub stops_by : (r : C) (u : Turn S O) → IsPlain t u → (turn_post t r u).head ≡ None → IsStop t u
+  pub stops_by : (r : C) (u : Turn S O) → IsPlainTurn t u → (turn_post t r u).head ≡ None → IsStop t u
   stops_by r (turn.Again s) plain none = free_by (holds (t.point_of s)) _ none
   stops_by r (turn.Asleep s) plain none = absurd plain
   stops_by r (turn.Locked s) plain none = absurd plain
@@ -109,7 +109,7 @@ module _ {C S O : Type 0} (t : CallTable C S O) where
     pub stands : Stands new (turn_post t r u)
     pub trail : TurnTrail t new r u
 
-  pub lands_plain : (new : Known) (q : Run C) (u : Turn S O) → t.Fits q.of → IsPlain t u → LandsOn new q.of u
+  pub lands_plain : (new : Known) (q : Run C) (u : Turn S O) → t.Fits q.of → IsPlainTurn t u → LandsOn new q.of u
       → Lands t new q u
   lands_plain new q (turn.Again s) fits plain l = record {
     fits = fits;
@@ -127,8 +127,8 @@ module _ {C S O : Type 0} (t : CallTable C S O) where
     pub tells : t.Tells r q runs.transitions
     pub made : MadeEvent old new
 
-  shows_plain : (old new : Known) (r q : Run C) (u : Turn S O) → IsPlain t u → MadeEvent old new
-      → Shows t old new r q u
+  shows_plain : (old new : Known) (r q : Run C) (u : Turn S O) → IsPlainTurn t u → MadeEvent old new
+      → ShowsTurn t old new r q u
   shows_plain old new r q (turn.Again s) plain made = inl made
   shows_plain old new r q (turn.Asleep s) plain made = absurd plain
   shows_plain old new r q (turn.Locked s) plain made = absurd plain
@@ -141,7 +141,7 @@ module _ {C S O : Type 0} (t : CallTable C S O) where
     pub lands : LandsOn new q u
 
   pub advance_by : (old new : Known) (r q : Run C) (s : S) (u : Turn S O) → t.plan_of q.of ≡ t.plan_of r.of
-      → t.Fits q.of → IsPlain t u → GoesOn old new r.of q.of s u → Turned t old new r q s u
+      → t.Fits q.of → IsPlainTurn t u → GoesOn old new r.of q.of s u → Turned t old new r q s u
   advance_by old new r q s u same fits plain g = record {
     advances = record {
       same = same;
@@ -171,17 +171,17 @@ module _ {C S O : Type 0} (t : CallTable C S O) where
       }
 
   -- of which a run tells nothing
-  pub moves_quiet : IsLawfulTable t → (r : C) (s : S) (seen : Seen) (A : Type 0) (made : ℕ → Known → A → Step)
+  pub moves_quiet : IsLawfulCallTable t → (r : C) (s : S) (seen : Seen) (A : Type 0) (made : ℕ → Known → A → Step)
       (Ok : ℕ → Known → A → Type 0) (u : Turn S O) → Moves t r s seen A made Ok u → (me : ℕ) (old knew new : Known)
-      (a : A) → is_quiet (by_step (made me knew a)) ≡ true → OnlyLooks old knew → Ok me knew a
+      (a : A) → is_quiet_event (by_step (made me knew a)) ≡ true → OnlyLooks old knew → Ok me knew a
       → OnlyLooks (after_step_or_look (by_step (made me knew a)) knew) new
       → Passage me old new r r (next.Go (t.point_of s)) (next_in t u)
   moves_quiet law r s seen A made Ok u m me old knew new a quiet before ok behind =
       moves_going r r s seen A made Ok u m me old knew new a before ok behind
-      (λ x did. law.tells.quiet r x (ap is_quiet did ∙ quiet))
+      (λ x did. law.tells.quiet r x (ap is_quiet_event did ∙ quiet))
 
   -- parts one after another
-  module _ (law : IsLawfulTable t) where
+  module _ (law : IsLawfulCallTable t) where
     pub went_on : (old mid new : Known) (r q w : C) (from by to : Turn S O) → Went t old mid r q from by
         → t.plan_of q ≡ t.plan_of r → Went t mid new q w by to → Went t old new r w from to
     went_on old mid new r q w from by to a same b =

@@ -6,7 +6,7 @@ use Rattle.wait_rule.specs.Says.{IsClean}
 use Rattle.wait_class.specs.declared.stages.Run.{Run}
 use Rattle.wait_class.specs.declared.stages.Turn.{Turn}
 use Rattle.wait_class.specs.declared.stages.Turn.TheVariants as turn
-use Rattle.wait_class.specs.Laws.{IsLawfulTable}
+use Rattle.wait_class.specs.Laws.{IsLawfulCallTable}
 use Rattle.wait_class.specs.Tables.{Advances, CallTable, IsAt, Plan, Went}
 use Rattle.wait_class.specs.UnderWay.{Came, IsUnderWay}
 use Rattle.wait_class.proofs.Turns.{advances_none, advances_on, again}
@@ -26,7 +26,7 @@ module _ {C S O : Type 0} (t : CallTable C S O) where
       → Went t old new r.of q.of (turn.Again s) (turn.Again n)
   as_awake old new r q s n same w = record { runs = w.runs; tells = w.tells; keeps = w.keeps }
 
-  module _ (law : IsLawfulTable t) where
+  module _ (law : IsLawfulCallTable t) where
     pub came_on : (old mid new : Known) (r q w : Run C) (s n : S) (u : Turn S O)
         → Advances t old mid r q s (turn.Again n) → Advances t mid new q w n u → Came t old new r w s u
     came_on old mid new r q w s n u a b = goes_there old new r w s u

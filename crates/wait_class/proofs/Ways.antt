@@ -20,11 +20,11 @@ use Rattle.wait_class.specs.FrameLaws.{FinishLaw}
 use Rattle.wait_class.specs.Frames.{FrameTable, framed}
 use Rattle.wait_class.specs.Laws.{HomeGoes, IsFreeStage, LoadLaw, LookLaw, SleepLaw, StateGoes, mask_in}
 use Rattle.wait_class.specs.Tables.{CallTable, falls, next_in, plan_program, post_of, took_in, stage_watch}
-use Rattle.wait_class.specs.Laws.{Calm, IsPlain, TurnTrail, turn_post}
+use Rattle.wait_class.specs.Laws.{Calm, IsPlainTurn, TurnTrail, turn_post}
 
 -- a way with no event of the lock
 pub record Way {C S O : Type 0} (t : CallTable C S O) (r : C) (s : S) (q : C) (u : Turn S O) : Type 0 where
-  pub plain : IsPlain t u
+  pub plain : IsPlainTurn t u
   pub falls : falls t s u ≡ true
   pub took : t.took s ≡ took_in t u
   pub head : (turn_post t q u).head ≡ (post_of t r s).head
@@ -32,7 +32,7 @@ pub record Way {C S O : Type 0} (t : CallTable C S O) (r : C) (s : S) (q : C) (u
   pub state : StateGoes t r s q u
   pub home : HomeGoes t r s q u
 
-pub way : {C S O : Type 0} (t : CallTable C S O) (r : C) (s : S) (q : C) (u : Turn S O) → IsPlain t u
+pub way : {C S O : Type 0} (t : CallTable C S O) (r : C) (s : S) (q : C) (u : Turn S O) → IsPlainTurn t u
     → falls t s u ≡ true → t.took s ≡ took_in t u → (turn_post t q u).head ≡ (post_of t r s).head
     → (turn_post t q u).ticket ≡ (post_of t r s).ticket → StateGoes t r s q u → HomeGoes t r s q u → Way t r s q u
 way t r s q u plain falls took head ticket state home = record {
@@ -165,7 +165,7 @@ go_if false e p q = refl
 
 -- behind a finish
 pub finish_by : {W T O : Type 0} (f : FrameTable W T O) (r : W) (failed : Bool)
-    → IsPlain (framed f) (f.finished r failed)
+    → IsPlainTurn (framed f) (f.finished r failed)
     → ((s : Stage T) → falls (framed f) s (f.finished r failed) ≡ true)
     → f.took_finish failed ≡ took_in (framed f) (f.finished r failed)
     → (turn_post (framed f) (record { wait = r }) (f.finished r failed)).head ≡ None

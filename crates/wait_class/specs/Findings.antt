@@ -7,8 +7,8 @@ use Rattle.wait_model.specs.declared.watches.Entry.{Entry}
 use Rattle.wait_model.specs.Tasks.{task_of}
 
 -- what a program finds where it asks for nothing, for a value, for an entry, and for the own record
-abbrev pub nothing : Seen
-nothing = record {
+abbrev pub saw_nothing : Seen
+saw_nothing = record {
   own = task_of 0;
   entry = None;
   flag = false;
@@ -23,13 +23,13 @@ nothing = record {
 }
 
 abbrev pub with_value : ℕ → Seen
-with_value r = record nothing { value = r }
+with_value r = record saw_nothing { value = r }
 
-abbrev pub with_entry : Option Entry → Seen
-with_entry o = record nothing { entry = o }
+abbrev pub saw_entry : Option Entry → Seen
+saw_entry o = record saw_nothing { entry = o }
 
 abbrev pub with_worn : Bool → Seen
-with_worn b = record nothing { worn = b }
+with_worn b = record saw_nothing { worn = b }
 
 abbrev pub with_own : TaskRecord → Seen
-with_own t = record nothing { own = t }
+with_own t = record saw_nothing { own = t }

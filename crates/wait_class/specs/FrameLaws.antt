@@ -45,7 +45,7 @@ use Rattle.wait_class.specs.declared.frame_stages.Stage.TheVariants as stage
 use Rattle.wait_class.specs.Frames.{FrameTable, framed}
 use Rattle.wait_class.specs.Laws.{KeepsLaws, LoadLaw, LookLaw, SleepLaw}
 use Rattle.wait_class.specs.Tables.{Plan, falls, has_sleep, next_in, took_in}
-use Rattle.wait_class.specs.Laws.{Calm, IsPlain, TurnTrail, Unmoved, turn_post}
+use Rattle.wait_class.specs.Laws.{Calm, IsPlainTurn, TurnTrail, Unmoved, turn_post}
 
 -- a program that prepares and finishes as the waits for bits do, and goes on so behind its finish
 abbrev pub prepare_made : Point → Point → Watch → SleepState → Form → PreparePoint → Seen → Planned
@@ -114,7 +114,7 @@ framed_plan f ends p = record {
 
 -- where a call goes on behind a finish
 pub record FinishLaw {W T O : Type 0} (f : FrameTable W T O) (r : W) (failed : Bool) : Type 0 where
-  pub plain : IsPlain (framed f) (f.finished r failed)
+  pub plain : IsPlainTurn (framed f) (f.finished r failed)
   pub falls : (s : Stage T) → falls (framed f) s (f.finished r failed) ≡ true
   pub took : f.took_finish failed ≡ took_in (framed f) (f.finished r failed)
   pub head : (turn_post (framed f) (record { wait = r }) (f.finished r failed)).head ≡ None

@@ -68,26 +68,26 @@ point_at f (stage.FinishTurn failed) = at.Finish finishing.Lock failed
 point_at f (stage.FinishQueue failed) = at.Finish finishing.Queue failed
 point_at f (stage.FinishUnlock failed) = at.Finish finishing.Unlock failed
 
-abbrev pub doing_at : {W T O : Type 0} → FrameTable W T O → Stage T → Doing
-doing_at f (stage.Test x) = doing.Own
-doing_at f stage.PrepareLock = doing.Draw
-doing_at f stage.PrepareTurn = doing.Lock
-doing_at f stage.PrepareQueue = doing.Queue
-doing_at f stage.PrepareState = doing.State
-doing_at f stage.PrepareUnlock = doing.Unlock
-doing_at f stage.Sleep = doing.Sleep
-doing_at f stage.Look = doing.Look
-doing_at f (stage.FinishState failed) = doing.State
-doing_at f (stage.FinishLook failed) = doing.Peek
-doing_at f (stage.FinishLock failed) = doing.Draw
-doing_at f (stage.FinishTurn failed) = doing.Lock
-doing_at f (stage.FinishQueue failed) = doing.Pare
-doing_at f (stage.FinishUnlock failed) = doing.Unlock
+abbrev pub frame_doing : {W T O : Type 0} → FrameTable W T O → Stage T → Doing
+frame_doing f (stage.Test x) = doing.Own
+frame_doing f stage.PrepareLock = doing.Draw
+frame_doing f stage.PrepareTurn = doing.Lock
+frame_doing f stage.PrepareQueue = doing.Queue
+frame_doing f stage.PrepareState = doing.State
+frame_doing f stage.PrepareUnlock = doing.Unlock
+frame_doing f stage.Sleep = doing.Sleep
+frame_doing f stage.Look = doing.Look
+frame_doing f (stage.FinishState failed) = doing.State
+frame_doing f (stage.FinishLook failed) = doing.Peek
+frame_doing f (stage.FinishLock failed) = doing.Draw
+frame_doing f (stage.FinishTurn failed) = doing.Lock
+frame_doing f (stage.FinishQueue failed) = doing.Pare
+frame_doing f (stage.FinishUnlock failed) = doing.Unlock
 
-abbrev pub is_turn : {T : Type 0} → Stage T → Bool
-is_turn stage.PrepareTurn = true
-is_turn (stage.FinishTurn failed) = true
-is_turn _ = false
+abbrev pub is_frame_turn : {T : Type 0} → Stage T → Bool
+is_frame_turn stage.PrepareTurn = true
+is_frame_turn (stage.FinishTurn failed) = true
+is_frame_turn _ = false
 
 abbrev pub took_at : {W T O : Type 0} → FrameTable W T O → Stage T → Bool
 took_at f (stage.Test x) = f.took x
@@ -176,8 +176,8 @@ framed f = record {
   worn_at = λ r p. record { wait = f.worn_at r.wait p };
   joined_at = λ r s. r;
   point_of = point_at f;
-  doing = doing_at f;
-  drawn = is_turn;
+  doing = frame_doing f;
+  drawn = is_frame_turn;
   took = took_at f;
   depth = depth_at;
   drawn_to = drawn_behind;

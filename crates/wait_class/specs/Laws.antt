@@ -32,7 +32,7 @@ use Rattle.wq_head.specs.Looks.{Looks}
 use Rattle.wq_head.specs.declared.adds.Worn.{Worn}
 use Rattle.wait_class.specs.Posts.{HasSeenOwn, IsStateFor, Post, zone_at}
 use Rattle.wait_class.specs.Posts.{own_of}
-use Rattle.wait_class.specs.Findings.{nothing, with_entry, with_own, with_value, with_worn}
+use Rattle.wait_class.specs.Findings.{saw_nothing, saw_entry, with_own, with_value, with_worn}
 use Rattle.wait_class.specs.Tables.{CallTable, falls, has_sleep, head_in, next_in, plan_program, post_of, took_in, stage_watch, watch_in}
 use Rattle.wait_class.specs.declared.stages.Added.TheVariants as adds
 use Rattle.wait_class.specs.declared.stages.Doing.{Doing}
@@ -41,11 +41,11 @@ use Rattle.wait_class.specs.declared.stages.Turn.{Turn}
 use Rattle.wait_class.specs.declared.stages.Turn.TheVariants as turn
 
 -- a turn that goes on with no ticket drawn, or ends the wait
-abbrev pub IsPlain : {C S O : Type 0} → CallTable C S O → Turn S O → Type 0
-IsPlain t (turn.Again s) = t.drawn s ≡ false
-IsPlain t (turn.Asleep s) = ⊥
-IsPlain t (turn.Locked s) = ⊥
-IsPlain t (turn.Done o) = Unit {0}
+abbrev pub IsPlainTurn : {C S O : Type 0} → CallTable C S O → Turn S O → Type 0
+IsPlainTurn t (turn.Again s) = t.drawn s ≡ false
+IsPlainTurn t (turn.Asleep s) = ⊥
+IsPlainTurn t (turn.Locked s) = ⊥
+IsPlainTurn t (turn.Done o) = Unit {0}
 
 -- what such a turn says of the task, and of its last steps
 abbrev pub turn_post : {C S O : Type 0} → CallTable C S O → C → Turn S O → Post
@@ -97,16 +97,16 @@ pub record Calm (es : List Step) (old new : Known) : Type 0 where
   pub state : has_sleep es ≡ false → new.book.state ≡ state_behind es old.book.state
 
 -- neither a load nor an add
-abbrev pub is_quiet : StepOrLook → Bool
-is_quiet (by_step (step.Load w v)) = false
-is_quiet (by_step (step.Queue x e)) = false
-is_quiet _ = true
+abbrev pub is_quiet_event : StepOrLook → Bool
+is_quiet_event (by_step (step.Load w v)) = false
+is_quiet_event (by_step (step.Queue x e)) = false
+is_quiet_event _ = true
 
 -- What a run tells of its transitions: by parts, and each by what it did.
 pub record TellsLaws {C : Type 0} (T : C → C → List Transition → Type 0) : Type 0 where
   pub none : (r : C) → T r r []
   pub on : (r q w : C) (ts us : List Transition) → T r q ts → T q w us → T r w (ts ++ us)
-  pub quiet : (r : C) (x : Transition) → is_quiet x.did ≡ true → T r r (x ∷ [])
+  pub quiet : (r : C) (x : Transition) → is_quiet_event x.did ≡ true → T r r (x ∷ [])
 
 abbrev pub mask_in : {C S O : Type 0} → CallTable C S O → C → ℕ
 mask_in t r = state_mask ((t.plan_of r).state)
@@ -114,7 +114,7 @@ mask_in t r = state_mask ((t.plan_of r).state)
 -- At a stage the program makes this step, of these numbers, where it found this, and then goes on so.
 pub record Moves {C S O : Type 0} (t : CallTable C S O) (r : C) (s : S) (seen : Seen) (A : Type 0)
     (made : ℕ → Known → A → Step) (Ok : ℕ → Known → A → Type 0) (u : Turn S O) : Type 0 where
-  pub plain : IsPlain t u
+  pub plain : IsPlainTurn t u
   pub falls : falls t s u ≡ true
   pub took : t.took s ≡ took_in t u
   pub goes : (me : ℕ) → ((t.plan_of r).makes me (t.point_of s) seen).next ≡ next_in t u
@@ -182,7 +182,7 @@ pub record LockLaw {C S O : Type 0} (t : CallTable C S O) (r : C) (s : S) : Type
   pub free : IsFreeStage t s
   pub head : (t.plan_of r).head (t.point_of s) ≡ head_in t r s
   pub drawn : t.drawn s ≡ true
-  pub moves : Moves t r s nothing ℕ (λ me k x. step.Lock (head_in t r s) (walk_of_hold (head_in t r s) None) x)
+  pub moves : Moves t r s saw_nothing ℕ (λ me k x. step.Lock (head_in t r s) (walk_of_hold (head_in t r s) None) x)
       (λ me k x. Unit {0}) (t.next_of r s)
   pub leaves : LeavesHead t r s (t.next_of r s) (Some (head_in t r s)) (taken (head_in t r s))
   pub state : StateStays t r s (t.next_of r s)
@@ -194,7 +194,7 @@ pub record LockLaw {C S O : Type 0} (t : CallTable C S O) (r : C) (s : S) : Type
 pub record UnlockLaw {C S O : Type 0} (t : CallTable C S O) (r : C) (s : S) : Type 0 where
   pub held : IsHeldStage t r s
   pub fresh : t.drawn s ≡ false
-  pub moves : Moves t r s nothing (Unit {0}) (λ me k x. step.Unlock k.at false) (λ me k x. k.at ≡ head_in t r s)
+  pub moves : Moves t r s saw_nothing (Unit {0}) (λ me k x. step.Unlock k.at false) (λ me k x. k.at ≡ head_in t r s)
       (t.next_of r s)
   pub leaves : LeavesHead t r s (t.next_of r s) None no_ticket
   pub state : StateStays t r s (t.next_of r s)
@@ -205,7 +205,7 @@ pub record UnlockLaw {C S O : Type 0} (t : CallTable C S O) (r : C) (s : S) : Ty
 
 pub record StateLaw {C S O : Type 0} (t : CallTable C S O) (r : C) (s : S) : Type 0 where
   pub fresh : t.drawn s ≡ false
-  pub moves : Moves t r s nothing (Unit {0}) (λ me k x. step.State (t.state_at r s)) (λ me k x. Unit {0})
+  pub moves : Moves t r s saw_nothing (Unit {0}) (λ me k x. step.State (t.state_at r s)) (λ me k x. Unit {0})
       (t.next_of r s)
   pub leaves : LeavesHead t r s (t.next_of r s) (post_of t r s).head (post_of t r s).ticket
   pub state : IsStateFor (turn_post t r (t.next_of r s)).stirs (turn_post t r (t.next_of r s)).state (t.state_at r s)
@@ -250,7 +250,7 @@ pub record MayBeQueued {C S O : Type 0} (t : CallTable C S O) (s : S) : Type 0 w
 pub record PeekLaw {C S O : Type 0} (t : CallTable C S O) (r : C) (s : S) (o : Option Entry) : Type 0 where
   pub free : IsFreeStage t s
   pub opens : MayBeQueued t s
-  pub moves : Moves t r s (with_entry o) ℕ (λ me k w. step.Peek (index me 0) w) (λ me k w. o ≡ entry_of w)
+  pub moves : Moves t r s (saw_entry o) ℕ (λ me k w. step.Peek (index me 0) w) (λ me k w. o ≡ entry_of w)
       (t.found_to r s (is_some o))
   pub leaves : LeavesHead t r s (t.found_to r s (is_some o)) None no_ticket
   pub state : StateStays t r s (t.found_to r s (is_some o))
@@ -265,7 +265,7 @@ HasShown me k o = IsSeenAs ((told_of k).hold.book (index me 0)) o
 
 -- the own entry was off, and the head is given back
 pub record GiveLaw {C S O : Type 0} (t : CallTable C S O) (r : C) (s : S) : Type 0 where
-  pub moves : Moves t r s (with_entry None) (Unit {0}) (λ me k x. step.Unlock k.at false)
+  pub moves : Moves t r s (saw_entry None) (Unit {0}) (λ me k x. step.Unlock k.at false)
       (λ me k x. (k.at ≡ head_in t r s) × HasShown me k None) (t.found_to r s false)
   pub leaves : LeavesHead t r s (t.found_to r s false) None no_ticket
   pub state : StateStays t r s (t.found_to r s false)
@@ -279,7 +279,7 @@ pub record GiveLaw {C S O : Type 0} (t : CallTable C S O) (r : C) (s : S) : Type
 pub record PareLaw {C S O : Type 0} (t : CallTable C S O) (r : C) (s : S) : Type 0 where
   pub held : IsHeldStage t r s
   pub opens : MayBeQueued t s
-  pub takes : (e : Entry) → Moves t r s (with_entry (Some e)) (Unit {0}) (λ me k x. step.Unqueue (index me 0))
+  pub takes : (e : Entry) → Moves t r s (saw_entry (Some e)) (Unit {0}) (λ me k x. step.Unqueue (index me 0))
       (λ me k x. HasShown me k (Some e)) (t.found_to r s true)
   pub takes_leaves : LeavesHead t r s (t.found_to r s true) (Some (head_in t r s)) (taken (head_in t r s))
   pub takes_state : StateStays t r s (t.found_to r s true)
@@ -363,7 +363,7 @@ pub record IsWornOut (h : ℕ) (form : Form) (me : ℕ) (k : Known) : Type 0 whe
 pub record QueueLaw {C S O : Type 0} (t : CallTable C S O) (r : C) (s : S) : Type 0 where
   pub held : IsHeldStage t r s
   pub opens : MayBeQueued t s
-  pub stays : (e : Entry) → Moves t r s (with_entry (Some e)) (Unit {0}) (λ me k x. step.State (mask_in t r))
+  pub stays : (e : Entry) → Moves t r s (saw_entry (Some e)) (Unit {0}) (λ me k x. step.State (mask_in t r))
       (λ me k x. HasShown me k (Some e)) (t.added_to r s adds.Stayed)
   pub stays_leaves : LeavesHead t r s (t.added_to r s adds.Stayed) (Some (head_in t r s)) (taken (head_in t r s))
   pub stays_state : IsStateFor (turn_post t r (t.added_to r s adds.Stayed)).stirs
@@ -376,7 +376,7 @@ pub record QueueLaw {C S O : Type 0} (t : CallTable C S O) (r : C) (s : S) : Typ
       → Calm (step.Saw (index old.view.number 0) w ∷ step.State (mask_in t r) ∷ []) old new
       → is_some ((told_of new).bits.stored (own_of new)) ≡ true → t.Trail old r s
       → TurnTrail t new r (t.added_to r s adds.Stayed)
-  pub joins : Moves t r s (with_entry None) Entry (λ me k e. step.Queue (index me 0) e)
+  pub joins : Moves t r s (saw_entry None) Entry (λ me k e. step.Queue (index me 0) e)
       (MayJoin (head_in t r s) ((t.plan_of r).form) ((t.plan_of r).given (t.point_of s)))
       (t.added_to r s adds.Joined)
   pub joins_same : t.plan_of (t.joined_at r s) ≡ t.plan_of r
@@ -449,10 +449,10 @@ pub record KeepsLaws (K : ℕ → Watch → Bool → Bool → Known → Known �
       → Looks old new → K i c g g old new
 
 -- The laws of a table.
-pub record IsLawfulTable {C S O : Type 0} (t : CallTable C S O) : Type 0 where
+pub record IsLawfulCallTable {C S O : Type 0} (t : CallTable C S O) : Type 0 where
   pub keeps : KeepsLaws t.Keeps
   pub tells : TellsLaws t.Tells
-  pub worn_tells : (r : C) (p : ℕ) (x : Transition) → is_quiet x.did ≡ true → t.Tells r (t.worn_at r p) (x ∷ [])
+  pub worn_tells : (r : C) (p : ℕ) (x : Transition) → is_quiet_event x.did ≡ true → t.Tells r (t.worn_at r p) (x ∷ [])
   pub at : (r : C) (s : S) → LawOf (t.doing s) t r s
   pub still : (old new : Known) (r : C) (s : S) → Calm [] old new → t.Trail old r s → t.Trail new r s
   pub rises : (old new : Known) (r : C) (s : S) → t.asleep_at s ≡ true → Unmoved old new → t.Trail old r s

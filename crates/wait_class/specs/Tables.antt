@@ -232,16 +232,16 @@ pub record SleptLast (old new : Known) : Type 0 where
 
 -- What a turn has to show for its answer: that it goes on, an event or a failed try; that it waits for the lock, a look
 -- that found another number served; that it was put asleep, a sleep, which came last.
-abbrev pub Shows : {C S O : Type 0} → CallTable C S O → Known → Known → Run C → Run C → Turn S O → Type 0
-Shows t old new r q (turn.Again s) = MadeEvent old new ⊎ HasFailed t old new r q s
-Shows t old new r q (turn.Locked s) = HasFoundOther t new q s
-Shows t old new r q (turn.Asleep s) = SleptLast old new
-Shows t old new r q (turn.Done o) = Unit {0}
+abbrev pub ShowsTurn : {C S O : Type 0} → CallTable C S O → Known → Known → Run C → Run C → Turn S O → Type 0
+ShowsTurn t old new r q (turn.Again s) = MadeEvent old new ⊎ HasFailed t old new r q s
+ShowsTurn t old new r q (turn.Locked s) = HasFoundOther t new q s
+ShowsTurn t old new r q (turn.Asleep s) = SleptLast old new
+ShowsTurn t old new r q (turn.Done o) = Unit {0}
 
 pub record Turned {C S O : Type 0} (t : CallTable C S O) (old new : Known) (r q : Run C) (s : S) (u : Turn S O) :
     Type 0 where
   pub advances : Advances t old new r q s u
-  pub shows : Shows t old new r q u
+  pub shows : ShowsTurn t old new r q u
 
 -- a task that was put asleep looked at its own word, and answers whether it showed that it was woken
 abbrev pub LooksAwake : Known → Known → Bool → Type 0

@@ -8,7 +8,7 @@ ghost use Rattle.wait_rule.specs.Says.{IsUp};
 ghost use Rattle.wait_class.specs.declared.stages.Added.TheVariants as adds;
 ghost use Rattle.wait_class.specs.declared.stages.Doing.TheVariants as doing;
 ghost use Rattle.wait_class.specs.Handing.{LastGiven};
-ghost use Rattle.wait_class.specs.Laws.{AddsOwn, IsLawfulTable, MayAdd};
+ghost use Rattle.wait_class.specs.Laws.{AddsOwn, IsLawfulCallTable, MayAdd};
 ghost use Rattle.wait_class.specs.Tables.{IsAt, IsStop, CallTable, SleepsNot, Turned, falls, stage_watch};
 
 use crate::stages::{Added, Doing, Run, Turn};
@@ -111,5 +111,5 @@ pub trait Machine: Copy {
 
     /// The table keeps the laws.
     fn lawful()
-        ensures { IsLawfulTable table };
+        ensures { IsLawfulCallTable table };
 }

@@ -23,27 +23,27 @@ use Rattle.wq_head.proofs.FullHeads.{hashed_low}
 use Rattle.wq_head.proofs.PermitHeads.{bits_low}
 use Rattle.wait_class.specs.Queueing.{IsForBy, wait_form}
 use Rattle.wait_class.proofs.EntryForms.{for_by}
-use Rattle.wait_event.specs.Prepares.{Suits}
+use Rattle.wait_event.specs.Prepares.{SuitsWait}
 use Rattle.wait_event.specs.WaitPlans.{IsWaitFor}
-use Rattle.wait_event.specs.Waits.{IsRunning}
+use Rattle.wait_event.specs.Waits.{IsRunningWait}
 use Rattle.wait_event.specs.declared.waits.WaitCall.{WaitCall}
 
 -- a wait for a condition with a full head, one with a simple head whose entry goes to the tail, and one for a variable
-pub full_runs : (r : WaitCall) (c : ℕ) → r.watch ≡ watch.Plain c → c < FIRST_SIMPLE → IsRunning r
+pub full_runs : (r : WaitCall) (c : ℕ) → r.watch ≡ watch.Plain c → c < FIRST_SIMPLE → IsRunningWait r
 full_runs r c is full = record {
   there = subst IsThere (sym is) (omega (arith, full));
   suits = subst (λ (w : Watch). IsWaitFor w r.how) (sym is) (λ high. absurd (omega (arith, full, high)));
 }
 
 pub tail_runs : (r : WaitCall) (c : ℕ) (how : How) → r.watch ≡ watch.Plain c → r.how ≡ how → c < PLAIN_CONDITIONS
-    → how.exclusive ≡ true → IsRunning r
+    → how.exclusive ≡ true → IsRunningWait r
 tail_runs r c how is same low tail = record {
   there = subst IsThere (sym is) low;
   suits = subst (λ (w : Watch). IsWaitFor w r.how) (sym is) (λ _. ap (λ (h : How). h.exclusive) same ∙ tail);
 }
 
 pub var_runs : (r : WaitCall) (v old : ℕ) (how : How) → r.watch ≡ watch.Var v old → r.how ≡ how → v < VARIABLES
-    → how.exclusive ≡ false → IsRunning r
+    → how.exclusive ≡ false → IsRunningWait r
 var_runs r v old how is same low front = record {
   there = subst IsThere (sym is) low;
   suits = subst (λ (w : Watch). IsWaitFor w r.how) (sym is) (ap (λ (h : How). h.exclusive) same ∙ front);
@@ -81,7 +81,7 @@ var_for how v there suits form is w same k its =
     let front : form ≡ forms.Front = is ∙ ap (λ (b : Bool). if b then forms.Tail else forms.Front) suits in
     subst (λ (f : Form). IsForBy f w k) (sym front) (inr (inr (its ∙ ap kind_for same, (v, same, there))))
 
-pub wait_for : (r : WaitCall) → IsRunning r → (form : Form) → form ≡ wait_form r.how → (w : Watch)
+pub wait_for : (r : WaitCall) → IsRunningWait r → (form : Form) → form ≡ wait_form r.how → (w : Watch)
     → w ≡ bare r.watch → (k : Kind) → k ≡ kind_for w → IsForBy form w k
 wait_for r runs form is w same k its = by r.watch runs.there runs.suits same
   where
@@ -118,7 +118,7 @@ tail_of how w k tail is = subst (λ (b : Bool). IsForBy (if b then forms.Tail el
 front_of : (how : How) (w : Watch) (k : Kind) → how.exclusive ≡ false → IsForBy forms.Front w k → IsForBy (wait_form how) w k
 front_of how w k front is = subst (λ (b : Bool). IsForBy (if b then forms.Tail else forms.Front) w k) (sym front) is
 
-suits_form : (w : Watch) (k : Kind) (how : How) → Suits w k how → IsForBy (wait_form how) (bare w) k
+suits_form : (w : Watch) (k : Kind) (how : How) → SuitsWait w k how → IsForBy (wait_form how) (bare w) k
 suits_form (watch.Plain c) kind.Default how full = for_by (wait_form how) (watch.Plain c) kind.Default
     (c, refl, full, inl refl)
 suits_form (watch.Plain c) kind.Autoremove how full = for_by (wait_form how) (watch.Plain c) kind.Autoremove
@@ -132,13 +132,13 @@ suits_form (watch.Bit n b) kind.Bit how s = front_of how (watch.Bit n b) kind.Bi
 suits_form (watch.Var v o) kind.Var how s = front_of how (watch.Var v 0) kind.Var s.1 (inr (inr (refl, (v, refl, s.0))))
 suits_form w k how s = absurd s
 
-pub suits_for : (w : Watch) (k : Kind) (how : How) → Suits w k how → (form : Form) → form ≡ wait_form how → (c : Watch)
+pub suits_for : (w : Watch) (k : Kind) (how : How) → SuitsWait w k how → (form : Form) → form ≡ wait_form how → (c : Watch)
     → c ≡ bare w → IsForBy form c k
 suits_for w k how s form is c same = subst (λ (f : Form). IsForBy f c k) (sym is)
     (subst (λ (d : Watch). IsForBy (wait_form how) d k) (sym same) (suits_form w k how s))
 
 -- its head is none of a completion
-pub suits_low : (w : Watch) (k : Kind) (how : How) → Suits w k how → head_of w < FIRST_DONE_HEAD
+pub suits_low : (w : Watch) (k : Kind) (how : How) → SuitsWait w k how → head_of w < FIRST_DONE_HEAD
 unfolding head_of
 suits_low (watch.Plain c) kind.Default how full = omega (arith, full)
 suits_low (watch.Plain c) kind.Autoremove how full = omega (arith, full)

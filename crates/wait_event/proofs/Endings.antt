@@ -16,9 +16,9 @@ use Rattle.wait_rule.specs.Stays.{Carries}
 use Rattle.wait_rule.specs.Transitions.{Goes, Program, call_program}
 use Rattle.wait_rule.proofs.KnownLaws.StayingParts.{owes_also, owes_out}
 use Rattle.wait_event.specs.WaitPlans.{call_for}
-use Rattle.wait_event.specs.Waits.{IsFresh, IsRunning, IsUnset, LeftQueue, LeftSo, SameCall, answer_in, last_load, left_by, point_of, queues, wait_table}
+use Rattle.wait_event.specs.Waits.{IsFreshWait, IsRunningWait, IsUnset, LeftQueue, LeftSo, SameCall, answer_to_wait, last_load, wait_left_by, wait_point_at, has_queued_in, wait_table}
 use Rattle.wait_class.specs.Posts.{EndsWith, own_of}
-use Rattle.wait_event.specs.Ends.{EndsWait, FoundNoPlace, HasWaited, WasSignalled, end_in, wait_change}
+use Rattle.wait_event.specs.Ends.{EndsWait, FoundNoPlace, HasWaitedFor, WasSignalled, wait_end_in, wait_change}
 use Rattle.wait_class.specs.Posts.{IsOut, Keeps}
 use Rattle.wait_event.specs.declared.waits.WaitOutcome.{WaitOutcome}
 use Rattle.wait_event.specs.declared.waits.WaitOutcome.TheVariants as outcome
@@ -32,7 +32,7 @@ use Rattle.wait_class.proofs.Wholes.{begins, none_of}
 use Rattle.wait_event.proofs.Plans.{program_is}
 
 -- a task that is idle, with its entry off, may begin
-pub begins_at : (k : Known) (r : Run WaitCall) → IsRunning r.of → IsTold k → IsUp k → IsIdle k → IsOut k
+pub begins_at : (k : Known) (r : Run WaitCall) → IsRunningWait r.of → IsTold k → IsUp k → IsIdle k → IsOut k
     → IsAt wait_table k r stage.First
 begins_at k r runs = begins wait_table k r stage.First runs refl refl refl refl tt
 
@@ -104,15 +104,15 @@ pub ends_clean : (old new : Known) (r q : Run WaitCall) (s : WaitStage) (o : Wai
 ends_clean old new r q s o a = over_clean old new q o a.lands a.went.keeps
 
 -- what it says at its end
-module _ (old new : Known) (r q : Run WaitCall) (w : Watch) (how : How) (fresh : IsFresh r.of w how)
-    (runs : IsRunning r.of) where
+module _ (old new : Known) (r q : Run WaitCall) (w : Watch) (how : How) (fresh : IsFreshWait r.of w how)
+    (runs : IsRunningWait r.of) where
   abbrev pub begun : (s : WaitStage) (o : WaitOutcome) (a : Advances wait_table old new r q s (turn.Done o))
-      → HasWaited old new w how (next.Go (point_of s)) (next.Ends (answer_in o)) (queues a.went.runs.transitions)
+      → HasWaitedFor old new w how (next.Go (wait_point_at s)) (next.Ends (answer_to_wait o)) (has_queued_in a.went.runs.transitions)
   begun s o a = record {
     runs = record {
       transitions = a.went.runs.transitions;
-      goes = subst (λ (f : Program). Goes f old (next.Go (point_of s)) a.went.runs.transitions new
-          (next.Ends (answer_in o)))
+      goes = subst (λ (f : Program). Goes f old (next.Go (wait_point_at s)) a.went.runs.transitions new
+          (next.Ends (answer_to_wait o)))
           (program_is old.view.number r.of.watch r.of.how runs.suits
           ∙ (λ i. call_program old.view.number 0 (call_for (fresh.watch_is i) (fresh.how_is i)))) a.went.runs.goes;
     };
@@ -120,8 +120,8 @@ module _ (old new : Known) (r q : Run WaitCall) (w : Watch) (how : How) (fresh :
   }
 
   queued_is : (s : WaitStage) (o : WaitOutcome) (a : Advances wait_table old new r q s (turn.Done o))
-      → q.of.queued ≡ queues a.went.runs.transitions
-  queued_is s o a = a.went.tells.queued ∙ ap (λ (b : Bool). b || queues a.went.runs.transitions) fresh.queued
+      → q.of.queued ≡ has_queued_in a.went.runs.transitions
+  queued_is s o a = a.went.tells.queued ∙ ap (λ (b : Bool). b || has_queued_in a.went.runs.transitions) fresh.queued
 
   same_watch : SameCall r.of q.of → q.of.watch ≡ w
   same_watch same = same.watch_is ∙ fresh.watch_is
@@ -138,7 +138,7 @@ module _ (old new : Known) (r q : Run WaitCall) (w : Watch) (how : How) (fresh :
   -- it was signalled, and it found no place
   pub was_signalled : (found : Bool) (a : Advances wait_table old new r q stage.First (turn.Done (outcome.Signalled found)))
       → (selected : Bool) → selected ≡ (q.of.queued && not found)
-      → WasSignalled new w how q.of.seen selected (queues a.went.runs.transitions)
+      → WasSignalled new w how q.of.seen selected (has_queued_in a.went.runs.transitions)
   was_signalled found a selected tells =
       let t : LeftQueue new q.of found (last_load q.of) × IsUnset q.of.watch q.of.seen
       = (signal_left found a a.lands.trail.0, a.lands.trail.1) in record {
@@ -146,7 +146,7 @@ module _ (old new : Known) (r q : Run WaitCall) (w : Watch) (how : How) (fresh :
         entry = t.0.entry;
         showed = ap (λ (h : How). pending (state_mask h.state) (task_of t.0.look)) (sym (how_is a.went.tells.same))
             ∙ t.0.showed;
-        ends = subst (λ (u : Watch). EndsWith new (left_by (own_of new) (head_of u) t.0.look t.0.entry
+        ends = subst (λ (u : Watch). EndsWith new (wait_left_by (own_of new) (head_of u) t.0.look t.0.entry
             ++ step.Load u q.of.seen ∷ [])) (same_watch a.went.tells.same) t.0.ends;
         unset = subst (λ (u : Watch). IsUnset u q.of.seen) (same_watch a.went.tells.same) t.1;
         selects = tells ∙ (λ i. queued_is stage.First (outcome.Signalled found) a i && not (t.0.found i));
@@ -166,22 +166,22 @@ module _ (old new : Known) (r q : Run WaitCall) (w : Watch) (how : How) (fresh :
       }
 
 -- for a plain condition
-module _ (old new : Known) (r q : Run WaitCall) (c : ℕ) (how : How) (fresh : IsFresh r.of (watch.Plain c) how)
-    (runs : IsRunning r.of) where
+module _ (old new : Known) (r q : Run WaitCall) (c : ℕ) (how : How) (fresh : IsFreshWait r.of (watch.Plain c) how)
+    (runs : IsRunningWait r.of) where
   pub ends_wait : (o : WaitOutcome) → Advances wait_table old new r q stage.First (turn.Done o)
-      → EndsWait old new c how (end_in q.of o)
+      → EndsWait old new c how (wait_end_in q.of o)
   ends_wait outcome.Over a = record {
-    queued = queues a.went.runs.transitions;
+    queued = has_queued_in a.went.runs.transitions;
     waited = begun old new r q (watch.Plain c) how fresh runs stage.First outcome.Over a;
     cause = tt;
   }
   ends_wait (outcome.Signalled found) a = record {
-    queued = queues a.went.runs.transitions;
+    queued = has_queued_in a.went.runs.transitions;
     waited = begun old new r q (watch.Plain c) how fresh runs stage.First (outcome.Signalled found) a;
     cause = was_signalled old new r q (watch.Plain c) how fresh runs found a (q.of.queued && not found) refl;
   }
   ends_wait outcome.Worn a = record {
-    queued = queues a.went.runs.transitions;
+    queued = has_queued_in a.went.runs.transitions;
     waited = begun old new r q (watch.Plain c) how fresh runs stage.First outcome.Worn a;
     cause = found_worn old new r q (watch.Plain c) how fresh runs a (head_of q.of.watch) refl;
   }

@@ -40,7 +40,7 @@ use Rattle.wq_head.proofs.LockWaits.{turn_looks, turn_of}
 use Rattle.wait_event.specs.Entries.{EndsAdd, HasWokenEntry, MayRemove, add_change, hold_change}
 use Rattle.wait_class.specs.Posts.{Runs}
 use Rattle.wait_class.specs.Queueing.{IsFormPlace, IsFormWorn, form_entry}
-use Rattle.wait_class.specs.Findings.{nothing, with_worn}
+use Rattle.wait_class.specs.Findings.{saw_nothing, with_worn}
 use Rattle.wait_class.specs.Posts.{own_of}
 use Rattle.wait_class.proofs.Ground.Going.{runs_on, runs_one}
 use Rattle.wait_class.proofs.FormPlaces.{form_is, form_left, form_worn}
@@ -177,7 +177,7 @@ module _ (old a b new : Known) (c : ℕ) (k : Kind) (form : Form) (own : IsOwnKi
   locks = runs_lock f (next.Go (at.Add adding.Lock)) (next.Go (at.Add adding.Queue)) old a h l
       (runs_one f (at.Add adding.Lock) old (turn_of old a h (walk_of_hold h None) l)
       (at_head h (added (turn_of old a h (walk_of_hold h None) l)
-      (item.Made (step.Lock h (walk_of_hold h None) l.found)))) nothing
+      (item.Made (step.Lock h (walk_of_hold h None) l.found)))) saw_nothing
       (by_step (step.Lock h (walk_of_hold h None) l.found)) (turn_looks old a h (walk_of_hold h None) l) (refl, refl)
       (tt, tt, tt) (only_none (at_head h (added (turn_of old a h (walk_of_hold h None) l)
       (item.Made (step.Lock h (walk_of_hold h None) l.found))))))
@@ -186,7 +186,7 @@ module _ (old a b new : Known) (c : ℕ) (k : Kind) (form : Form) (own : IsOwnKi
   at_lock = ap (λ (j : Known). j.at) l.is
 
   unlocks : b.at ≡ h → Runs f b new (next.Go (at.Add adding.Unlock)) (next.Ends zero_answer)
-  unlocks at_b = runs_one f (at.Add adding.Unlock) b b new nothing (by_step (step.Unlock b.at false)) (only_none b)
+  unlocks at_b = runs_one f (at.Add adding.Unlock) b b new saw_nothing (by_step (step.Unlock b.at false)) (only_none b)
       (at_b, refl) (tt, tt, tt) (unlock_looks b new u.is)
 
   -- it found a place

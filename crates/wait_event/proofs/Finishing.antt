@@ -22,12 +22,12 @@ use Rattle.wait_rule.proofs.KnownLaws.Transitions.{only_none}
 use Rattle.wq_head.specs.Holds.{HasLocked, HasUnlocked, IsHolding}
 use Rattle.wq_head.proofs.LockWaits.{turn_looks, turn_of}
 use Rattle.wq_head.proofs.PermitHeads.{owes_low}
-use Rattle.wait_class.specs.Findings.{nothing, with_entry as finds}
+use Rattle.wait_class.specs.Findings.{saw_nothing, saw_entry as finds}
 use Rattle.wait_class.specs.Posts.{HasSeenOwn, Keeps, Runs, own_of}
 use Rattle.wait_class.proofs.Ground.Going.{runs_on, runs_one}
 use Rattle.wait_class.proofs.Ground.Keeping.{keeps_on, own_keeps}
 use Rattle.wait_class.proofs.Ground.Standing.{owner_own, seen_is, seen_stored, state_keeps, state_looks, state_up}
-use Rattle.wait_event.specs.PartSteps.{IsAtHead, Pares}
+use Rattle.wait_event.specs.PartSteps.{IsAtHead, ParesPart}
 use Rattle.wait_event.specs.Prepares.{HasFinished, IsNoWaiter, MayFinish, finish_program}
 use Rattle.wait_event.proofs.Entering.{runs_lock}
 use Rattle.wait_event.proofs.PartSteps.{pares_out, pares_part, part_keeps}
@@ -61,7 +61,7 @@ module _ (old mid : Known) (may : MayFinish old) (is : mid ≡ added old (item.M
   mid_own = ap (λ (n : ℕ). index n 0) carries.number
 
   stores : Runs f old mid (next.Go (at.Finish finishing.State false)) (next.Go (at.Finish finishing.Look false))
-  stores = runs_one f (at.Finish finishing.State false) old old mid nothing (by_step (step.State 0)) (only_none old)
+  stores = runs_one f (at.Finish finishing.State false) old old mid saw_nothing (by_step (step.State 0)) (only_none old)
       refl (tt, tt, tt) (state_looks old mid 0 is carries)
 
   free_mid : mid.book.head ≡ None
@@ -157,12 +157,12 @@ module _ (old mid : Known) (may : MayFinish old) (is : mid ≡ added old (item.M
 
       locks : Runs f k a (next.Go (at.Finish finishing.Lock false)) (next.Go (at.Finish finishing.Queue false))
       locks = runs_lock f (next.Go (at.Finish finishing.Lock false)) (next.Go (at.Finish finishing.Queue false)) k a here l
-          (runs_one f (at.Finish finishing.Lock false) k turn locked nothing
+          (runs_one f (at.Finish finishing.Lock false) k turn locked saw_nothing
           (by_step (step.Lock here (walk_of_hold here None) l.found)) (turn_looks k a here (walk_of_hold here None) l)
           (ap head_of (sym its_watch), ap (λ (n : ℕ). walk_of_hold n None) (ap head_of (sym its_watch))) (tt, tt, tt)
           (only_none locked))
 
-      pub finish_on : IsHolding a → (c : Known) (found : Bool) → Pares a c found → (new : Known)
+      pub finish_on : IsHolding a → (c : Known) (found : Bool) → ParesPart a c found → (new : Known)
           → HasUnlocked c new false → Carries unlock_change c new → HasFinished old new
       finish_on held c found y new z three =
           let p = pares_part a c found y in record {

@@ -12,29 +12,29 @@ use Rattle.wait_class.specs.declared.stages.Turn.{Turn}
 use Rattle.wait_class.specs.Laws.{LoadLaw}
 use Rattle.wait_class.specs.Tables.{IsAt, Turned, falls}
 use Rattle.wait_class.proofs.States.{load_advances, load_falls}
-use Rattle.wait_event.specs.Waits.{doing_at, loaded_to, wait_table}
+use Rattle.wait_event.specs.Waits.{wait_doing, wait_loaded_to, wait_table}
 use Rattle.wait_event.specs.declared.waits.WaitCall.{WaitCall}
 use Rattle.wait_event.specs.declared.waits.WaitOutcome.{WaitOutcome}
 use Rattle.wait_event.specs.declared.waits.WaitStage.{WaitStage}
 use Rattle.wait_event.specs.declared.waits.WaitStage.TheVariants as stage
 use Rattle.wait_event.proofs.WaitLaws.{first_law, wait_lawful}
 
-first_only : (s : WaitStage) → doing_at s ≡ doing.Own → s ≡ stage.First
+first_only : (s : WaitStage) → wait_doing s ≡ doing.Own → s ≡ stage.First
 first_only stage.First here = refl
 first_only s here = absurd (cc)
 
-own_law : (r : WaitCall) (s : WaitStage) → doing_at s ≡ doing.Own → (v : ℕ)
-    → LoadLaw wait_table r s v (record r { seen = v }) (loaded_to r s v)
-own_law r s here v = subst (λ (q : WaitStage). LoadLaw wait_table r q v (record r { seen = v }) (loaded_to r q v))
+own_law : (r : WaitCall) (s : WaitStage) → wait_doing s ≡ doing.Own → (v : ℕ)
+    → LoadLaw wait_table r s v (record r { seen = v }) (wait_loaded_to r s v)
+own_law r s here v = subst (λ (q : WaitStage). LoadLaw wait_table r q v (record r { seen = v }) (wait_loaded_to r q v))
     (sym (first_only s here)) (first_law r v)
 
-pub first_advances : (old new : Known) (r : Run WaitCall) (s : WaitStage) → doing_at s ≡ doing.Own
+pub first_advances : (old new : Known) (r : Run WaitCall) (s : WaitStage) → wait_doing s ≡ doing.Own
     → IsAt wait_table old r s → (v : ℕ) → new ≡ added old (item.Made (step.Load r.of.watch v))
-    → Carries unchanged old new → (u : Turn WaitStage WaitOutcome) → u ≡ loaded_to r.of s v → (q : WaitCall)
+    → Carries unchanged old new → (u : Turn WaitStage WaitOutcome) → u ≡ wait_loaded_to r.of s v → (q : WaitCall)
     → q ≡ record r.of { seen = v } → Turned wait_table old new r (record r { of = q }) s u
 first_advances old new r s here a v is carries u to q notes = load_advances wait_table wait_lawful old new r s a r.of.watch
     refl v (own_law r.of s here v) is carries u to q notes
 
-pub first_falls : (r : WaitCall) (s : WaitStage) → doing_at s ≡ doing.Own → (v : ℕ) (u : Turn WaitStage WaitOutcome)
-    → u ≡ loaded_to r s v → falls wait_table s u ≡ true
+pub first_falls : (r : WaitCall) (s : WaitStage) → wait_doing s ≡ doing.Own → (v : ℕ) (u : Turn WaitStage WaitOutcome)
+    → u ≡ wait_loaded_to r s v → falls wait_table s u ≡ true
 first_falls r s here v u to = load_falls wait_table wait_lawful r s v (own_law r s here v) u to

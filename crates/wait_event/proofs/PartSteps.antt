@@ -38,7 +38,7 @@ use Rattle.wq_head.specs.Holds.{IsHolding}
 use Rattle.wq_head.specs.Looks.{Looks}
 use Rattle.wq_head.proofs.CarriedHolds.{looks_carried}
 use Rattle.wq_head.proofs.OneMoreLook.{saw_looks, whole_of}
-use Rattle.wait_class.specs.Findings.{nothing, with_own, with_entry as finds}
+use Rattle.wait_class.specs.Findings.{saw_nothing, with_own, saw_entry as finds}
 use Rattle.wait_class.specs.Posts.{HasSeenOwn, Keeps, Runs, own_of}
 use Rattle.wait_class.specs.Queueing.{IsFormPlace, IsFormWorn, TellsFirst, form_entry, wait_form}
 use Rattle.wait_class.proofs.FormPlaces.{first_later, form_is, form_left, form_worn}
@@ -49,7 +49,7 @@ use Rattle.wait_class.proofs.Histories.{and_left}
 use Rattle.wait_class.proofs.WornPlaces.{queue_same, whole_seen}
 use Rattle.wait_event.specs.Prepares.{IsPart, answers_first}
 use Rattle.wait_event.specs.WaitPlans.{behind_prepare}
-use Rattle.wait_event.specs.PartSteps.{HasJoinedPart, Heeds, IsAtHead, IsWornPart, Joins, PartCarries, Pares, asks_one, looked_to, part_change, program_of}
+use Rattle.wait_event.specs.PartSteps.{HasJoinedPart, Heeds, IsAtHead, IsWornPart, JoinsPart, PartCarries, ParesPart, asks_one, part_looked_to, part_change, program_of}
 use Rattle.wait_event.specs.declared.prepares.Part.{Part}
 
 -- what a step carries on, but for the own entry and the state
@@ -162,7 +162,7 @@ heeds_none p old none =
     }
 
 -- a look does not end it
-pub heard_next : (hit : Bool) → behind_prepare (next.Go (looked_to hit)) ≡ next.Go (looked_to hit)
+pub heard_next : (hit : Bool) → behind_prepare (next.Go (part_looked_to hit)) ≡ next.Go (part_looked_to hit)
 heard_next true = refl
 heard_next false = refl
 
@@ -178,10 +178,10 @@ heeds_look p old new w hit one tells is carries =
       runs = record {
         transitions = r.transitions;
         goes = subst (λ (b : Bool). Goes f old (next.Go (at.Prepare (if b then preparing.Look else preparing.Queue)))
-            r.transitions new (next.Go (looked_to hit))) (sym one)
+            r.transitions new (next.Go (part_looked_to hit))) (sym one)
             (subst (Goes f old (next.Go (at.Prepare preparing.Look)) r.transitions new) (heard_next hit)
             (subst (λ (b : Bool). Goes f old (next.Go (at.Prepare preparing.Look)) r.transitions new
-            (behind_prepare (next.Go (looked_to b)))) (sym tells) r.goes));
+            (behind_prepare (next.Go (part_looked_to b)))) (sym tells) r.goes));
       };
       quiet = refl;
       carries = carries;
@@ -213,7 +213,7 @@ module _ (old mid : Known) (o : Option Entry) (own : HasSeenOwn old mid o) (held
       }
 
   pub pares_on : (new : Known) (b : Bool) → b ≡ is_some o → b ≡ true → (me : ℕ) → me ≡ old.view.number
-      → HasRemoved mid new me 0 → Pares old new true
+      → HasRemoved mid new me 0 → ParesPart old new true
   pares_on new b tells hit_is me mine r = record {
     seen = mid;
     entry = o;
@@ -222,10 +222,10 @@ module _ (old mid : Known) (o : Option Entry) (own : HasSeenOwn old mid o) (held
     takes = subst (λ (n : ℕ). HasRemoved mid new n 0) (mine ∙ sym own.carries.number) r;
   }
 
-  pub pares_off : (b : Bool) → b ≡ is_some o → b ≡ false → Pares old mid false
+  pub pares_off : (b : Bool) → b ≡ is_some o → b ≡ false → ParesPart old mid false
   pares_off b tells miss = record { seen = mid; entry = o; looked = own; is_found = sym miss ∙ tells; takes = refl }
 
-pub pares_part : (old new : Known) (found : Bool) → Pares old new found → PartCarries (λ σ. σ) old new
+pub pares_part : (old new : Known) (found : Bool) → ParesPart old new found → PartCarries (λ σ. σ) old new
 pares_part old new true x = part_on (λ σ. σ) (λ σ. σ) old x.seen new (own_part old x.seen x.entry x.looked)
     (take_part x.seen new x.takes.carries)
 pares_part old new false x = subst (λ (k : Known). PartCarries (λ σ. σ) old k) (sym x.takes)
@@ -235,7 +235,7 @@ none_found : (o : Option Entry) → false ≡ is_some o → o ≡ None
 none_found None is = refl
 none_found (Some e) is = absurd (cc)
 
-pub pares_out : (old new : Known) (found : Bool) → Pares old new found → (told_of new).bits.stored (own_of old) ≡ None
+pub pares_out : (old new : Known) (found : Bool) → ParesPart old new found → (told_of new).bits.stored (own_of old) ≡ None
 pares_out old new true x = ap (λ (n : ℕ). (told_of new).bits.stored (index n 0)) (sym x.looked.carries.number)
     ∙ x.takes.out
 pares_out old new false x = ap (λ (k : Known). (told_of k).bits.stored (own_of old)) x.takes
@@ -275,7 +275,7 @@ module _ (p : Part) (old mid : Known) (o : Option Entry) (own : HasSeenOwn old m
   }
 
   pub stays_by : (b : Bool) → b ≡ is_some o → b ≡ true → (new : Known) (τ : ℕ) → τ ≡ σ
-      → new ≡ added mid (item.Made (step.State τ)) → Carries (state_change τ) mid new → Joins p old new (Ok false)
+      → new ≡ added mid (item.Made (step.State τ)) → Carries (state_change τ) mid new → JoinsPart p old new (Ok false)
   stays_by b tells hit_is new τ same is carries = by o refl (sym tells ∙ hit_is)
     where
       by : (g : Option Entry) → o ≡ g → is_some g ≡ true → HasJoinedPart p old new false
@@ -342,7 +342,7 @@ module _ (p : Part) (old mid : Known) (o : Option Entry) (own : HasSeenOwn old m
         module _ (new : Known) (is : new ≡ added new2 (item.Made (step.State σ)))
             (carries : Carries (state_change σ) new2 new) where
           stores : Runs f new2 new (next.Go (at.Prepare preparing.State)) (next.Go (at.Prepare preparing.Unlock))
-          stores = runs_one f (at.Prepare preparing.State) new2 new2 new nothing (by_step (step.State σ))
+          stores = runs_one f (at.Prepare preparing.State) new2 new2 new saw_nothing (by_step (step.State σ))
               (only_none new2) refl (tt, tt, tt) (state_looks new2 new σ is carries)
 
           joined_part : (first : Bool) → TellsFirst (answers_first p) mid2 first → HasJoinedPart p old new first
@@ -421,7 +421,7 @@ module _ (p : Part) (old mid : Known) (o : Option Entry) (own : HasSeenOwn old m
     (is_bare : w ≡ bare p.watch) where
   pub joins_by : (new2 new : Known) (τ : ℕ) → τ ≡ state_mask p.how.state → (first : Bool) → TellsFirst asked mid2 first
       → HasAdded (IsFormPlace form) mid2 new2 0 (form_entry form w p.kind) → new ≡ added new2 (item.Made (step.State τ))
-      → Carries (state_change τ) new2 new → Joins p old new (Ok first)
+      → Carries (state_change τ) new2 new → JoinsPart p old new (Ok first)
   joins_by new2 new τ same first t x is carries = joined_part p old mid o own held here home b tells miss mid2 looks new2
       (subst (λ (c : Watch). HasAdded (IsFormPlace (wait_form p.how)) mid2 new2 0 (form_entry (wait_form p.how) c p.kind))
       is_bare (subst (λ (g : Form). HasAdded (IsFormPlace g) mid2 new2 0 (form_entry g w p.kind)) is_form x))
@@ -431,14 +431,14 @@ module _ (p : Part) (old mid : Known) (o : Option Entry) (own : HasSeenOwn old m
 
   pub wears_by : (v : Worn) (mid3 new : Known) → IsFormWorn form mid2 mid3 v
       → WasWorn mid3.view.number mid3.view.items v.head v.place → IsHolding mid3 → (u : Option Entry)
-      → HasSeenOwn mid3 new u → Joins p old new (Err v)
+      → HasSeenOwn mid3 new u → JoinsPart p old new (Err v)
   wears_by v mid3 new worn noted held3 u own3 = worn_part p old mid o own held here home b tells miss mid2 looks v mid3 new
       (subst (λ (g : Form). IsFormWorn g mid2 mid3 v) is_form worn) noted held3 u own3
 
 -- the head that is held stays
-pub pares_at : (old new : Known) (found : Bool) → Pares old new found → new.at ≡ old.at
+pub pares_at : (old new : Known) (found : Bool) → ParesPart old new found → new.at ≡ old.at
 pares_at old new found y = (pares_part old new found y).at
 
-pub joins_at : (p : Part) (old new : Known) (r : Result Bool Worn) → Joins p old new r → new.at ≡ old.at
+pub joins_at : (p : Part) (old new : Known) (r : Result Bool Worn) → JoinsPart p old new r → new.at ≡ old.at
 joins_at p old new (Ok first) y = y.carries.at
 joins_at p old new (Err v) y = y.carries.at

@@ -74,7 +74,7 @@ use Rattle.wait_rule.proofs.TableSteps.ItemLists.{steps_append}
 use Rattle.wait_class.specs.Queueing.{wait_form}
 use Rattle.wait_class.proofs.Ground.Standing.{owner_own}
 use Rattle.wait_event.specs.Prepares.{finish_program, prepare_program}
-use Rattle.wait_event.specs.WaitPlans.{asked, behind_prepare, gives_back, looks_for, plan}
+use Rattle.wait_event.specs.WaitPlans.{planned_as_asked, behind_prepare, gives_lock_back, looks_for, plan}
 use Rattle.wait_event.specs.Words.{FinishesFollow, PreparesFollow, prepared_as, prepares_by}
 use Rattle.wait_event.proofs.Words.{list_of}
 
@@ -144,13 +144,13 @@ module _ (asks : Bool) (me : ℕ) (w : Watch) (k : Kind) (how : How) where
     adds_at worn entry = if is_some entry
         then go (event.State (state_mask how.state)) (at.Prepare preparing.Unlock)
         else if worn
-        then gives_back w (next.Go at.Worn)
+        then gives_lock_back w (next.Go at.Worn)
         else go (event.Queue (head_of w) (wait_form how)) (at.Prepare preparing.State)
 
     abbrev pares_at : Option Entry → Planned
     pares_at entry = if is_some entry
         then go (event.Unqueue me) (at.Leave leaving.Unlock)
-        else gives_back w (next.Go (at.Leave leaving.Load))
+        else gives_lock_back w (next.Go (at.Leave leaving.Load))
 
     queue_leads : (v : List Event) (q worn : Bool) (entry : Option Entry) → (q ≡ false → entry ≡ None)
         → Leads v q (at.Prepare preparing.Queue) (adds_at worn entry)
@@ -169,7 +169,7 @@ module _ (asks : Bool) (me : ℕ) (w : Watch) (k : Kind) (how : How) where
     leave_leads v false None off h = (refl, h)
 
     lock_leads : (b : Bool) → b ≡ asks → (v : List Event) (q : Bool) (seen : Seen)
-        → Leads v q (at.Prepare preparing.Lock) (asked b (at.Prepare preparing.Lock) (plan me w how (at.Prepare preparing.Lock) seen))
+        → Leads v q (at.Prepare preparing.Lock) (planned_as_asked b (at.Prepare preparing.Lock) (plan me w how (at.Prepare preparing.Lock) seen))
     lock_leads true is v q seen h = subst (λ (c : Bool). ((prepares_by c me w how q >>= answers) ends)
         (event.Lock (head_of w) ∷ v) a) is (refl, looks_lead v q (looks_in how.state) h)
     lock_leads false is v q seen h = subst (λ (c : Bool). ((prepares_by c me w how q >>= answers) ends)

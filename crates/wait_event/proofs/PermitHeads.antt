@@ -8,7 +8,7 @@ use Rattle.wait_model.specs.declared.watches.Watch.TheVariants as watch
 use Rattle.wait_model.specs.Watches.{IsThere, head_of}
 use Rattle.wq_head.proofs.FullHeads.{hashed_low}
 use Rattle.wait_event.specs.WaitPlans.{IsWaitFor}
-use Rattle.wait_event.specs.Waits.{IsRunning}
+use Rattle.wait_event.specs.Waits.{IsRunningWait}
 use Rattle.wait_event.specs.declared.waits.WaitCall.{WaitCall}
 
 low_for : (w : Watch) (how : How) → IsThere w → IsWaitFor w how → head_of w < FIRST_DONE_HEAD
@@ -18,7 +18,7 @@ low_for (watch.Var v old) how there suits = let low = hashed_low (BIT_WORDS + v)
 low_for (watch.Done d) how there suits = absurd suits
 low_for (watch.Bit w b) how there suits = absurd suits
 
-pub run_low : (r : WaitCall) → IsRunning r → head_of r.watch < FIRST_DONE_HEAD
+pub run_low : (r : WaitCall) → IsRunningWait r → head_of r.watch < FIRST_DONE_HEAD
 run_low r runs = low_for r.watch r.how runs.there runs.suits
 
 pub cond_low : (c : ℕ) → c < FIRST_SIMPLE → head_of (watch.Plain c) < FIRST_DONE_HEAD

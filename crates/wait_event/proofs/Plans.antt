@@ -26,12 +26,12 @@ use Rattle.wait_rule.specs.Transitions.{Goes, Program, call_program}
 use Rattle.wait_class.specs.Posts.{Runs}
 use Rattle.wait_class.specs.Queueing.{wait_form}
 use Rattle.wait_class.specs.Tables.{plan_program}
-use Rattle.wait_event.specs.WaitPlans.{IsWaitFor, asked, call_for, gives_back, kind_in, plan, wait_plan}
-use Rattle.wait_event.specs.Waits.{IsRunning}
+use Rattle.wait_event.specs.WaitPlans.{IsWaitFor, planned_as_asked, call_for, gives_lock_back, kind_for_point, plan, wait_plan}
+use Rattle.wait_event.specs.Waits.{IsRunningWait}
 use Rattle.wait_event.specs.declared.waits.WaitCall.{WaitCall}
 
 -- a wait asks for signals
-asked_true : (p : Point) (e : Planned) → asked true p e ≡ e
+asked_true : (p : Point) (e : Planned) → planned_as_asked true p e ≡ e
 asked_true (at.Prepare preparing.Lock) e = refl
 asked_true p e = refl
 
@@ -56,13 +56,13 @@ module _ (me c : ℕ) (how : How) where
 
   plain_given : (p : Point) → record (given_at (call_for (watch.Plain c) how) p) {
     watch = watch.Plain c;
-    kind = kind_in (kind_for (watch.Plain c)) p;
+    kind = kind_for_point (kind_for (watch.Plain c)) p;
   } ≡ given_at (call_for (watch.Plain c) how) p
   plain_given p = refl
 
   pub plain_program : plan_program me 0 (wait_plan (watch.Plain c) how) ≡ call_program me 0 (call_for (watch.Plain c) how)
   plain_program i = record {
-    plan = λ p seen. (ap (asked true p) (plain_plan p seen) ∙ asked_true p (program me (call_for (watch.Plain c) how) p seen)) i;
+    plan = λ p seen. (ap (planned_as_asked true p) (plain_plan p seen) ∙ asked_true p (program me (call_for (watch.Plain c) how) p seen)) i;
     given = λ p. plain_given p i;
     own = Some (index me 0);
     form = Some (wait_form how);
@@ -75,7 +75,7 @@ module _ (me v old : ℕ) (how : How) where
       if is_some seen.entry
       then go (event.State (state_mask how.state)) (at.Prepare preparing.Unlock)
       else if seen.worn
-      then gives_back (watch.Var v old) (next.Go at.Worn)
+      then gives_lock_back (watch.Var v old) (next.Go at.Worn)
       else go (event.Queue (head_of (watch.Var v old)) form) (at.Prepare preparing.State)
 
   var_plan : (p : Point) (seen : Seen) → how.exclusive ≡ false → plan me (watch.Var v old) how p seen
@@ -99,14 +99,14 @@ module _ (me v old : ℕ) (how : How) where
 
   var_given : (p : Point) → record (given_at (call_for (watch.Var v old) how) p) {
     watch = watch.Var v old;
-    kind = kind_in (kind_for (watch.Var v old)) p;
+    kind = kind_for_point (kind_for (watch.Var v old)) p;
   } ≡ given_at (call_for (watch.Var v old) how) p
   var_given p = refl
 
   var_program : how.exclusive ≡ false → plan_program me 0 (wait_plan (watch.Var v old) how)
       ≡ call_program me 0 (call_for (watch.Var v old) how)
   var_program front i = record {
-    plan = λ p seen. (ap (asked true p) (var_plan p seen front)
+    plan = λ p seen. (ap (planned_as_asked true p) (var_plan p seen front)
         ∙ asked_true p (program me (call_for (watch.Var v old) how) p seen)) i;
     given = λ p. var_given p i;
     own = Some (index me 0);
@@ -120,7 +120,7 @@ program_is me (watch.Var v old) how suits = var_program me v old how suits
 program_is me w how suits = absurd suits
 
 -- who went through the one went through the other, by the same events
-abbrev pub runs_program : (r : WaitCall) (me : ℕ) (old new : Known) (from to : Next) → IsRunning r
+abbrev pub runs_program : (r : WaitCall) (me : ℕ) (old new : Known) (from to : Next) → IsRunningWait r
     → Runs (plan_program me 0 (wait_plan r.watch r.how)) old new from to
     → Runs (call_program me 0 (call_for r.watch r.how)) old new from to
 runs_program r me old new from to runs x = record {

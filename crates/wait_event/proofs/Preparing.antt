@@ -36,27 +36,27 @@ use Rattle.wq_head.specs.declared.adds.Worn.{Worn}
 use Rattle.wq_head.specs.Holds.{HasLocked, HasUnlocked, IsHolding}
 use Rattle.wq_head.proofs.LockWaits.{turn_looks, turn_of}
 use Rattle.wq_head.proofs.PermitHeads.{owes_low}
-use Rattle.wait_class.specs.Findings.{nothing, with_worn, with_entry as finds}
+use Rattle.wait_class.specs.Findings.{saw_nothing, with_worn, saw_entry as finds}
 use Rattle.wait_class.specs.Posts.{EndsWith, IsOut, Keeps, Runs, own_of}
 use Rattle.wait_class.proofs.Ground.Going.{runs_on, runs_one}
 use Rattle.wait_class.proofs.Ground.Keeping.{keeps_of, keeps_on}
 use Rattle.wait_class.proofs.Ground.Standing.{bare_head, finds_own, owner_own, seen_looks, seen_stored}
 use Rattle.wait_class.proofs.Histories.{ends_more, stored_history, unlocked_history}
 use Rattle.wait_event.specs.declared.prepares.Part.{Part}
-use Rattle.wait_event.specs.PartSteps.{HasJoinedPart, Heeds, IsAtHead, IsWornPart, Joins, PartCarries, Pares}
-use Rattle.wait_event.specs.PartSteps.{locked_to, looked_to, program_of, unsignalled}
+use Rattle.wait_event.specs.PartSteps.{HasJoinedPart, Heeds, IsAtHead, IsWornPart, JoinsPart, PartCarries, ParesPart}
+use Rattle.wait_event.specs.PartSteps.{locked_to, part_looked_to, program_of, unsignalled}
 use Rattle.wait_event.specs.Prepares.{
   BeginsOwing,
   CarriesPrepare,
   EndsExclusive,
   EndsPart,
-  IsLeft,
+  IsPrepareLeft,
   IsNoWaiter,
   IsPart,
   MayFinish,
   MayPrepare,
   Prepares,
-  Suits,
+  SuitsWait,
   WasAsked,
   answers_first,
   exclusive_in,
@@ -65,7 +65,7 @@ use Rattle.wait_event.specs.Prepares.{
   prepare_change,
   with_none,
 }
-use Rattle.wait_event.specs.Waits.{left_by, queues_first}
+use Rattle.wait_event.specs.Waits.{wait_left_by, queues_first}
 use Rattle.wait_event.proofs.Conditions.{suits_low}
 use Rattle.wait_event.proofs.Entering.{note_unlocked, unlock_looks}
 use Rattle.wait_event.proofs.PartSteps.{IsPlanned, part_keeps, pares_out, pares_part, runs_planned, still_part}
@@ -93,13 +93,13 @@ pub record IsParing (f : Program) (q u : Point) (n : Next) (me h : ℕ) : Type 0
       → IsPlanned f q k (finds (Some e)) (by_step (step.Unqueue (index me 0))) (next.Go u)
   pub gives : (k : Known) → k.at ≡ h → IsSeenAs ((told_of k).hold.book (index me 0)) None
       → IsPlanned f q k (finds None) (by_step (step.Unlock k.at false)) n
-  pub unlocks : (k : Known) → k.at ≡ h → IsPlanned f u k nothing (by_step (step.Unlock k.at false)) n
+  pub unlocks : (k : Known) → k.at ≡ h → IsPlanned f u k saw_nothing (by_step (step.Unlock k.at false)) n
 
 module _ (b : Known) (held : IsHolding b) (home : IsAtHead b) (c : Known) where
   abbrev x : ℕ
   x = own_of b
 
-  module _ (found : Bool) (y : Pares b c found) where
+  module _ (found : Bool) (y : ParesPart b c found) where
     shows : (g : Option Entry) → y.entry ≡ g → IsSeenAs ((told_of y.seen).hold.book x) g
     shows g is = finds_own b y.seen y.entry y.looked b.at held.locked held.told
         (λ e some. home e (seen_stored b y.seen y.entry y.looked e some)) g is
@@ -117,18 +117,18 @@ module _ (b : Known) (held : IsHolding b) (home : IsAtHead b) (c : Known) where
     seen_at : y.seen.at ≡ b.at
     seen_at = y.looked.carries.at
 
-  took : (y : Pares b c true) → c ≡ stored_with y.seen (step.Unqueue x)
+  took : (y : ParesPart b c true) → c ≡ stored_with y.seen (step.Unqueue x)
   took y = y.takes.is ∙ ap (λ (n : ℕ). stored_with y.seen (step.Unqueue (index n 0))) y.looked.carries.number
 
-  took_looks : (y : Pares b c true) → OnlyLooks (added y.seen (item.Made (step.Unqueue x))) c
+  took_looks : (y : ParesPart b c true) → OnlyLooks (added y.seen (item.Made (step.Unqueue x))) c
   took_looks y = subst (OnlyLooks (added y.seen (item.Made (step.Unqueue x)))) (sym (took y))
       (bit_looks y.seen (step.Unqueue x))
 
-  took_at : (y : Pares b c true) → c.at ≡ b.at
+  took_at : (y : ParesPart b c true) → c.at ≡ b.at
   took_at y = y.takes.carries.at ∙ y.looked.carries.at
 
   module _ (new : Known) (z : HasUnlocked c new false) where
-    gave : (y : Pares b c false) → new ≡ unlocked_with y.seen y.seen.at false
+    gave : (y : ParesPart b c false) → new ≡ unlocked_with y.seen y.seen.at false
     gave y = z.is ∙ ap (λ (k : Known). unlocked_with k k.at false) y.takes
 
     module _ (f : Program) (q u : Point) (n : Next) (me h : ℕ) (r : IsParing f q u n me h) (mine : b.view.number ≡ me)
@@ -136,7 +136,7 @@ module _ (b : Known) (held : IsHolding b) (home : IsAtHead b) (c : Known) where
       mine_is : x ≡ index me 0
       mine_is = ap (λ (m : ℕ). index m 0) mine
 
-      by_taking : (y : Pares b c true) (g : Option Entry) → y.entry ≡ g → true ≡ is_some g → Runs f b new (next.Go q) n
+      by_taking : (y : ParesPart b c true) (g : Option Entry) → y.entry ≡ g → true ≡ is_some g → Runs f b new (next.Go q) n
       by_taking y None is some = absurd (cc)
       by_taking y (Some e) is some = runs_on f b c new (next.Go q) (next.Go u) n
           (runs_planned f q b y.seen c (finds (Some e)) (by_step (step.Unqueue (index me 0))) (next.Go u)
@@ -144,10 +144,10 @@ module _ (b : Known) (held : IsHolding b) (home : IsAtHead b) (c : Known) where
           (r.takes y.seen e (subst (λ (i : ℕ). IsSeenAs ((told_of y.seen).hold.book i) (Some e)) mine_is
           (shows true y (Some e) is)))
           (subst (λ (i : ℕ). OnlyLooks (added y.seen (item.Made (step.Unqueue i))) c) mine_is (took_looks y)))
-          (runs_planned f u c c new nothing (by_step (step.Unlock c.at false)) n (only_none c)
+          (runs_planned f u c c new saw_nothing (by_step (step.Unlock c.at false)) n (only_none c)
           (r.unlocks c (took_at y ∙ here)) (unlock_looks c new z.is))
 
-      by_giving : (y : Pares b c false) (g : Option Entry) → y.entry ≡ g → false ≡ is_some g → Runs f b new (next.Go q) n
+      by_giving : (y : ParesPart b c false) (g : Option Entry) → y.entry ≡ g → false ≡ is_some g → Runs f b new (next.Go q) n
       by_giving y (Some e) is some = absurd (cc)
       by_giving y None is some = runs_planned f q b y.seen new (finds None) (by_step (step.Unlock y.seen.at false)) n
           (looks false y)
@@ -155,13 +155,13 @@ module _ (b : Known) (held : IsHolding b) (home : IsAtHead b) (c : Known) where
           (subst (λ (i : ℕ). IsSeenAs ((told_of y.seen).hold.book i) None) mine_is (shows false y None is)))
           (unlock_looks y.seen new (gave y))
 
-      pub pared_runs : (found : Bool) → Pares b c found → Runs f b new (next.Go q) n
+      pub pared_runs : (found : Bool) → ParesPart b c found → Runs f b new (next.Go q) n
       pared_runs true y = by_taking y y.entry refl y.is_found
       pared_runs false y = by_giving y y.entry refl y.is_found
 
     -- the last steps, behind a look for a signal
-    pub pared_ends : (found : Bool) → (y : Pares b c found) → (w h : ℕ) → b.at ≡ h → EndsWith b (step.Look w ∷ [])
-        → EndsWith new (left_by x h w y.looked.word ++ [])
+    pub pared_ends : (found : Bool) → (y : ParesPart b c found) → (w h : ℕ) → b.at ≡ h → EndsWith b (step.Look w ∷ [])
+        → EndsWith new (wait_left_by x h w y.looked.word ++ [])
     pared_ends true y w h here e = subst (EndsWith new)
         (sym (left_taken x h w y.looked.word (sym (y.is_found ∙ ap is_some y.looked.reads))))
         (subst (λ (i : ℕ). EndsWith new (step.Look w ∷ step.Saw x y.looked.word ∷ step.Unqueue x ∷ step.Unlock i false
@@ -198,7 +198,7 @@ module _ (old a : Known) (w : Watch) (k : Kind) (how : How) (l : HasLocked old a
   locked = at_head h (added turn (item.Made (step.Lock h (walk_of_hold h None) l.found)))
 
   abbrev lock_is : Transition
-  lock_is = record { seen = nothing; knew = turn; did = by_step (step.Lock h (walk_of_hold h None) l.found) }
+  lock_is = record { seen = saw_nothing; knew = turn; did = by_step (step.Lock h (walk_of_hold h None) l.found) }
 
   behind : OnlyLooks locked a
   behind = subst (OnlyLooks locked) (sym l.is) (only_none locked)
@@ -218,7 +218,7 @@ module _ (old a : Known) (w : Watch) (k : Kind) (how : How) (l : HasLocked old a
 
 -- a prepare in its hold
 module _ (p : Part) (old a b : Known) (hit : Bool) (may : MayPrepare old p.watch p.kind p.how.state) (was : IsTold old)
-    (suits : Suits p.watch p.kind p.how) (l : HasLocked old a (head_of p.watch) (walk_of_hold (head_of p.watch) None))
+    (suits : SuitsWait p.watch p.kind p.how) (l : HasLocked old a (head_of p.watch) (walk_of_hold (head_of p.watch) None))
     (one : Carries (lock_change (head_of p.watch)) old a) (heed : Heeds p a b hit) where
   abbrev f : Program
   f = program_of p old.view.number
@@ -256,13 +256,13 @@ module _ (p : Part) (old a b : Known) (hit : Bool) (may : MayPrepare old p.watch
   pub prepare_low : (c : Known) → c.at ≡ b.at → OwesNoPermit c
   prepare_low c same = owes_low c here (same ∙ prepare_at) (suits_low p.watch p.kind p.how suits)
 
-  pub begins : Runs f old b (next.Go (at.Prepare preparing.Lock)) (next.Go (looked_to hit))
-  begins = runs_on f old a b (next.Go (at.Prepare preparing.Lock)) (next.Go (locked_to p)) (next.Go (looked_to hit))
+  pub begins : Runs f old b (next.Go (at.Prepare preparing.Lock)) (next.Go (part_looked_to hit))
+  begins = runs_on f old a b (next.Go (at.Prepare preparing.Lock)) (next.Go (locked_to p)) (next.Go (part_looked_to hit))
       (record {
         transitions = lock_is old a p.watch p.kind p.how l ∷ [];
         goes = lock_runs old a p.watch p.kind p.how l p.asks;
       })
-      (for_number p a.view.number old.view.number a b (next.Go (locked_to p)) (next.Go (looked_to hit)) one.number
+      (for_number p a.view.number old.view.number a b (next.Go (locked_to p)) (next.Go (part_looked_to hit)) one.number
       heed.runs)
 
   pub begins_quiet : queues_first begins.transitions ≡ false
@@ -313,14 +313,14 @@ or_none false = refl
 
 -- how it ends
 module _ (p : Part) (old a b : Known) (may : MayPrepare old p.watch p.kind p.how.state) (was : IsTold old)
-    (suits : Suits p.watch p.kind p.how) (l : HasLocked old a (head_of p.watch) (walk_of_hold (head_of p.watch) None))
+    (suits : SuitsWait p.watch p.kind p.how) (l : HasLocked old a (head_of p.watch) (walk_of_hold (head_of p.watch) None))
     (one : Carries (lock_change (head_of p.watch)) old a) (held : IsHolding b) (c new : Known)
     (z : HasUnlocked c new false) (three : Carries unlock_change c new) where
   abbrev g : Program
   g = program_of p old.view.number
 
   -- for a signal
-  module _ (hit : Bool) (is : hit ≡ true) (heed : Heeds p a b hit) (found : Bool) (y : Pares b c found) where
+  module _ (hit : Bool) (is : hit ≡ true) (heed : Heeds p a b hit) (found : Bool) (y : ParesPart b c found) where
     hears : Heeds p a b true
     hears = subst (Heeds p a b) is heed
 
@@ -342,7 +342,7 @@ module _ (p : Part) (old a b : Known) (may : MayPrepare old p.watch p.kind p.how
           look = s.word;
           entry = y.looked.word;
           showed = s.pends;
-          ends = subst (λ (n : ℕ). EndsWith new (left_by n (head_of p.watch) s.word y.looked.word ++ []))
+          ends = subst (λ (n : ℕ). EndsWith new (wait_left_by n (head_of p.watch) s.word y.looked.word ++ []))
               (sym (last_own p old a b true may was suits l one hears c new (λ t. t) did z three))
               (pared_ends b held home c new z found y s.word (head_of p.watch)
               (prepare_at p old a b true may was suits l one hears) (history_of a, history_after a b (step.Look s.word) s.is));
@@ -380,10 +380,10 @@ module _ (p : Part) (old a b : Known) (may : MayPrepare old p.watch p.kind p.how
       τ = state_mask p.how.state
 
       abbrev gives_back : Transition
-      gives_back = record { seen = nothing; knew = c; did = by_step (step.Unlock c.at false) }
+      gives_back = record { seen = saw_nothing; knew = c; did = by_step (step.Unlock c.at false) }
 
       unlocks : Runs g c new (next.Go (at.Prepare preparing.Unlock)) (next.Ends zero_answer)
-      unlocks = runs_one g (at.Prepare preparing.Unlock) c c new nothing (by_step (step.Unlock c.at false)) (only_none c)
+      unlocks = runs_one g (at.Prepare preparing.Unlock) c c new saw_nothing (by_step (step.Unlock c.at false)) (only_none c)
           (last_at p old a b false may was suits l one goes_on c new (λ _. τ) y.carries z three, refl) (tt, tt, tt)
           (unlock_looks c new z.is)
 
@@ -453,10 +453,10 @@ module _ (p : Part) (old a b : Known) (may : MayPrepare old p.watch p.kind p.how
 
 -- by the answer of the add
 pub join_ends : (p : Part) (old a b : Known) (may : MayPrepare old p.watch p.kind p.how.state) → IsTold old
-    → Suits p.watch p.kind p.how → HasLocked old a (head_of p.watch) (walk_of_hold (head_of p.watch) None)
+    → SuitsWait p.watch p.kind p.how → HasLocked old a (head_of p.watch) (walk_of_hold (head_of p.watch) None)
     → Carries (lock_change (head_of p.watch)) old a → IsHolding b → (c new : Known) → HasUnlocked c new false
     → Carries unlock_change c new → (hit : Bool) → hit ≡ false → Heeds p a b hit → (r : Result Bool Worn)
-    → Joins p b c r → EndsPart old new p (unsignalled r)
+    → JoinsPart p b c r → EndsPart old new p (unsignalled r)
 join_ends p old a b may was suits l one held c new z three hit is heed (Ok first) y =
     joined_ends p old a b may was suits l one held c new z three hit is heed first y
 join_ends p old a b may was suits l one held c new z three hit is heed (Err v) y =
@@ -518,7 +518,7 @@ part_low w k None low part = tt
 part_low w k (Some e) low part = subst (λ (h : ℕ). h < FIRST_DONE_HEAD) (sym (ap head_of part.0 ∙ bare_head w)) low
 
 module _ (p : Part) (old new : Known) (may : MayPrepare old p.watch p.kind p.how.state) (was : IsTold old)
-    (now : IsTold new) (suits : Suits p.watch p.kind p.how) where
+    (now : IsTold new) (suits : SuitsWait p.watch p.kind p.how) where
   module _ (a : Answer) (x : Prepares old new p.watch p.kind p.how p.asks a) where
     finish_may : MayFinish new
     finish_may = record {
@@ -531,7 +531,7 @@ module _ (p : Part) (old new : Known) (may : MayPrepare old p.watch p.kind p.how
         → MayPrepare new p.watch p.kind p.how.state
     again_may state = record { up = x.up; free = x.free; state = state; home = x.home }
 
-  left_state : IsLeft old new → (new.book.state ≡ 0) ⊎ (new.book.state ≡ state_mask p.how.state)
+  left_state : IsPrepareLeft old new → (new.book.state ≡ 0) ⊎ (new.book.state ≡ state_mask p.how.state)
   left_state left = subst (λ (s : ℕ). (s ≡ 0) ⊎ (s ≡ state_mask p.how.state)) (sym left.state) may.state
 
   pub ends_may : (r : Result (Option Bool) Worn) → EndsPart old new p r → MayFinish new

@@ -31,7 +31,7 @@ use Rattle.wq_head.proofs.LockWaits.{turn_looks, turn_of, turn_told}
 use Rattle.wait_class.specs.Posts.{IsOut}
 use Rattle.wait_event.specs.Entries.{HasRemovedOwn, MayRemove, remove_change}
 use Rattle.wait_class.specs.Posts.{HasSeenOwn, Runs}
-use Rattle.wait_class.specs.Findings.{nothing, with_entry as finds}
+use Rattle.wait_class.specs.Findings.{saw_nothing, saw_entry as finds}
 use Rattle.wait_class.specs.Posts.{own_of}
 use Rattle.wait_event.proofs.Entering.{hold_carried, looked_carried, runs_lock, unlock_looks}
 use Rattle.wait_class.proofs.WatchHeads.{head_fits}
@@ -154,7 +154,7 @@ module _ (old seen : Known) (may : MayRemove old) (told : IsTold old) (e : Entry
 
       takes : Runs f held taken (next.Go (at.Remove (removing.Queue (plain_cond e.watch))))
           (next.Go (at.Remove (removing.Unlock (plain_cond e.watch))))
-      takes = runs_one f (at.Remove (removing.Queue (plain_cond e.watch))) held looked taken nothing
+      takes = runs_one f (at.Remove (removing.Queue (plain_cond e.watch))) held looked taken saw_nothing
           (by_step (step.Unqueue i)) (seen_looks held looked p again h held_head) (owner_own old.view.number)
           (tt, tt, refl)
           (subst (OnlyLooks (added looked (item.Made (step.Unqueue i))))
@@ -162,7 +162,7 @@ module _ (old seen : Known) (may : MayRemove old) (told : IsTold old) (e : Entry
           (bit_looks looked (step.Unqueue i)))
 
       unlocks : Runs f taken new (next.Go (at.Remove (removing.Unlock (plain_cond e.watch)))) (next.Ends zero_answer)
-      unlocks = runs_one f (at.Remove (removing.Unlock (plain_cond e.watch))) taken taken new nothing
+      unlocks = runs_one f (at.Remove (removing.Unlock (plain_cond e.watch))) taken taken new saw_nothing
           (by_step (step.Unlock taken.at false)) (only_none taken)
           (r.carries.at ∙ (again.carries.at ∙ (held_at ∙ (here ∙ head_is))), refl) (tt, tt, tt)
           (unlock_looks taken new back.is)

@@ -23,13 +23,13 @@ use Rattle.wait_rule.proofs.KnownLaws.CarriedTasks.{owes_more}
 use Rattle.wait_rule.proofs.KnownLaws.Transitions.{only_none}
 use Rattle.wq_head.specs.Walks.{HasWoken, HasEnded}
 use Rattle.wait_class.specs.Posts.{Runs}
-use Rattle.wait_event.specs.Conds.{HasSet, HasTaken, left_owed, set_change}
+use Rattle.wait_event.specs.Conds.{HasSet, HasTakenCond, left_owed, set_change}
 use Rattle.wait_class.proofs.Ground.Going.{runs_one}
 use Rattle.wait_class.specs.Findings.{with_value}
 
 pub takes : (old new : Known) (c v : ℕ) → new ≡ added old (item.Made (step.Consume (watch.Plain c) 0 v))
-    → HasTaken old new c v
-takes old new c v is = subst (λ (k : Known). HasTaken old k c v) (sym is)
+    → HasTakenCond old new c v
+takes old new c v is = subst (λ (k : Known). HasTakenCond old k c v) (sym is)
     (runs_one (call_program old.view.number 0 (calls.Take c)) at.Take old old
     (added old (item.Made (step.Consume (watch.Plain c) 0 v))) (with_value v)
     (by_step (step.Consume (watch.Plain c) 0 v)) (only_none old) (refl, refl) (refl, tt, tt)

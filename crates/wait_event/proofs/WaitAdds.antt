@@ -19,12 +19,12 @@ use Rattle.wait_class.specs.Laws.{AddsOwn, HasJoined, IsWornFor}
 use Rattle.wait_class.specs.Queueing.{IsFormPlace, IsFormWorn, form_entry, wait_form}
 use Rattle.wait_class.proofs.FormPlaces.{form_is, form_left, form_worn}
 use Rattle.wait_class.proofs.Ground.Keeping.{keeps_queued}
-use Rattle.wait_event.specs.Waits.{doing_at, wait_table}
+use Rattle.wait_event.specs.Waits.{wait_doing, wait_table}
 use Rattle.wait_event.specs.declared.waits.WaitCall.{WaitCall}
 use Rattle.wait_event.specs.declared.waits.WaitStage.{WaitStage}
 use Rattle.wait_event.specs.declared.waits.WaitStage.TheVariants as stage
 
-pub queue_only : (s : WaitStage) → doing_at s ≡ doing.Queue → s ≡ stage.PrepareQueue
+pub queue_only : (s : WaitStage) → wait_doing s ≡ doing.Queue → s ≡ stage.PrepareQueue
 queue_only stage.PrepareQueue here = refl
 queue_only s here = absurd (cc)
 
@@ -64,7 +64,7 @@ module _ (r : WaitCall) (old new : Known) where
       }
 
   -- with the numbers that the code names
-  module _ (s : WaitStage) (here : doing_at s ≡ doing.Queue) (form : Form) (is : form ≡ wait_form r.how) (c : Watch)
+  module _ (s : WaitStage) (here : wait_doing s ≡ doing.Queue) (form : Form) (is : form ≡ wait_form r.how) (c : Watch)
       (same : c ≡ bare r.watch) (k : Kind) (its : k ≡ kind_for c) where
     add_joins : HasAdded (IsFormPlace form) old new 0 (form_entry form c k) → HasJoined wait_table r s old new
     add_joins x =

@@ -24,7 +24,7 @@ use Rattle.wait_class.specs.declared.stages.Turn.TheVariants as turn
 use Rattle.wait_class.specs.Posts.{IsStateFor}
 use Rattle.wait_class.specs.Laws.{
   DrawLaw,
-  IsLawfulTable,
+  IsLawfulCallTable,
   LawOf,
   LoadLaw,
   LockLaw,
@@ -37,12 +37,12 @@ use Rattle.wait_class.specs.Laws.{
   UnlockLaw,
 }
 use Rattle.wait_class.specs.Tables.{falls, next_in, post_of, took_in}
-use Rattle.wait_class.specs.Laws.{IsPlain, TurnTrail, turn_post}
+use Rattle.wait_class.specs.Laws.{IsPlainTurn, TurnTrail, turn_post}
 use Rattle.wait_class.proofs.Ground.Standing.{home_waits, owner_own}
 use Rattle.wait_class.proofs.Stays.{wait_stays}
 use Rattle.wait_class.proofs.Turns.{may_by}
 use Rattle.wait_class.proofs.Ways.{go_if, load_fork, look_by, sleep_by, way}
-use Rattle.wait_event.specs.Waits.{IsRunning, depth, doing_at, looks_first, loaded_to, wait_table}
+use Rattle.wait_event.specs.Waits.{IsRunningWait, depth, wait_doing, looks_first, wait_loaded_to, wait_table}
 use Rattle.wait_event.specs.declared.waits.WaitCall.{WaitCall}
 use Rattle.wait_event.specs.declared.waits.WaitOutcome.TheVariants as outcome
 use Rattle.wait_event.specs.declared.waits.WaitStage.{WaitStage}
@@ -69,7 +69,7 @@ locks_to true = refl
 locks_to false = refl
 
 module _ (r : WaitCall) where
-  low : (k : Known) → IsRunning r → k.at ≡ head_of r.watch → OwesNoPermit k
+  low : (k : Known) → IsRunningWait r → k.at ≡ head_of r.watch → OwesNoPermit k
   low k runs at = owes_low k (head_of r.watch) at (run_low r runs)
 
   -- the loads
@@ -83,7 +83,7 @@ module _ (r : WaitCall) where
     abbrev b : Bool
     b = misses r.watch v
 
-    pub first_law : LoadLaw wait_table r stage.First v q (loaded_to r stage.First v)
+    pub first_law : LoadLaw wait_table r stage.First v q (wait_loaded_to r stage.First v)
     first_law = load_fork wait_table r stage.First refl v q b (turn.Again stage.PrepareLock) (turn.Done outcome.Over)
         (go e (at.Prepare preparing.Lock)) (ends_with e zero_answer) e refl
         (λ f. record { there = f.there; suits = f.suits }) (loaded_told r v) (λ me. refl) (refl, refl) (refl, refl)
@@ -93,7 +93,7 @@ module _ (r : WaitCall) where
         (way wait_table r stage.First q (turn.Done outcome.Over) tt refl refl refl refl (λ σ s. s) (λ o h. h))
         (λ old new is calm u. tt) (λ old new is calm u. is)
 
-    test_law : LoadLaw wait_table r stage.Test v q (loaded_to r stage.Test v)
+    test_law : LoadLaw wait_table r stage.Test v q (wait_loaded_to r stage.Test v)
     test_law = load_fork wait_table r stage.Test refl v q b (turn.Again stage.Sleep) (turn.Again stage.FinishState)
         (go e at.Sleep) (go e (at.Finish finishing.State false)) e refl
         (λ f. record { there = f.there; suits = f.suits }) (loaded_told r v)
@@ -103,7 +103,7 @@ module _ (r : WaitCall) where
         (way wait_table r stage.Test q (turn.Again stage.FinishState) refl refl refl refl refl (λ σ s. s) (λ o h. h))
         (λ old new is calm u. tt) (λ old new is calm u. is)
 
-    worn_law : LoadLaw wait_table r stage.Worn v q (loaded_to r stage.Worn v)
+    worn_law : LoadLaw wait_table r stage.Worn v q (wait_loaded_to r stage.Worn v)
     worn_law = load_fork wait_table r stage.Worn refl v q b (turn.Done outcome.Worn) (turn.Again stage.FinishState)
         (ends_with e answer.Worn) (go e (at.Finish finishing.State false)) e refl
         (λ f. record { there = f.there; suits = f.suits }) (loaded_told r v) (λ me. refl) (refl, refl) (refl, refl)
@@ -113,7 +113,7 @@ module _ (r : WaitCall) where
         (home_waits r.watch))
         (λ old new is calm u. (found_calm old new (last_load q) (head_of r.watch) r.place calm u, unset_by r.watch v is)) (λ old new is calm u. is)
 
-    leave_law : (found : Bool) → LoadLaw wait_table r (stage.LeaveLoad found) v q (loaded_to r (stage.LeaveLoad found) v)
+    leave_law : (found : Bool) → LoadLaw wait_table r (stage.LeaveLoad found) v q (wait_loaded_to r (stage.LeaveLoad found) v)
     leave_law found = load_fork wait_table r (stage.LeaveLoad found) refl v q b (turn.Done (outcome.Signalled found))
         (turn.Again stage.FinishState) (ends_with e signalled) (go e (at.Finish finishing.State false)) e refl
         (λ f. record { there = f.there; suits = f.suits }) (loaded_told r v) (λ me. refl) (refl, refl) (refl, refl)
@@ -138,7 +138,7 @@ module _ (r : WaitCall) where
     trail = λ k x. x;
   }
 
-  plain_lock : (b : Bool) → IsPlain wait_table (looks_first b)
+  plain_lock : (b : Bool) → IsPlainTurn wait_table (looks_first b)
   plain_lock true = refl
   plain_lock false = refl
 
@@ -493,7 +493,7 @@ module _ (r : WaitCall) where
     permits = λ k runs at u. low k runs at;
   }
 
-  laws_at : (s : WaitStage) → LawOf (doing_at s) wait_table r s
+  laws_at : (s : WaitStage) → LawOf (wait_doing s) wait_table r s
   laws_at stage.First = tt
   laws_at stage.PrepareLock = draw_prepare
   laws_at stage.PrepareTurn = lock_prepare
@@ -525,7 +525,7 @@ depth_most stage.FinishQueue = omega arith
 depth_most stage.FinishUnlock = omega arith
 depth_most s = omega arith
 
-pub wait_lawful : IsLawfulTable wait_table
+pub wait_lawful : IsLawfulCallTable wait_table
 wait_lawful = record {
   keeps = wait_stays;
   tells = wait_told;

@@ -42,14 +42,14 @@ use Rattle.wait_event.specs.WaitLeaves.{
   way_queues,
 }
 use Rattle.wait_event.specs.Waits.{
-  IsFresh,
-  IsRunning,
+  IsFreshWait,
+  IsRunningWait,
   IsUnset,
   LeftSo,
   SameCall,
-  TrailEnd,
+  WaitTrailEnd,
   last_load,
-  queues,
+  has_queued_in,
   wait_table,
 }
 use Rattle.wait_event.specs.declared.waits.WaitCall.{WaitCall}
@@ -184,7 +184,7 @@ parted k e found false l unset = record {
   selects = ap (λ (b : Bool). e.queued && not b) l.found;
 }
 
-cause_of : (k : Known) (e : WaitCall) (o : WaitOutcome) → TrailEnd k e o
+cause_of : (k : Known) (e : WaitCall) (o : WaitOutcome) → WaitTrailEnd k e o
     → IsWaitCause k e.watch e.how e.seen e.queued (wait_until_in e o)
 cause_of k e outcome.Over set = set
 cause_of k e (outcome.Signalled found) u = parted k e found e.asked u.0 u.1
@@ -306,7 +306,7 @@ module _ (A : Type 0) (old new : Known) (r q : Run WaitCall) (s : WaitStage) (o 
   left_asked = asked_by o
 
 pub ends_until : (A : Type 0) (old new : Known) (r q : Run WaitCall) (o : WaitOutcome) (w : Watch) (how : How)
-    → IsFresh r.of w how → OnTheWay A wait_table wait_exits old r stage.First new q (turn.Done o)
+    → IsFreshWait r.of w how → OnTheWay A wait_table wait_exits old r stage.First new q (turn.Done o)
     → EndsWaitUntil A old new w how (wait_until_in q.of o)
 ends_until A old new r q o w how fresh came = record {
   first = r;
@@ -316,7 +316,7 @@ ends_until A old new r q o w how fresh came = record {
 }
 
 pub ends_seen : (A : Type 0) (old new : Known) (r q : Run WaitCall) (o : WaitOutcome) (w : Watch) (how : How)
-    (fresh : IsFresh r.of w how) (came : OnTheWay A wait_table wait_exits old r stage.First new q (turn.Done o))
+    (fresh : IsFreshWait r.of w how) (came : OnTheWay A wait_table wait_exits old r stage.First new q (turn.Done o))
     → (ends_until A old new r q o w how fresh came).leaves.at.of.seen ≡ q.of.seen
 unfolding ends_until left_wait
 ends_seen A old new r q o w how fresh came = refl

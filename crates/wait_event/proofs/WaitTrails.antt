@@ -23,12 +23,12 @@ use Rattle.wait_event.specs.Waits.{
   LeftSo,
   PartedQueue,
   SawSignal,
-  TakesOff,
-  TrailAt,
+  TakesOwnOff,
+  WaitTrailAt,
   head_of_wait,
   is_slept,
   last_load,
-  left_by,
+  wait_left_by,
   off_by,
 }
 use Rattle.wait_event.specs.declared.waits.WaitCall.{WaitCall}
@@ -78,11 +78,11 @@ parted_off x h e is = ap (λ (b : Bool). step.Saw x e ∷ ((if b
     else step.Unlock h false ∷ []) ++ [])) is
 
 pub left_taken : (x h w e : ℕ) → is_some (entry_of e) ≡ true
-    → left_by x h w e ++ [] ≡ taken_steps x w e ++ step.Unlock h false ∷ []
+    → wait_left_by x h w e ++ [] ≡ taken_steps x w e ++ step.Unlock h false ∷ []
 left_taken x h w e is = ap (λ (l : List Step). step.Look w ∷ l) (parted_taken x h e is)
 
 pub left_off : (x h w e : ℕ) → is_some (entry_of e) ≡ false
-    → left_by x h w e ++ [] ≡ step.Look w ∷ step.Saw x e ∷ step.Unlock h false ∷ []
+    → wait_left_by x h w e ++ [] ≡ step.Look w ∷ step.Saw x e ∷ step.Unlock h false ∷ []
 left_off x h w e is = ap (λ (l : List Step). step.Look w ∷ l) (parted_off x h e is)
 
 -- a wait that left for a signal
@@ -91,7 +91,7 @@ module _ (old new : Known) (r : WaitCall) where
   h = head_of_wait r
 
   signal_takes : (w : ℕ) → Calm (step.Saw (own_of old) w ∷ step.Unqueue (own_of old) ∷ []) old new
-      → is_some (entry_of w) ≡ true → GoesOff false old r → TakesOff false new r
+      → is_some (entry_of w) ≡ true → GoesOff false old r → TakesOwnOff false new r
   signal_takes w calm shows u = (
     u.0,
     w,
@@ -101,7 +101,7 @@ module _ (old new : Known) (r : WaitCall) where
         (ends_calm old new (step.Look u.0 ∷ []) (step.Saw (own_of old) w ∷ step.Unqueue (own_of old) ∷ []) calm u.2),
   )
 
-  signal_gives : Calm (step.Unlock h false ∷ []) old new → TakesOff false old r → LeftQueue new r true []
+  signal_gives : Calm (step.Unlock h false ∷ []) old new → TakesOwnOff false old r → LeftQueue new r true []
   signal_gives calm u = record {
     look = u.0;
     entry = u.1;
@@ -132,20 +132,20 @@ module _ (old new : Known) (r : WaitCall) where
     entry = l.entry;
     showed = l.showed;
     found = l.found;
-    ends = subst (λ (x : ℕ). EndsWith new (left_by x h l.look l.entry ++ [])) (own_same old new still.number)
-        (ends_still old new (left_by (own_of old) h l.look l.entry ++ []) still l.ends);
+    ends = subst (λ (x : ℕ). EndsWith new (wait_left_by x h l.look l.entry ++ [])) (own_same old new still.number)
+        (ends_still old new (wait_left_by (own_of old) h l.look l.entry ++ []) still l.ends);
   }
 
   -- and one that was asked to
   asked_takes : (w : ℕ) → Calm (step.Saw (own_of old) w ∷ step.Unqueue (own_of old) ∷ []) old new
-      → is_some (entry_of w) ≡ true → TakesOff true new r
+      → is_some (entry_of w) ≡ true → TakesOwnOff true new r
   asked_takes w calm shows = (
     w,
     shows,
     subst (λ (x : ℕ). EndsWith new (off_steps x w)) (own_same old new calm.number) (history_of old, calm.history),
   )
 
-  asked_gives : Calm (step.Unlock h false ∷ []) old new → TakesOff true old r → PartedQueue new r true []
+  asked_gives : Calm (step.Unlock h false ∷ []) old new → TakesOwnOff true old r → PartedQueue new r true []
   asked_gives calm u = record {
     entry = u.0;
     found = sym u.1;
@@ -174,11 +174,11 @@ module _ (old new : Known) (r : WaitCall) where
 
   -- either
   pub takes_entry : (b : Bool) (w : ℕ) → Calm (step.Saw (own_of old) w ∷ step.Unqueue (own_of old) ∷ []) old new
-      → is_some (entry_of w) ≡ true → GoesOff b old r → TakesOff b new r
+      → is_some (entry_of w) ≡ true → GoesOff b old r → TakesOwnOff b new r
   takes_entry true w calm shows u = asked_takes w calm shows
   takes_entry false w calm shows u = signal_takes w calm shows u
 
-  pub gives_back : (b : Bool) → Calm (step.Unlock h false ∷ []) old new → TakesOff b old r → LeftSo b new r true []
+  pub gives_back : (b : Bool) → Calm (step.Unlock h false ∷ []) old new → TakesOwnOff b old r → LeftSo b new r true []
   gives_back true calm u = asked_gives calm u
   gives_back false calm u = signal_gives calm u
 
@@ -195,7 +195,7 @@ module _ (old new : Known) (r : WaitCall) where
   goes_still true still u = tt
   goes_still false still u = (u.0, u.1, ends_still old new (step.Look u.0 ∷ []) still u.2)
 
-  takes_still : (b : Bool) → Unmoved old new → TakesOff b old r → TakesOff b new r
+  takes_still : (b : Bool) → Unmoved old new → TakesOwnOff b old r → TakesOwnOff b new r
   takes_still true still u = (
     u.0,
     u.1,
@@ -228,10 +228,10 @@ module _ (old new : Known) (r : WaitCall) (v : ℕ) (calm : Calm (step.Load r.wa
     entry = l.entry;
     showed = l.showed;
     found = l.found;
-    ends = subst (λ (x : ℕ). EndsWith new (left_by x (head_of_wait r) l.look l.entry ++ last_load q))
+    ends = subst (λ (x : ℕ). EndsWith new (wait_left_by x (head_of_wait r) l.look l.entry ++ last_load q))
         (own_same old new calm.number)
-        (subst (EndsWith new) (append_assoc (left_by (own_of old) (head_of_wait r) l.look l.entry) [] (last_load q))
-        (ends_calm old new (left_by (own_of old) (head_of_wait r) l.look l.entry ++ []) (last_load q) calm l.ends));
+        (subst (EndsWith new) (append_assoc (wait_left_by (own_of old) (head_of_wait r) l.look l.entry) [] (last_load q))
+        (ends_calm old new (wait_left_by (own_of old) (head_of_wait r) l.look l.entry ++ []) (last_load q) calm l.ends));
   }
 
   asked_loads : (found : Bool) → PartedQueue old r found [] → PartedQueue new q found (last_load q)
@@ -249,7 +249,7 @@ module _ (old new : Known) (r : WaitCall) (v : ℕ) (calm : Calm (step.Load r.wa
   left_loads false found l = signal_loads found l
 
 -- what stays where nothing was made
-pub trail_still : (old new : Known) (r : WaitCall) (s : WaitStage) → Calm [] old new → TrailAt old r s → TrailAt new r s
+pub trail_still : (old new : Known) (r : WaitCall) (s : WaitStage) → Calm [] old new → WaitTrailAt old r s → WaitTrailAt new r s
 trail_still old new r stage.PrepareState calm u = queued_calm [] old new calm (calm.stored refl) u
 trail_still old new r stage.PrepareUnlock calm u = queued_still old new _ calm u
 trail_still old new r stage.Test calm u = queued_still old new _ calm u
@@ -271,6 +271,6 @@ trail_still old new r stage.FinishQueue calm u = u
 trail_still old new r stage.FinishUnlock calm u = u
 
 pub trail_rises : (old new : Known) (r : WaitCall) (s : WaitStage) → is_slept s ≡ true → Unmoved old new
-    → TrailAt old r s → TrailAt new r s
+    → WaitTrailAt old r s → WaitTrailAt new r s
 trail_rises old new r stage.PrepareLock slept still u = u
 trail_rises old new r s slept still u = absurd (cc)

@@ -38,7 +38,7 @@ use Rattle.wait_rule.proofs.SaidEvents.FollowedWalks.{walks_follow}
 use Rattle.wait_rule.proofs.SaidEvents.SelectedEntries.{runs_tell}
 use Rattle.wait_rule.proofs.SaidEvents.SelectingWalks.{runs_select}
 use Rattle.wait_rule.proofs.SaidEvents.SignalledRuns.{runs_heed}
-use Rattle.wait_event.specs.Ends.{answer_of}
+use Rattle.wait_event.specs.Ends.{answer_of_end}
 use Rattle.wait_event.specs.Entries.{add_answer}
 use Rattle.wait_event.specs.Words.{
   AddsFollow,
@@ -88,10 +88,10 @@ items_grow f old new (next.Go p) m (t ∷ ts) g =
 pub waits_follow : WaitsFollow
 waits_follow old new c how result law out e =
     let runs = e.waited.runs in
-    runs_follow law.table law.items law.ruled (calls.Wait c how) 0 old new (answer_of result) []
+    runs_follow law.table law.items law.ruled (calls.Wait c how) 0 old new (answer_of_end result) []
     (list_of new.view law old.view.number (number_stays
     (call_program old.view.number 0 (calls.Wait c how)) old new (next.Go at.First)
-    (next.Ends (answer_of result)) runs.transitions runs.goes))
+    (next.Ends (answer_of_end result)) runs.transitions runs.goes))
     (omega arith) refl refl (λ _. out) (record { transitions = runs.transitions; goes = runs.goes })
 
 pub waits_say : WaitsSay

@@ -20,8 +20,8 @@ use Rattle.wq_head.specs.Walks.{HasWoken, HasEnded}
 use Rattle.wait_class.specs.Posts.{Runs}
 
 -- the task went through the whole call, which answers the value that was there
-abbrev pub HasTaken : Known → Known → ℕ → ℕ → Type 0
-HasTaken old new c v = Runs (call_program old.view.number 0 (calls.Take c)) old new (next.Go at.Take)
+abbrev pub HasTakenCond : Known → Known → ℕ → ℕ → Type 0
+HasTakenCond old new c v = Runs (call_program old.view.number 0 (calls.Take c)) old new (next.Go at.Take)
     (next.Ends (answer.Value v))
 
 -- the task went through the call that sets the condition, and then through the walk of a wake

@@ -50,37 +50,37 @@ asks_one p = p.asks && looks_in p.how.state
 abbrev pub locked_to : Part → Point
 locked_to p = at.Prepare (if asks_one p then preparing.Look else preparing.Queue)
 
-abbrev pub looked_to : Bool → Point
-looked_to hit = if hit then at.Leave leaving.Queue else at.Prepare preparing.Queue
+abbrev pub part_looked_to : Bool → Point
+part_looked_to hit = if hit then at.Leave leaving.Queue else at.Prepare preparing.Queue
 
-pub record FoundSignal (p : Part) (old new : Known) : Type 0 where
+pub record FoundPartSignal (p : Part) (old new : Known) : Type 0 where
   pub asks : p.asks ≡ true
   pub word : ℕ
   pub pends : pending (state_mask p.how.state) (task_of word) ≡ true
   pub is : new ≡ added old (item.Made (step.Look word))
 
 pub record Heeds (p : Part) (old new : Known) (hit : Bool) : Type 0 where
-  pub runs : Runs (program_of p old.view.number) old new (next.Go (locked_to p)) (next.Go (looked_to hit))
+  pub runs : Runs (program_of p old.view.number) old new (next.Go (locked_to p)) (next.Go (part_looked_to hit))
   pub quiet : queues_first runs.transitions ≡ false
   pub carries : Carries unchanged old new
   pub asks : asks_for old ≡ nothing_asked → asks_for new ≡ nothing_asked
-  pub found : hit ≡ true → FoundSignal p old new
+  pub found : hit ≡ true → FoundPartSignal p old new
 
 -- the own entry stands at the head that is held, where the history has stored it
 abbrev pub IsAtHead : Known → Type 0
 IsAtHead k = (e : Entry) → (told_of k).bits.stored (own_of k) ≡ Some e → head_of e.watch ≡ k.at
 
 -- it was looked at, and taken off where it is queued
-abbrev pub TakesOff : Bool → Known → Known → Type 0
-TakesOff true seen new = HasRemoved seen new seen.view.number 0
-TakesOff false seen new = new ≡ seen
+abbrev pub TakesEntryOff : Bool → Known → Known → Type 0
+TakesEntryOff true seen new = HasRemoved seen new seen.view.number 0
+TakesEntryOff false seen new = new ≡ seen
 
-pub record Pares (old new : Known) (found : Bool) : Type 0 where
+pub record ParesPart (old new : Known) (found : Bool) : Type 0 where
   pub seen : Known
   pub entry : Option Entry
   pub looked : HasSeenOwn old seen entry
   pub is_found : found ≡ is_some entry
-  pub takes : TakesOff found seen new
+  pub takes : TakesEntryOff found seen new
 
 -- it was queued, or was queued still, and the state stored
 pub record HasJoinedPart (p : Part) (old new : Known) (first : Bool) : Type 0 where
@@ -103,9 +103,9 @@ pub record IsWornPart (p : Part) (old new : Known) (w : Worn) : Type 0 where
   pub head : w.head ≡ old.at
   pub noted : WasWorn new.view.number new.view.items w.head w.place
 
-abbrev pub Joins : Part → Known → Known → Result Bool Worn → Type 0
-Joins p old new (Ok first) = HasJoinedPart p old new first
-Joins p old new (Err w) = IsWornPart p old new w
+abbrev pub JoinsPart : Part → Known → Known → Result Bool Worn → Type 0
+JoinsPart p old new (Ok first) = HasJoinedPart p old new first
+JoinsPart p old new (Err w) = IsWornPart p old new w
 
 -- the answer of a prepare that found no signal
 abbrev pub unsignalled : Result Bool Worn → Result (Option Bool) Worn

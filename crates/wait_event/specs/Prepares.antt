@@ -29,7 +29,7 @@ use Rattle.wait_rule.specs.Transitions.{Program}
 use Rattle.wq_head.specs.declared.adds.Worn.{Worn}
 use Rattle.wait_class.specs.Posts.{EndsWith, IsOut, Keeps, Runs, own_of}
 use Rattle.wait_class.specs.Tables.{plan_program}
-use Rattle.wait_event.specs.Waits.{IsQueuedIn, left_by, queues_first}
+use Rattle.wait_event.specs.Waits.{IsQueuedIn, wait_left_by, queues_first}
 use Rattle.wait_event.specs.WaitPlans.{part_plan, prepare_plan}
 use Rattle.wait_event.specs.declared.prepares.Part.{Part}
 use Rattle.wait_event.specs.declared.prepares.Prepared.{Prepared}
@@ -37,14 +37,14 @@ use Rattle.wait_event.specs.declared.prepares.Prepared.TheVariants as prepared
 
 -- What a prepare may queue, by the kind of the entry: one for a plain condition with a full head, at the front or at the
 -- tail; one for a plain condition with a simple head, at the tail; one for a bit and one for a variable, at the front.
-abbrev pub Suits : Watch → Kind → How → Type 0
-Suits (watch.Plain c) kinds.Default how = c < FIRST_SIMPLE
-Suits (watch.Plain c) kinds.Autoremove how = c < FIRST_SIMPLE
-Suits (watch.Plain c) kinds.Woken how = c < FIRST_SIMPLE
-Suits (watch.Plain c) kinds.Simple how = (FIRST_SIMPLE ≤ c) × (c < PLAIN_CONDITIONS) × (how.exclusive ≡ true)
-Suits (watch.Bit w b) kinds.Bit how = (w < BIT_WORDS) × (b < WORD_BITS) × (how.exclusive ≡ false)
-Suits (watch.Var v old) kinds.Var how = (v < VARIABLES) × (how.exclusive ≡ false)
-Suits _ _ how = ⊥
+abbrev pub SuitsWait : Watch → Kind → How → Type 0
+SuitsWait (watch.Plain c) kinds.Default how = c < FIRST_SIMPLE
+SuitsWait (watch.Plain c) kinds.Autoremove how = c < FIRST_SIMPLE
+SuitsWait (watch.Plain c) kinds.Woken how = c < FIRST_SIMPLE
+SuitsWait (watch.Plain c) kinds.Simple how = (FIRST_SIMPLE ≤ c) × (c < PLAIN_CONDITIONS) × (how.exclusive ≡ true)
+SuitsWait (watch.Bit w b) kinds.Bit how = (w < BIT_WORDS) × (b < WORD_BITS) × (how.exclusive ≡ false)
+SuitsWait (watch.Var v old) kinds.Var how = (v < VARIABLES) × (how.exclusive ≡ false)
+SuitsWait _ _ how = ⊥
 
 -- the own entry is off, or one of this watch and kind
 abbrev pub IsPart : Watch → Kind → Option Entry → Type 0
@@ -78,10 +78,10 @@ pub record WasAsked (k : Known) (w : Watch) (how : How) : Type 0 where
   pub look : ℕ
   pub entry : ℕ
   pub showed : pending (state_mask how.state) (task_of look) ≡ true
-  pub ends : EndsWith k (left_by (own_of k) (head_of w) look entry ++ [])
+  pub ends : EndsWith k (wait_left_by (own_of k) (head_of w) look entry ++ [])
 
 -- the entry is off, and no state was stored
-pub record IsLeft (old new : Known) : Type 0 where
+pub record IsPrepareLeft (old new : Known) : Type 0 where
   pub out : IsOut new
   pub state : new.book.state ≡ old.book.state
 
@@ -89,8 +89,8 @@ abbrev pub EndsPrepare : Known → Known → Watch → Kind → How → Bool →
 EndsPrepare old new w k how asks (Ok prepared.Queued) = Prepares old new w k how asks zero_answer
     × IsQueuedIn new (state_mask how.state)
 EndsPrepare old new w k how asks (Ok prepared.Signal) = Prepares old new w k how asks signalled
-    × (asks ≡ true) × IsLeft old new × WasAsked new w how
-EndsPrepare old new w k how asks (Err e) = Prepares old new w k how asks answer.Worn × IsLeft old new
+    × (asks ≡ true) × IsPrepareLeft old new × WasAsked new w how
+EndsPrepare old new w k how asks (Err e) = Prepares old new w k how asks answer.Worn × IsPrepareLeft old new
     × (e.head ≡ head_of w) × WasWorn new.view.number new.view.items e.head e.place
 
 -- An exclusive prepare that looks for no signal answers whether its entry is the first: it queued it, and its hold had

@@ -17,8 +17,8 @@ use Rattle.wait_class.specs.Tables.{SleepsNot}
 use Rattle.wait_leave.specs.declared.exits.Exit.{Exit}
 use Rattle.wait_leave.specs.Leaves.{Exits, GoesOut}
 use Rattle.wait_leave.specs.OnTheWay.{OnTheWay, left_at, straight}
-use Rattle.wait_event.specs.Ends.{IsEndCause, end_in}
-use Rattle.wait_event.specs.Waits.{IsFresh, IsUnset, SameCall, off_by, queues, wait_table}
+use Rattle.wait_event.specs.Ends.{IsEndCause, wait_end_in}
+use Rattle.wait_event.specs.Waits.{IsFreshWait, IsUnset, SameCall, off_by, has_queued_in, wait_table}
 use Rattle.wait_event.specs.declared.wait_events.WaitEnd.{WaitEnd}
 use Rattle.wait_event.specs.declared.wait_leaves.WaitUntil.{WaitUntil}
 use Rattle.wait_event.specs.declared.wait_leaves.WaitUntil.TheVariants as until
@@ -54,12 +54,12 @@ wait_exits = record {
 -- the answer: one that left its queue was asked to, or a signal had sent it out
 abbrev pub parted_in : Bool → WaitCall → Bool → WaitUntil (Result (Unit {0}) WaitEnd)
 parted_in true r found = until.Left r.seen (r.queued && not found)
-parted_in false r found = until.Over (end_in r (outcome.Signalled found))
+parted_in false r found = until.Over (wait_end_in r (outcome.Signalled found))
 
 abbrev pub wait_until_in : WaitCall → WaitOutcome → WaitUntil (Result (Unit {0}) WaitEnd)
-wait_until_in r outcome.Over = until.Over (end_in r outcome.Over)
+wait_until_in r outcome.Over = until.Over (wait_end_in r outcome.Over)
 wait_until_in r (outcome.Signalled found) = parted_in r.asked r found
-wait_until_in r outcome.Worn = until.Over (end_in r outcome.Worn)
+wait_until_in r outcome.Worn = until.Over (wait_end_in r outcome.Worn)
 
 -- The last steps of a wait that was left: in its last hold the own entry was taken off, or was off, and the head given
 -- back; then the load of the condition found `seen`, and it was not set. `selected` is that the hold found the entry off
@@ -84,14 +84,14 @@ IsAskedWait C (until.Left seen selected) = C
 -- whether the task queued its entry on its way
 abbrev pub out_queues : (e u : Turn WaitStage WaitOutcome) (old new : Known) (r q : Run WaitCall)
     → GoesOut wait_table old new r q e u → Bool
-out_queues (turn.Again s) u old new r q a = queues a.went.runs.transitions
+out_queues (turn.Again s) u old new r q a = has_queued_in a.went.runs.transitions
 out_queues (turn.Asleep s) u old new r q a = false
 out_queues (turn.Locked s) u old new r q a = false
 out_queues (turn.Done o) u old new r q a = false
 
 abbrev pub way_queues : {A : Type 0} {old : Known} {r : Run WaitCall} {s : WaitStage} (new : Known) (q : Run WaitCall)
     (u : Turn WaitStage WaitOutcome) → OnTheWay A wait_table wait_exits old r s new q u → Bool
-way_queues _ _ _ (straight new q u a) = queues a.went.runs.transitions
+way_queues _ _ _ (straight new q u a) = has_queued_in a.went.runs.transitions
 way_queues _ _ _ (left_at mid m n new q u cause w l) = way_queues mid m (turn.Again n) w
     || out_queues l.exit.to u l.rested new (record m { of = wait_exits.asks m.of }) q l.on
 
@@ -118,6 +118,6 @@ pub record LeavesWait (A : Type 0) (old new : Known) (r : Run WaitCall) (s : Wai
 pub record EndsWaitUntil (A : Type 0) (old new : Known) (w : Watch) (how : How)
     (result : WaitUntil (Result (Unit {0}) WaitEnd)) : Type 0 where
   pub first : Run WaitCall
-  pub fresh : IsFresh first.of w how
+  pub fresh : IsFreshWait first.of w how
   pub leaves : LeavesWait A old new first stage.First result
   pub asked : IsAskedWait A result

@@ -37,10 +37,10 @@ call_for (watch.Plain c) how = calls.Wait c how
 call_for _ how = calls.Wait 0 how
 
 -- a program whose prepare looks for a signal only where it asks for one
-abbrev pub asked : Bool → Point → Planned → Planned
-asked asks (at.Prepare preparing.Lock) e = if asks then e
+abbrev pub planned_as_asked : Bool → Point → Planned → Planned
+planned_as_asked asks (at.Prepare preparing.Lock) e = if asks then e
     else record { event = e.event; next = next.Go (at.Prepare preparing.Queue) }
-asked asks p e = e
+planned_as_asked asks p e = e
 
 -- The waits that run: for any plain condition and any variable. Where the head of a condition is a simple one it is a
 -- simple wait, whose program is that of a wait whose entry goes to the tail. A wait for a variable is not exclusive.
@@ -50,11 +50,11 @@ IsWaitFor (watch.Var v old) how = how.exclusive ≡ false
 IsWaitFor _ how = ⊥
 
 -- a load of the watch's word
-abbrev pub loads : Watch → Seen → Event
-loads w seen = event.Load (number_of w) seen.value
+abbrev pub loads_seen : Watch → Seen → Event
+loads_seen w seen = event.Load (number_of w) seen.value
 
-abbrev pub finishes : Watch → Seen → Planned
-finishes w seen = go (loads w seen) (at.Finish finishing.State false)
+abbrev pub goes_to_finish : Watch → Seen → Planned
+goes_to_finish w seen = go (loads_seen w seen) (at.Finish finishing.State false)
 
 abbrev pub prepares_at : How → Point
 prepares_at how = at.Prepare (if looks_in how.state then preparing.Look else preparing.Queue)
@@ -62,33 +62,33 @@ prepares_at how = at.Prepare (if looks_in how.state then preparing.Look else pre
 abbrev pub looks_for : Bool → Planned
 looks_for hit = go (event.Look hit) (if hit then at.Leave leaving.Queue else at.Prepare preparing.Queue)
 
-abbrev pub gives_back : Watch → Next → Planned
-gives_back w n = record { event = event.Unlock (head_of w) false; next = n }
+abbrev pub gives_lock_back : Watch → Next → Planned
+gives_lock_back w n = record { event = event.Unlock (head_of w) false; next = n }
 
 abbrev pub plan : ℕ → Watch → How → Point → Seen → Planned
-plan me w how at.First seen = if misses w seen.value then go (loads w seen) (at.Prepare preparing.Lock)
-    else ends_with (loads w seen) zero_answer
+plan me w how at.First seen = if misses w seen.value then go (loads_seen w seen) (at.Prepare preparing.Lock)
+    else ends_with (loads_seen w seen) zero_answer
 plan me w how (at.Prepare preparing.Lock) seen = go (event.Lock (head_of w)) (prepares_at how)
 plan me w how (at.Prepare preparing.Look) seen = looks_for (pending (state_mask how.state) seen.own)
 plan me w how (at.Prepare preparing.Queue) seen =
     if is_some seen.entry
     then go (event.State (state_mask how.state)) (at.Prepare preparing.Unlock)
     else if seen.worn
-    then gives_back w (next.Go at.Worn)
+    then gives_lock_back w (next.Go at.Worn)
     else go (event.Queue (head_of w) (wait_form how)) (at.Prepare preparing.State)
 plan me w how (at.Prepare preparing.State) seen = go (event.State (state_mask how.state)) (at.Prepare preparing.Unlock)
-plan me w how (at.Prepare preparing.Unlock) seen = gives_back w (next.Go at.Test)
-plan me w how at.Test seen = go (loads w seen)
+plan me w how (at.Prepare preparing.Unlock) seen = gives_lock_back w (next.Go at.Test)
+plan me w how at.Test seen = go (loads_seen w seen)
     (if misses w seen.value then at.Sleep else at.Finish finishing.State false)
 plan me w how at.Sleep seen = sleep_event seen (at.Prepare preparing.Lock)
-plan me w how at.Worn seen = if misses w seen.value then ends_with (loads w seen) answer.Worn else finishes w seen
+plan me w how at.Worn seen = if misses w seen.value then ends_with (loads_seen w seen) answer.Worn else goes_to_finish w seen
 plan me w how (at.Leave leaving.Queue) seen =
     if is_some seen.entry
     then go (event.Unqueue me) (at.Leave leaving.Unlock)
-    else gives_back w (next.Go (at.Leave leaving.Load))
-plan me w how (at.Leave leaving.Unlock) seen = gives_back w (next.Go (at.Leave leaving.Load))
-plan me w how (at.Leave leaving.Load) seen = if misses w seen.value then ends_with (loads w seen) signalled
-    else finishes w seen
+    else gives_lock_back w (next.Go (at.Leave leaving.Load))
+plan me w how (at.Leave leaving.Unlock) seen = gives_lock_back w (next.Go (at.Leave leaving.Load))
+plan me w how (at.Leave leaving.Load) seen = if misses w seen.value then ends_with (loads_seen w seen) signalled
+    else goes_to_finish w seen
 plan me w how (at.Finish finishing.State false) seen = go (event.State 0) (at.Finish finishing.Look false)
 plan me w how (at.Finish finishing.Look false) seen =
     if is_some seen.entry
@@ -98,21 +98,21 @@ plan me w how (at.Finish finishing.Lock false) seen = go (event.Lock (head_of w)
 plan me w how (at.Finish finishing.Queue false) seen =
     if is_some seen.entry
     then go (event.Unqueue me) (at.Finish finishing.Unlock false)
-    else gives_back w (next.Ends zero_answer)
-plan me w how (at.Finish finishing.Unlock false) seen = gives_back w (next.Ends zero_answer)
+    else gives_lock_back w (next.Ends zero_answer)
+plan me w how (at.Finish finishing.Unlock false) seen = gives_lock_back w (next.Ends zero_answer)
 plan me w how p seen = program me (call_for w how) p seen
 
 -- the kind of an entry that is queued there
-abbrev pub kind_in : Kind → Point → Kind
-kind_in k (at.Add p) = kind.Autoremove
-kind_in k (at.Page p) = kind.Page
-kind_in k p = k
+abbrev pub kind_for_point : Kind → Point → Kind
+kind_for_point k (at.Add p) = kind.Autoremove
+kind_for_point k (at.Page p) = kind.Page
+kind_for_point k p = k
 
 -- the plan of a wait whose entry is of this kind, and of a wait, whose kind is that of its watch
 abbrev pub part_plan : Bool → Watch → Kind → How → Plan
 part_plan asks w k how = record {
-  makes = λ me p seen. asked asks p (plan me w how p seen);
-  given = λ p. record (given_at (call_for w how) p) { watch = w; kind = kind_in k p };
+  makes = λ me p seen. planned_as_asked asks p (plan me w how p seen);
+  given = λ p. record (given_at (call_for w how) p) { watch = w; kind = kind_for_point k p };
   watch = w;
   state = how.state;
   form = wait_form how;
@@ -138,5 +138,5 @@ prepares_alone e = record { event = e.event; next = behind_prepare e.next }
 
 abbrev pub prepare_plan : Bool → Watch → Kind → How → Plan
 prepare_plan asks w k how = record (part_plan asks w k how) {
-  makes = λ me p seen. prepares_alone (asked asks p (plan me w how p seen));
+  makes = λ me p seen. prepares_alone (planned_as_asked asks p (plan me w how p seen));
 }

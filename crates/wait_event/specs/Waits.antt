@@ -42,52 +42,52 @@ use Rattle.wait_event.specs.declared.waits.WaitStage.{WaitStage}
 use Rattle.wait_event.specs.declared.waits.WaitStage.TheVariants as stage
 
 -- The stages: the point of the program, and whether the ticket of its lock is drawn.
-abbrev pub point_of : WaitStage → Point
-point_of stage.First = at.First
-point_of stage.PrepareLock = at.Prepare preparing.Lock
-point_of stage.PrepareTurn = at.Prepare preparing.Lock
-point_of stage.PrepareLook = at.Prepare preparing.Look
-point_of stage.PrepareQueue = at.Prepare preparing.Queue
-point_of stage.PrepareState = at.Prepare preparing.State
-point_of stage.PrepareUnlock = at.Prepare preparing.Unlock
-point_of stage.Test = at.Test
-point_of stage.Sleep = at.Sleep
-point_of stage.Worn = at.Worn
-point_of stage.LeaveQueue = at.Leave leaving.Queue
-point_of stage.LeaveUnlock = at.Leave leaving.Unlock
-point_of (stage.LeaveLoad found) = at.Leave leaving.Load
-point_of stage.FinishState = at.Finish finishing.State false
-point_of stage.FinishLook = at.Finish finishing.Look false
-point_of stage.FinishLock = at.Finish finishing.Lock false
-point_of stage.FinishTurn = at.Finish finishing.Lock false
-point_of stage.FinishQueue = at.Finish finishing.Queue false
-point_of stage.FinishUnlock = at.Finish finishing.Unlock false
+abbrev pub wait_point_at : WaitStage → Point
+wait_point_at stage.First = at.First
+wait_point_at stage.PrepareLock = at.Prepare preparing.Lock
+wait_point_at stage.PrepareTurn = at.Prepare preparing.Lock
+wait_point_at stage.PrepareLook = at.Prepare preparing.Look
+wait_point_at stage.PrepareQueue = at.Prepare preparing.Queue
+wait_point_at stage.PrepareState = at.Prepare preparing.State
+wait_point_at stage.PrepareUnlock = at.Prepare preparing.Unlock
+wait_point_at stage.Test = at.Test
+wait_point_at stage.Sleep = at.Sleep
+wait_point_at stage.Worn = at.Worn
+wait_point_at stage.LeaveQueue = at.Leave leaving.Queue
+wait_point_at stage.LeaveUnlock = at.Leave leaving.Unlock
+wait_point_at (stage.LeaveLoad found) = at.Leave leaving.Load
+wait_point_at stage.FinishState = at.Finish finishing.State false
+wait_point_at stage.FinishLook = at.Finish finishing.Look false
+wait_point_at stage.FinishLock = at.Finish finishing.Lock false
+wait_point_at stage.FinishTurn = at.Finish finishing.Lock false
+wait_point_at stage.FinishQueue = at.Finish finishing.Queue false
+wait_point_at stage.FinishUnlock = at.Finish finishing.Unlock false
 
-abbrev pub is_turn : WaitStage → Bool
-is_turn stage.PrepareTurn = true
-is_turn stage.FinishTurn = true
-is_turn _ = false
+abbrev pub is_wait_turn : WaitStage → Bool
+is_wait_turn stage.PrepareTurn = true
+is_wait_turn stage.FinishTurn = true
+is_wait_turn _ = false
 
-abbrev pub doing_at : WaitStage → Doing
-doing_at stage.First = doing.Own
-doing_at stage.PrepareLock = doing.Draw
-doing_at stage.PrepareTurn = doing.Lock
-doing_at stage.PrepareLook = doing.Look
-doing_at stage.PrepareQueue = doing.Queue
-doing_at stage.PrepareState = doing.State
-doing_at stage.PrepareUnlock = doing.Unlock
-doing_at stage.Test = doing.Load
-doing_at stage.Sleep = doing.Sleep
-doing_at stage.Worn = doing.Load
-doing_at stage.LeaveQueue = doing.Pare
-doing_at stage.LeaveUnlock = doing.Unlock
-doing_at (stage.LeaveLoad found) = doing.Load
-doing_at stage.FinishState = doing.State
-doing_at stage.FinishLook = doing.Peek
-doing_at stage.FinishLock = doing.Draw
-doing_at stage.FinishTurn = doing.Lock
-doing_at stage.FinishQueue = doing.Pare
-doing_at stage.FinishUnlock = doing.Unlock
+abbrev pub wait_doing : WaitStage → Doing
+wait_doing stage.First = doing.Own
+wait_doing stage.PrepareLock = doing.Draw
+wait_doing stage.PrepareTurn = doing.Lock
+wait_doing stage.PrepareLook = doing.Look
+wait_doing stage.PrepareQueue = doing.Queue
+wait_doing stage.PrepareState = doing.State
+wait_doing stage.PrepareUnlock = doing.Unlock
+wait_doing stage.Test = doing.Load
+wait_doing stage.Sleep = doing.Sleep
+wait_doing stage.Worn = doing.Load
+wait_doing stage.LeaveQueue = doing.Pare
+wait_doing stage.LeaveUnlock = doing.Unlock
+wait_doing (stage.LeaveLoad found) = doing.Load
+wait_doing stage.FinishState = doing.State
+wait_doing stage.FinishLook = doing.Peek
+wait_doing stage.FinishLock = doing.Draw
+wait_doing stage.FinishTurn = doing.Lock
+wait_doing stage.FinishQueue = doing.Pare
+wait_doing stage.FinishUnlock = doing.Unlock
 
 -- how many events are left at most until no head is held
 abbrev pub depth : WaitStage → ℕ
@@ -132,25 +132,25 @@ abbrev pub met_to : WaitStage → Turn WaitStage WaitOutcome
 met_to stage.First = turn.Done outcome.Over
 met_to _ = turn.Again stage.FinishState
 
-abbrev pub loaded_to : WaitCall → WaitStage → ℕ → Turn WaitStage WaitOutcome
-loaded_to r s v = if misses r.watch v then missed_to s else met_to s
+abbrev pub wait_loaded_to : WaitCall → WaitStage → ℕ → Turn WaitStage WaitOutcome
+wait_loaded_to r s v = if misses r.watch v then missed_to s else met_to s
 
-abbrev pub found_to : WaitCall → WaitStage → Bool → Turn WaitStage WaitOutcome
-found_to r stage.PrepareLook found = if found then turn.Again stage.LeaveQueue else turn.Again stage.PrepareQueue
-found_to r stage.LeaveQueue found = if found then turn.Again stage.LeaveUnlock
+abbrev pub wait_found_to : WaitCall → WaitStage → Bool → Turn WaitStage WaitOutcome
+wait_found_to r stage.PrepareLook found = if found then turn.Again stage.LeaveQueue else turn.Again stage.PrepareQueue
+wait_found_to r stage.LeaveQueue found = if found then turn.Again stage.LeaveUnlock
     else turn.Again (stage.LeaveLoad false)
-found_to r stage.FinishLook found = if found then turn.Again stage.FinishLock else turn.Done outcome.Over
-found_to r stage.FinishQueue found = if found then turn.Again stage.FinishUnlock else turn.Done outcome.Over
-found_to r s found = turn.Again s
+wait_found_to r stage.FinishLook found = if found then turn.Again stage.FinishLock else turn.Done outcome.Over
+wait_found_to r stage.FinishQueue found = if found then turn.Again stage.FinishUnlock else turn.Done outcome.Over
+wait_found_to r s found = turn.Again s
 
 abbrev pub added_to : WaitCall → WaitStage → Added → Turn WaitStage WaitOutcome
 added_to r s adds.Joined = turn.Again stage.PrepareState
 added_to r s adds.Stayed = turn.Again stage.PrepareUnlock
 added_to r s adds.Worn = turn.Again stage.Worn
 
-abbrev pub state_at : WaitCall → WaitStage → ℕ
-state_at r stage.PrepareState = state_mask r.how.state
-state_at r _ = 0
+abbrev pub wait_state_at : WaitCall → WaitStage → ℕ
+wait_state_at r stage.PrepareState = state_mask r.how.state
+wait_state_at r _ = 0
 
 -- where it goes on that slept
 abbrev pub is_slept : WaitStage → Bool
@@ -163,14 +163,14 @@ old_of (watch.Var v old) = old
 old_of _ = 0
 
 -- a wait that has not begun
-pub record IsFresh (r : WaitCall) (w : Watch) (how : How) : Type 0 where
+pub record IsFreshWait (r : WaitCall) (w : Watch) (how : How) : Type 0 where
   pub watch_is : r.watch ≡ w
   pub how_is : r.how ≡ how
   pub seen : r.seen ≡ old_of w
   pub queued : r.queued ≡ false
   pub unasked : r.asked ≡ false
 
-pub record IsRunning (r : WaitCall) : Type 0 where
+pub record IsRunningWait (r : WaitCall) : Type 0 where
   pub there : IsThere r.watch
   pub suits : IsWaitFor r.watch r.how
 
@@ -181,8 +181,8 @@ off_by x h e = step.Saw x e ∷ (if is_some (entry_of e)
     else step.Unlock h false ∷ [])
 
 -- where it left for a signal, the look at the own word came before, and showed one that the state admits
-abbrev pub left_by : ℕ → ℕ → ℕ → ℕ → List Step
-left_by x h w e = step.Look w ∷ off_by x h e
+abbrev pub wait_left_by : ℕ → ℕ → ℕ → ℕ → List Step
+wait_left_by x h w e = step.Look w ∷ off_by x h e
 
 abbrev pub head_of_wait : WaitCall → ℕ
 head_of_wait r = head_of r.watch
@@ -197,7 +197,7 @@ pub record LeftQueue (k : Known) (r : WaitCall) (queued : Bool) (more : List Ste
   pub entry : ℕ
   pub showed : SawSignal r look
   pub found : queued ≡ is_some (entry_of entry)
-  pub ends : EndsWith k (left_by (own_of k) (head_of_wait r) look entry ++ more)
+  pub ends : EndsWith k (wait_left_by (own_of k) (head_of_wait r) look entry ++ more)
 
 -- a hold that left the queue since its task was asked to found the own entry as this word
 pub record PartedQueue (k : Known) (r : WaitCall) (queued : Bool) (more : List Step) : Type 0 where
@@ -214,10 +214,10 @@ abbrev pub GoesOff : Bool → Known → WaitCall → Type 0
 GoesOff true k r = Unit {0}
 GoesOff false k r = (w : ℕ) × SawSignal r w × EndsWith k (step.Look w ∷ [])
 
-abbrev pub TakesOff : Bool → Known → WaitCall → Type 0
-TakesOff true k r = (e : ℕ) × (is_some (entry_of e) ≡ true)
+abbrev pub TakesOwnOff : Bool → Known → WaitCall → Type 0
+TakesOwnOff true k r = (e : ℕ) × (is_some (entry_of e) ≡ true)
     × EndsWith k (step.Saw (own_of k) e ∷ step.Unqueue (own_of k) ∷ [])
-TakesOff false k r = (w : ℕ) × (e : ℕ) × SawSignal r w × (is_some (entry_of e) ≡ true)
+TakesOwnOff false k r = (w : ℕ) × (e : ℕ) × SawSignal r w × (is_some (entry_of e) ≡ true)
     × EndsWith k (step.Look w ∷ step.Saw (own_of k) e ∷ step.Unqueue (own_of k) ∷ [])
 
 -- the load at which the wait ended
@@ -240,30 +240,30 @@ pub record IsQueuedIn (k : Known) (σ : ℕ) : Type 0 where
   pub state : k.book.state ≡ σ
 
 -- what a stage and an outcome say of the last steps
-abbrev pub TrailAt : Known → WaitCall → WaitStage → Type 0
-TrailAt k r stage.PrepareState = is_some ((told_of k).bits.stored (own_of k)) ≡ true
-TrailAt k r stage.PrepareUnlock = IsQueuedIn k (state_mask r.how.state)
-TrailAt k r stage.Test = IsQueuedIn k (state_mask r.how.state)
-TrailAt k r stage.LeaveQueue = GoesOff r.asked k r
-TrailAt k r stage.LeaveUnlock = TakesOff r.asked k r
-TrailAt k r (stage.LeaveLoad found) = LeftSo r.asked k r found []
-TrailAt k r stage.Worn = FoundWorn k (head_of_wait r) r.place []
-TrailAt k r stage.FinishState = HasSeenSet r
-TrailAt k r stage.FinishLook = HasSeenSet r
-TrailAt k r stage.FinishLock = HasSeenSet r
-TrailAt k r stage.FinishTurn = HasSeenSet r
-TrailAt k r stage.FinishQueue = HasSeenSet r
-TrailAt k r stage.FinishUnlock = HasSeenSet r
-TrailAt k r _ = Unit {0}
+abbrev pub WaitTrailAt : Known → WaitCall → WaitStage → Type 0
+WaitTrailAt k r stage.PrepareState = is_some ((told_of k).bits.stored (own_of k)) ≡ true
+WaitTrailAt k r stage.PrepareUnlock = IsQueuedIn k (state_mask r.how.state)
+WaitTrailAt k r stage.Test = IsQueuedIn k (state_mask r.how.state)
+WaitTrailAt k r stage.LeaveQueue = GoesOff r.asked k r
+WaitTrailAt k r stage.LeaveUnlock = TakesOwnOff r.asked k r
+WaitTrailAt k r (stage.LeaveLoad found) = LeftSo r.asked k r found []
+WaitTrailAt k r stage.Worn = FoundWorn k (head_of_wait r) r.place []
+WaitTrailAt k r stage.FinishState = HasSeenSet r
+WaitTrailAt k r stage.FinishLook = HasSeenSet r
+WaitTrailAt k r stage.FinishLock = HasSeenSet r
+WaitTrailAt k r stage.FinishTurn = HasSeenSet r
+WaitTrailAt k r stage.FinishQueue = HasSeenSet r
+WaitTrailAt k r stage.FinishUnlock = HasSeenSet r
+WaitTrailAt k r _ = Unit {0}
 
-abbrev pub TrailEnd : Known → WaitCall → WaitOutcome → Type 0
-TrailEnd k r outcome.Over = HasSeenSet r
-TrailEnd k r (outcome.Signalled found) = LeftSo r.asked k r found (last_load r) × IsUnset r.watch r.seen
-TrailEnd k r outcome.Worn = FoundWorn k (head_of_wait r) r.place (last_load r) × IsUnset r.watch r.seen
+abbrev pub WaitTrailEnd : Known → WaitCall → WaitOutcome → Type 0
+WaitTrailEnd k r outcome.Over = HasSeenSet r
+WaitTrailEnd k r (outcome.Signalled found) = LeftSo r.asked k r found (last_load r) × IsUnset r.watch r.seen
+WaitTrailEnd k r outcome.Worn = FoundWorn k (head_of_wait r) r.place (last_load r) × IsUnset r.watch r.seen
 
 -- the wait has ended: the task is awake, RUNNING, holds no head, and its entry is off
-abbrev pub end_post : WaitCall → WaitOutcome → Post
-end_post r o = record {
+abbrev pub wait_end_post : WaitCall → WaitOutcome → Post
+wait_end_post r o = record {
   head = None;
   ticket = no_ticket;
   stirs = false;
@@ -272,10 +272,10 @@ end_post r o = record {
   watch = r.watch;
 }
 
-abbrev pub answer_in : WaitOutcome → Answer
-answer_in outcome.Over = zero_answer
-answer_in (outcome.Signalled found) = signalled
-answer_in outcome.Worn = answer.Worn
+abbrev pub answer_to_wait : WaitOutcome → Answer
+answer_to_wait outcome.Over = zero_answer
+answer_to_wait (outcome.Signalled found) = signalled
+answer_to_wait outcome.Worn = answer.Worn
 
 -- it is the same call
 pub record SameCall (r q : WaitCall) : Type 0 where
@@ -287,9 +287,9 @@ abbrev pub is_queue : StepOrLook → Bool
 is_queue (by_step (step.Queue x e)) = true
 is_queue _ = false
 
-abbrev pub queues : List Transition → Bool
-queues [] = false
-queues (t ∷ ts) = is_queue t.did || queues ts
+abbrev pub has_queued_in : List Transition → Bool
+has_queued_in [] = false
+has_queued_in (t ∷ ts) = is_queue t.did || has_queued_in ts
 
 -- whether it queued one where its hold had shown no member of the head before
 abbrev pub queues_first : List Transition → Bool
@@ -306,37 +306,37 @@ last_loaded o [] = o
 last_loaded o (t ∷ ts) = last_loaded (loaded_by t.did o) ts
 
 -- the run tells whether it has queued its entry, and what the last load found
-pub record Tells (r q : WaitCall) (ts : List Transition) : Type 0 where
+pub record TellsWait (r q : WaitCall) (ts : List Transition) : Type 0 where
   pub same : SameCall r q
-  pub queued : q.queued ≡ (r.queued || queues ts)
+  pub queued : q.queued ≡ (r.queued || has_queued_in ts)
   pub seen : Some q.seen ≡ last_loaded (Some r.seen) ts
 
 abbrev pub wait_table : CallTable WaitCall WaitStage WaitOutcome
 wait_table = record {
   plan_of = λ r. record (wait_plan r.watch r.how) { asked = r.asked };
-  Fits = IsRunning;
+  Fits = IsRunningWait;
   worn_at = λ r p. record r { place = p };
   joined_at = λ r s. record r { queued = true };
-  point_of = point_of;
-  doing = doing_at;
-  drawn = is_turn;
+  point_of = wait_point_at;
+  doing = wait_doing;
+  drawn = is_wait_turn;
   took = λ s. false;
   depth = depth;
   drawn_to = turn_of;
   next_of = wait_next;
   noted = λ r s v. record r { seen = v };
-  loaded_to = loaded_to;
-  found_to = found_to;
+  loaded_to = wait_loaded_to;
+  found_to = wait_found_to;
   heeded_to = λ r s hit. turn.Again s;
   slept_to = λ r s. stage.PrepareLock;
   asleep_at = is_slept;
   added_to = added_to;
-  state_at = state_at;
-  answer_of = answer_in;
+  state_at = wait_state_at;
+  answer_of = answer_to_wait;
   has_taken = λ o. false;
-  end_post = end_post;
-  Tells = Tells;
-  Trail = TrailAt;
-  TrailEnd = TrailEnd;
+  end_post = wait_end_post;
+  TellsWait = TellsWait;
+  Trail = WaitTrailAt;
+  WaitTrailEnd = WaitTrailEnd;
   Keeps = KeepsAll;
 }

@@ -40,8 +40,8 @@ use Rattle.wait_rule.specs.SaidEvents.{plain_aim, said}
 use Rattle.wait_rule.specs.Heeding.{EndsSignalled, trail_of}
 use Rattle.wait_rule.specs.Selecting.{IsTallied, selects_in, yes_in}
 use Rattle.wait_rule.specs.Transitions.{Transition, call_program, walk_program}
-use Rattle.wait_event.specs.Conds.{HasSet, HasTaken}
-use Rattle.wait_event.specs.Ends.{EndsWait, answer_of}
+use Rattle.wait_event.specs.Conds.{HasSet, HasTakenCond}
+use Rattle.wait_event.specs.Ends.{EndsWait, answer_of_end}
 use Rattle.wait_event.specs.Entries.{EndsAdd, HasRemovedOwn, add_answer}
 use Rattle.wait_class.specs.Posts.{IsOut}
 use Rattle.wait_event.specs.Prepares.{HasFinished, Prepares, finish_program, prepare_program}
@@ -60,12 +60,12 @@ walk_says c m n ts = said (walk_program (plain_aim c m n)) (next.Go (at.Walk wal
 abbrev pub WaitsFollow : Type 0
 WaitsFollow = (old new : Known) (c : ℕ) (how : How) (result : Result (Unit {0}) WaitEnd) → MeetsLaw new.view → IsOut old
     → (e : EndsWait old new c how result) → Follows old.view.number (calls.Wait c how)
-    (call_says old.view.number (calls.Wait c how) e.waited.runs.transitions) (answer_of result)
+    (call_says old.view.number (calls.Wait c how) e.waited.runs.transitions) (answer_of_end result)
 
 -- Some events follow the sentence of the wait, which gives this answer: so it is where such a load came right after.
 pub record SaysWait (old : Known) (c : ℕ) (how : How) (result : Result (Unit {0}) WaitEnd) : Type 0 where
   pub events : List Event
-  pub follows : Follows old.view.number (calls.Wait c how) events (answer_of result)
+  pub follows : Follows old.view.number (calls.Wait c how) events (answer_of_end result)
 
 abbrev pub WaitsSay : Type 0
 WaitsSay = (old mid new : Known) (c : ℕ) (how : How) (result : Result (Unit {0}) WaitEnd) → new ≡ mid
@@ -74,7 +74,7 @@ WaitsSay = (old mid new : Known) (c : ℕ) (how : How) (result : Result (Unit {0
 -- a wait that answers for a signal ends as the law on signals says
 abbrev pub WaitsHeed : Type 0
 WaitsHeed = (old new : Known) (c : ℕ) (how : How) (e : WaitEnd) (ends : EndsWait old new c how (Err e))
-    → answer_of (Err e) ≡ signalled → EndsSignalled old.view.number (calls.Wait c how)
+    → answer_of_end (Err e) ≡ signalled → EndsSignalled old.view.number (calls.Wait c how)
     (trail_of [] (call_says old.view.number (calls.Wait c how) ends.waited.runs.transitions))
 
 -- a wait for a flag
@@ -130,7 +130,7 @@ FinishesFollow = (old new : Known) (h : HasFinished old new)
 
 -- a take
 abbrev pub TakesFollow : Type 0
-TakesFollow = (old new : Known) (c v : ℕ) → MeetsLaw new.view → (h : HasTaken old new c v)
+TakesFollow = (old new : Known) (c v : ℕ) → MeetsLaw new.view → (h : HasTakenCond old new c v)
     → Follows old.view.number (calls.Take c) (call_says old.view.number (calls.Take c) h.transitions) (answer.Value v)
 
 -- A store with a wake: the set, and then the walk, whose answer tells whom it woke and selected.

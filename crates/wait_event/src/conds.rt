@@ -6,7 +6,7 @@ ghost use Rattle.wait_model.specs.declared.watches.Watch.TheVariants as watch;
 ghost use Rattle.wait_rule.specs.Says.{IsUp};
 ghost use Rattle.wait_rule.specs.Queues.{IsAgreedHold, IsIdle};
 ghost use Rattle.wait_rule.specs.Stays.{Carries, unchanged};
-ghost use Rattle.wait_event.specs.Conds.{HasSet, HasTaken, set_change};
+ghost use Rattle.wait_event.specs.Conds.{HasSet, HasTakenCond, set_change};
 
 use std::sync::Wait;
 use wait_model::queues::Walked;
@@ -22,7 +22,7 @@ pub fn take_cond(domain: &Domain, task: &mut Task, cond: u8) -> u64
     requires up { IsUp task.old }
     requires cond { cond < PLAIN_CONDITIONS }
     requires agreed { IsAgreedHold task.old }
-    ensures took { HasTaken task.old task.new cond result }
+    ensures took { HasTakenCond task.old task.new cond result }
     ensures carries { Carries unchanged task.old task.new }
 {
     consume(domain, task, cond)

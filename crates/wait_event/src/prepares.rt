@@ -5,9 +5,9 @@ ghost use Rattle.wait_model.specs.declared.watches.Kind.TheVariants as kinds;
 ghost use Rattle.wait_model.specs.Tasks.{state_mask};
 ghost use Rattle.wait_model.specs.Watches.{head_of};
 ghost use Rattle.wait_event.specs.Prepares.{BeginsOwing, CarriesPrepare, EndsExclusive, EndsPart, EndsPrepare};
-ghost use Rattle.wait_event.specs.Prepares.{HasFinished, IsPart, MayFinish, MayPrepare, Suits};
+ghost use Rattle.wait_event.specs.Prepares.{HasFinished, IsPart, MayFinish, MayPrepare, SuitsWait};
 ghost use Rattle.wait_event.specs.Prepares.{answers_first, finish_change, with_first, with_none, with_signal};
-ghost use Rattle.wait_event.specs.PartSteps.{Heeds, IsAtHead, Joins, Pares, asks_one, unsignalled};
+ghost use Rattle.wait_event.specs.PartSteps.{Heeds, IsAtHead, JoinsPart, ParesPart, asks_one, unsignalled};
 ghost use Rattle.wait_class.specs.Posts.{Keeps, own_of};
 ghost use Rattle.wait_rule.specs.Queues.{IsTold};
 ghost use Rattle.wait_rule.specs.Says.{AsksNoPage, IsUp, MayStore, told_of};
@@ -84,7 +84,7 @@ fn pare(domain: &Domain, task: &mut Task) -> bool
     requires up { IsUp task.old }
     requires held { IsHolding task.old }
     requires home { IsAtHead task.old }
-    ensures pares { Pares task.old task.new result }
+    ensures pares { ParesPart task.old task.new result }
     ensures held { IsHolding task.new }
 {
     if own_entry(domain, task).is_some() {
@@ -104,9 +104,9 @@ fn join(domain: &Domain, task: &mut Task, part: Part) -> Result<bool, Worn>
     requires head { head_of part.watch ≡ task.old.at }
     requires may { MayStore (state_mask part.how.state) task.old }
     requires home { IsPart part.watch part.kind ((told_of task.old).bits.stored (own_of task.old)) }
-    requires suits { Suits part.watch part.kind part.how }
+    requires suits { SuitsWait part.watch part.kind part.how }
     requires asks { part.kind ≡ kinds.Woken → AsksNoPage task.old }
-    ensures joins { Joins part task.old task.new result }
+    ensures joins { JoinsPart part task.old task.new result }
     ensures held { IsHolding task.new }
 {
     if own_entry(domain, task).is_some() {
@@ -136,7 +136,7 @@ fn prepare<R: Wait>(
 ) -> Result<Option<bool>, Worn>
     requires of { task.old.domain ≡ domain.now }
     requires may { MayPrepare task.old part.watch part.kind part.how.state }
-    requires suits { Suits part.watch part.kind part.how }
+    requires suits { SuitsWait part.watch part.kind part.how }
     requires asks { part.kind ≡ kinds.Woken → AsksNoPage task.old }
     ensures ends { EndsPart task.old task.new part result }
     ensures may { MayFinish task.new }
@@ -190,7 +190,7 @@ pub fn prepare_event<R: Wait>(
 ) -> Result<Prepared, Worn>
     requires of { task.old.domain ≡ domain.now }
     requires may { MayPrepare task.old watch kind how.state }
-    requires suits { Suits watch kind how }
+    requires suits { SuitsWait watch kind how }
     requires asks { kind ≡ kinds.Woken → AsksNoPage task.old }
     ensures ends { EndsPrepare task.old task.new watch kind how true result }
     ensures may { MayFinish task.new }
@@ -224,7 +224,7 @@ pub fn prepare_to_wait<R: Wait>(
 ) -> Result<(), Worn>
     requires of { task.old.domain ≡ domain.now }
     requires may { MayPrepare task.old watch kind state }
-    requires suits { Suits watch kind (record { state = state; exclusive = false }) }
+    requires suits { SuitsWait watch kind (record { state = state; exclusive = false }) }
     requires asks { kind ≡ kinds.Woken → AsksNoPage task.old }
     ensures ends { EndsPrepare task.old task.new watch kind (record { state = state; exclusive = false }) false
         (with_signal result) }
@@ -264,7 +264,7 @@ pub fn prepare_exclusive<R: Wait>(
 ) -> Result<bool, Worn>
     requires of { task.old.domain ≡ domain.now }
     requires may { MayPrepare task.old watch kind state }
-    requires suits { Suits watch kind (record { state = state; exclusive = true }) }
+    requires suits { SuitsWait watch kind (record { state = state; exclusive = true }) }
     requires asks { kind ≡ kinds.Woken → AsksNoPage task.old }
     ensures ends { EndsExclusive task.old task.new watch kind state result }
     ensures may { MayFinish task.new }

@@ -9,9 +9,9 @@ ghost use Rattle.wait_event.specs.declared.waits.WaitStage.TheVariants as stage;
 ghost use Rattle.wait_class.specs.declared.stages.Turn.TheVariants as turn;
 ghost use Rattle.wait_class.specs.Tables.{Advances, IsAt};
 ghost use Rattle.wait_class.specs.UnderWay.{IsUnderWay};
-ghost use Rattle.wait_event.specs.Waits.{IsFresh, wait_table};
+ghost use Rattle.wait_event.specs.Waits.{IsFreshWait, wait_table};
 ghost use Rattle.wait_rule.specs.Stays.{Carries};
-ghost use Rattle.wait_event.specs.Ends.{EndsWait, end_in, wait_change};
+ghost use Rattle.wait_event.specs.Ends.{EndsWait, wait_end_in, wait_change};
 ghost use Rattle.wait_class.specs.Posts.{IsOut};
 
 use crate::waits::{WaitCall, WaitOutcome, WaitRun, WaitStage, fresh_wait};
@@ -43,7 +43,7 @@ pub fn begin_wait(task: &Task, cond: u8, how: How) -> WaitRun
     requires full { cond < FIRST_SIMPLE }
     requires out { IsOut task.now }
     ensures at { IsAt wait_table task.now result stage.First }
-    ensures fresh { IsFresh result.of (watch.Plain cond) how }
+    ensures fresh { IsFreshWait result.of (watch.Plain cond) how }
     ensures told { IsTold task.now }
     ensures under { IsClean task.now
         → IsUnderWay wait_table (wait_table.plan_of result.of) task.now result (turn.Again stage.First) }
@@ -83,7 +83,7 @@ pub fn wait_event<R: Wait>(
 
 /// The answer of a wait that has ended.
 pub fn end_of(wait: WaitCall, outcome: WaitOutcome) -> Result<(), WaitEnd>
-    ensures { result ≡ end_in wait outcome }
+    ensures { result ≡ wait_end_in wait outcome }
 {
     match outcome {
         WaitOutcome::Over => Ok(()),
@@ -101,10 +101,10 @@ pub fn end_of(wait: WaitCall, outcome: WaitOutcome) -> Result<(), WaitEnd>
 /// The answer of a wait that went on by stretches and has ended. Who owed nothing when it began owes nothing, and the
 /// answer of one for a condition that began at `start` is as that of `wait_event`.
 pub fn end_wait(task: &Task, wait: &WaitRun, outcome: WaitOutcome) -> Result<(), WaitEnd>
-    ensures is { result ≡ end_in wait.now.of outcome }
+    ensures is { result ≡ wait_end_in wait.now.of outcome }
     ensures clean { (c : _) → IsUnderWay wait_table c task.now wait.now (turn.Done outcome) → IsClean task.now }
     ensures ends { (start : _) → (f : _) → (cond : _) → (how : _) → IsAt wait_table start f stage.First
-        → IsFresh f.of (watch.Plain cond) how
+        → IsFreshWait f.of (watch.Plain cond) how
         → Advances wait_table start task.now f wait.now stage.First (turn.Done outcome)
         → EndsWait start task.now cond how result }
 {

@@ -12,7 +12,7 @@ ghost use Rattle.wait_class.specs.declared.stages.Turn.TheVariants as turn;
 ghost use Rattle.wait_leave.specs.OnTheWay.{IsOnWay, OnTheWay};
 ghost use Rattle.wait_event.specs.Ends.{wait_change};
 ghost use Rattle.wait_event.specs.WaitLeaves.{EndsWaitUntil, LeavesWait, wait_exits, wait_until_in};
-ghost use Rattle.wait_event.specs.Waits.{IsFresh, wait_table};
+ghost use Rattle.wait_event.specs.Waits.{IsFreshWait, wait_table};
 ghost use Rattle.wait_event.specs.declared.waits.WaitStage.TheVariants as stages;
 
 use crate::wait_events::{WaitEnd, begin_wait, end_of};
@@ -128,7 +128,7 @@ pub fn end_until(
     ensures is { result ≡ wait_until_in wait.now.of outcome }
     ensures clean { (c : _) → IsOnWay (Unit {0}) wait_table wait_exits c task.now wait.now (turn.Done outcome)
         → IsClean task.now }
-    ensures ends { (start : _) → (f : _) → (w : _) → (how : _) → IsFresh f.of w how
+    ensures ends { (start : _) → (f : _) → (w : _) → (how : _) → IsFreshWait f.of w how
         → OnTheWay (Unit {0}) wait_table wait_exits start f stages.First task.now wait.now (turn.Done outcome)
         → EndsWaitUntil (Unit {0}) start task.now w how result }
 {

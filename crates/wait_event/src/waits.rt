@@ -5,7 +5,7 @@ ghost use Rattle.wait_model.specs.Tasks.{IsState};
 ghost use Rattle.wait_rule.specs.Says.{IsUp};
 ghost use Rattle.wait_class.specs.declared.stages.Doing.TheVariants as doing;
 ghost use Rattle.wait_class.specs.Laws.{AddsOwn, MayAdd};
-ghost use Rattle.wait_event.specs.Waits.{IsFresh, met_to, missed_to, old_of, wait_table};
+ghost use Rattle.wait_event.specs.Waits.{IsFreshWait, met_to, missed_to, old_of, wait_table};
 
 use wait_class::machines::Machine;
 use wait_class::queueing::{add_by, wait_form};
@@ -79,7 +79,7 @@ pub type WaitRun = Run<WaitCall>;
 impl WaitCall {
     /// A wait that has not begun.
     pub fn new(watch: Watch, how: How) -> WaitCall
-        ensures { IsFresh result watch how }
+        ensures { IsFreshWait result watch how }
     {
         WaitCall {
             watch,
@@ -94,7 +94,7 @@ impl WaitCall {
 
 /// A wait that has not begun, and has drawn no ticket.
 pub fn fresh_wait(watch: Watch, how: How) -> WaitRun
-    ensures { IsFresh result.of watch how }
+    ensures { IsFreshWait result.of watch how }
 {
     Run::new(WaitCall::new(watch, how))
 }

@@ -36,8 +36,8 @@ use Rattle.wait_class.specs.declared.stages.Doing.TheVariants as doing
 use Rattle.wait_class.specs.declared.stages.Run.{Run}
 use Rattle.wait_class.specs.declared.stages.Turn.{Turn}
 use Rattle.wait_class.specs.declared.stages.Turn.TheVariants as turn
-use Rattle.wait_class.specs.Laws.{IsPlain}
-use Rattle.wait_class.specs.Tables.{CallTable, Shows, SleepsNot, SleptLast, has_sleep, is_sleep}
+use Rattle.wait_class.specs.Laws.{IsPlainTurn}
+use Rattle.wait_class.specs.Tables.{CallTable, ShowsTurn, SleepsNot, SleptLast, has_sleep, is_sleep}
 use Rattle.wait_class.specs.Wholes.{HasRested}
 use Rattle.wait_class.proofs.AwakeSteps.{only_awake, sleeps_not_on, sleeps_not_same}
 use Rattle.wait_class.proofs.Histories.{or_right, sleeps_more}
@@ -119,14 +119,14 @@ not_slept old new a l =
     (sym (sleeps_more l.before slept) ∙ (sym (ap has_sleep same) ∙ a.awake)) in
     cc
 
-pub up_turn : {C S O : Type 0} (t : CallTable C S O) (old new : Known) (r q : Run C) (u : Turn S O) → Shows t old new r q u
+pub up_turn : {C S O : Type 0} (t : CallTable C S O) (old new : Known) (r q : Run C) (u : Turn S O) → ShowsTurn t old new r q u
     → SleepsNot old new → StaysUp u
 up_turn t old new r q (turn.Again s) shows a = tt
 up_turn t old new r q (turn.Asleep s) shows a = not_slept old new a shows
 up_turn t old new r q (turn.Locked s) shows a = tt
 up_turn t old new r q (turn.Done o) shows a = tt
 
-pub up_plain : {C S O : Type 0} (t : CallTable C S O) (u : Turn S O) → IsPlain t u → StaysUp u
+pub up_plain : {C S O : Type 0} (t : CallTable C S O) (u : Turn S O) → IsPlainTurn t u → StaysUp u
 up_plain t (turn.Again s) plain = tt
 up_plain t (turn.Asleep s) plain = plain
 up_plain t (turn.Locked s) plain = tt

@@ -11,7 +11,7 @@ use Rattle.wait_rule.specs.Stays.{Carries, state_change}
 use Rattle.wait_class.specs.declared.stages.Run.{Run}
 use Rattle.wait_class.specs.declared.stages.Turn.{Turn}
 use Rattle.wait_class.specs.declared.stages.Turn.TheVariants as turn
-use Rattle.wait_class.specs.Laws.{Calm, IsLawfulTable, IsPlain, turn_post}
+use Rattle.wait_class.specs.Laws.{Calm, IsLawfulCallTable, IsPlainTurn, turn_post}
 use Rattle.wait_class.specs.Tables.{Advances, CallTable, IsAt, IsEnded, Lands, SleepsNot, next_in, plan_program, post_of, watch_in}
 use Rattle.wait_class.specs.Wholes.{HasRested}
 use Rattle.wait_class.proofs.AwakeSteps.{sleeps_not_on, sleeps_not_same}
@@ -36,7 +36,7 @@ calm_none k = record {
   state = λ awake. refl;
 }
 
-module _ {C S O : Type 0} (t : CallTable C S O) (x : Exits C S O) (law : AreLawfulExits t x) (lawful : IsLawfulTable t)
+module _ {C S O : Type 0} (t : CallTable C S O) (x : Exits C S O) (law : AreLawfulExits t x) (lawful : IsLawfulCallTable t)
   where
     -- how the task stands where it goes on
     out_here : (k new : Known) (r : Run C) (s : S) (e : Exit S O) → ExitLaw t x r.of s e → IsAt t k r s
@@ -72,7 +72,7 @@ module _ {C S O : Type 0} (t : CallTable C S O) (x : Exits C S O) (law : AreLawf
           (calm_step old new (step.State 0) is (λ v. refl) (λ v d none. none) (λ m v. refl) (λ m b. refl))) a.trail;
     }
 
-    out_none : (k : Known) (q : Run C) (u : Turn S O) → IsPlain t u → Lands t k q u → GoesOut t k k q q u u
+    out_none : (k : Known) (q : Run C) (u : Turn S O) → IsPlainTurn t u → Lands t k q u → GoesOut t k k q q u u
     out_none k q (turn.Again s) plain a = advances_none t lawful k q s a
     out_none k q (turn.Asleep s) plain a = absurd plain
     out_none k q (turn.Locked s) plain a = absurd plain

@@ -9,7 +9,7 @@ use Rattle.wait_class.specs.Handing.{LastGiven}
 use Rattle.wait_class.specs.declared.stages.Run.{Run}
 use Rattle.wait_class.specs.declared.stages.Turn.{Turn}
 use Rattle.wait_class.specs.declared.stages.Turn.TheVariants as turn
-use Rattle.wait_class.specs.Laws.{IsLawfulTable}
+use Rattle.wait_class.specs.Laws.{IsLawfulCallTable}
 use Rattle.wait_class.specs.Tables.{Advances, CallTable, IsAt, Lands, Plan, SleepsNot, took_in, watch_in}
 use Rattle.wait_class.specs.UnderWay.{IsUnderWay, going}
 use Rattle.wait_class.proofs.Turns.{advances_none, advances_on, again}
@@ -21,7 +21,7 @@ use Rattle.wait_leave.specs.OnTheWay.{IsAwakeSince, IsOnWay, OnTheWay, left_at, 
 use Rattle.wait_leave.proofs.Leaving.{leaves_again, leaves_lands, leaves_on, leaves_risen}
 
 module _ {C S O : Type 0} (A : Type 0) (t : CallTable C S O) (x : Exits C S O) (law : AreLawfulExits t x)
-    (lawful : IsLawfulTable t) (old : Known) (r : Run C) (s : S) where
+    (lawful : IsLawfulCallTable t) (old : Known) (r : Run C) (s : S) where
   pub way_none : IsAt t old r s → OnTheWay A t x old r s old r (turn.Again s)
   way_none a = straight old r (turn.Again s) (advances_none t lawful old r s a)
 
@@ -163,7 +163,7 @@ awake_since t x awake old r s _ _ _ (left_at mid m n new q u cause w l) = l.awak
 
 -- a call that is on its way
 pub on_way_then : {C S O : Type 0} (A : Type 0) (t : CallTable C S O) (x : Exits C S O) (law : AreLawfulExits t x)
-    (lawful : IsLawfulTable t) (c : Plan) (mid new : Known) (m q : Run C) (n : S) (u : Turn S O)
+    (lawful : IsLawfulCallTable t) (c : Plan) (mid new : Known) (m q : Run C) (n : S) (u : Turn S O)
     → IsOnWay A t x c mid m (turn.Again n) → OnTheWay A t x mid m n new q u → IsOnWay A t x c new q u
 on_way_then A t x law lawful c mid new m q n u i w = record {
   old = i.old;

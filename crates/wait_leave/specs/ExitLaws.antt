@@ -13,7 +13,7 @@ use Rattle.wait_model.specs.declared.steps.Step.TheVariants as step
 use Rattle.wait_model.specs.PointFacts.{holds}
 use Rattle.wait_rule.specs.Known.{Known}
 use Rattle.wait_class.specs.declared.stages.Doing.TheVariants as doing
-use Rattle.wait_class.specs.Laws.{Calm, HomeGoes, IsPlain, StateGoes, TurnTrail, turn_post}
+use Rattle.wait_class.specs.Laws.{Calm, HomeGoes, IsPlainTurn, StateGoes, TurnTrail, turn_post}
 use Rattle.wait_class.specs.Tables.{CallTable, falls, post_of, took_in}
 use Rattle.wait_leave.specs.Leaves.{Exits, with_asked}
 use Rattle.wait_leave.specs.declared.exits.Exit.{Exit}
@@ -27,7 +27,7 @@ rest_steps b = if b then step.State 0 ∷ [] else []
 pub record ExitLaw {C S O : Type 0} (t : CallTable C S O) (x : Exits C S O) (r : C) (s : S) (e : Exit S O) : Type 0
   where
     pub fresh : t.drawn s ≡ false
-    pub plain : IsPlain t e.to
+    pub plain : IsPlainTurn t e.to
     pub falls : falls t s e.to ≡ true
     pub free : e.rests ≡ true → holds (t.point_of s) ≡ false
     pub head : (turn_post t (x.asks r) e.to).head ≡ (post_of t r s).head

@@ -38,7 +38,7 @@ StaysUp (turn.Asleep s) = ⊥
 StaysUp _ = Unit {0}
 
 -- a wait that was over does nothing more
-pub record StaysOver {C S O : Type 0} (t : CallTable C S O) (old new : Known) (r q : Run C) (o : O) (u : Turn S O) :
+pub record RemainsOver {C S O : Type 0} (t : CallTable C S O) (old new : Known) (r q : Run C) (o : O) (u : Turn S O) :
     Type 0 where
   pub still : new ≡ old
   pub same : q ≡ r
@@ -50,7 +50,7 @@ abbrev pub GoesOut : {C S O : Type 0} → CallTable C S O → Known → Known �
 GoesOut t old new r q (turn.Again s) u = Advances t old new r q s u
 GoesOut t old new r q (turn.Asleep s) u = ⊥
 GoesOut t old new r q (turn.Locked s) u = ⊥
-GoesOut t old new r q (turn.Done o) u = StaysOver t old new r q o u
+GoesOut t old new r q (turn.Done o) u = RemainsOver t old new r q o u
 
 -- Its task stood at a stage and was asked there, with no event; it stored RUNNING where the exit wants that, and went on
 -- from the exit by its program. From a point on from which the program sleeps no more it has not slept.

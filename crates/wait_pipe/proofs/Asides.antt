@@ -38,7 +38,7 @@ use Rattle.wq_head.proofs.FullHeads.{hashed_low}
 use Rattle.wq_head.specs.Scanned.{HasScanned}
 use Rattle.wq_head.specs.Walks.{HasWoken}
 use Rattle.var_wait.specs.VarPublishes.{aim_of}
-use Rattle.var_wait.specs.VarWaits.{EndsVarWait, answer_of}
+use Rattle.var_wait.specs.VarWaits.{EndsVarWait, answer_of_var_end}
 use Rattle.wait_pipe.specs.Pieces.{LeavesAside}
 
 pub quiet_on : (x y z : Known) → LeavesAside x y → LeavesAside y z → LeavesAside x z
@@ -153,7 +153,7 @@ pub waited_quiet : (v word : ℕ) (st : SleepState) (old new : Known) (result : 
     → (told_of old).hold.head ≡ None → EndsVarWait old new v word st result → LeavesAside old new
 waited_quiet v word st old new result free w = record {
   aside = calls_grow_aside old.view.number 0 (calls.WaitVar v word st) old new (next.Go at.First)
-      (next.Ends (answer_of result)) w.runs.transitions tt (λ q. cc) w.runs.goes;
+      (next.Ends (answer_of_var_end result)) w.runs.transitions tt (λ q. cc) w.runs.goes;
   off = others_stay_off (call_program old.view.number 0 (calls.WaitVar v word st)) old new (next.Go at.First)
-      (next.Ends (answer_of result)) w.runs.transitions (inr (λ p. var_low v word)) free w.runs.goes;
+      (next.Ends (answer_of_var_end result)) w.runs.transitions (inr (λ p. var_low v word)) free w.runs.goes;
 }

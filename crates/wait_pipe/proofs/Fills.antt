@@ -66,10 +66,10 @@ use Rattle.wait_pipe.specs.Pieces.{
   IsAtEnd,
   IsSettled,
   Moved,
-  OthersStay,
+  OtherPipesStay,
   LeavesAside,
   ShowsNoCell,
-  Waits,
+  WaitsAtPipe,
 }
 use Rattle.wait_pipe.specs.Trails.{LoadsCells, LoadsOther, LooksOver, PassesCells, StoresCells, WakesAfter, cell_items}
 use Rattle.wait_pipe.specs.declared.looks.Look.{Look}
@@ -190,7 +190,7 @@ cells_passed k v old now next new value found walked text h made is counts bytes
 pub record Filling (p : ℕ) (old now : Known) (bytes : List ℕ) (at left done : ℕ) : Type 0 where
   pub same : Carries unchanged old now
   pub quiet : LeavesAside old now
-  pub others : OthersStay (write_end p) old now
+  pub others : OtherPipesStay (write_end p) old now
   pub midway : Midway (writing p old) (writing p now) (take done bytes)
   pub place : at ≡ length (writing p now).cells % word_counts
   pub room : left + length (writing p now).cells ≡ (writing p old).seen + PIPE_CELLS
@@ -261,7 +261,7 @@ fill_goes p old now next bytes at left done end w f some_left more fits most end
 
 pub fill_ends : (p : ℕ) (old now next last : Known) (bytes : List ℕ) (at left done : ℕ) → IsSettled (writing p old)
     → Filling p old now bytes at left done → EndBecomes (write_end p) now next (passed (writing p now))
-    → OthersStay (write_end p) next last → writing p last ≡ writing p next
+    → OtherPipesStay (write_end p) next last → writing p last ≡ writing p next
     → Moved (write_end p) old last (take done bytes)
 fill_ends p old now next last bytes at left done settled f step others same =
     let m = moves_all (writing p old) (writing p now) (take done bytes) settled f.midway in record {
@@ -321,7 +321,7 @@ fill_stores p v old now next new bytes at left done found walked settled f made 
 pub record Draining (p : ℕ) (old now : Known) (size : ℕ) (buf : List ℕ) (at left done : ℕ) : Type 0 where
   pub same : Carries unchanged old now
   pub quiet : LeavesAside old now
-  pub others : OthersStay (read_end p) old now
+  pub others : OtherPipesStay (read_end p) old now
   pub midway : Midway (reading p old) (reading p now) (take done buf)
   pub place : at ≡ length (reading p now).cells % word_counts
   pub there : left + length (reading p now).cells ≡ (reading p old).seen
@@ -374,7 +374,7 @@ drain_goes p old now next size buf after at left done end w f some_left more fit
 
 pub drain_ends : (p : ℕ) (old now next last : Known) (size : ℕ) (buf : List ℕ) (at left done : ℕ)
     → IsSettled (reading p old) → Draining p old now size buf at left done
-    → EndBecomes (read_end p) now next (passed (reading p now)) → OthersStay (read_end p) next last
+    → EndBecomes (read_end p) now next (passed (reading p now)) → OtherPipesStay (read_end p) next last
     → reading p last ≡ reading p next → Moved (read_end p) old last (take done buf)
 drain_ends p old now next last size buf at left done settled f step others same =
     let m = moves_all (reading p old) (reading p now) (take done buf) settled f.midway in record {
@@ -418,7 +418,7 @@ drain_all p old now next last size buf at left done f step same none =
 bytes_still : (e f : End) → KeepsEnd e f → moved_bytes f ≡ moved_bytes e
 bytes_still e f k = (λ i. bytes_in (take (k.count i) (k.cells i)))
 
-module _ (k : ℕ) (old now : Known) (w : Waits k old now) (s : IsSettled (end_at k old)) where
+module _ (k : ℕ) (old now : Known) (w : WaitsAtPipe k old now) (s : IsSettled (end_at k old)) where
   pub waited_settled : IsSettled (end_at k now)
   waited_settled = settled_still (end_at k old) (end_at k now) w.keeps s
 

@@ -45,7 +45,7 @@ use Rattle.wait_leave.specs.OnTheWay.{OnTheWay, left_at, straight}
 use Rattle.wait_event.specs.Ends.{wait_change}
 use Rattle.wait_event.specs.WaitLeaves.{FoundUnset, IsAskedWait, IsWaitCause, wait_exits}
 use Rattle.wait_event.specs.WaitPlans.{IsWaitFor, call_for}
-use Rattle.wait_event.specs.Waits.{SameCall, point_of, wait_table}
+use Rattle.wait_event.specs.Waits.{SameCall, wait_point_at, wait_table}
 use Rattle.wait_event.specs.declared.wait_events.WaitEnd.{WaitEnd}
 use Rattle.wait_event.specs.declared.wait_leaves.WaitUntil.{WaitUntil}
 use Rattle.wait_event.specs.declared.wait_leaves.WaitUntil.TheVariants as wait_until
@@ -57,7 +57,7 @@ use Rattle.wait_event.proofs.Plans.{program_is}
 use Rattle.var_wait.specs.VarLeaves.{EndsVarUntil, until_loaded}
 use Rattle.var_wait.specs.VarWaits.{shared_in}
 use Rattle.wait_pipe.specs.PieceLeaves.{AwaitsUntil, IsPieceUntil, end_of_until}
-use Rattle.wait_pipe.specs.Pieces.{ShowsNoCell, Waits}
+use Rattle.wait_pipe.specs.Pieces.{ShowsNoCell, WaitsAtPipe}
 use Rattle.wait_pipe.proofs.Asides.{quiet_none, var_low}
 use Rattle.wait_pipe.proofs.Looking.{end_cause, none_kept}
 use Rattle.wait_pipe.proofs.PieceChanges.{keeps_none, keeps_on, of_wait}
@@ -136,7 +136,7 @@ is_raising : Next → Bool
 is_raising (next.Go at.Raise) = true
 is_raising n = false
 
-unraised : (s : WaitStage) → is_raising (next.Go (point_of s)) ≡ false
+unraised : (s : WaitStage) → is_raising (next.Go (wait_point_at s)) ≡ false
 unfolding is_raising
 unraised stage.First = refl
 unraised stage.PrepareLock = refl
@@ -158,7 +158,7 @@ unraised stage.FinishTurn = refl
 unraised stage.FinishQueue = refl
 unraised stage.FinishUnlock = refl
 
-not_raise : (s : WaitStage) → next.Go (point_of s) ≢ next.Go at.Raise
+not_raise : (s : WaitStage) → next.Go (wait_point_at s) ≢ next.Go at.Raise
 unfolding is_raising
 not_raise s is = absurd (let no : true ≡ false = sym (ap is_raising is) ∙ unraised s in cc)
 
@@ -188,18 +188,18 @@ module _ (v word : ℕ) where
 
   -- by its program, from a stage on
   stills_goes : (c : WaitCall) → IsFor v word c → (old new : Known) (s : WaitStage) (to : Next) (ts : List Transition)
-      → Goes (plan_program old.view.number 0 (wait_table.plan_of c)) old (next.Go (point_of s)) ts new to
+      → Goes (plan_program old.view.number 0 (wait_table.plan_of c)) old (next.Go (wait_point_at s)) ts new to
       → Stills v old new
   stills_goes c is old new s to ts goes = record {
     ends = programs_keep_ends (plan_program old.view.number 0 (wait_table.plan_of c)) v (λ p. (word, is.watch_is)) old
-        (next.Go (point_of s)) ts new to goes;
-    aside = calls_grow_aside old.view.number 0 (call_for c.watch c.how) old new (next.Go (point_of s)) to ts
+        (next.Go (wait_point_at s)) ts new to goes;
+    aside = calls_grow_aside old.view.number 0 (call_for c.watch c.how) old new (next.Go (wait_point_at s)) to ts
         (subst (λ (w : Watch). raises_none (call_for w c.how)) (sym is.watch_is) tt) (not_raise s)
-        (subst (λ (f : Program). Goes f old (next.Go (point_of s)) ts new to)
+        (subst (λ (f : Program). Goes f old (next.Go (wait_point_at s)) ts new to)
         (program_is old.view.number c.watch c.how
         (subst (λ (w : Watch). IsWaitFor w c.how) (sym is.watch_is) is.front)) goes);
     adds = goes_adding IsLow (plan_program old.view.number 0 (wait_table.plan_of c))
-        (queues_low old.view.number c is) old new (next.Go (point_of s)) to ts goes;
+        (queues_low old.view.number c is) old new (next.Go (wait_point_at s)) to ts goes;
   }
 
   -- out of a stage
@@ -241,7 +241,7 @@ module _ (v word : ℕ) where
 pub until_waits : (A : Type 0) (k v word : ℕ) (st : SleepState) (old new : Known) (result : WaitUntil (Result ℕ WaitEnd))
     → v ≢ k → v / PIPE_ENDS ≡ k / PIPE_ENDS → EndsVarUntil A old new v word st result
     → (told_of old).hold.head ≡ None → IsUp new → IsIdle new → IsOut new
-    → Carries (wait_change (index old.view.number 0) new.at) old new → Waits k old new
+    → Carries (wait_change (index old.view.number 0) new.at) old new → WaitsAtPipe k old new
 until_waits A k v word st old new result apart pipe w free up idle out carries =
     let first = w.waited.first in
     let is : IsFor v word first.of = record {
@@ -278,7 +278,7 @@ module _ (A : Type 0) (k word : ℕ) (new : Known) (none : ShowsNoCell k (end_at
   }
 
 pub until_caused : (A : Type 0) (k v word : ℕ) (old new : Known) (result : WaitUntil (Result ℕ WaitEnd))
-    → v ≡ other_end k → EndsVarUntil A old new v word state.Interruptible result → Waits k old new
+    → v ≡ other_end k → EndsVarUntil A old new v word state.Interruptible result → WaitsAtPipe k old new
     → ShowsNoCell k (end_at k old) word → IsPieceUntil A k new (end_of_until result)
 until_caused A k v word old new result is w waits none =
     let l = w.waited.leaves in

@@ -64,12 +64,12 @@ use Rattle.wait_rule.proofs.KnownLaws.PipeItems.{end_append, other_r, other_w}
 use Rattle.wait_rule.proofs.KnownLaws.CarriedEnds.{programs_keep_ends}
 use Rattle.wait_class.specs.Posts.{IsOut}
 use Rattle.wait_event.specs.Ends.{IsEndCause, WasSignalled, wait_change}
-use Rattle.wait_event.specs.Waits.{queues}
+use Rattle.wait_event.specs.Waits.{has_queued_in}
 use Rattle.wait_event.specs.declared.wait_events.WaitEnd.{WaitEnd}
 use Rattle.wait_event.specs.declared.wait_events.WaitEnd.TheVariants as wait_end
-use Rattle.var_wait.specs.VarWaits.{EndsVarWait, IsVarCause, answer_of, shared_in}
+use Rattle.var_wait.specs.VarWaits.{EndsVarWait, IsVarCause, answer_of_var_end, shared_in}
 use Rattle.wait_rule.specs.Transitions.{Transition}
-use Rattle.wait_pipe.specs.Pieces.{HasSeen, IsReadCause, OthersStay, LeavesAside, ShowsNoCell, Waits, end_of_wait}
+use Rattle.wait_pipe.specs.Pieces.{HasSeen, IsReadCause, OtherPipesStay, LeavesAside, ShowsNoCell, WaitsAtPipe, end_of_wait}
 use Rattle.wait_pipe.specs.PipeStates.{OnlyLooked}
 use Rattle.wait_pipe.specs.Trails.{AwaitsOther, LoadsOther}
 use Rattle.wait_pipe.specs.declared.pieces.PipeEnd.{PipeEnd}
@@ -131,7 +131,7 @@ module _ (k v r : ℕ) (old new : Known) (other : v ≡ other_end k) (pipe : v /
       (ap (λ (b : Bool). b && not (end_at k old).shut) still.mine ∙ ap not still.unshut))
 
   -- the other end's word tells the task of its own end alone
-  loaded_others : OthersStay k old new
+  loaded_others : OtherPipesStay k old new
   loaded_others j ne = loaded_end j
       ∙ ap (λ (b : Bool). if b then if_unclosed (after_look r) (end_at j old) else end_at j old)
       (test_off v (other_end j) (λ q. ne (sym (sym pipe ∙ (ap (λ (i : ℕ). i / PIPE_ENDS) q ∙ other_pipe j)))))
@@ -174,7 +174,7 @@ module _ (k v r : ℕ) (old new : Known) (other : v ≡ other_end k) (pipe : v /
       ∙ ap (λ (s : ℕ). added old (item.Made (step.Load (watch.Var (other_end k) 0) s))) (sym word_is))
 
 -- and as the turn of a call, by an idle task with no entry queued
-pub only_waits : (k : ℕ) (old new : Known) → OnlyLooked k old new → IsUp old → IsIdle old → IsOut old → Waits k old new
+pub only_waits : (k : ℕ) (old new : Known) → OnlyLooked k old new → IsUp old → IsIdle old → IsOut old → WaitsAtPipe k old new
 only_waits k old new l up idle out = record {
   others = l.others;
   keeps = l.keeps;
@@ -184,11 +184,11 @@ only_waits k old new l up idle out = record {
 -- a wait for the other end's word
 pub wait_waits : (k v word : ℕ) (st : SleepState) (old new : Known) (result : Result ℕ WaitEnd) → v ≢ k
     → v / PIPE_ENDS ≡ k / PIPE_ENDS → EndsVarWait old new v word st result → (told_of old).hold.head ≡ None → IsUp new
-    → IsIdle new → IsOut new → Carries (wait_change (index old.view.number 0) new.at) old new → Waits k old new
+    → IsIdle new → IsOut new → Carries (wait_change (index old.view.number 0) new.at) old new → WaitsAtPipe k old new
 wait_waits k v word st old new result apart pipe w free up idle out carries =
     let quiet = waited_quiet v word st old new result free w in
     let kept = programs_keep_ends (call_program old.view.number 0 (calls.WaitVar v word st)) v (λ p. (word, refl)) old
-    (next.Go at.First) w.runs.transitions new (next.Ends (answer_of result)) w.runs.goes in record {
+    (next.Go at.First) w.runs.transitions new (next.Ends (answer_of_var_end result)) w.runs.goes in record {
       others = λ j ne. kept.others j (λ q. ne (q ∙ pipe));
       keeps = kept.keeps k (λ q. apart (sym q));
       rests = record {
@@ -224,7 +224,7 @@ cause_at : (k : ℕ) (new : Known) (word : ℕ) (ts : List Transition) (result :
     → IsVarCause new (other_end k) word state.Interruptible ts result → ShowsNoCell k (end_at k new) word
     → IfErr (end_of_wait result) (IsReadCause k new)
 cause_at k new word ts (Ok value) c none = tt
-cause_at k new word ts (Err e) c none = end_cause k new word (queues ts) e c none
+cause_at k new word ts (Err e) c none = end_cause k new word (has_queued_in ts) e c none
 
 -- what its word showed, it shows beside the end as the wait left it
 pub none_kept : (k w : ℕ) (e f : End) → KeepsEnd e f → ShowsNoCell k e w → ShowsNoCell k f w
@@ -237,7 +237,7 @@ none_kept k w e f keeps none = record {
 }
 
 pub wait_caused : (k v word : ℕ) (old new : Known) (result : Result ℕ WaitEnd) → v ≡ other_end k
-    → EndsVarWait old new v word state.Interruptible result → Waits k old new → ShowsNoCell k (end_at k old) word
+    → EndsVarWait old new v word state.Interruptible result → WaitsAtPipe k old new → ShowsNoCell k (end_at k old) word
     → IfErr (end_of_wait result) (IsReadCause k new)
 wait_caused k v word old new result is w waits none = cause_at k new word w.runs.transitions result
     (subst (λ (u : ℕ). IsVarCause new u word state.Interruptible w.runs.transitions result) is w.cause)

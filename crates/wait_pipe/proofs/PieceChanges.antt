@@ -14,7 +14,7 @@ use Rattle.wait_rule.specs.Stays.{Carries, Change, publish_change, unchanged, wa
 use Rattle.wait_rule.proofs.KnownLaws.CarriedTasks.{unchanged_none}
 use Rattle.wait_class.specs.Posts.{IsOut}
 use Rattle.wait_event.specs.Ends.{wait_change}
-use Rattle.wait_pipe.specs.Pieces.{IsOpened, IsSettled, Leaves, OthersStay, LeavesAside, Rests, Waits, piece_change}
+use Rattle.wait_pipe.specs.Pieces.{IsPipeOpened, IsSettled, LeavesIdle, OtherPipesStay, LeavesAside, RestsBehindPiece, WaitsAtPipe, piece_change}
 use Rattle.wait_pipe.proofs.Asides.{quiet_none, quiet_on}
 
 module _ (k i : ℕ) (old new : Known) where
@@ -81,7 +81,7 @@ piece_on k i x y z a b = record {
 }
 
 -- a task that rests still
-pub rests_on : (k : ℕ) (x y z : Known) → Rests k x y → Rests k y z → Rests k x z
+pub rests_on : (k : ℕ) (x y z : Known) → RestsBehindPiece k x y → RestsBehindPiece k y z → RestsBehindPiece k x z
 rests_on k x y z a b =
     let first : LeavesAside x y = record { aside = a.aside; off = a.off } in
     let last : LeavesAside y z = record { aside = b.aside; off = b.off } in
@@ -111,7 +111,7 @@ module _ (k : ℕ) (old new : Known) (c : Carries unchanged old new) where
   out_still out = subst (λ (n : ℕ). (told_of new).bits.stored (index n 0) ≡ None) (sym c.number)
       (c.out (index old.view.number 0) refl out)
 
-  pub rests_still : LeavesAside old new → IsUp old → IsIdle old → IsOut old → Rests k old new
+  pub rests_still : LeavesAside old new → IsUp old → IsIdle old → IsOut old → RestsBehindPiece k old new
   rests_still q up idle out = record {
     up = c.awake ∙ up;
     idle = idle_still idle;
@@ -121,7 +121,7 @@ module _ (k : ℕ) (old new : Known) (c : Carries unchanged old new) where
     off = q.off;
   }
 
-pub rests_none : (k : ℕ) (j : Known) → IsUp j → IsIdle j → IsOut j → Rests k j j
+pub rests_none : (k : ℕ) (j : Known) → IsUp j → IsIdle j → IsOut j → RestsBehindPiece k j j
 rests_none k j = rests_still k j j (unchanged_none j) (quiet_none j)
 
 -- over a publish of the own end and its wake, which ends what the task owed more before the publish
@@ -163,7 +163,7 @@ module _ (f : Excuse → Excuse) (k : ℕ) (old mid new : Known) (up : IsUp new)
     owes = λ x o. b.owes x (a.owes x o);
   }
 
-  pub leaves_made : Leaves change old new
+  pub leaves_made : LeavesIdle change old new
   leaves_made = record {
     up = up;
     idle = behind;
@@ -193,20 +193,20 @@ settled_still e f k s = record {
   passed = k.count ∙ (s.passed ∙ sym (ap length k.cells));
 }
 
-pub others_becomes : (k : ℕ) (old new : Known) (e : End) → EndBecomes k old new e → OthersStay k old new
+pub others_becomes : (k : ℕ) (old new : Known) (e : End) → EndBecomes k old new e → OtherPipesStay k old new
 others_becomes k old new e b j ne = b.others j (λ q. ne (ap (λ (i : ℕ). i / PIPE_ENDS) q))
 
-pub others_on : (k : ℕ) (x y z : Known) → OthersStay k x y → OthersStay k y z → OthersStay k x z
+pub others_on : (k : ℕ) (x y z : Known) → OtherPipesStay k x y → OtherPipesStay k y z → OtherPipesStay k x z
 others_on k x y z a b j ne = b j ne ∙ a j ne
 
-pub waits_none : (k : ℕ) (j : Known) → IsUp j → IsIdle j → IsOut j → Waits k j j
+pub waits_none : (k : ℕ) (j : Known) → IsUp j → IsIdle j → IsOut j → WaitsAtPipe k j j
 waits_none k j up idle out = record {
   others = λ i ne. refl;
   keeps = keeps_none (end_at k j);
   rests = rests_none k j up idle out;
 }
 
-pub waits_on : (k : ℕ) (x y z : Known) → Waits k x y → Waits k y z → Waits k x z
+pub waits_on : (k : ℕ) (x y z : Known) → WaitsAtPipe k x y → WaitsAtPipe k y z → WaitsAtPipe k x z
 waits_on k x y z a b = record {
   others = others_on k x y z a.others b.others;
   keeps = keeps_on (end_at k x) (end_at k y) (end_at k z) a.keeps b.keeps;
@@ -240,7 +240,7 @@ still_publishes c x y z a b = record {
 
 -- a claim that found nobody
 pub opened_by : (k : ℕ) (old new : Known) (b : Bool) (e : End) → EndBecomes k old new (if b then new_end else e)
-    → b ≡ true → IsOpened (end_at k new)
-opened_by k old new b e becomes is = subst IsOpened (sym (becomes.own
+    → b ≡ true → IsPipeOpened (end_at k new)
+opened_by k old new b e becomes is = subst IsPipeOpened (sym (becomes.own
     ∙ ap (λ (c : Bool). if c then new_end else e) is))
     (record { settled = record { still = record { mine = refl; unshut = refl }; passed = refl }; none = refl })

@@ -57,7 +57,7 @@ use Rattle.wait_rule.proofs.SaidEvents.Fronts.{number_stays}
 use Rattle.wait_event.specs.declared.wait_events.WaitEnd.{WaitEnd}
 use Rattle.wait_event.specs.declared.wait_events.WaitEnd.TheVariants as wait_end
 use Rattle.wait_event.specs.Words.{call_says}
-use Rattle.var_wait.specs.VarWaits.{EndsVarWait, answer_of}
+use Rattle.var_wait.specs.VarWaits.{EndsVarWait, answer_of_var_end}
 use Rattle.var_wait.proofs.VarWords.{publishes_follow, var_waits_heed}
 use Rattle.wait_pipe.specs.declared.pieces.PipeEnd.{PipeEnd}
 use Rattle.wait_pipe.specs.declared.pieces.PipeEnd.TheVariants as pipe_end
@@ -104,7 +104,7 @@ looked_aside k w old looked is = subst (GrowsAside old) (sym is) (quiet_load old
 turn_aside : (k : ℕ) (old new : Known) (r : Result (Unit {0}) PipeEnd) → WaitingTurn k old new r → GrowsAside old new
 turn_aside k old new r t = aside_join old t.looked new (looked_aside k t.word old t.looked t.looks)
     (calls_grow_aside t.looked.view.number 0 (calls.WaitVar (other_end k) t.word state.Interruptible) t.looked new
-    (next.Go at.First) (next.Ends (answer_of t.waits.outcome)) t.waits.waits.runs.transitions tt (λ q. cc)
+    (next.Go at.First) (next.Ends (answer_of_var_end t.waits.outcome)) t.waits.waits.runs.transitions tt (λ q. cc)
     t.waits.waits.runs.goes)
 
 turns_aside : (k : ℕ) (old : Known) (ts : List Known) (new : Known) → WaitingTurns k old ts new → GrowsAside old new
@@ -131,7 +131,7 @@ turn_keeps : (k : ℕ) (old new : Known) (r : Result (Unit {0}) PipeEnd) → Wai
 turn_keeps k old new r t =
     let kept = programs_keep_ends (call_program t.looked.view.number 0
     (calls.WaitVar (other_end k) t.word state.Interruptible)) (other_end k) (λ p. (t.word, refl)) t.looked
-    (next.Go at.First) t.waits.waits.runs.transitions new (next.Ends (answer_of t.waits.outcome))
+    (next.Go at.First) t.waits.waits.runs.transitions new (next.Ends (answer_of_var_end t.waits.outcome))
     t.waits.waits.runs.goes in
     keeps_on (end_at k old) (end_at k t.looked) (end_at k new) (looked_keeps k t.word old t.looked t.looks)
     (kept.keeps k (λ q. other_apart k (sym q)))
@@ -152,13 +152,13 @@ keeps_back e f k = record {
 }
 
 -- What a wait answers.
-ok_answers : (outcome : Result ℕ WaitEnd) → Ok tt ≡ end_of_wait outcome → answer_of outcome ≡ zero_answer
+ok_answers : (outcome : Result ℕ WaitEnd) → Ok tt ≡ end_of_wait outcome → answer_of_var_end outcome ≡ zero_answer
 ok_answers (Ok value) is = refl
 ok_answers (Err (wait_end.Signal seen selected)) is = absurd (cc)
 ok_answers (Err (wait_end.Worn head place)) is = absurd (cc)
 
 err_answers : (e : PipeEnd) (outcome : Result ℕ WaitEnd) → Err e ≡ end_of_wait outcome
-    → answer_of outcome ≡ wait_answer e
+    → answer_of_var_end outcome ≡ wait_answer e
 err_answers e (Ok value) is = absurd (cc)
 err_answers e (Err (wait_end.Signal seen selected)) is =
     let same : pipe_end.Interrupted seen ≡ e = cc in ap wait_answer same
@@ -172,7 +172,7 @@ module _ (new : Known) (law : MeetsLaw new.view) where
 
   turn_follows : (k : ℕ) (own : End) (old mid : Known) (r : Result (Unit {0}) PipeEnd) (t : WaitingTurn k old mid r)
       → Grows mid new → KeepsEnd own (end_at k old)
-      → TurnWaits t.looked.view.number k own (answer_of t.waits.outcome) (turn_said k old mid r t)
+      → TurnWaits t.looked.view.number k own (answer_of_var_end t.waits.outcome) (turn_said k old mid r t)
   turn_follows k own old mid r t g keeps =
       let looked = t.looked in
       let runs = t.waits.waits.runs in record {
@@ -182,10 +182,10 @@ module _ (new : Known) (law : MeetsLaw new.view) where
         waited = call_says looked.view.number (calls.WaitVar (other_end k) t.word state.Interruptible)
             runs.transitions;
         follows = runs_follow law.table law.items law.ruled (calls.WaitVar (other_end k) t.word state.Interruptible) 0
-            looked mid (answer_of t.waits.outcome) g.items
+            looked mid (answer_of_var_end t.waits.outcome) g.items
             (subst (λ (n : ℕ). law.items n ≡ mid.view.items ++ g.items) (number_stays
             (call_program looked.view.number 0 (calls.WaitVar (other_end k) t.word state.Interruptible)) looked mid
-            (next.Go at.First) (next.Ends (answer_of t.waits.outcome)) runs.transitions runs.goes) (list_at mid g))
+            (next.Go at.First) (next.Ends (answer_of_var_end t.waits.outcome)) runs.transitions runs.goes) (list_at mid g))
             (omega arith) refl refl (λ _. t.waits.out) (record { transitions = runs.transitions; goes = runs.goes });
         is = refl;
       }
@@ -193,7 +193,7 @@ module _ (new : Known) (law : MeetsLaw new.view) where
   -- by the task's number and the answer that the call gives
   turn_by : (me k : ℕ) (own : End) (old mid : Known) (r : Result (Unit {0}) PipeEnd) (a : Answer)
       (t : WaitingTurn k old mid r) → Grows mid new → KeepsEnd own (end_at k old) → old.view.number ≡ me
-      → answer_of t.waits.outcome ≡ a → TurnWaits me k own a (turn_said k old mid r t)
+      → answer_of_var_end t.waits.outcome ≡ a → TurnWaits me k own a (turn_said k old mid r t)
   turn_by me k own old mid r a t g keeps number answers =
       subst (λ (n : ℕ). TurnWaits n k own a (turn_said k old mid r t))
       (ap (λ (j : Known). j.view.number) t.looks ∙ number)

@@ -24,7 +24,7 @@ use Rattle.wq_head.specs.Walks.{HasEnded, HasWoken}
 use Rattle.var_wait.specs.VarPublishes.{aim_of}
 use Rattle.var_wait.proofs.Publishing.{silent, silent_carries, still_idle, walked_on}
 use Rattle.wait_pipe.specs.PassedOn.{WokeWaiters}
-use Rattle.wait_pipe.specs.Pieces.{OthersStay}
+use Rattle.wait_pipe.specs.Pieces.{OtherPipesStay}
 use Rattle.wait_pipe.proofs.Asides.{quiet_on, scanned_quiet, woken_quiet}
 use Rattle.wait_pipe.proofs.PieceChanges.{others_on}
 
@@ -34,7 +34,7 @@ scanned_ends old new h hit s k = ap (end_at k) s.is ∙ (end_append k no_end old
     ∙ scans_ends k (end_at k old) h s.items s.loads)
 
 module _ (v : ℕ) (old new : Known) (walked : Walked) (w : HasWoken old new (aim_of v) walked) where
-  pub woken_others : OthersStay v old new
+  pub woken_others : OtherPipesStay v old new
   woken_others = (programs_keep_ends (walk_program (aim_of v)) v (λ p. (0, refl)) old
       (next.Go (at.Walk walking.Lock)) w.transitions new (next.Ends (answer.Walk w.walked)) w.goes).others
 

@@ -36,14 +36,14 @@ use Rattle.wait_pipe.specs.Pieces.{
   Got,
   GotNone,
   HasSeen,
-  IsCause,
+  IsPipeCause,
   IsReadCause,
   IsSettled,
   Moved,
   Put,
   PutNone,
-  Rests,
-  Waits,
+  RestsBehindPiece,
+  WaitsAtPipe,
 }
 use Rattle.wait_pipe.specs.Trails.{
   AwaitsOther,
@@ -64,13 +64,13 @@ use Rattle.wait_pipe.proofs.PieceChanges.{rests_on, waits_on}
 use Rattle.wait_pipe.proofs.Fills.{at_end, waited_none, waited_settled, waited_then}
 
 -- why a wait ended is also why nothing was written
-pub wait_cause : (k : ℕ) (new : Known) (e : PipeEnd) → IsReadCause k new e → IsCause k new e
+pub wait_cause : (k : ℕ) (new : Known) (e : PipeEnd) → IsReadCause k new e → IsPipeCause k new e
 wait_cause k new pipe_end.Broken is = absurd is
 wait_cause k new (pipe_end.Interrupted seen) is = is
 wait_cause k new (pipe_end.Worn head place) is = is
 
 -- A task that writes, over turns that only wait.
-module _ (p : ℕ) (old now : Known) (w : Waits (write_end p) old now) (s : IsSettled (writing p old)) where
+module _ (p : ℕ) (old now : Known) (w : WaitsAtPipe (write_end p) old now) (s : IsSettled (writing p old)) where
   pub put_broken : (writing p now).ended ≡ true → PutNone p old now pipe_end.Broken
   put_broken ended = record { moved = waited_none (write_end p) old now w s; cause = ended }
 
@@ -85,7 +85,7 @@ module _ (p : ℕ) (old now : Known) (w : Waits (write_end p) old now) (s : IsSe
     full = f.full;
   }
 
-  pub put_stopped : (new : Known) (e : PipeEnd) → Waits (write_end p) now new → IsReadCause (write_end p) new e
+  pub put_stopped : (new : Known) (e : PipeEnd) → WaitsAtPipe (write_end p) now new → IsReadCause (write_end p) new e
       → PutNone p old new e
   put_stopped new e v cause = record {
     moved = waited_none (write_end p) old new (waits_on (write_end p) old now new w v) s;
@@ -108,7 +108,7 @@ module _ (p : ℕ) (old now : Known) (w : Waits (write_end p) old now) (s : IsSe
   }
 
 -- A task that reads, over such turns.
-module _ (p : ℕ) (old now : Known) (w : Waits (read_end p) old now) (s : IsSettled (reading p old)) where
+module _ (p : ℕ) (old now : Known) (w : WaitsAtPipe (read_end p) old now) (s : IsSettled (reading p old)) where
   pub got_drained : (new : Known) (buf : List ℕ) (n : ℕ) → 0 < n → n ≤ length buf → Drained p now new buf n
       → Got p old new buf n
   got_drained new buf n some most d = record {
@@ -133,7 +133,7 @@ module _ (p : ℕ) (old now : Known) (w : Waits (read_end p) old now) (s : IsSet
         all = λ room. end.all;
       }
 
-  pub got_stopped : (new : Known) (e : PipeEnd) → Waits (read_end p) now new → IsReadCause (read_end p) new e
+  pub got_stopped : (new : Known) (e : PipeEnd) → WaitsAtPipe (read_end p) now new → IsReadCause (read_end p) new e
       → GotNone p old new e
   got_stopped new e v cause = record {
     moved = waited_none (read_end p) old new (waits_on (read_end p) old now new w v) s;
@@ -156,7 +156,7 @@ module _ (p : ℕ) (old now : Known) (w : Waits (read_end p) old now) (s : IsSet
   }
 
 -- what it leaves of the task
-pub then_rests : (k : ℕ) (old now new : Known) → Waits k old now → Rests k now new → Rests k old new
+pub then_rests : (k : ℕ) (old now new : Known) → WaitsAtPipe k old now → RestsBehindPiece k now new → RestsBehindPiece k old new
 then_rests k old now new w r = rests_on k old now new w.rests r
 
 -- Turns that wait, one after the other.
@@ -167,14 +167,14 @@ turns_more k old (t ∷ ts) now new w turn = (w.0, turns_more k t ts now new w.1
 
 -- a task that has waited so, and goes on
 pub record Turning (k : ℕ) (old now : Known) : Type 0 where
-  pub waits : Waits k old now
+  pub waits : WaitsAtPipe k old now
   pub turns : List Known
   pub goes : WaitingTurns k old turns now
 
-pub turning_none : (k : ℕ) (j : Known) → Waits k j j → Turning k j j
+pub turning_none : (k : ℕ) (j : Known) → WaitsAtPipe k j j → Turning k j j
 turning_none k j w = record { waits = w; turns = []; goes = refl }
 
-pub turning_on : (k : ℕ) (old now new : Known) → Turning k old now → Waits k now new → WaitingTurn k now new (Ok tt)
+pub turning_on : (k : ℕ) (old now new : Known) → Turning k old now → WaitsAtPipe k now new → WaitingTurn k now new (Ok tt)
     → Turning k old new
 turning_on k old now new t w turn = record {
   waits = waits_on k old now new t.waits w;

@@ -23,14 +23,14 @@ use Rattle.wait_pipe.specs.PieceLeaves.{
   WriteEndsUntil,
   WritesUntil,
 }
-use Rattle.wait_pipe.specs.Pieces.{IsReadCause, IsSettled, Waits}
+use Rattle.wait_pipe.specs.Pieces.{IsReadCause, IsSettled, WaitsAtPipe}
 use Rattle.wait_pipe.proofs.Fills.{waited_none, waited_then}
 use Rattle.wait_pipe.proofs.PieceChanges.{waits_on}
 use Rattle.wait_pipe.proofs.Turns.{got_then, put_then}
 
 -- over turns that only wait
 pub put_until_then : (A : Type 0) (p : ℕ) (old now new : Known) (text : List ℕ) (r : Until (Result ℕ PipeEnd))
-    → Waits (write_end p) old now → IsSettled (writing p old) → PutUntil A p now new text r
+    → WaitsAtPipe (write_end p) old now → IsSettled (writing p old) → PutUntil A p now new text r
     → PutUntil A p old new text r
 put_until_then A p old now new text (until.Over r) w s put = put_then p old now w s new text r put
 put_until_then A p old now new text (until.Left seen) w s none = record {
@@ -39,15 +39,15 @@ put_until_then A p old now new text (until.Left seen) w s none = record {
 }
 
 pub got_until_then : (A : Type 0) (p : ℕ) (old now new : Known) (buf : List ℕ) (r : Until (Result ℕ PipeEnd))
-    → Waits (read_end p) old now → IsSettled (reading p old) → GotUntil A p now new buf r → GotUntil A p old new buf r
+    → WaitsAtPipe (read_end p) old now → IsSettled (reading p old) → GotUntil A p now new buf r → GotUntil A p old new buf r
 got_until_then A p old now new buf (until.Over r) w s got = got_then p old now w s new buf r got
 got_until_then A p old now new buf (until.Left seen) w s none = record {
   moved = waited_then (read_end p) old now w s new [] none.moved;
   left = none.left;
 }
 
-pub left_none : (A : Type 0) (k : ℕ) (old now new : Known) (seen : ℕ) → Waits k old now → IsSettled (end_at k old)
-    → Waits k now new → WasPieceLeft A new k seen → LeftNone A k old new seen
+pub left_none : (A : Type 0) (k : ℕ) (old now new : Known) (seen : ℕ) → WaitsAtPipe k old now → IsSettled (end_at k old)
+    → WaitsAtPipe k now new → WasPieceLeft A new k seen → LeftNone A k old new seen
 left_none A k old now new seen w s v left = record {
   moved = waited_none k old new (waits_on k old now new w v) s;
   left = left;
@@ -61,14 +61,14 @@ turns_more A k old (t ∷ ts) now new w turn = (w.0, turns_more A k t ts now new
 
 -- a task that has waited so, and goes on
 pub record UntilTurning (A : Type 0) (k : ℕ) (old now : Known) : Type 0 where
-  pub waits : Waits k old now
+  pub waits : WaitsAtPipe k old now
   pub turns : List Known
   pub goes : UntilTurns A k old turns now
 
-pub until_none : (A : Type 0) (k : ℕ) (j : Known) → Waits k j j → UntilTurning A k j j
+pub until_none : (A : Type 0) (k : ℕ) (j : Known) → WaitsAtPipe k j j → UntilTurning A k j j
 until_none A k j w = record { waits = w; turns = []; goes = refl }
 
-pub until_on : (A : Type 0) (k : ℕ) (old now new : Known) → UntilTurning A k old now → Waits k now new
+pub until_on : (A : Type 0) (k : ℕ) (old now new : Known) → UntilTurning A k old now → WaitsAtPipe k now new
     → TurnGoesOn A k now new → UntilTurning A k old new
 until_on A k old now new t w turn = record {
   waits = waits_on k old now new t.waits w;

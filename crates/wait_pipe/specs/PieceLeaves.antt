@@ -16,12 +16,12 @@ use Rattle.wait_event.specs.declared.wait_leaves.WaitUntil.TheVariants as wait_u
 use Rattle.var_wait.specs.VarLeaves.{EndsVarUntil}
 use Rattle.wait_pipe.specs.declared.pieces.PipeEnd.{PipeEnd}
 use Rattle.wait_pipe.specs.declared.pieces.PipeEnd.TheVariants as pipe_end
-use Rattle.wait_pipe.specs.Pieces.{Got, GotNone, IsReadCause, Moved, Put, PutNone, ShowsNoCell, Waits, end_of_wait}
+use Rattle.wait_pipe.specs.Pieces.{Got, GotNone, IsReadCause, Moved, Put, PutNone, ShowsNoCell, WaitsAtPipe, end_of_wait}
 use Rattle.wait_pipe.specs.Trails.{FillsCells, LoadsOther, ReadEnds, SeesClosed}
 
 -- It looked at the other end's word, which is w: it shows that end open, and no cell for end k.
 pub record SeesNoCell (k : ℕ) (old new : Known) (w : ℕ) : Type 0 where
-  pub waits : Waits k old new
+  pub waits : WaitsAtPipe k old new
   pub none : ShowsNoCell k (end_at k new) w
   pub loads : LoadsOther k w old new
 

@@ -49,17 +49,17 @@ pub record IsSettled (e : End) : Type 0 where
   pub passed : e.count ≡ length e.cells
 
 -- an end that was just opened: nothing was passed on by it yet
-pub record IsOpened (e : End) : Type 0 where
+pub record IsPipeOpened (e : End) : Type 0 where
   pub settled : IsSettled e
   pub none : moved_bytes e ≡ []
 
 -- of the ends of other pipes than that of end k the task knows what it knew
-abbrev pub OthersStay : ℕ → Known → Known → Type 0
-OthersStay k old new = (j : ℕ) → j / PIPE_ENDS ≢ k / PIPE_ENDS → end_at j new ≡ end_at j old
+abbrev pub OtherPipesStay : ℕ → Known → Known → Type 0
+OtherPipesStay k old new = (j : ℕ) → j / PIPE_ENDS ≢ k / PIPE_ENDS → end_at j new ≡ end_at j old
 
 -- Just these bytes were passed on by end k: sent by a write end, and got by a read end.
 pub record Moved (k : ℕ) (old new : Known) (text : List ℕ) : Type 0 where
-  pub others : OthersStay k old new
+  pub others : OtherPipesStay k old new
   pub settled : IsSettled (end_at k new)
   pub bytes : moved_bytes (end_at k new) ≡ moved_bytes (end_at k old) ++ text
 
@@ -83,7 +83,7 @@ pub record LeavesAside (old new : Known) : Type 0 where
   pub off : StaysOff old new
 
 -- A task is awake and idle with no entry queued, as before; no more than this has changed.
-pub record Leaves (c : Change) (old new : Known) : Type 0 where
+pub record LeavesIdle (c : Change) (old new : Known) : Type 0 where
   pub up : IsUp new
   pub idle : IsIdle new
   pub out : IsOut new
@@ -92,17 +92,17 @@ pub record Leaves (c : Change) (old new : Known) : Type 0 where
   pub off : StaysOff old new
 
 -- over a call on end k, and over one that closes it
-abbrev pub Rests : ℕ → Known → Known → Type 0
-Rests k old new = Leaves (piece_change k (index old.view.number 0) new.at) old new
+abbrev pub RestsBehindPiece : ℕ → Known → Known → Type 0
+RestsBehindPiece k old new = LeavesIdle (piece_change k (index old.view.number 0) new.at) old new
 
-abbrev pub Ends : ℕ → Known → Known → Type 0
-Ends k old new = Leaves (ends_change k (index old.view.number 0) new.at) old new
+abbrev pub EndsPipe : ℕ → Known → Known → Type 0
+EndsPipe k old new = LeavesIdle (ends_change k (index old.view.number 0) new.at) old new
 
 -- It looked at the other end, or waited for it: all else that it knows of end k stays.
-pub record Waits (k : ℕ) (old new : Known) : Type 0 where
-  pub others : OthersStay k old new
+pub record WaitsAtPipe (k : ℕ) (old new : Known) : Type 0 where
+  pub others : OtherPipesStay k old new
   pub keeps : KeepsEnd (end_at k old) (end_at k new)
-  pub rests : Rests k old new
+  pub rests : RestsBehindPiece k old new
 
 -- what a look at the other end of end k tells: the own count and the one that was seen, modulo `word_counts`, and
 -- whether the other end was closed; the last two are what the other end's word shows
@@ -131,7 +131,7 @@ end_of_wait (Err (wait_end.Worn head place)) = Err (pipe_end.Worn head place)
 
 -- A signal ended the wait of end k for the other end, whose word was `seen` before it and is so still: it shows that
 -- end open, and no cell for this one.
-pub record WasInterrupted (j : Known) (k seen : ℕ) : Type 0 where
+pub record WasPipeInterrupted (j : Known) (k seen : ℕ) : Type 0 where
   pub selected : Bool
   pub queued : Bool
   pub ends : WasSignalled j (watch.Var (other_end k) seen) (shared_in state.Interruptible) seen selected queued
@@ -147,13 +147,13 @@ pub record WasFull (j : Known) (k head place : ℕ) : Type 0 where
 -- why a wait of end k for the other end ended, as the last steps show it; never Broken
 abbrev pub IsReadCause : ℕ → Known → PipeEnd → Type 0
 IsReadCause k new pipe_end.Broken = ⊥
-IsReadCause k new (pipe_end.Interrupted seen) = WasInterrupted new k seen
+IsReadCause k new (pipe_end.Interrupted seen) = WasPipeInterrupted new k seen
 IsReadCause k new (pipe_end.Worn head place) = WasFull new k head place
 
 -- why nothing was written by end k: Broken says that the read end was seen closed
-abbrev pub IsCause : ℕ → Known → PipeEnd → Type 0
-IsCause k new pipe_end.Broken = (end_at k new).ended ≡ true
-IsCause k new e = IsReadCause k new e
+abbrev pub IsPipeCause : ℕ → Known → PipeEnd → Type 0
+IsPipeCause k new pipe_end.Broken = (end_at k new).ended ≡ true
+IsPipeCause k new e = IsReadCause k new e
 
 -- The first n bytes of the text were put into pipe p, whose read end the last look showed not closed: 7 into each cell
 -- but the last, and not all of them only where that look showed no further cell free.
@@ -167,7 +167,7 @@ pub record Put (p : ℕ) (old new : Known) (text : List ℕ) (n : ℕ) : Type 0 
 
 pub record PutNone (p : ℕ) (old new : Known) (e : PipeEnd) : Type 0 where
   pub moved : Moved (write_end p) old new []
-  pub cause : IsCause (write_end p) new e
+  pub cause : IsPipeCause (write_end p) new e
 
 -- the write end was seen closed, and all that it sent was taken
 pub record IsAtEnd (e : End) : Type 0 where

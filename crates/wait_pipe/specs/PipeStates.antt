@@ -12,7 +12,7 @@ use Rattle.wait_rule.specs.Says.{IsFree, IsUp}
 use Rattle.wait_rule.specs.Stays.{Carries, unchanged}
 use Rattle.wait_class.specs.Posts.{IsOut}
 use Rattle.wait_pipe.specs.declared.peeks.PipeState.{PipeState}
-use Rattle.wait_pipe.specs.Pieces.{IsAtEnd, IsSettled, OthersStay, ShowsNoCell}
+use Rattle.wait_pipe.specs.Pieces.{IsAtEnd, IsSettled, OtherPipesStay, ShowsNoCell}
 use Rattle.wait_pipe.specs.Trails.{LooksOver}
 
 -- A task only looked at the other end of end k: of that end it may know more, and all else stays. What it owes is carried
@@ -23,7 +23,7 @@ pub record OnlyLooked (k : ℕ) (old new : Known) : Type 0 where
   pub free : IsFree new
   pub idle : IsIdle old → IsIdle new
   pub out : IsOut old → IsOut new
-  pub others : OthersStay k old new
+  pub others : OtherPipesStay k old new
   pub keeps : KeepsEnd (end_at k old) (end_at k new)
   pub settled : IsSettled (end_at k old) → IsSettled (end_at k new)
   pub carries : Carries unchanged old new

@@ -15,7 +15,7 @@ ghost use Rattle.wait_class.specs.Posts.{IsOut};
 ghost use Rattle.wq_head.specs.Walks.{HasEnded, HasWoken};
 ghost use Rattle.var_wait.specs.VarPublishes.{aim_of};
 ghost use Rattle.wait_pipe.specs.PassedOn.{WokeWaiters};
-ghost use Rattle.wait_pipe.specs.Pieces.{Ends, IsOpened, OthersStay};
+ghost use Rattle.wait_pipe.specs.Pieces.{EndsPipe, IsPipeOpened, OtherPipesStay};
 ghost use Rattle.wait_pipe.specs.Trails.{ClosesEnd};
 
 use std::sync::Wait;
@@ -41,7 +41,7 @@ pub fn open_write(domain: &Domain, task: &mut Task, pipe: u8) -> bool
     requires pipe { pipe < PIPES }
     ensures becomes { EndBecomes (write_end pipe) task.old task.new
         (if result then new_end else writing pipe task.old) }
-    ensures opened { result ≡ true → IsOpened (writing pipe task.new) }
+    ensures opened { result ≡ true → IsPipeOpened (writing pipe task.new) }
     ensures step { (found : _) × ((task.new ≡ added task.old (item.Piped (write_end pipe) act.Claim found))
         × (result ≡ (found == 0))) }
     ensures carries { Carries (claim_change (write_end pipe) result) task.old task.new }
@@ -57,7 +57,7 @@ pub fn open_read(domain: &Domain, task: &mut Task, pipe: u8) -> bool
     requires pipe { pipe < PIPES }
     ensures becomes { EndBecomes (read_end pipe) task.old task.new
         (if result then new_end else reading pipe task.old) }
-    ensures opened { result ≡ true → IsOpened (reading pipe task.new) }
+    ensures opened { result ≡ true → IsPipeOpened (reading pipe task.new) }
     ensures step { (found : _) × ((task.new ≡ added task.old (item.Piped (read_end pipe) act.Claim found))
         × (result ≡ (found == 0))) }
     ensures carries { Carries (claim_change (read_end pipe) result) task.old task.new }
@@ -113,8 +113,8 @@ pub fn close_write<R: Wait>(rt: &R, domain: &Domain, task: &mut Task, pipe: u8)
     requires pipe { pipe < PIPES }
     requires still { IsOpen (writing pipe task.old) }
     ensures own { writing pipe task.new ≡ closed (writing pipe task.old) }
-    ensures others { OthersStay (write_end pipe) task.old task.new }
-    ensures ends { Ends (write_end pipe) task.old task.new }
+    ensures others { OtherPipesStay (write_end pipe) task.old task.new }
+    ensures ends { EndsPipe (write_end pipe) task.old task.new }
     ensures closes { ClosesEnd (write_end pipe) task.old task.new }
 {
     close_end(rt, domain, task, pipe, WRITE);
@@ -130,8 +130,8 @@ pub fn close_read<R: Wait>(rt: &R, domain: &Domain, task: &mut Task, pipe: u8)
     requires pipe { pipe < PIPES }
     requires still { IsOpen (reading pipe task.old) }
     ensures own { reading pipe task.new ≡ closed (reading pipe task.old) }
-    ensures others { OthersStay (read_end pipe) task.old task.new }
-    ensures ends { Ends (read_end pipe) task.old task.new }
+    ensures others { OtherPipesStay (read_end pipe) task.old task.new }
+    ensures ends { EndsPipe (read_end pipe) task.old task.new }
     ensures closes { ClosesEnd (read_end pipe) task.old task.new }
 {
     close_end(rt, domain, task, pipe, READ);
@@ -147,8 +147,8 @@ fn close_end<R: Wait>(rt: &R, domain: &Domain, task: &mut Task, pipe: u8, end: u
     requires end { end < PIPE_ENDS }
     requires still { IsOpen (end_at (PIPE_ENDS * pipe + end) task.old) }
     ensures own { end_at (PIPE_ENDS * pipe + end) task.new ≡ closed (end_at (PIPE_ENDS * pipe + end) task.old) }
-    ensures others { OthersStay (PIPE_ENDS * pipe + end) task.old task.new }
-    ensures ends { Ends (PIPE_ENDS * pipe + end) task.old task.new }
+    ensures others { OtherPipesStay (PIPE_ENDS * pipe + end) task.old task.new }
+    ensures ends { EndsPipe (PIPE_ENDS * pipe + end) task.old task.new }
     ensures closes { ClosesEnd (PIPE_ENDS * pipe + end) task.old task.new }
 {
     task.told();

@@ -17,7 +17,7 @@ ghost use Rattle.wait_pipe.specs.PieceLeaves.{
   WriteEndsUntil,
   WritesUntil,
 };
-ghost use Rattle.wait_pipe.specs.Pieces.{IsSettled, Rests, Waits};
+ghost use Rattle.wait_pipe.specs.Pieces.{IsSettled, RestsBehindPiece, WaitsAtPipe};
 
 use crate::ends::READ;
 use crate::looks::wait_for_until;
@@ -50,7 +50,7 @@ pub fn write_piece_until<R: Wait, Q: Fn() -> bool + Copy>(
     requires bytes { 0 < length bytes.now }
     requires asks { Q.IsAlwaysCallable asks }
     ensures piece { PutUntil (Q.post asks true) pipe task.old task.new bytes.now result }
-    ensures rests { Rests (write_end pipe) task.old task.new }
+    ensures rests { RestsBehindPiece (write_end pipe) task.old task.new }
     ensures goes { WritesUntil (Q.post asks true) (write_end pipe) task.old task.new bytes.now result }
 {
     for _ in rt.forever() {
@@ -80,9 +80,9 @@ fn write_turn_until<R: Wait, Q: Fn() -> bool>(
     requires settled { IsSettled (writing pipe task.old) }
     requires bytes { 0 < length bytes.now }
     requires asks { Q.IsAlwaysCallable asks }
-    ensures turn { MatchOption result (Waits (write_end pipe) task.old task.new)
+    ensures turn { MatchOption result (WaitsAtPipe (write_end pipe) task.old task.new)
         (PutUntil (Q.post asks true) pipe task.old task.new bytes.now) }
-    ensures rests { Rests (write_end pipe) task.old task.new }
+    ensures rests { RestsBehindPiece (write_end pipe) task.old task.new }
     ensures goes { MatchOption result (TurnGoesOn (Q.post asks true) (write_end pipe) task.old task.new)
         (WriteEndsUntil (Q.post asks true) (write_end pipe) task.old task.new bytes.now) }
 {
@@ -121,7 +121,7 @@ pub fn read_piece_until<R: Wait, Q: Fn() -> bool + Copy>(
     requires asks { Q.IsAlwaysCallable asks }
     ensures same { length buf.new ≡ length buf.old }
     ensures piece { GotUntil (Q.post asks true) pipe task.old task.new buf.new result }
-    ensures rests { Rests (read_end pipe) task.old task.new }
+    ensures rests { RestsBehindPiece (read_end pipe) task.old task.new }
     ensures goes { ReadsUntil (Q.post asks true) (read_end pipe) task.old task.new buf.new result }
 {
     for _ in rt.forever() {
@@ -152,9 +152,9 @@ fn read_turn_until<R: Wait, Q: Fn() -> bool>(
     requires buf { 7 ≤ length buf.old }
     requires asks { Q.IsAlwaysCallable asks }
     ensures same { length buf.new ≡ length buf.old }
-    ensures turn { MatchOption result (Waits (read_end pipe) task.old task.new)
+    ensures turn { MatchOption result (WaitsAtPipe (read_end pipe) task.old task.new)
         (GotUntil (Q.post asks true) pipe task.old task.new buf.new) }
-    ensures rests { Rests (read_end pipe) task.old task.new }
+    ensures rests { RestsBehindPiece (read_end pipe) task.old task.new }
     ensures goes { MatchOption result (TurnGoesOn (Q.post asks true) (read_end pipe) task.old task.new)
         (ReadEndsUntil (Q.post asks true) (read_end pipe) task.old task.new buf.new) }
 {

@@ -9,7 +9,7 @@ ghost use Rattle.wait_rule.specs.Queues.{IsIdle};
 ghost use Rattle.wait_rule.specs.Says.{IsFree, IsUp};
 ghost use Rattle.wait_class.specs.Posts.{IsOut};
 ghost use Rattle.wait_pipe.specs.PieceLeaves.{AwaitsUntil, IsPieceUntil, end_of_until};
-ghost use Rattle.wait_pipe.specs.Pieces.{HasSeen, IsReadCause, ShowsNoCell, Waits, end_of_wait};
+ghost use Rattle.wait_pipe.specs.Pieces.{HasSeen, IsReadCause, ShowsNoCell, WaitsAtPipe, end_of_wait};
 ghost use Rattle.wait_pipe.specs.PipeStates.{OnlyLooked};
 ghost use Rattle.wait_pipe.specs.Trails.{AwaitsOther, LoadsOther};
 
@@ -75,7 +75,7 @@ pub fn look_over(domain: &Domain, task: &mut Task, pipe: u8, end: u8) -> Look
     requires pipe { pipe < PIPES }
     requires end { end < PIPE_ENDS }
     requires still { IsOpen (end_at (PIPE_ENDS * pipe + end) task.old) }
-    ensures waits { Waits (PIPE_ENDS * pipe + end) task.old task.new }
+    ensures waits { WaitsAtPipe (PIPE_ENDS * pipe + end) task.old task.new }
     ensures seen { HasSeen (PIPE_ENDS * pipe + end) task.new result }
     ensures loads { LoadsOther (PIPE_ENDS * pipe + end) result.word task.old task.new }
 {
@@ -90,7 +90,7 @@ pub fn look_to_write(domain: &Domain, task: &mut Task, pipe: u8) -> Look
     requires out { IsOut task.old }
     requires pipe { pipe < PIPES }
     requires still { IsOpen (writing pipe task.old) }
-    ensures waits { Waits (write_end pipe) task.old task.new }
+    ensures waits { WaitsAtPipe (write_end pipe) task.old task.new }
     ensures seen { HasSeen (write_end pipe) task.new result }
     ensures loads { LoadsOther (write_end pipe) result.word task.old task.new }
 {
@@ -130,7 +130,7 @@ pub fn wait_for<R: Wait>(
     requires out { IsOut task.old }
     requires own { own < CLAIMS }
     requires none { ShowsNoCell own (end_at own task.old) word }
-    ensures waits { Waits own task.old task.new }
+    ensures waits { WaitsAtPipe own task.old task.new }
     ensures cause { IfErr result (IsReadCause own task.new) }
     ensures awaits { AwaitsOther own word task.old task.new result }
 {
@@ -167,7 +167,7 @@ pub(crate) fn wait_for_until<R: Wait, Q: Fn() -> bool>(
     requires own { own < CLAIMS }
     requires none { ShowsNoCell own (end_at own task.old) word }
     requires asks { Q.IsAlwaysCallable asks }
-    ensures waits { Waits own task.old task.new }
+    ensures waits { WaitsAtPipe own task.old task.new }
     ensures cause { IsPieceUntil (Q.post asks true) own task.new result }
     ensures awaits { AwaitsUntil (Q.post asks true) own word task.old task.new result }
 {

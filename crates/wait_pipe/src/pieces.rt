@@ -10,7 +10,7 @@ ghost use Rattle.wait_rule.specs.Queues.{IsIdle};
 ghost use Rattle.wait_rule.specs.Says.{IsUp};
 ghost use Rattle.wait_class.specs.Posts.{IsOut};
 ghost use Rattle.wait_pipe.specs.PassedOn.{Drained, Filled, WokeWaiters};
-ghost use Rattle.wait_pipe.specs.Pieces.{Got, GotNone, IsSettled, Put, PutNone, Rests, Waits};
+ghost use Rattle.wait_pipe.specs.Pieces.{Got, GotNone, IsSettled, Put, PutNone, RestsBehindPiece, WaitsAtPipe};
 ghost use Rattle.wait_pipe.specs.PieceLeaves.{SeesNoCell};
 ghost use Rattle.wait_pipe.specs.Trails.{
   FillsCells,
@@ -70,7 +70,7 @@ pub fn write_piece<R: Wait>(
     requires settled { IsSettled (writing pipe task.old) }
     requires bytes { 0 < length bytes.now }
     ensures piece { MatchResult result (Put pipe task.old task.new bytes.now) (PutNone pipe task.old task.new) }
-    ensures rests { Rests (write_end pipe) task.old task.new }
+    ensures rests { RestsBehindPiece (write_end pipe) task.old task.new }
     ensures goes { WritesPiece (write_end pipe) task.old task.new bytes.now result }
 {
     match write_now(rt, domain, task, pipe, bytes) {
@@ -99,7 +99,7 @@ fn write_on<R: Wait>(
     requires settled { IsSettled (writing pipe task.old) }
     requires bytes { 0 < length bytes.now }
     ensures piece { MatchResult result (Put pipe task.old task.new bytes.now) (PutNone pipe task.old task.new) }
-    ensures rests { Rests (write_end pipe) task.old task.new }
+    ensures rests { RestsBehindPiece (write_end pipe) task.old task.new }
     ensures goes { WritesPiece (write_end pipe) task.old task.new bytes.now result }
 {
     for _ in rt.forever() {
@@ -127,9 +127,9 @@ fn write_turn<R: Wait>(
     requires pipe { pipe < PIPES }
     requires settled { IsSettled (writing pipe task.old) }
     requires bytes { 0 < length bytes.now }
-    ensures turn { MatchOption result (Waits (write_end pipe) task.old task.new)
+    ensures turn { MatchOption result (WaitsAtPipe (write_end pipe) task.old task.new)
         (λ r. MatchResult r (Put pipe task.old task.new bytes.now) (PutNone pipe task.old task.new)) }
-    ensures rests { Rests (write_end pipe) task.old task.new }
+    ensures rests { RestsBehindPiece (write_end pipe) task.old task.new }
     ensures goes { MatchOption result (WaitingTurn (write_end pipe) task.old task.new (Ok tt))
         (WriteEnds (write_end pipe) task.old task.new bytes.now) }
 {
@@ -163,7 +163,7 @@ pub(crate) fn write_now<R: Wait>(
     ensures look { MatchResult result
         (λ o. MatchOption o (PutNone pipe task.old task.new end.Broken) (Put pipe task.old task.new bytes.now))
         (SeesNoCell (write_end pipe) task.old task.new) }
-    ensures rests { Rests (write_end pipe) task.old task.new }
+    ensures rests { RestsBehindPiece (write_end pipe) task.old task.new }
     ensures goes { IfOk result (λ o. MatchOption o (SeesClosed (write_end pipe) task.old task.new)
         (FillsCells (write_end pipe) task.old task.new bytes.now)) }
 {
@@ -247,7 +247,7 @@ pub fn read_piece<R: Wait>(
     requires buf { 7 ≤ length buf.old }
     ensures same { length buf.new ≡ length buf.old }
     ensures piece { MatchResult result (Got pipe task.old task.new buf.new) (GotNone pipe task.old task.new) }
-    ensures rests { Rests (read_end pipe) task.old task.new }
+    ensures rests { RestsBehindPiece (read_end pipe) task.old task.new }
     ensures goes { ReadsPiece (read_end pipe) task.old task.new buf.new result }
 {
     match read_now(rt, domain, task, pipe, buf) {
@@ -276,7 +276,7 @@ fn read_on<R: Wait>(
     requires buf { 7 ≤ length buf.old }
     ensures same { length buf.new ≡ length buf.old }
     ensures piece { MatchResult result (Got pipe task.old task.new buf.new) (GotNone pipe task.old task.new) }
-    ensures rests { Rests (read_end pipe) task.old task.new }
+    ensures rests { RestsBehindPiece (read_end pipe) task.old task.new }
     ensures goes { ReadsPiece (read_end pipe) task.old task.new buf.new result }
 {
     for _ in rt.forever() {
@@ -305,9 +305,9 @@ fn read_turn<R: Wait>(
     requires settled { IsSettled (reading pipe task.old) }
     requires buf { 7 ≤ length buf.old }
     ensures same { length buf.new ≡ length buf.old }
-    ensures turn { MatchOption result (Waits (read_end pipe) task.old task.new)
+    ensures turn { MatchOption result (WaitsAtPipe (read_end pipe) task.old task.new)
         (λ r. MatchResult r (Got pipe task.old task.new buf.new) (GotNone pipe task.old task.new)) }
-    ensures rests { Rests (read_end pipe) task.old task.new }
+    ensures rests { RestsBehindPiece (read_end pipe) task.old task.new }
     ensures goes { MatchOption result (WaitingTurn (read_end pipe) task.old task.new (Ok tt))
         (ReadEnds (read_end pipe) task.old task.new buf.new) }
 {
@@ -340,7 +340,7 @@ pub(crate) fn read_now<R: Wait>(
     ensures same { length buf.new ≡ length buf.old }
     ensures look { MatchResult result (Got pipe task.old task.new buf.new)
         (SeesNoCell (read_end pipe) task.old task.new) }
-    ensures rests { Rests (read_end pipe) task.old task.new }
+    ensures rests { RestsBehindPiece (read_end pipe) task.old task.new }
     ensures goes { IfOk result (λ n. ReadEnds (read_end pipe) task.old task.new buf.new (Ok n)) }
 {
     let look = look_over(domain, task, pipe, READ);

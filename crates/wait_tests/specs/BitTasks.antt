@@ -11,6 +11,6 @@ pub record IsAtRest (k : Known) : Type 0 where
   pub idle : IsIdle k
 
 -- one that may begin a wait
-pub record IsReadyToWait (k : Known) : Type 0 where
+pub record IsReadyForBit (k : Known) : Type 0 where
   pub rest : IsAtRest k
   pub out : IsOut k

@@ -24,7 +24,7 @@ pub record MayComplete (k : Known) : Type 0 where
   pub off : HasLeftNone k
 
 -- a task that may begin a wait
-pub record IsReadyToWait (k : Known) : Type 0 where
+pub record IsReadyForCell (k : Known) : Type 0 where
   pub up : IsUp k
   pub idle : IsIdle k
   pub out : IsOut k

@@ -19,8 +19,8 @@ use Rattle.wait_event.specs.declared.waits.WaitStage.{WaitStage}
 use Rattle.wait_event.specs.declared.woken_waits.WokenTurn.{WokenTurn}
 
 -- a wait stands where its last turn left it
-abbrev pub IsWaiting : Known → Run WaitCall → Turn WaitStage WaitOutcome → Type 0
-IsWaiting k r last = Lands wait_table k r last
+abbrev pub IsTestedWait : Known → Run WaitCall → Turn WaitStage WaitOutcome → Type 0
+IsTestedWait k r last = Lands wait_table k r last
 
 -- a waker between two wakes
 pub record IsWaker (k : Known) : Type 0 where
@@ -28,7 +28,7 @@ pub record IsWaker (k : Known) : Type 0 where
   pub idle : IsIdle k
 
 -- a task that may begin a wait
-pub record IsReadyToWait (k : Known) : Type 0 where
+pub record IsReadyForEvent (k : Known) : Type 0 where
   pub waker : IsWaker k
   pub out : IsOut k
 

@@ -5,7 +5,7 @@ ghost use Rattle.std.specs.Prelude.{◌≡◌};
 ghost use Rattle.wait_class.specs.Tables.{IsAt};
 ghost use Rattle.wait_event.specs.Waits.{wait_table};
 ghost use Rattle.wait_event.specs.declared.waits.WaitStage.TheVariants as stage;
-ghost use Rattle.wait_tests.specs.EventTasks.{IsWaiting, IsWaker};
+ghost use Rattle.wait_tests.specs.EventTasks.{IsTestedWait, IsWaker};
 
 use crate::events::stretches::set_and_wake_all;
 use crate::simple_queues::stretches::wake_waiters;

@@ -23,7 +23,7 @@ use Rattle.wait_rule.specs.Says.{told_of}
 use Rattle.wait_rule.specs.Transitions.{Program, call_program}
 use Rattle.wait_class.specs.declared.stages.Run.{Run}
 use Rattle.wait_class.specs.declared.stages.Turn.TheVariants as turn
-use Rattle.wait_class.specs.Laws.{IsLawfulTable}
+use Rattle.wait_class.specs.Laws.{IsLawfulCallTable}
 use Rattle.wait_class.specs.Posts.{IsOut, Runs}
 use Rattle.wait_class.specs.Tables.{CallTable, next_in, plan_program}
 use Rattle.wait_class.proofs.Turns.{advances_on}
@@ -31,18 +31,18 @@ use Rattle.wait_event.specs.declared.waits.WaitCall.{WaitCall}
 use Rattle.wait_event.specs.declared.waits.WaitStage.{WaitStage}
 use Rattle.wait_event.specs.declared.waits.WaitStage.TheVariants as wait_stage
 use Rattle.wait_event.specs.WaitPlans.{call_for}
-use Rattle.wait_event.specs.Waits.{is_slept, point_of, wait_table}
+use Rattle.wait_event.specs.Waits.{is_slept, wait_point_at, wait_table}
 use Rattle.wait_event.proofs.Plans.{runs_program}
 use Rattle.completion_cell.specs.declared.awaits.AwaitCall.{AwaitCall}
 use Rattle.completion_cell.specs.declared.awaits.AwaitStage.{AwaitStage}
 use Rattle.completion_cell.specs.declared.awaits.AwaitStage.TheVariants as await_stage
-use Rattle.completion_cell.specs.Awaits.{await_call, await_table, is_await_slept, point_of as await_point}
-use Rattle.bit_wait.specs.BitTables.{bit_table, call_in as bit_call}
-use Rattle.bit_wait.specs.LockTables.{call_in as lock_call, lock_table}
+use Rattle.completion_cell.specs.Awaits.{await_call, await_table, is_await_slept, wait_point_at as await_point}
+use Rattle.bit_wait.specs.BitTables.{bit_table, wait_bit_call as bit_call}
+use Rattle.bit_wait.specs.LockTables.{lock_bit_call as lock_call, lock_table}
 use Rattle.page_lock.specs.declared.waits.LockPage.{LockPage}
 use Rattle.page_lock.specs.declared.waits.PageStage.{PageStage}
 use Rattle.page_lock.specs.declared.waits.PageStage.TheVariants as page_stage
-use Rattle.page_lock.specs.PageTables.{is_behind_sleep, page_call, page_table, point_of as page_point}
+use Rattle.page_lock.specs.PageTables.{is_behind_sleep, page_call, page_table, wait_point_at as page_point}
 use Rattle.waiter_laws.specs.Stretches.{
   AwaitersAreKept,
   BitLockersAreKept,
@@ -68,7 +68,7 @@ use Rattle.waiter_laws.proofs.AwaitedCounts.{AwaitedAt, awaited_led}
 use Rattle.waiter_laws.proofs.TestedWaits.{TestedAt, is_tested, tested_led}
 use Rattle.waiter_laws.proofs.TriedPages.{TriedAt, tried_led}
 
-pub stretches_are_one : {C S O : Type 0} (t : CallTable C S O) → IsLawfulTable t → StretchesAreOne t
+pub stretches_are_one : {C S O : Type 0} (t : CallTable C S O) → IsLawfulCallTable t → StretchesAreOne t
 stretches_are_one t lawful old mid new r q w s n u one two =
     advances_on t lawful old mid new r q w s n u one.same one.went two
 
@@ -95,7 +95,7 @@ first_for (watch.Var v old) how = refl
 first_for (watch.Plain c) how = refl
 first_for w how = refl
 
-slept_place : (s : WaitStage) → is_slept s ≡ true → point_of s ≡ at.Prepare preparing.Lock
+slept_place : (s : WaitStage) → is_slept s ≡ true → wait_point_at s ≡ at.Prepare preparing.Lock
 slept_place wait_stage.PrepareLock is = refl
 slept_place s is = absurd (cc)
 
@@ -113,7 +113,7 @@ module _ (old new : Known) (r q : Run WaitCall)
   runs : Runs (call_program who 0 call) old new (next.Go at.First) (next.Go (at.Prepare preparing.Lock))
   runs = subst (λ (p : Point). Runs (call_program who 0 call) old new (next.Go at.First) (next.Go p))
       (slept_place z.place z.advances.lands.place)
-      (runs_program r.of who old new (next.Go at.First) (next.Go (point_of z.place)) z.began.fits
+      (runs_program r.of who old new (next.Go at.First) (next.Go (wait_point_at z.place)) z.began.fits
       z.advances.went.runs)
 
   here : Here (call_program who 0 call) (TestedAt (is_bit_wait call) (index who 0) (call_watch call)) (call_watch call)

@@ -34,7 +34,7 @@ use Rattle.wait_rule.specs.Transitions.{
 }
 use Rattle.wait_rule.proofs.KnownLaws.Transitions.{only_none}
 use Rattle.wait_rule.proofs.WorkedTests.QueuedEntry.{none_by, not_unknown, not_unseen}
-use Rattle.wait_class.specs.Findings.{nothing, with_entry, with_own, with_value}
+use Rattle.wait_class.specs.Findings.{saw_nothing, saw_entry, with_own, with_value}
 use Rattle.waiter_laws.specs.Asleep.{EndsAsleep}
 use Rattle.waiter_laws.specs.WorkedWaits.{
   WorkedWaits,
@@ -73,16 +73,16 @@ module _ (k : Known) (l : OnlyLooks (with_steps up_to_hold (newcomer k.domain 0 
   loads = made (with_value 0) first (step.Load the_watch 0)
 
   abbrev locks : Transition
-  locks = made nothing (after_transition loads) (step.Lock FIRST_PLAIN_HEAD None 0)
+  locks = made saw_nothing (after_transition loads) (step.Lock FIRST_PLAIN_HEAD None 0)
 
   abbrev queues : Transition
-  queues = made (with_entry None) k (step.Queue 0 the_entry)
+  queues = made (saw_entry None) k (step.Queue 0 the_entry)
 
   abbrev stores : Transition
-  stores = made nothing (after_transition queues) (step.State UNINTERRUPTIBLE)
+  stores = made saw_nothing (after_transition queues) (step.State UNINTERRUPTIBLE)
 
   abbrev gives : Transition
-  gives = made nothing (after_transition stores) (step.Unlock FIRST_PLAIN_HEAD false)
+  gives = made saw_nothing (after_transition stores) (step.Unlock FIRST_PLAIN_HEAD false)
 
   abbrev tests : Transition
   tests = made (with_value 0) (after_transition gives) (step.Load the_watch 0)

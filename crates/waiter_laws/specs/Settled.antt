@@ -25,12 +25,12 @@ use Rattle.wq_head.specs.declared.wakes.WakeTurn.TheVariants as wake_turn
 use Rattle.wq_head.specs.Turns.{HasTurned}
 use Rattle.swait_queue.specs.declared.swake_turns.SwakeRun.{SwakeRun}
 use Rattle.swait_queue.specs.declared.swake_turns.SwakeTurn.TheVariants as swake_turn
-use Rattle.swait_queue.specs.SwakeTurns.{HasTurned as SwakeTurned}
+use Rattle.swait_queue.specs.SwakeTurns.{HasSwakeTurned as SwakeTurned}
 use Rattle.completion_cell.specs.declared.cell_turns.CellCall.{CellCall}
 use Rattle.completion_cell.specs.declared.cell_turns.CellCall.TheVariants as cell_call
 use Rattle.completion_cell.specs.declared.cell_turns.CellRun.{CellRun}
 use Rattle.completion_cell.specs.declared.cell_turns.CellTurn.TheVariants as cell_turn
-use Rattle.completion_cell.specs.CellTurns.{HasTurned as CellTurned}
+use Rattle.completion_cell.specs.CellTurns.{HasCellTurned as CellTurned}
 
 -- In this order of steps a task published c, and used up no count since; and since then the watch `on` is set, whose
 -- waiters a wake of c wakes: c itself or, for a variable, one with any old value.

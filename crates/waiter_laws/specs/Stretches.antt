@@ -15,8 +15,8 @@ use Rattle.wait_event.specs.Waits.{wait_table}
 use Rattle.completion_cell.specs.declared.awaits.AwaitCall.{AwaitCall}
 use Rattle.completion_cell.specs.declared.awaits.AwaitStage.TheVariants as await_stage
 use Rattle.completion_cell.specs.Awaits.{await_call, await_table}
-use Rattle.bit_wait.specs.BitTables.{bit_table, call_in as bit_call}
-use Rattle.bit_wait.specs.LockTables.{call_in as lock_call, lock_table}
+use Rattle.bit_wait.specs.BitTables.{bit_table, wait_bit_call as bit_call}
+use Rattle.bit_wait.specs.LockTables.{lock_bit_call as lock_call, lock_table}
 use Rattle.bit_wait.specs.declared.lock_runs.LockBit.{LockBit}
 use Rattle.bit_wait.specs.declared.lock_runs.LockTest.TheVariants as lock_test
 use Rattle.bit_wait.specs.declared.waits.BitTest.TheVariants as bit_test

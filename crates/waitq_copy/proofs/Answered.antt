@@ -7,7 +7,7 @@ use Rattle.edge_io.specs.Faults.{HasRisen}
 use Rattle.wait_rule.specs.Known.{Known}
 use Rattle.copy_plan.specs.declared.stop.Stop.{Stop}
 use Rattle.copy_plan.specs.declared.stop.Stop.TheVariants as stop
-use Rattle.waitq_copy.specs.Copying.{Concludes, Outside, RunCauses, WasFull, WritesTold, fault_after}
+use Rattle.waitq_copy.specs.Copying.{Concludes, Outside, RunCauses, WasTableFull, WritesTold, fault_after}
 use Rattle.waitq_alone.specs.declared.fault.Fault.{Fault}
 use Rattle.waitq_alone.specs.declared.fault.Fault.TheVariants as fault
 
@@ -151,7 +151,7 @@ pub run_causes : (task : Known) (old new : Outside) (how : Stop) (stored : Resul
     → Concludes (fault_after how stored) text old.held new.held old.faults new.faults answer
     → (how ≡ stop.ReadFault → HasRisen old.reads new.reads) → (how ≡ stop.WriteFault → HasRisen old.writes new.writes)
     → (stored ≡ Err sink.Failed → HasRisen old.writes new.writes)
-    → ((h p : ℕ) → how ≡ stop.Worn h p → WasFull task p) → (how ≡ stop.Broken → ⊥) → (how ≡ stop.Taken → ⊥)
+    → ((h p : ℕ) → how ≡ stop.Worn h p → WasTableFull task p) → (how ≡ stop.Broken → ⊥) → (how ≡ stop.Taken → ⊥)
     → RunCauses task old new how answer
 run_causes task old new how stored text answer c unread unwrote refused worn not_broken not_taken = record {
   read = λ e. unread (read_how how stored text old.held new.held old.faults new.faults answer c e);
@@ -166,5 +166,5 @@ run_causes task old new how stored text answer c unread unwrote refused worn not
     written (inl (inr e)) = inl (refused e)
     written (inr r) = inr r
 
-    full : (p : ℕ) → (h : ℕ) × (how ≡ stop.Worn h p) → WasFull task p
+    full : (p : ℕ) → (h : ℕ) × (how ≡ stop.Worn h p) → WasTableFull task p
     full p w = worn w.0 p w.1

@@ -11,15 +11,15 @@ use Rattle.copy_plan.specs.declared.plan.Planned.{Planned}
 use Rattle.copy_plan.specs.declared.stop.ReaderEnd.{ReaderEnd}
 use Rattle.copy_plan.specs.declared.stop.Stop.{Stop}
 use Rattle.copy_plan.specs.declared.stop.Stop.TheVariants as stop
-use Rattle.copy_turns.specs.Turns.{IsLong}
+use Rattle.copy_turns.specs.Turns.{IsTooLong}
 use Rattle.waitq_copy.specs.Copying.{Causes, Concludes, Outside, Through, fault_after}
 use Rattle.waitq_alone.specs.declared.fault.Fault.{Fault}
 use Rattle.waitq_copy.proofs.Answered.{killed_how, long_how, run_causes}
 use Rattle.waitq_copy.proofs.StopCauses.{finished_of, killed_of, long_of, not_broken, not_taken, read_fault_of, worn_of}
 use Rattle.waitq_copy.proofs.StopCauses.{write_fault_of}
 
-pub short_of : (s : Stop) (n : ℕ) → s ≡ stop.Finished → IsLong (Some s) n → n ≤ LONGEST
-short_of s n e l = subst (λ (x : Stop). IsLong (Some x) n) e l
+pub short_of : (s : Stop) (n : ℕ) → s ≡ stop.Finished → IsTooLong (Some s) n → n ≤ LONGEST
+short_of s n e l = subst (λ (x : Stop). IsTooLong (Some x) n) e l
 
 thrice : (n m : ℕ) → n ≤ LONGEST → m ≡ 3 * n % 2 ^ 64 → m ≡ 3 * n
 thrice n m le e = e ∙ mod-eq_of_lt (omega arith)

@@ -11,7 +11,7 @@ use Rattle.wait_rule.specs.Known.{Known}
 use Rattle.func_head.specs.Walks.{EntryState}
 use Rattle.copy_plan.specs.declared.plan.Planned.{Planned}
 use Rattle.copy_ends.specs.Copied.{HoldsGiven}
-use Rattle.waitq_copy.specs.Copying.{CopyLeft, IsStored, Outside}
+use Rattle.waitq_copy.specs.Copying.{CopyLeft, IsFileStored, Outside}
 use Rattle.waitq_copy.specs.Run.{IsFrontOf, Spares, SparesBut}
 use Rattle.waitq_alone.specs.declared.fault.Fault.{Fault}
 
@@ -52,7 +52,7 @@ stored old new dst MayGet held bytes e may s =
 pub spares_but : (old new : Option Files) (dst : List ℕ) (MayGet : Files → Option (List ℕ) → Type 0)
     (answer : Result (Unit {0}) SinkFault) (held_old held_new : Option (List ℕ)) (bytes : List ℕ)
     → HoldsNothing old held_old → held_new ≡ append_known held_old bytes
-    → IfSome old (λ files. MayGet files (Some bytes)) → IsStored answer old new dst held_new
+    → IfSome old (λ files. MayGet files (Some bytes)) → IsFileStored answer old new dst held_new
     → SparesBut dst MayGet old new
 spares_but old new dst MayGet (Err e) held_old held_new bytes empty held may s = kept old new dst MayGet s
 spares_but None new dst MayGet (Ok x) held_old held_new bytes empty held may s = tt

@@ -17,12 +17,12 @@ use Rattle.copy_plan.specs.declared.stop.Stop.{Stop}
 use Rattle.copy_plan.specs.declared.stop.Stop.TheVariants as stop
 use Rattle.copy_plan.specs.declared.stop.WorkerEnd.{WorkerEnd}
 use Rattle.copy_ends.specs.Copied.{Copied, HoldsAll, HoldsGiven, NoneTaken, Watched}
-use Rattle.waitq_copy.specs.Copying.{IsStored, Through}
+use Rattle.waitq_copy.specs.Copying.{IsFileStored, Through}
 use Rattle.waitq_copy.proofs.Sent.{kills_are, sent_of, size_of}
 
 pub is_stored : (r : Result (Unit {0}) SinkFault) (old mid new : Option Files) (dst : List ℕ)
     (held : Option (List ℕ)) → mid ≡ old → IfOk r (λ _. Stores mid new dst held) → OnErr r (new ≡ mid)
-    → IsStored r old new dst held
+    → IsFileStored r old new dst held
 is_stored (Ok x) old mid new dst held e s n = subst (λ (o : Option Files). Stores o new dst held) e s
 is_stored (Err y) old mid new dst held e s n = n ∙ e
 
@@ -38,7 +38,7 @@ module _ (domain : TableId) (task : Known) (files_old files_new : Option Files)
       → Watched left_old left_new held_old held_new seen_old seen_new writer.stop
       → (how ≡ stop.Finished → HoldsAll left_old held_old held_new seen_old seen_new reader relay writer moved)
       → moved ≡ tally_in COUNTED_PAGE task.view % 2 ^ 64 → NoneTaken reader relay writer
-      → IsStored stored files_old files_new dst held_new → (0 < read_faults → HasRisen reads_old reads_new)
+      → IsFileStored stored files_old files_new dst held_new → (0 < read_faults → HasRisen reads_old reads_new)
       → (0 < write_faults → HasRisen writes_old writes_new)
       → (IsErrOf stored sink.Failed → HasRisen writes_old writes_new)
       → Through domain task files_old files_new reads_old reads_new writes_old writes_new src dst plan seen_old

@@ -15,8 +15,8 @@ use Rattle.copy_plan.specs.declared.stop.Stop.TheVariants as stop
 use Rattle.copy_plan.specs.declared.stop.WorkerEnd.{WorkerEnd}
 use Rattle.copy_ends.specs.Copied.{Copied, control_stop}
 use Rattle.copy_plan.specs.Stops.{IfTaken}
-use Rattle.copy_turns.specs.Turns.{IsLong, IsReaderStop, IsRelayStop, IsWriterStop}
-use Rattle.waitq_copy.specs.Copying.{WasFull}
+use Rattle.copy_turns.specs.Turns.{IsTooLong, IsReaderStop, IsRelayStop, IsWriterStop}
+use Rattle.waitq_copy.specs.Copying.{WasTableFull}
 use Rattle.waitq_copy.proofs.Stops.{Among, Cause, among_named, cause_of, full_at, full_control, kills_of, never_broken}
 use Rattle.waitq_copy.proofs.Stops.{never_taken, no_control, rises, spared_of}
 
@@ -69,16 +69,16 @@ module _ (domain : TableId) (task : Known) (left_old left_new : Option (List ℕ
   long_of e = by (among_named _ reader.kills stop.Long (λ f. cc f) (λ f. cc f) (cause stop.Long e))
     where
       by : Among stop.Long (reader.stop ∷ relay.stop ∷ writer.stop ∷ control_stop total ∷ []) → LONGEST < reader.read
-      by (inl f) = subst (λ (x : Stop). IsLong (Some x) reader.read) f c.reads.worked.long
+      by (inl f) = subst (λ (x : Stop). IsTooLong (Some x) reader.read) f c.reads.worked.long
       by (inr (inl f)) = absurd (relay_stop stop.Long f)
       by (inr (inr (inl f))) = absurd (writer_stop stop.Long f)
       by (inr (inr (inr (inl f)))) = absurd (no_control total stop.Long (λ g. cc g) (λ h p g. cc g) f)
       by (inr (inr (inr (inr f)))) = absurd f
 
-  pub worn_of : (h p : ℕ) → how ≡ stop.Worn h p → WasFull task p
+  pub worn_of : (h p : ℕ) → how ≡ stop.Worn h p → WasTableFull task p
   worn_of h p e = by (among_named _ reader.kills (stop.Worn h p) (λ f. cc f) (λ f. cc f) (cause (stop.Worn h p) e))
     where
-      by : Among (stop.Worn h p) (reader.stop ∷ relay.stop ∷ writer.stop ∷ control_stop total ∷ []) → WasFull task p
+      by : Among (stop.Worn h p) (reader.stop ∷ relay.stop ∷ writer.stop ∷ control_stop total ∷ []) → WasTableFull task p
       by (inl f) = full_at task c.one domain 1 2 h p c.reads.worked.served.grows c.lists.0 c.late.shown c.late.law
           c.late.reader (reader_stop (stop.Worn h p) f)
       by (inr (inl f)) = full_at task c.two domain 2 3 h p c.relays.worked.served.grows c.lists.1 c.late.shown

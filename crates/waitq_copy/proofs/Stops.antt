@@ -19,7 +19,7 @@ use Rattle.copy_plan.specs.declared.stop.Stop.{Stop}
 use Rattle.copy_plan.specs.declared.stop.Stop.TheVariants as stop
 use Rattle.copy_ends.specs.Copied.{ControlEnds, NotesAreLate, control_stop}
 use Rattle.copy_plan.specs.Kinds.{copy_stop, first_or, is_of}
-use Rattle.waitq_copy.specs.Copying.{WasFull}
+use Rattle.waitq_copy.specs.Copying.{WasTableFull}
 
 abbrev pub IsNamed : Stop → Type 0
 IsNamed stop.Finished = ⊥
@@ -125,7 +125,7 @@ controls (Err (bit_end.Interrupted seen)) how e = inl (sym e)
 
 pub full_at : (task k : Known) (domain : TableId) (number next h p : ℕ) → Grows (newcomer domain number next 0) k
     → has_of number task.view ≡ k.view.items → (shown : Journal) (law : IsShown shown)
-    → NotesAreLate shown law number task → WasWorn k.view.number k.view.items h p → WasFull task p
+    → NotesAreLate shown law number task → WasWorn k.view.number k.view.items h p → WasTableFull task p
 full_at task k domain number next h p g l shown law notes w =
     let worn : WasWorn number (has_of number task.view) h p =
     subst (λ (items : _). WasWorn number items h p) (sym l)
@@ -151,10 +151,10 @@ no_control total s nf nw e = by (controls total s e)
 pub full_control : (task k : Known) (domain : TableId) (number next n h p : ℕ) (total : Result ℕ BitEnd)
     → Grows (newcomer domain number next 0) k → has_of number task.view ≡ k.view.items → (shown : Journal)
     (law : IsShown shown) → NotesAreLate shown law number task
-    → ControlEnds n (newcomer domain number next 0) k total → control_stop total ≡ stop.Worn h p → WasFull task p
+    → ControlEnds n (newcomer domain number next 0) k total → control_stop total ≡ stop.Worn h p → WasTableFull task p
 full_control task k domain number next n h p total g l shown law notes ends e = by (controls total (stop.Worn h p) e)
   where
-    counted : (h2 p2 : ℕ) → total ≡ Err (bit_end.Worn h2 p2) → stop.Worn h p ≡ stop.Worn h2 p2 → WasFull task p
+    counted : (h2 p2 : ℕ) → total ≡ Err (bit_end.Worn h2 p2) → stop.Worn h p ≡ stop.Worn h2 p2 → WasTableFull task p
     counted h2 p2 t s =
         let w : WasWorn k.view.number k.view.items h2 p2 =
         subst (λ (r : Result ℕ BitEnd). ControlEnds n (newcomer domain number next 0) k r) t ends in
@@ -165,7 +165,7 @@ full_control task k domain number next n h p total g l shown law notes ends e = 
         (subst (λ (x : ℕ). WasWorn k.view.number k.view.items x p2) same_head w))
 
     by : ((stop.Worn h p) ≡ stop.Finished) ⊎ ((h2 : ℕ) × (p2 : ℕ) × (total ≡ Err (bit_end.Worn h2 p2))
-        × ((stop.Worn h p) ≡ stop.Worn h2 p2)) → WasFull task p
+        × ((stop.Worn h p) ≡ stop.Worn h2 p2)) → WasTableFull task p
     by (inl f) = absurd (cc f)
     by (inr w) = counted w.0 w.1 w.2 w.3
 

@@ -4,27 +4,27 @@ use Rattle.std.proofs.Common.{arith, add-one, append_assoc, codes, decimal}
 use Rattle.std.specs.Prelude.{slice_index_or}
 use Rattle.std.proofs.lemmas.List.{drop_all, length-map}
 use Rattle.func_head.specs.Walks.{EntryState, seen_by, told_by}
-use Rattle.waitq_copy.specs.Copying.{copy_text, tells, watch_line, watch_lines}
+use Rattle.waitq_copy.specs.Copying.{copy_text, told_pieces, watch_line, watch_lines}
 use Rattle.waitq_alone.specs.Drill.{number_line}
 
 next : (es : List EntryState) (p i r : ℕ) → i < length es
     → ((d : EntryState) → r ≡ told_by (slice_index_or es i d).func)
-    → watch_lines p (drop i (tells es)) ≡ watch_line p r ++ watch_lines (p + 1) (drop (suc i) (tells es))
+    → watch_lines p (drop i (told_pieces es)) ≡ watch_line p r ++ watch_lines (p + 1) (drop (suc i) (told_pieces es))
 next [] p i r lt h = absurd (omega arith)
 next (e ∷ es) p zero r lt h =
-    ap (λ (t : ℕ). watch_line p t ++ watch_lines (p + 1) (tells es)) (sym (h e))
+    ap (λ (t : ℕ). watch_line p t ++ watch_lines (p + 1) (told_pieces es)) (sym (h e))
 next (e ∷ es) p (suc i) r lt h = next es p i r (omega arith) h
 
 pub next_line : (es : List EntryState) (i r : ℕ) → i < length es
     → ((d : EntryState) → r ≡ told_by (slice_index_or es i d).func)
-    → watch_lines i (drop i (tells es)) ≡ watch_line i r ++ watch_lines (i + 1) (drop (i + 1) (tells es))
+    → watch_lines i (drop i (told_pieces es)) ≡ watch_line i r ++ watch_lines (i + 1) (drop (i + 1) (told_pieces es))
 next_line es i r lt h = next es i i r lt h
-    ∙ ap (λ (n : ℕ). watch_line i r ++ watch_lines (i + 1) (drop n (tells es))) (sym (add-one i))
+    ∙ ap (λ (n : ℕ). watch_line i r ++ watch_lines (i + 1) (drop n (told_pieces es))) (sym (add-one i))
 
-pub no_line : (es : List EntryState) (i : ℕ) → length es ≤ i → watch_lines i (drop i (tells es)) ≡ []
+pub no_line : (es : List EntryState) (i : ℕ) → length es ≤ i → watch_lines i (drop i (told_pieces es)) ≡ []
 no_line es i le =
-    let few : length (tells es) ≤ i = simp length-map le in
-    ap (watch_lines i) (drop_all i (tells es) few)
+    let few : length (told_pieces es) ≤ i = simp length-map le in
+    ap (watch_lines i) (drop_all i (told_pieces es) few)
 
 -- what an entry of a head tells is told by it as it is seen
 pub seen_at : {E : Type 0} (see : E → EntryState) (es : List E) (i r : ℕ) → i < length es

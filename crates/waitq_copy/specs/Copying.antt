@@ -98,8 +98,8 @@ abbrev pub copy_text : ℕ → ℕ → List ℕ → ℕ → List ℕ
 copy_text read moved told sent = codes "copied " ++ decimal read ++ codes " bytes\n"
     ++ number_line (codes "moved ") moved ++ watch_lines 0 told ++ number_line (codes "signals ") sent
 
-abbrev pub tells : List EntryState → List ℕ
-tells entries = map (λ e. told_by e.func) entries
+abbrev pub told_pieces : List EntryState → List ℕ
+told_pieces entries = map (λ e. told_by e.func) entries
 
 -- The fault of a copy, by how it stopped and by what storing its sink answered: the first of the causes in this order.
 abbrev pub fault_after : Stop → Result (Unit {0}) SinkFault → Option Fault
@@ -128,13 +128,13 @@ Concludes (Some why) text old new faults_old faults_new answer = (answer ≡ Err
 Concludes None text old new faults_old faults_new answer = WritesTold text old new faults_old faults_new answer
 
 -- What the sink held is the file of this name, and no other file is changed; after a fault none is.
-abbrev pub IsStored : Result (Unit {0}) SinkFault → Option Files → Option Files → List ℕ → Option (List ℕ) → Type 0
-IsStored (Ok x) old new dst held = Stores old new dst held
-IsStored (Err e) old new dst held = new ≡ old
+abbrev pub IsFileStored : Result (Unit {0}) SinkFault → Option Files → Option Files → List ℕ → Option (List ℕ) → Type 0
+IsFileStored (Ok x) old new dst held = Stores old new dst held
+IsFileStored (Err e) old new dst held = new ≡ old
 
 -- A hold of a worker, or of the controller, found no place, and stands in the task's journal; and at least 2^37 entries
 -- were queued at its head, in the table that showed the lists as they were joined.
-pub record WasFull (task : Known) (place : ℕ) : Type 0 where
+pub record WasTableFull (task : Known) (place : ℕ) : Type 0 where
   pub number : ℕ
   pub head : ℕ
   pub worn : WasWorn number (has_of number task.view) head place
@@ -146,7 +146,7 @@ pub record WasFull (task : Known) (place : ℕ) : Type 0 where
 pub record RunCauses (task : Known) (old new : Outside) (how : Stop) (answer : Result (Unit {0}) Fault) : Type 0 where
   pub read : answer ≡ Err fault.Read → HasRisen old.reads new.reads
   pub write : answer ≡ Err fault.Write → HasRisen old.writes new.writes ⊎ HasRisen old.faults new.faults
-  pub worn : (place : ℕ) → answer ≡ Err (fault.Worn place) → WasFull task place
+  pub worn : (place : ℕ) → answer ≡ Err (fault.Worn place) → WasTableFull task place
   pub finished : answer ≡ Ok tt → how ≡ stop.Finished
 
 -- And of a copy.
@@ -189,7 +189,7 @@ pub record Through (domain : TableId) (task : Known) (files_old files_new : Opti
   pub kills : reader.kills ≡ length (fatal_of (up_to reader.read plan))
   pub tally : moved ≡ tally_in COUNTED_PAGE task.view % 2 ^ 64
   pub none_taken : NoneTaken reader relay writer
-  pub stores : IsStored stored files_old files_new dst held_new
+  pub stores : IsFileStored stored files_old files_new dst held_new
   pub reads : 0 < read_faults → HasRisen reads_old reads_new
   pub writes : 0 < write_faults → HasRisen writes_old writes_new
   pub refused : stored ≡ Err sink.Failed → HasRisen writes_old writes_new
@@ -204,7 +204,7 @@ pub record Ran (domain : TableId) (task : Known) (old new : Outside) (src dst : 
   pub seen : List EntryState
   pub through : Through domain task old.files new.files old.reads new.reads old.writes new.writes src dst plan watchers
       seen reader how moved stored
-  pub told : Concludes (fault_after how stored) (copy_text reader.read moved (tells seen) reader.sent) old.held
+  pub told : Concludes (fault_after how stored) (copy_text reader.read moved (told_pieces seen) reader.sent) old.held
       new.held old.faults new.faults answer
   pub causes : Causes task old new reader how moved answer
 

@@ -30,10 +30,10 @@ IfCopy (Some (Merge a b dst)) p = Unit {0}
 IfCopy None p = Unit {0}
 
 -- Where the files are told, the file of the second name has just the bytes that the file of the first name had.
-abbrev pub Delivers : List ℕ → List ℕ → Option Files → Option Files → Type 0
-Delivers src dst (Some old) new =
+abbrev pub DeliversFile : List ℕ → List ℕ → Option Files → Option Files → Type 0
+DeliversFile src dst (Some old) new =
     (files : Files) × (bytes : List ℕ) × (new ≡ Some files) × (old src ≡ Some bytes) × (files dst ≡ Some bytes)
-Delivers src dst None new = Unit {0}
+DeliversFile src dst None new = Unit {0}
 
 -- the bytes of one file are a front of those of another
 abbrev pub IsFrontOf : Option (List ℕ) → Option (List ℕ) → Type 0

@@ -4,7 +4,7 @@ ghost use Rattle.std.specs.Prelude.{◌≡◌, ◌+◌, ◌≤◌, ◌++◌, IsE
 ghost use Rattle.edge_io.specs.Faults.{HasRisen};
 ghost use Rattle.edge_io.specs.Text.{WritesText};
 ghost use Rattle.wait_model.specs.declared.layout.TheConstants.{TEXT_BYTES};
-ghost use Rattle.waitq_copy.specs.Copying.{copy_text, tells, watch_line, watch_lines};
+ghost use Rattle.waitq_copy.specs.Copying.{copy_text, told_pieces, watch_line, watch_lines};
 
 use crate::watching::Tellers;
 use copy_plan::ReaderEnd;
@@ -48,7 +48,7 @@ fn write_watcher<O: Sink>(out: &mut O, place: u64, told: u64) -> Result<(), Sink
 /// Writes a line for each watcher.
 fn write_watchers<O: Sink, W: Tellers>(out: &mut O, watch: &W) -> Result<(), SinkFault>
     ensures text { WritesText (O.held out.old) (O.held out.new) (watch_lines 0
-        (tells (W.entries watch.now))) result }
+        (told_pieces (W.entries watch.now))) result }
     ensures cause { IsErrOf result SinkFault.Failed → HasRisen (O.faults out.old) (O.faults out.new) }
     ensures later { O.faults out.old ≤ O.faults out.new }
 {
@@ -67,7 +67,7 @@ pub fn write_told<O: Sink, W: Tellers>(
     moved: u64,
 ) -> Result<(), SinkFault>
     ensures text { WritesText (O.held out.old) (O.held out.new) (copy_text reader.now.read moved
-        (tells (W.entries watch.now)) reader.now.sent) result }
+        (told_pieces (W.entries watch.now)) reader.now.sent) result }
     ensures cause { IsErrOf result SinkFault.Failed → HasRisen (O.faults out.old) (O.faults out.new) }
     ensures later { O.faults out.old ≤ O.faults out.new }
 {

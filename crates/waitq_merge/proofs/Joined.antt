@@ -10,7 +10,7 @@ use Rattle.wait_rule.specs.Known.{Known}
 use Rattle.flow_merge.specs.Passed.{Piece, merged_bytes, bytes_of}
 use Rattle.flow_merge.specs.declared.sides.Side.TheVariants as sides
 use Rattle.waitq_alone.specs.declared.fault.Fault.{Fault}
-use Rattle.waitq_copy.specs.Copying.{IsStored, Outside}
+use Rattle.waitq_copy.specs.Copying.{IsFileStored, Outside}
 use Rattle.waitq_copy.proofs.Answered.{stored_whole}
 use Rattle.waitq_copy.proofs.Fronts.{holds}
 use Rattle.waitq_merge.specs.Merging.{MergeLeft}
@@ -50,5 +50,5 @@ joined domain task_old task_new old new first second dst answer (inr r) e =
     let all = t.whole (r.causes.run.finished e) in
     join old.files new.files first second dst t.one.left_old t.two.left_old t.into.held_old t.into.held_new all.pieces
     t.found_first t.found_second t.empty
-    (subst (λ (s : Result (Unit {0}) SinkFault). IsStored s old.files new.files dst t.into.held_new)
+    (subst (λ (s : Result (Unit {0}) SinkFault). IsFileStored s old.files new.files dst t.into.held_new)
     (stored_whole r.how r.stored _ _ _ _ _ answer r.told e) t.stores) all.left all.right all.held

@@ -19,7 +19,7 @@ use Rattle.copy_plan.specs.Stops.{IfFinished}
 use Rattle.copy_ends.specs.Did.{ReaderDid}
 use Rattle.copy_ends.proofs.Rows.{gave_all}
 use Rattle.flow_merge.specs.Merged.{Drawn, SinkFilled, HoldsMerged, IsMergeStop, Merged, MergesAll, NoneHurt, ends_of}
-use Rattle.waitq_copy.specs.Copying.{IsStored}
+use Rattle.waitq_copy.specs.Copying.{IsFileStored}
 use Rattle.waitq_merge.specs.Merging.{MergeThrough}
 
 -- a reader that finished read as many bytes as its source had
@@ -41,7 +41,7 @@ module _ (domain : TableId) (task : Known) (files_old files_new : Option Files)
       → Merged domain task one two into (ends_of left right merger writer) how total → HoldsMerged one two into
       → (how ≡ stop.Finished → MergesAll one two into (ends_of left right merger writer) moved)
       → moved ≡ tally_in COUNTED_PAGE task.view % 2 ^ 64 → IsMergeStop how
-      → NoneHurt (ends_of left right merger writer) → IsStored stored files_old files_new dst into.held_new
+      → NoneHurt (ends_of left right merger writer) → IsFileStored stored files_old files_new dst into.held_new
       → ((0 < one.faults_new) ⊎ (0 < two.faults_new) → HasRisen reads_old reads_new)
       → (0 < into.faults_new → HasRisen writes_old writes_new)
       → (IsErrOf stored sink.Failed → HasRisen writes_old writes_new)

@@ -10,11 +10,11 @@ use Rattle.copy_plan.specs.declared.TheConstants.{LONGEST}
 use Rattle.copy_plan.specs.declared.stop.Stop.{Stop}
 use Rattle.copy_plan.specs.declared.stop.Stop.TheVariants as stop
 use Rattle.copy_plan.specs.Stops.{IfTaken}
-use Rattle.copy_turns.specs.Turns.{IsLong, IsReaderStop, IsWriterStop}
+use Rattle.copy_turns.specs.Turns.{IsTooLong, IsReaderStop, IsWriterStop}
 use Rattle.flow_merge.specs.declared.TheConstants.{LEFT_PIPE, MERGED_PIPE, RIGHT_PIPE}
 use Rattle.flow_merge.specs.Merged.{Drawn, CrewEnds, SinkFilled, Merged, stops_of}
 use Rattle.flow_merge.specs.Mergers.{IsMergerStop}
-use Rattle.waitq_copy.specs.Copying.{WasFull}
+use Rattle.waitq_copy.specs.Copying.{WasTableFull}
 use Rattle.waitq_copy.proofs.Stops.{Among, Cause, among_named, cause_of, full_at, full_control, no_control}
 
 module _ (domain : TableId) (task : Known) (one two : Drawn) (into : SinkFilled) (ends : CrewEnds) (how : Stop)
@@ -75,17 +75,17 @@ module _ (domain : TableId) (task : Known) (one two : Drawn) (into : SinkFilled)
   long_of e = by (among stop.Long (λ f. cc f) (λ f. cc f) e)
     where
       by : Among stop.Long (stops_of ends total) → (LONGEST < ends.left.read) ⊎ (LONGEST < ends.right.read)
-      by (inl f) = inl (subst (λ (x : Stop). IsLong (Some x) ends.left.read) f m.did.left.worked.long)
-      by (inr (inl f)) = inr (subst (λ (x : Stop). IsLong (Some x) ends.right.read) f m.did.right.worked.long)
+      by (inl f) = inl (subst (λ (x : Stop). IsTooLong (Some x) ends.left.read) f m.did.left.worked.long)
+      by (inr (inl f)) = inr (subst (λ (x : Stop). IsTooLong (Some x) ends.right.read) f m.did.right.worked.long)
       by (inr (inr (inl f))) = absurd (merger_stop stop.Long f)
       by (inr (inr (inr (inl f)))) = absurd (writer_stop stop.Long f)
       by (inr (inr (inr (inr (inl f))))) = absurd (no_control total stop.Long (λ g. cc g) (λ h p g. cc g) f)
       by (inr (inr (inr (inr (inr f))))) = absurd f
 
-  pub worn_of : (h p : ℕ) → how ≡ stop.Worn h p → WasFull task p
+  pub worn_of : (h p : ℕ) → how ≡ stop.Worn h p → WasTableFull task p
   worn_of h p e = by (among (stop.Worn h p) (λ f. cc f) (λ f. cc f) e)
     where
-      by : Among (stop.Worn h p) (stops_of ends total) → WasFull task p
+      by : Among (stop.Worn h p) (stops_of ends total) → WasTableFull task p
       by (inl f) = full_at task m.five.left domain 1 2 h p m.did.left.worked.served.grows m.lists.left m.late.shown
           m.late.law m.late.left (left_stop (stop.Worn h p) f)
       by (inr (inl f)) = full_at task m.five.right domain 2 3 h p m.did.right.worked.served.grows m.lists.right
@@ -99,8 +99,8 @@ module _ (domain : TableId) (task : Known) (one two : Drawn) (into : SinkFilled)
       by (inr (inr (inr (inr (inr f))))) = absurd f
 
   -- a reader that finished read at most what a source may give
-  pub left_short : ends.left.stop ≡ stop.Finished → IsLong (Some stop.Finished) ends.left.read
-  left_short f = subst (λ (x : Stop). IsLong (Some x) ends.left.read) f m.did.left.worked.long
+  pub left_short : ends.left.stop ≡ stop.Finished → IsTooLong (Some stop.Finished) ends.left.read
+  left_short f = subst (λ (x : Stop). IsTooLong (Some x) ends.left.read) f m.did.left.worked.long
 
-  pub right_short : ends.right.stop ≡ stop.Finished → IsLong (Some stop.Finished) ends.right.read
-  right_short f = subst (λ (x : Stop). IsLong (Some x) ends.right.read) f m.did.right.worked.long
+  pub right_short : ends.right.stop ≡ stop.Finished → IsTooLong (Some stop.Finished) ends.right.read
+  right_short f = subst (λ (x : Stop). IsTooLong (Some x) ends.right.read) f m.did.right.worked.long

@@ -19,7 +19,7 @@ use Rattle.flow_merge.specs.Merged.{Drawn, SinkFilled, HoldsMerged, IsMergeStop,
 use Rattle.waitq_alone.specs.Drill.{number_line}
 use Rattle.waitq_alone.specs.declared.fault.Fault.{Fault}
 use Rattle.waitq_alone.specs.declared.fault.Fault.TheVariants as fault
-use Rattle.waitq_copy.specs.Copying.{Concludes, HasFile, IsOpenFault, IsStartFault, IsStored, NotBegun, Outside}
+use Rattle.waitq_copy.specs.Copying.{Concludes, HasFile, IsOpenFault, IsStartFault, IsFileStored, NotBegun, Outside}
 use Rattle.waitq_copy.specs.Copying.{RunCauses, fault_after}
 
 -- Why a merge did not begin: its first source was not opened; or that was, and the second was not, or no sink made.
@@ -64,7 +64,7 @@ pub record MergeThrough (domain : TableId) (task : Known) (files_old files_new :
   pub tally : moved ≡ tally_in COUNTED_PAGE task.view % 2 ^ 64
   pub stops : IsMergeStop how
   pub unhurt : NoneHurt (ends_of left right merger writer)
-  pub stores : IsStored stored files_old files_new dst into.held_new
+  pub stores : IsFileStored stored files_old files_new dst into.held_new
   pub reads : (0 < one.faults_new) ⊎ (0 < two.faults_new) → HasRisen reads_old reads_new
   pub writes : 0 < into.faults_new → HasRisen writes_old writes_new
   pub refused : stored ≡ Err sink.Failed → HasRisen writes_old writes_new

@@ -7,8 +7,8 @@ ghost use Rattle.wait_model.specs.declared.layout.TheConstants.{TASKS};
 ghost use Rattle.wait_rule.specs.Says.{IsClean, newcomer};
 ghost use Rattle.copy_plan.specs.declared.TheConstants.{SIGNALS};
 ghost use Rattle.copy_ends.specs.Copied.{HasNoSteps};
-ghost use Rattle.waitq_copy.specs.Copying.{Concludes, CopyLeft, IsMakeFault, IsOpenFault, IsStartFault, IsStored};
-ghost use Rattle.waitq_copy.specs.Copying.{Through, copy_text, fault_after, outside, tells};
+ghost use Rattle.waitq_copy.specs.Copying.{Concludes, CopyLeft, IsMakeFault, IsOpenFault, IsStartFault, IsFileStored};
+ghost use Rattle.waitq_copy.specs.Copying.{Through, copy_text, fault_after, outside, told_pieces};
 
 use copy_plan::{Gate, Planned, ReaderEnd, Stop};
 use edge_io::{Folder, Sink, SinkFault};
@@ -50,7 +50,7 @@ pub fn close_and_store<F: Folder>(
     dst: &str,
 ) -> Result<(), SinkFault>
     ensures closes { F.opened folder.new ≡ F.opened folder.old - 1 }
-    ensures stored { IsStored result (F.files folder.old) (F.files folder.new) dst.now (F.Out.held sink) }
+    ensures stored { IsFileStored result (F.files folder.old) (F.files folder.new) dst.now (F.Out.held sink) }
     ensures reads { 0 < F.In.faults source → HasRisen (F.read_faults folder.old) (F.read_faults folder.new) }
     ensures later { F.read_faults folder.old ≤ F.read_faults folder.new }
     ensures writes { 0 < F.Out.faults sink → HasRisen (F.write_faults folder.old) (F.write_faults folder.new) }
@@ -124,7 +124,7 @@ fn copy_through<R: Threads + Wait + Sync, F: Folder, W: Tellers + Send + Drop, G
 fn conclude<O: Sink, W: Tellers>(out: &mut O, left: &Left<W>) -> Result<(), Fault<'static>>
     ensures told { Concludes (fault_after left.now.stop left.now.stored)
         (copy_text left.now.reader.read left.now.moved
-        (tells (W.entries left.now.watch)) left.now.reader.sent) (O.held out.old) (O.held out.new) (O.faults out.old)
+        (told_pieces (W.entries left.now.watch)) left.now.reader.sent) (O.held out.old) (O.held out.new) (O.faults out.old)
         (O.faults out.new) result }
 {
     match fault_after(left.stop, left.stored) {

@@ -6,7 +6,7 @@ ghost use Rattle.edge_io.specs.Folders.{HasBytes, HoldsNothing};
 ghost use Rattle.wait_model.specs.declared.layout.TheConstants.{TASKS};
 ghost use Rattle.wait_rule.specs.Says.{IsClean, newcomer};
 ghost use Rattle.copy_ends.specs.Copied.{HasNoSteps};
-ghost use Rattle.waitq_copy.specs.Copying.{Concludes, IsStored, fault_after, outside};
+ghost use Rattle.waitq_copy.specs.Copying.{Concludes, IsFileStored, fault_after, outside};
 ghost use Rattle.waitq_merge.specs.Merging.{MergeLeft, MergeThrough, merge_text};
 
 use crate::copy::close_and_store;
@@ -50,7 +50,7 @@ fn close_both_and_store<F: Folder>(
     dst: &str,
 ) -> Result<(), SinkFault>
     ensures closes { F.opened folder.new ≡ F.opened folder.old - 1 - 1 }
-    ensures stored { IsStored result (F.files folder.old) (F.files folder.new) dst.now (F.Out.held sink) }
+    ensures stored { IsFileStored result (F.files folder.old) (F.files folder.new) dst.now (F.Out.held sink) }
     ensures reads { (0 < F.In.faults first) ⊎ (0 < F.In.faults second)
         → HasRisen (F.read_faults folder.old) (F.read_faults folder.new) }
     ensures writes { 0 < F.Out.faults sink → HasRisen (F.write_faults folder.old) (F.write_faults folder.new) }

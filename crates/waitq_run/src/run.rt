@@ -12,7 +12,7 @@ ghost use Rattle.waitq_alone.specs.Commands.{takes_files, verdict_at};
 ghost use Rattle.waitq_copy.specs.Copying.{outside};
 ghost use Rattle.waitq_alone.specs.Outcome.{Answers, Writes, IsBad, IsLong, IsNoCopyEnd, LeavesUnwritten};
 ghost use Rattle.waitq_alone.specs.Alone.{exit_status, is_quiet, Finishes, Reports};
-ghost use Rattle.waitq_copy.specs.Run.{CopyEnds, Delivers, IfCopy, Spares};
+ghost use Rattle.waitq_copy.specs.Run.{CopyEnds, DeliversFile, IfCopy, Spares};
 ghost use Rattle.waitq_merge.specs.MergeRun.{IfMerge, DeliversBoth, MergeEnds, MergeSpares};
 
 use crate::copy::{Order, copy};
@@ -60,7 +60,7 @@ fn run_copy<
         (W.entries watch) (E.held err.old) (E.held err.new)
         (HasStayed (E.faults err.old) (E.faults err.new) × HasStayed (E.wants err.old) (E.wants err.new)) result }
     ensures delivers { result ≡ 0
-        → Delivers order.entry.src.now order.entry.dst.now (F.files folder.old) (F.files folder.new) }
+        → DeliversFile order.entry.src.now order.entry.dst.now (F.files folder.old) (F.files folder.new) }
     ensures spares { Spares order.entry.src.now order.entry.dst.now (F.files folder.old) (F.files folder.new) }
     ensures plain { fatal_of order.entry.plan.now ≡ [] → result ≢ 6 }
     ensures closes { F.opened folder.new ≡ F.opened folder.old }
@@ -180,7 +180,7 @@ pub fn run<
         (O.faults out.new)) src dst plan (W.entries watch) (E.held err.old) (E.held err.new)
         (HasStayed (E.faults err.old) (E.faults err.new) × HasStayed (E.wants err.old) (E.wants err.new)) result) }
     ensures delivers { result ≡ 0 → IfCopy (command_of (map string_bytes words.now)) (λ src dst plan.
-        Delivers src dst (F.files folder.old) (F.files folder.new)) }
+        DeliversFile src dst (F.files folder.old) (F.files folder.new)) }
     ensures spares { IfCopy (command_of (map string_bytes words.now)) (λ src dst plan.
         Spares src dst (F.files folder.old) (F.files folder.new)) }
     ensures plain { IfCopy (command_of (map string_bytes words.now)) (λ src dst plan.

@@ -10,9 +10,9 @@ use Rattle.completion_cell.specs.declared.awaits.AwaitStage.TheVariants as stage
 use Rattle.completion_cell.proofs.AwaitLaws.{await_lawful}
 use Rattle.completion_cell.proofs.AwaitLeaving.{await_may_leave, leaves_await, left_asked, left_carried, left_idle}
 use Rattle.completion_cell.proofs.AwaitLeaving.{left_off, left_up}
-use Rattle.wq_checked.specs.Kept.{IsReady, but_kept}
+use Rattle.wq_checked.specs.Kept.{IsReadyWith, but_kept}
 use Rattle.wq_checked.specs.Stages.{AwaitRun, StandsBy, StretchesOn}
-use Rattle.wq_checked.specs.Calls.{AwaitCame, AwaitEnded, Began, CameFrom, IsSound, IsUnderWay, WentOn, await_answer}
+use Rattle.wq_checked.specs.Calls.{AwaitCame, AwaitEnded, Began, CameFrom, IsRunningSound, IsCallUnderWay, WentOn, await_answer}
 use Rattle.wq_checked.specs.Advancing.{await_left, await_shown}
 use Rattle.wq_checked.specs.Locks.{awaited_in}
 use Rattle.wq_checked.specs.declared.calls.Running.{Running}
@@ -22,8 +22,8 @@ use Rattle.wq_checked.proofs.Going.{went_refused}
 use Rattle.wq_checked.proofs.WayTurns.{come_lands, come_on, for_all}
 
 -- a wait that is over leaves a ready task
-await_ready : (ks : KeptBits) (may : Bool) (start new : Known) (f q : AwaitRun) (o : AwaitOutcome) → IsReady ks start
-    → AwaitCame may start new f q (turn.Done o) → IsReady ks new
+await_ready : (ks : KeptBits) (may : Bool) (start new : Known) (f q : AwaitRun) (o : AwaitOutcome) → IsReadyWith ks start
+    → AwaitCame may start new f q (turn.Done o) → IsReadyWith ks new
 await_ready ks may start new f q o r a =
     let w = a.came.way in
     let c = left_carried (may ≡ true) start new f q stage.First o w r.up r.idle r.told in record {
@@ -76,7 +76,7 @@ await_goes asks may start first old new run q last t stands came a = absurd came
 -- what is kept of the task then
 under : (ks : KeptBits) (start new : Known) (f : AwaitRun) (from t : AwaitTurn) (q : AwaitRun)
     → Began ks start (running.Await f from) → AwaitCame true start new f q t → StandsBy await_table new q t
-    → IsUnderWay ks new (running.Await q t)
+    → IsCallUnderWay ks new (running.Await q t)
 under ks start new f from t q began c stands = record {
   start = start;
   first = running.Await f from;
@@ -86,7 +86,7 @@ under ks start new f from t q began c stands = record {
 }
 
 left_sound : (ks : KeptBits) (start new : Known) (f : AwaitRun) (from t : AwaitTurn) (q : AwaitRun)
-    → IsReady ks start → AwaitCame true start new f q t → IsSound (await_left q t) ks new
+    → IsReadyWith ks start → AwaitCame true start new f q t → IsRunningSound (await_left q t) ks new
 left_sound ks start new f from (turn.Again s) q began c = under ks start new f from (turn.Again s) q began c
     (come_lands await_table await_exits await_may_leave await_lawful true start new f q stage.First (turn.Again s) c.came)
 left_sound ks start new f from (turn.Asleep s) q began c = under ks start new f from (turn.Asleep s) q began c
@@ -98,7 +98,7 @@ left_sound ks start new f from (turn.Done o) q began c = await_ready ks true sta
 sound_from : (ks : KeptBits) (asks : Bool) (start : Known) (first : Running) (old new : Known) (run q : AwaitRun)
     (last t : AwaitTurn) → Began ks start first → CameFrom true start first old (running.Await run last)
     → StandsBy await_table old run last → StretchesOn asks await_table await_exits old new run q last t
-    → IsSound (await_left q t) ks new
+    → IsRunningSound (await_left q t) ks new
 sound_from ks asks start (running.Await f from) old new run q last t began came stands a =
     left_sound ks start new f from t q began
     (record {
@@ -109,7 +109,7 @@ sound_from ks asks start (running.Await f from) old new run q last t began came 
 sound_from ks asks start first old new run q last t began came stands a = absurd came
 
 pub await_sound : (ks : KeptBits) (asks : Bool) (old new : Known) (run q : AwaitRun) (last t : AwaitTurn)
-    → IsSound (running.Await run last) ks old → StretchesOn asks await_table await_exits old new run q last t
-    → IsSound (await_left q t) ks new
+    → IsRunningSound (running.Await run last) ks old → StretchesOn asks await_table await_exits old new run q last t
+    → IsRunningSound (await_left q t) ks new
 await_sound ks asks old new run q last t u a = sound_from ks asks u.start u.first old new run q last t u.began u.came
     u.stands a

@@ -32,18 +32,18 @@ use Rattle.page_lock.proofs.PageLaws.{page_lawful}
 use Rattle.page_lock.proofs.PageLeaving.{page_may_leave}
 use Rattle.wq_checked.proofs.WayTurns.{come_none}
 use Rattle.wq_checked.specs.Stages.{AwaitRun, BitRun, LockRun, PageRun, WaitRun, bit_first, lock_first}
-use Rattle.wq_checked.specs.Calls.{Began, CameFrom, IsUnderWay, StandsOn}
-use Rattle.wq_checked.specs.Kept.{IsReady}
+use Rattle.wq_checked.specs.Calls.{Began, CameFrom, IsCallUnderWay, StandsOn}
+use Rattle.wq_checked.specs.Kept.{IsReadyWith}
 use Rattle.wq_checked.specs.declared.calls.Running.{Running}
 use Rattle.wq_checked.specs.declared.calls.Running.TheVariants as running
 use Rattle.wq_checked.specs.declared.kept_bits.KeptBits.{KeptBits}
 
 -- a call that has just begun with this task is under way
 pub under : (ks : KeptBits) (k : Known) (now : Running) → Began ks k now → StandsOn k now → CameFrom true k now k now
-    → IsUnderWay ks k now
+    → IsCallUnderWay ks k now
 under ks k now began stands came = record { start = k; first = now; began = began; came = came; stands = stands }
 
-pub event_came : (may : Bool) (k : Known) (r : WaitRun) (w : Watch) (how : How) → events.IsFresh r.of w how
+pub event_came : (may : Bool) (k : Known) (r : WaitRun) (w : Watch) (how : How) → events.IsFreshWait r.of w how
     → IsAt events.wait_table k r event_stage.First
     → CameFrom may k (running.Event r (turn.Again event_stage.First)) k (running.Event r (turn.Again event_stage.First))
 event_came may k r w how fresh at = record {
@@ -51,9 +51,9 @@ event_came may k r w how fresh at = record {
   fresh = (w, how, fresh);
 }
 
-pub event_sound : (ks : KeptBits) (k : Known) (r : WaitRun) (w : Watch) (how : How) → IsReady ks k
-    → events.IsFresh r.of w how → IsAt events.wait_table k r event_stage.First
-    → IsUnderWay ks k (running.Event r (turn.Again event_stage.First))
+pub event_sound : (ks : KeptBits) (k : Known) (r : WaitRun) (w : Watch) (how : How) → IsReadyWith ks k
+    → events.IsFreshWait r.of w how → IsAt events.wait_table k r event_stage.First
+    → IsCallUnderWay ks k (running.Event r (turn.Again event_stage.First))
 event_sound ks k r w how ready fresh at = under ks k (running.Event r (turn.Again event_stage.First))
     (ready, (w, how, fresh)) at (event_came true k r w how fresh at)
 
@@ -62,8 +62,8 @@ pub bit_came : (may : Bool) (k : Known) (r : BitRun) → r.of.wait.asked ≡ fal
 bit_came may k r none at = come_none bits.bit_table bit_exits bit_may_leave
     (framed_lawful bits.bit_frame bit_lawful) may k r bit_first none at
 
-pub bit_sound : (ks : KeptBits) (k : Known) (r : BitRun) → IsReady ks k → r.of.wait.asked ≡ false
-    → IsAt bits.bit_table k r bit_first → IsUnderWay ks k (running.Bit r (turn.Again bit_first))
+pub bit_sound : (ks : KeptBits) (k : Known) (r : BitRun) → IsReadyWith ks k → r.of.wait.asked ≡ false
+    → IsAt bits.bit_table k r bit_first → IsCallUnderWay ks k (running.Bit r (turn.Again bit_first))
 bit_sound ks k r ready none at = under ks k (running.Bit r (turn.Again bit_first)) ready at
     (bit_came true k r none at)
 
@@ -72,8 +72,8 @@ pub lock_came : (may : Bool) (k : Known) (r : LockRun) → r.of.wait.asked ≡ f
 lock_came may k r none at = come_none locks.lock_table lock_exits lock_may_leave
     (framed_lawful locks.lock_frame lock_lawful) may k r lock_first none at
 
-pub lock_sound : (ks : KeptBits) (k : Known) (r : LockRun) → IsReady ks k → r.of.wait.asked ≡ false
-    → IsAt locks.lock_table k r lock_first → IsUnderWay ks k (running.Lock r (turn.Again lock_first))
+pub lock_sound : (ks : KeptBits) (k : Known) (r : LockRun) → IsReadyWith ks k → r.of.wait.asked ≡ false
+    → IsAt locks.lock_table k r lock_first → IsCallUnderWay ks k (running.Lock r (turn.Again lock_first))
 lock_sound ks k r ready none at = under ks k (running.Lock r (turn.Again lock_first)) ready at
     (lock_came true k r none at)
 
@@ -81,8 +81,8 @@ pub page_came : (may : Bool) (k : Known) (r : PageRun) → r.of.asked ≡ false 
     → CameFrom may k (running.Page r (turn.Again page_stage.First)) k (running.Page r (turn.Again page_stage.First))
 page_came may k r none at = come_none pages.page_table page_exits page_may_leave page_lawful may k r page_stage.First none at
 
-pub page_sound : (ks : KeptBits) (k : Known) (r : PageRun) → IsReady ks k → r.of.asked ≡ false
-    → IsAt pages.page_table k r page_stage.First → IsUnderWay ks k (running.Page r (turn.Again page_stage.First))
+pub page_sound : (ks : KeptBits) (k : Known) (r : PageRun) → IsReadyWith ks k → r.of.asked ≡ false
+    → IsAt pages.page_table k r page_stage.First → IsCallUnderWay ks k (running.Page r (turn.Again page_stage.First))
 page_sound ks k r ready none at = under ks k (running.Page r (turn.Again page_stage.First)) ready at
     (page_came true k r none at)
 
@@ -94,8 +94,8 @@ await_came may k r held none at = record {
   held = held;
 }
 
-pub await_sound : (ks : KeptBits) (k : Known) (r : AwaitRun) → IsReady ks k → r.of.asked ≡ false
+pub await_sound : (ks : KeptBits) (k : Known) (r : AwaitRun) → IsReadyWith ks k → r.of.asked ≡ false
     → IsAt awaits.await_table k r await_stage.First
-    → IsUnderWay ks k (running.Await r (turn.Again await_stage.First))
+    → IsCallUnderWay ks k (running.Await r (turn.Again await_stage.First))
 await_sound ks k r ready none at = under ks k (running.Await r (turn.Again await_stage.First)) ready at
     (await_came true k r ready.told none at)

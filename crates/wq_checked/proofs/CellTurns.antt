@@ -18,9 +18,9 @@ use Rattle.completion_cell.specs.declared.cell_turns.CellStage.{CellStage}
 use Rattle.completion_cell.specs.declared.cell_turns.CellStage.TheVariants as stage
 use Rattle.completion_cell.specs.declared.cell_turns.CellTurn.{CellTurn}
 use Rattle.completion_cell.specs.declared.cell_turns.CellTurn.TheVariants as turn
-use Rattle.completion_cell.specs.CellTurns.{HasTurned, IsAt, IsOver}
-use Rattle.wq_checked.specs.Kept.{IsReady, but_kept, keeps_in}
-use Rattle.wq_checked.specs.Calls.{Began, CameFrom, CellCame, IsSound, WentOn}
+use Rattle.completion_cell.specs.CellTurns.{HasCellTurned, IsAtCell, IsCellOver}
+use Rattle.wq_checked.specs.Kept.{IsReadyWith, but_kept, keeps_in}
+use Rattle.wq_checked.specs.Calls.{Began, CameFrom, CellCame, IsRunningSound, WentOn}
 use Rattle.wq_checked.specs.Advancing.{cell_left, cell_shown}
 use Rattle.wq_checked.specs.declared.calls.Running.{Running}
 use Rattle.wq_checked.specs.declared.calls.Running.TheVariants as running
@@ -30,18 +30,18 @@ use Rattle.wq_checked.proofs.WakeTurns.{owes_wider}
 
 -- where it stands, by where it began
 at_from : (may : Bool) (start : Known) (first : Running) (k : Known) (run : CellRun) (s : CellStage)
-    → CameFrom may start first k (running.Cell run s) → IsAt start k run s
+    → CameFrom may start first k (running.Cell run s) → IsAtCell start k run s
 at_from may start (running.Cell f from) k run s came = came.at
 at_from may start first k run s came = absurd came
 
-pub cell_at : (ks : KeptBits) (k : Known) (run : CellRun) (s : CellStage) → IsSound (running.Cell run s) ks k
-    → (start : Known) × IsAt start k run s
+pub cell_at : (ks : KeptBits) (k : Known) (run : CellRun) (s : CellStage) → IsRunningSound (running.Cell run s) ks k
+    → (start : Known) × IsAtCell start k run s
 cell_at ks k run s u = (u.start, at_from true u.start u.first k run s u.came)
 
 -- what is over leaves a ready task: one that sets the completion, and one that does not
-module _ (ks : KeptBits) (start new : Known) (d : ℕ) (r : IsReady ks start) (up : IsUp new) (free : IsFree new)
+module _ (ks : KeptBits) (start new : Known) (d : ℕ) (r : IsReadyWith ks start) (up : IsUp new) (free : IsFree new)
     (off : StaysOff start new) where
-  set_ready : Carries (set_change (watch.Done d) mode.Normal new.at) start new → IsReady ks new
+  set_ready : Carries (set_change (watch.Done d) mode.Normal new.at) start new → IsReadyWith ks new
   set_ready c = record {
     up = up;
     idle = record { running = c.state ∙ r.idle.running; free = free; unmarked = c.mark ∙ r.idle.unmarked };
@@ -58,7 +58,7 @@ module _ (ks : KeptBits) (start new : Known) (d : ℕ) (r : IsReady ks start) (u
           (owes_wider (watch.Done d) mode.Normal (but_kept ks) new (c.owes (but_kept ks) r.owes)) none ∙ sym none
       by e false at = c.keeps e at ∙ r.keeps e
 
-  held_ready : Carries (hold_change new.at) start new → IsReady ks new
+  held_ready : Carries (hold_change new.at) start new → IsReadyWith ks new
   held_ready c = record {
     up = up;
     idle = record { running = c.state ∙ r.idle.running; free = free; unmarked = c.mark ∙ r.idle.unmarked };
@@ -68,8 +68,8 @@ module _ (ks : KeptBits) (start new : Known) (d : ℕ) (r : IsReady ks start) (u
     off = λ e. off e (r.off e);
   }
 
-over_ready : (ks : KeptBits) (start new : Known) (c : CellCall) (d : ℕ) (hit : Bool) → IsReady ks start
-    → IsOver c d hit start new → IsReady ks new
+over_ready : (ks : KeptBits) (start new : Known) (c : CellCall) (d : ℕ) (hit : Bool) → IsReadyWith ks start
+    → IsCellOver c d hit start new → IsReadyWith ks new
 over_ready ks start new call.Complete d hit r o = set_ready ks start new d r o.up o.free o.off o.carries
 over_ready ks start new call.CompleteAll d hit r o = set_ready ks start new d r o.up o.free o.off o.carries
 over_ready ks start new call.IsDone d hit r o = held_ready ks start new d r o.up o.free o.off o.carries
@@ -78,24 +78,24 @@ over_ready ks start new call.TryWait d hit r o = held_ready ks start new d r o.u
 
 -- a stretch from where it has come to
 module _ (start old new : Known) (f run q : CellRun) (s : CellStage) (came : CellCame start old f run s) where
-  over_as : (hit : Bool) → HasTurned start new run q (turn.Done hit) → IsOver f.call f.cell hit start new
+  over_as : (hit : Bool) → HasCellTurned start new run q (turn.Done hit) → IsCellOver f.call f.cell hit start new
   over_as hit h = by (h.fresh.call_is ∙ came.call) (h.fresh.cell ∙ came.cell)
     where
-      by : q.call ≡ f.call → q.cell ≡ f.cell → IsOver f.call f.cell hit start new
-      by c d = subst (λ (e : CellCall). IsOver e f.cell hit start new) c
-          (subst (λ (n : ℕ). IsOver q.call n hit start new) d h.turns)
+      by : q.call ≡ f.call → q.cell ≡ f.cell → IsCellOver f.call f.cell hit start new
+      by c d = subst (λ (e : CellCall). IsCellOver e f.cell hit start new) c
+          (subst (λ (n : ℕ). IsCellOver q.call n hit start new) d h.turns)
 
-  come_on : HasTurned start new run q turn.Locked → CellCame start new f q stage.Turn
+  come_on : HasCellTurned start new run q turn.Locked → CellCame start new f q stage.Turn
   come_on h = record { at = h.turns; call = h.fresh.call_is ∙ came.call; cell = h.fresh.cell ∙ came.cell }
 
-  tells : (may : Bool) (from : CellStage) (t : CellTurn) → HasTurned start new run q t
+  tells : (may : Bool) (from : CellStage) (t : CellTurn) → HasCellTurned start new run q t
       → WentOn may start (running.Cell f from) new (cell_left q t) (cell_shown q t)
   tells may from turn.Locked h = (come_on h, refl)
   tells may from (turn.Done hit) h = (refl, over_as hit h)
   tells may from (turn.Starved n) h = refl
 
-  left_sound : (ks : KeptBits) → IsReady ks start → (from : CellStage) (t : CellTurn) → HasTurned start new run q t
-      → IsSound (cell_left q t) ks new
+  left_sound : (ks : KeptBits) → IsReadyWith ks start → (from : CellStage) (t : CellTurn) → HasCellTurned start new run q t
+      → IsRunningSound (cell_left q t) ks new
   left_sound ks r from turn.Locked h = record {
     start = start;
     first = running.Cell f from;
@@ -108,7 +108,7 @@ module _ (start old new : Known) (f run q : CellRun) (s : CellStage) (came : Cel
 
 pub cell_goes : (may now : Bool) (start : Known) (first : Running) (old new : Known) (run q : CellRun) (s : CellStage) (t : CellTurn)
     → CameFrom may start first old (running.Cell run s)
-    → ((start : Known) → IsAt start old run s → HasTurned start new run q t)
+    → ((start : Known) → IsAtCell start old run s → HasCellTurned start new run q t)
     → WentOn now start first new (cell_left q t) (cell_shown q t)
 cell_goes may now start (running.Cell f from) old new run q s t came turned = tells start old new f run q s came now from t
     (turned start came.at)
@@ -116,12 +116,12 @@ cell_goes may now start first old new run q s t came turned = absurd came
 
 sound_from : (ks : KeptBits) (start : Known) (first : Running) (old new : Known) (run q : CellRun) (s : CellStage)
     (t : CellTurn) → Began ks start first → CameFrom true start first old (running.Cell run s)
-    → ((start : Known) → IsAt start old run s → HasTurned start new run q t) → IsSound (cell_left q t) ks new
+    → ((start : Known) → IsAtCell start old run s → HasCellTurned start new run q t) → IsRunningSound (cell_left q t) ks new
 sound_from ks start (running.Cell f from) old new run q s t began came turned =
     left_sound start old new f run q s came ks began from t (turned start came.at)
 sound_from ks start first old new run q s t began came turned = absurd came
 
 pub cell_sound : (ks : KeptBits) (old new : Known) (run q : CellRun) (s : CellStage) (t : CellTurn)
-    → IsSound (running.Cell run s) ks old → ((start : Known) → IsAt start old run s → HasTurned start new run q t)
-    → IsSound (cell_left q t) ks new
+    → IsRunningSound (running.Cell run s) ks old → ((start : Known) → IsAtCell start old run s → HasCellTurned start new run q t)
+    → IsRunningSound (cell_left q t) ks new
 cell_sound ks old new run q s t u turned = sound_from ks u.start u.first old new run q s t u.began u.came turned

@@ -4,7 +4,7 @@ use Rattle.std.specs.Prelude.{Bool, true, if◌then◌else◌, Option, Some, Non
 use Rattle.wait_rule.specs.Known.{Known}
 use Rattle.wait_rule.specs.Tickets.{drawn, taken}
 use Rattle.wait_class.specs.Posts.{ticket_out}
-use Rattle.wait_class.specs.Laws.{IsLawfulTable, LawOf, LockLaw}
+use Rattle.wait_class.specs.Laws.{IsLawfulCallTable, LawOf, LockLaw}
 use Rattle.wait_class.specs.declared.stages.Doing.{Doing}
 use Rattle.wait_class.specs.declared.stages.Doing.TheVariants as doing
 use Rattle.wait_class.specs.declared.stages.Run.{Run}
@@ -50,7 +50,7 @@ use Rattle.wq_head.specs.Turns as wakes
 use Rattle.wq_head.specs.declared.wakes.WakeRun.{WakeRun}
 use Rattle.wq_head.specs.declared.wakes.WakeStage.{WakeStage}
 use Rattle.wq_head.specs.declared.wakes.WakeStage.TheVariants as wake_stage
-use Rattle.wq_checked.specs.Calls.{CameFrom, Fits, IsSound, WentOn}
+use Rattle.wq_checked.specs.Calls.{CameFrom, FitsProgress, IsRunningSound, WentOn}
 use Rattle.wq_checked.specs.Calls.{turn_told}
 use Rattle.wq_checked.specs.Locks.{IsDrawn, awaited_in, lock_at, lock_with, refused_with, turn_ticket, wake_ticket}
 use Rattle.wq_checked.specs.Reasons.{stopped_reason}
@@ -75,7 +75,7 @@ awaited_drawn : (k : Known) (o : Option Awaited) (a : Awaited) → o ≡ Some a 
 awaited_drawn k o a is out = subst (IsOut k) is out
 
 -- so it is where a wait of the ground waits for its lock
-module _ {C S O : Type 0} (t : CallTable C S O) (law : IsLawfulTable t) (k : Known) (r : Run C) (s : S) (at : IsAt t k r s) where
+module _ {C S O : Type 0} (t : CallTable C S O) (law : IsLawfulCallTable t) (k : Known) (r : Run C) (s : S) (at : IsAt t k r s) where
   drawn_is : LockLaw t r.of s → k.book.ticket ≡ drawn (head_in t r.of s) r.ticket
   drawn_is l = at.stands.ticket ∙ (λ i. if l.free i then taken ((t.plan_of r.of).head (t.point_of s))
       else ticket_out (l.head i) (if l.drawn i then Some r.ticket else None))
@@ -101,18 +101,18 @@ module _ {C S O : Type 0} (t : CallTable C S O) (law : IsLawfulTable t) (k : Kno
 waited_out : (base now : Known) → HasWaited base now → now.book.ticket ≡ base.book.ticket
 waited_out base now w = ap (λ (k : Known). k.book.ticket) w.is
 
-wake_out : (start now : Known) (r : WakeRun) (s : WakeStage) → wakes.IsAt start now r s
+wake_out : (start now : Known) (r : WakeRun) (s : WakeStage) → wakes.IsAtWake start now r s
     → IsOut now (lock_with r.aim.watch r.served (wake_ticket s r.ticket))
 wake_out start now r wake_stage.First at = tt
 wake_out start now r wake_stage.FirstTurn at = waited_out _ now at.stands
 wake_out start now r wake_stage.Next at = tt
 wake_out start now r wake_stage.NextTurn at = waited_out _ now at.stands.2
 
-swake_out : (start now : Known) (r : SwakeRun) → swakes.IsAt start now r swake_stage.Turn
+swake_out : (start now : Known) (r : SwakeRun) → swakes.IsAtSwake start now r swake_stage.Turn
     → IsOut now (awaited_in (running.Swake r swake_stage.Turn))
 swake_out start now r at = waited_out _ now at.stands.waits
 
-cell_out : (start now : Known) (r : CellRun) → cells.IsAt start now r cell_stage.Turn
+cell_out : (start now : Known) (r : CellRun) → cells.IsAtCell start now r cell_stage.Turn
     → IsOut now (awaited_in (running.Cell r cell_stage.Turn))
 cell_out start now r at = waited_out _ now at.stands.awaits.waits
 
@@ -121,7 +121,7 @@ told_by : (k : Known) (p q : Progress) → p ≡ q → IsDrawn k q → IsDrawn k
 told_by k p q is out = subst (IsDrawn k) (sym is) out
 
 -- a wait of the ground that tells the lock at which its last stretch was refused
-ground_drawn : {C S O : Type 0} (t : CallTable C S O) → IsLawfulTable t → (k : Known) (r : Run C)
+ground_drawn : {C S O : Type 0} (t : CallTable C S O) → IsLawfulCallTable t → (k : Known) (r : Run C)
     (now : Turn S O → Running) → ((s : S) → awaited_in (now (turn.Locked s)) ≡ lock_at t r s) → (u : Turn S O)
     (p : Progress) → Lands t k r u → p ≡ turn_told (now u) u → IsDrawn k p
 ground_drawn t law k r now here (turn.Locked s) p a is = told_by k p _ is
@@ -130,8 +130,8 @@ ground_drawn t law k r now here (turn.Again s) p a is = told_by k p _ is tt
 ground_drawn t law k r now here (turn.Asleep s) p a is = told_by k p _ is tt
 ground_drawn t law k r now here (turn.Done o) p a is = told_by k p _ is tt
 
-swake_drawn : (start k : Known) (r : SwakeRun) (s : SwakeStage) (p : Progress) → swakes.IsAt start k r s
-    → Fits (running.Swake r s) p → IsDrawn k p
+swake_drawn : (start k : Known) (r : SwakeRun) (s : SwakeStage) (p : Progress) → swakes.IsAtSwake start k r s
+    → FitsProgress (running.Swake r s) p → IsDrawn k p
 swake_drawn start k r swake_stage.Turn (progress.Locked a) at fits =
     awaited_drawn k _ a fits (swake_out start k r at)
 swake_drawn start k r swake_stage.First (progress.Locked a) at fits = absurd (cc)
@@ -140,8 +140,8 @@ swake_drawn start k r s progress.Park at fits = tt
 swake_drawn start k r s (progress.Done a) at fits = tt
 swake_drawn start k r s progress.Starved at fits = tt
 
-cell_drawn : (start k : Known) (r : CellRun) (s : CellStage) (p : Progress) → cells.IsAt start k r s
-    → Fits (running.Cell r s) p → IsDrawn k p
+cell_drawn : (start k : Known) (r : CellRun) (s : CellStage) (p : Progress) → cells.IsAtCell start k r s
+    → FitsProgress (running.Cell r s) p → IsDrawn k p
 cell_drawn start k r cell_stage.Turn (progress.Locked a) at fits = awaited_drawn k _ a fits (cell_out start k r at)
 cell_drawn start k r cell_stage.First (progress.Locked a) at fits = absurd (cc)
 cell_drawn start k r s progress.Again at fits = tt
@@ -149,8 +149,8 @@ cell_drawn start k r s progress.Park at fits = tt
 cell_drawn start k r s (progress.Done a) at fits = tt
 cell_drawn start k r s progress.Starved at fits = tt
 
-wake_drawn : (start k : Known) (r : WakeRun) (s : WakeStage) (p : Progress) → wakes.IsAt start k r s
-    → Fits (running.Wake r s) p → IsDrawn k p
+wake_drawn : (start k : Known) (r : WakeRun) (s : WakeStage) (p : Progress) → wakes.IsAtWake start k r s
+    → FitsProgress (running.Wake r s) p → IsDrawn k p
 wake_drawn start k r s (progress.Locked a) at fits = awaited_drawn k _ a fits (wake_out start k r s at)
 wake_drawn start k r s progress.Again at fits = tt
 wake_drawn start k r s progress.Park at fits = tt
@@ -159,7 +159,7 @@ wake_drawn start k r s progress.Starved at fits = tt
 
 -- what an advance tells is drawn
 came_drawn : (may : Bool) (start : Known) (first : Running) (k : Known) (now : Running) (p : Progress)
-    → CameFrom may start first k now → Fits now p → IsDrawn k p
+    → CameFrom may start first k now → FitsProgress now p → IsDrawn k p
 came_drawn may start (running.Event f from) k (running.Event r t) p came fits = ground_drawn events.wait_table wait_lawful k
     r (running.Event r) (λ s. refl) t p
     (come_lands events.wait_table wait_exits wait_may_leave wait_lawful may start k f r event_stage.First t came.came) fits
@@ -193,7 +193,7 @@ went_drawn may start first k now progress.Starved went = tt
 
 -- of a call that is under way
 pub goes_drawn : (may : Bool) (ks : KeptBits) (old : Known) (running : Running) (k : Known) (now : Running) (p : Progress)
-    → stopped_reason running ≡ None → IsSound running ks old
+    → stopped_reason running ≡ None → IsRunningSound running ks old
     → ((start : Known) (first : Running) → CameFrom true start first old running → WentOn may start first k now p) → IsDrawn k p
 goes_drawn may ks old running.Idle k now p under sound goes = absurd (cc)
 goes_drawn may ks old running.Starved k now p under sound goes = absurd (cc)

@@ -28,12 +28,12 @@ use Rattle.wait_rule.proofs.KnownLaws.OtherCalls.{others_stay_off}
 use Rattle.wait_rule.proofs.KnownLaws.TaskHistories.{history_after}
 use Rattle.wait_rule.proofs.TableSteps.ItemLists.{steps_append}
 use Rattle.wait_class.specs.Posts.{Runs}
-use Rattle.wait_event.specs.Waits.{IsRunning}
+use Rattle.wait_event.specs.Waits.{IsRunningWait}
 use Rattle.wait_event.specs.WaitPlans.{IsWaitFor}
 use Rattle.wait_event.specs.declared.waits.WaitCall.{WaitCall}
 use Rattle.wait_class.specs.Wholes.{HasRested}
 use Rattle.wq_head.specs.Scanned.{HasScanned}
-use Rattle.wq_head.specs.Turns.{IsOver}
+use Rattle.wq_head.specs.Turns.{IsWakeOver}
 
 -- the heads of conditions, bits and variables
 pub plain_low : (c : ℕ) → c < PLAIN_CONDITIONS → head_of (watch.Plain c) < FIRST_DONE_HEAD
@@ -59,7 +59,7 @@ calls_off call old new from to low free runs = others_stay_off (call_program old
     runs.transitions (inr (λ p. low)) free runs.goes
 
 -- the head of a wait for a condition or a variable
-pub event_low : (r : WaitCall) → IsRunning r → head_of r.watch < FIRST_DONE_HEAD
+pub event_low : (r : WaitCall) → IsRunningWait r → head_of r.watch < FIRST_DONE_HEAD
 event_low r runs = by r.watch runs.there runs.suits
   where
     by : (c : Watch) → IsThere c → IsWaitFor c r.how → head_of c < FIRST_DONE_HEAD
@@ -69,7 +69,7 @@ event_low r runs = by r.watch runs.there runs.suits
     by (watch.Done d) there suits = absurd suits
 
 -- a wake queues nothing
-pub wakes_off : (a : Aim) (start new : Known) (w : Walked) → (told_of start).hold.head ≡ None → IsOver a start new w
+pub wakes_off : (a : Aim) (start new : Known) (w : Walked) → (told_of start).hold.head ≡ None → IsWakeOver a start new w
     → StaysOff start new
 wakes_off a start new w free o = others_stay_off (walk_program a) start new (next.Go (at.Walk walking.Lock)) _
     o.woken.transitions (inl refl) free o.woken.goes

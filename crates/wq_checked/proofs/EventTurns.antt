@@ -13,12 +13,12 @@ use Rattle.wait_event.specs.declared.waits.WaitCall.{WaitCall}
 use Rattle.wait_event.specs.declared.waits.WaitStage.TheVariants as stage
 use Rattle.wait_event.specs.declared.waits.WaitOutcome.{WaitOutcome}
 use Rattle.wait_event.specs.WaitLeaves.{wait_exits, wait_until_in}
-use Rattle.wait_event.specs.Waits.{IsRunning, wait_table}
+use Rattle.wait_event.specs.Waits.{IsRunningWait, wait_table}
 use Rattle.wait_event.proofs.WaitLaws.{wait_lawful}
 use Rattle.wait_event.proofs.WaitLeaving.{ends_seen, ends_until, left_carried, left_idle, left_up, wait_may_leave}
-use Rattle.wq_checked.specs.Kept.{IsReady, but_kept}
-use Rattle.wq_checked.specs.Stages.{HasCome, StandsBy, StretchesOn, WaitRun, WaitTurn}
-use Rattle.wq_checked.specs.Calls.{Began, CameFrom, EventCame, EventEnded, IsFreshEvent, IsSound, IsUnderWay, WentOn, event_answer}
+use Rattle.wq_checked.specs.Kept.{IsReadyWith, but_kept}
+use Rattle.wq_checked.specs.Stages.{HasComeBy, StandsBy, StretchesOn, WaitRun, WaitTurn}
+use Rattle.wq_checked.specs.Calls.{Began, CameFrom, EventCame, EventEnded, IsFreshEvent, IsRunningSound, IsCallUnderWay, WentOn, event_answer}
 use Rattle.wq_checked.specs.Advancing.{event_left, event_shown}
 use Rattle.wq_checked.specs.Locks.{awaited_in}
 use Rattle.wq_checked.specs.declared.calls.Running.{Running}
@@ -30,25 +30,25 @@ use Rattle.wq_checked.proofs.LowWays.{QueuesLow, low_back, way_off}
 use Rattle.wq_checked.proofs.WayTurns.{come_lands, come_on, for_all}
 
 -- the numbers of the call are in their ranges
-stands_runs : (k : Known) (r : WaitRun) (last : WaitTurn) → StandsBy wait_table k r last → IsRunning r.of
+stands_runs : (k : Known) (r : WaitRun) (last : WaitTurn) → StandsBy wait_table k r last → IsRunningWait r.of
 stands_runs k r (turn.Again s) stands = stands.fits
 stands_runs k r (turn.Asleep s) stands = stands.fits
 stands_runs k r (turn.Locked s) stands = stands.fits
 stands_runs k r (turn.Done o) stands = absurd stands
 
 -- so its heads are none of completions, and were none where it began
-queues_low : (r : WaitCall) → IsRunning r → QueuesLow (wait_table.plan_of r)
+queues_low : (r : WaitCall) → IsRunningWait r → QueuesLow (wait_table.plan_of r)
 queues_low r runs = λ y. event_low r runs
 
 began_low : (may : Bool) (start old : Known) (f run : WaitRun) (last : WaitTurn) → StandsBy wait_table old run last
-    → HasCome may wait_table wait_exits start old f run stage.First last → QueuesLow (wait_table.plan_of f.of)
+    → HasComeBy may wait_table wait_exits start old f run stage.First last → QueuesLow (wait_table.plan_of f.of)
 began_low may start old f run last stands c = low_back (may ≡ true) wait_table wait_exits wait_may_leave wait_lawful start f
     stage.First old run last c.way (queues_low run.of (stands_runs old run last stands))
 
 -- a wait that is over leaves a ready task
 event_ready : (ks : KeptBits) (may : Bool) (start new : Known) (f q : WaitRun) (o : WaitOutcome)
-    → QueuesLow (wait_table.plan_of f.of) → IsReady ks start
-    → HasCome may wait_table wait_exits start new f q stage.First (turn.Done o) → IsReady ks new
+    → QueuesLow (wait_table.plan_of f.of) → IsReadyWith ks start
+    → HasComeBy may wait_table wait_exits start new f q stage.First (turn.Done o) → IsReadyWith ks new
 event_ready ks may start new f q o low r a =
     let c = left_carried (may ≡ true) start new f q stage.First o a.way r.up r.idle r.told in
     let over = come_lands wait_table wait_exits wait_may_leave wait_lawful may start new f q stage.First (turn.Done o) a in
@@ -64,7 +64,7 @@ event_ready ks may start new f q o low r a =
 
 -- how it ended
 same_watch : (may : Bool) (start new : Known) (f q : WaitRun) (t : WaitTurn)
-    → HasCome may wait_table wait_exits start new f q stage.First t → q.of.watch ≡ f.of.watch
+    → HasComeBy may wait_table wait_exits start new f q stage.First t → q.of.watch ≡ f.of.watch
 same_watch may start new f q t c = ap (λ (p : Plan). p.watch)
     (way_plan (may ≡ true) wait_table wait_exits wait_may_leave wait_lawful start f stage.First new q t c.way)
 
@@ -114,8 +114,8 @@ event_goes asks may start first old new run q last t stands came a = absurd came
 
 -- what is kept of the task then
 under : (ks : KeptBits) (start new : Known) (f : WaitRun) (from t : WaitTurn) (q : WaitRun)
-    → Began ks start (running.Event f from) → HasCome true wait_table wait_exits start new f q stage.First t
-    → StandsBy wait_table new q t → IsUnderWay ks new (running.Event q t)
+    → Began ks start (running.Event f from) → HasComeBy true wait_table wait_exits start new f q stage.First t
+    → StandsBy wait_table new q t → IsCallUnderWay ks new (running.Event q t)
 under ks start new f from t q began a stands = record {
   start = start;
   first = running.Event f from;
@@ -125,8 +125,8 @@ under ks start new f from t q began a stands = record {
 }
 
 left_sound : (ks : KeptBits) (start new : Known) (f : WaitRun) (from t : WaitTurn) (q : WaitRun)
-    → QueuesLow (wait_table.plan_of f.of) → IsReady ks start × IsFreshEvent f.of
-    → HasCome true wait_table wait_exits start new f q stage.First t → IsSound (event_left q t) ks new
+    → QueuesLow (wait_table.plan_of f.of) → IsReadyWith ks start × IsFreshEvent f.of
+    → HasComeBy true wait_table wait_exits start new f q stage.First t → IsRunningSound (event_left q t) ks new
 left_sound ks start new f from (turn.Again s) q low began a = under ks start new f from (turn.Again s) q began a
     (come_lands wait_table wait_exits wait_may_leave wait_lawful true start new f q stage.First (turn.Again s) a)
 left_sound ks start new f from (turn.Asleep s) q low began a = under ks start new f from (turn.Asleep s) q began a
@@ -138,7 +138,7 @@ left_sound ks start new f from (turn.Done o) q low began a = event_ready ks true
 sound_from : (ks : KeptBits) (asks : Bool) (start : Known) (first : Running) (old new : Known) (run q : WaitRun)
     (last t : WaitTurn) → Began ks start first → CameFrom true start first old (running.Event run last)
     → StandsBy wait_table old run last → StretchesOn asks wait_table wait_exits old new run q last t
-    → IsSound (event_left q t) ks new
+    → IsRunningSound (event_left q t) ks new
 sound_from ks asks start (running.Event f from) old new run q last t began came stands a =
     left_sound ks start new f from t q (began_low true start old f run last stands came.came) began
     (for_all asks wait_table wait_exits start new f q stage.First t (come_on wait_table wait_exits wait_may_leave
@@ -146,7 +146,7 @@ sound_from ks asks start (running.Event f from) old new run q last t began came 
 sound_from ks asks start first old new run q last t began came stands a = absurd came
 
 pub event_sound : (ks : KeptBits) (asks : Bool) (old new : Known) (run q : WaitRun) (last t : WaitTurn)
-    → IsSound (running.Event run last) ks old → StretchesOn asks wait_table wait_exits old new run q last t
-    → IsSound (event_left q t) ks new
+    → IsRunningSound (running.Event run last) ks old → StretchesOn asks wait_table wait_exits old new run q last t
+    → IsRunningSound (event_left q t) ks new
 event_sound ks asks old new run q last t u a = sound_from ks asks u.start u.first old new run q last t u.began
     u.came u.stands a

@@ -5,7 +5,7 @@ use Rattle.wait_model.specs.declared.watches.Watch.{Watch}
 use Rattle.wait_model.specs.declared.watches.Watch.TheVariants as watch
 use Rattle.wait_rule.specs.Bits.{taken_bits}
 use Rattle.wait_rule.specs.Known.{Known}
-use Rattle.wq_checked.specs.Calls.{CameFrom, Fits, WentOn}
+use Rattle.wq_checked.specs.Calls.{CameFrom, FitsProgress, WentOn}
 use Rattle.wq_checked.specs.Kept.{keeps_in}
 use Rattle.wq_checked.specs.Locks.{refused_with}
 use Rattle.wq_checked.specs.declared.calls.Awaited.{Awaited}
@@ -20,7 +20,7 @@ went_as may start first new r s p u a b w = subst (λ (x : Running). WentOn may 
 
 -- a stretch that was refused its lock
 pub went_refused : (may : Bool) (start : Known) (first : Running) (new : Known) (now : Running) (o : Option Awaited)
-    → CameFrom may start first new now → Fits now (refused_with o) → WentOn may start first new now (refused_with o)
+    → CameFrom may start first new now → FitsProgress now (refused_with o) → WentOn may start first new now (refused_with o)
 went_refused may start first new now (Some a) came fits = (came, fits)
 went_refused may start first new now None came fits = (came, fits)
 

@@ -3,7 +3,7 @@ use Rattle.wait_rule.specs.Known.{Known}
 use Rattle.wait_class.specs.declared.stages.Run.{Run}
 use Rattle.wait_class.specs.declared.stages.Turn.{Turn}
 use Rattle.wait_class.specs.declared.stages.Turn.TheVariants as turn
-use Rattle.wait_class.specs.Laws.{IsLawfulTable}
+use Rattle.wait_class.specs.Laws.{IsLawfulCallTable}
 use Rattle.wait_class.specs.Tables.{Advances, CallTable}
 use Rattle.wait_class.proofs.Turns.{advances_on}
 use Rattle.wq_checked.specs.Stages.{StandsBy}
@@ -15,7 +15,7 @@ GoesFrom t old new r q (turn.Locked s) u = Advances t old new r q s u
 GoesFrom t old new r q (turn.Done o) u = ⊥
 
 -- one stretch more
-pub joined : {C S O : Type 0} (t : CallTable C S O) → IsLawfulTable t → (start old new : Known) (f run q : Run C) (first : S)
+pub joined : {C S O : Type 0} (t : CallTable C S O) → IsLawfulCallTable t → (start old new : Known) (f run q : Run C) (first : S)
     (last u : Turn S O) → StandsBy t old run last → Advances t start old f run first last
     → GoesFrom t old new run q last u → Advances t start new f q first u
 joined t law start old new f run q first (turn.Again s) u stands a b = advances_on t law start old new f run q first s u

@@ -7,7 +7,7 @@ use Rattle.wait_model.specs.Tasks.{state_mask}
 use Rattle.wait_rule.specs.Bits.{taken_bits}
 use Rattle.wait_rule.specs.Known.{Known}
 use Rattle.wait_class.specs.declared.stages.Turn.TheVariants as turn
-use Rattle.wait_class.specs.Laws.{IsLawfulTable}
+use Rattle.wait_class.specs.Laws.{IsLawfulCallTable}
 use Rattle.wait_class.specs.Tables.{Plan}
 use Rattle.wait_class.specs.Wholes.{HasRested}
 use Rattle.wait_class.proofs.Framing.{framed_lawful}
@@ -21,11 +21,11 @@ use Rattle.bit_wait.specs.declared.lock_runs.LockOutcome.{LockOutcome}
 use Rattle.bit_wait.specs.declared.lock_runs.LockOutcome.TheVariants as outcome
 use Rattle.bit_wait.proofs.LockLeaving.{left_asked, left_idle, left_lock, left_takes, left_up, lock_may_leave}
 use Rattle.bit_wait.proofs.LockLaws.{lock_lawful}
-use Rattle.wq_checked.specs.Stages.{HasCome, LockRun, LockTurn, StandsBy, StretchesOn, lock_first}
+use Rattle.wq_checked.specs.Stages.{HasComeBy, LockRun, LockTurn, StandsBy, StretchesOn, lock_first}
 use Rattle.wq_checked.proofs.LowWays.{way_off}
 use Rattle.wq_checked.proofs.WayTurns.{come_lands, come_on, come_stayed, for_all}
-use Rattle.wq_checked.specs.Kept.{IsReady, but_kept, keeps_in}
-use Rattle.wq_checked.specs.Calls.{Began, CameFrom, IsSound, IsUnderWay, LockEnded, WentOn, bit_answer}
+use Rattle.wq_checked.specs.Kept.{IsReadyWith, but_kept, keeps_in}
+use Rattle.wq_checked.specs.Calls.{Began, CameFrom, IsRunningSound, IsCallUnderWay, LockEnded, WentOn, bit_answer}
 use Rattle.wq_checked.specs.Advancing.{lock_left, lock_shown}
 use Rattle.wq_checked.specs.Locks.{awaited_in}
 use Rattle.wq_checked.specs.declared.calls.Running.{Running}
@@ -36,7 +36,7 @@ use Rattle.wq_checked.specs.Advancing.{lock_over, lock_took, lock_worn}
 use Rattle.wq_checked.proofs.Elsewhere.{bit_low, rest_off}
 use Rattle.wq_checked.proofs.Readiness.{keeps_more, owes_more_bits, ready_masks, ready_out}
 
-abbrev law : IsLawfulTable lock_table
+abbrev law : IsLawfulCallTable lock_table
 law = framed_lawful lock_frame lock_lawful
 
 -- whether the bit was taken, by how the call ended
@@ -52,8 +52,8 @@ took_is q outcome.Worn = refl
 -- a wait that is over leaves a ready task, which keeps the bit where it took it
 pub lock_ready : (ks more : KeptBits) (may : Bool) (start mid new : Known) (f q : LockRun) (o : LockOutcome)
     → ((d : Watch) → keeps_in more d ≡ (taken_bits (watch.Bit f.of.wait.word f.of.wait.bit) (lock_over o) d || keeps_in ks d))
-    → IsReady ks start → HasCome may lock_table lock_exits start mid f q lock_first (turn.Done o)
-    → HasRested mid new q.of.wait.worn → IsReady more new
+    → IsReadyWith ks start → HasComeBy may lock_table lock_exits start mid f q lock_first (turn.Done o)
+    → HasRested mid new q.of.wait.worn → IsReadyWith more new
 lock_ready ks more may start mid new f q o notes r a h =
     let over = come_lands lock_table lock_exits lock_may_leave law may start mid f q lock_first (turn.Done o) a in
     let x = rests mid new q.of.wait.worn (state_mask q.of.wait.state) h over.stands.state in
@@ -74,7 +74,7 @@ lock_ready ks more may start mid new f q o notes r a h =
 
 -- how it ended
 lock_ended : (may : Bool) (start mid new : Known) (f q : LockRun) (o : LockOutcome)
-    → HasCome may lock_table lock_exits start mid f q lock_first (turn.Done o) → HasRested mid new q.of.wait.worn
+    → HasComeBy may lock_table lock_exits start mid f q lock_first (turn.Done o) → HasRested mid new q.of.wait.worn
     → LockEnded may start new f (bit_answer (until_in q.of.wait o))
 lock_ended may start mid new f q o a h = record {
   result = until_in q.of.wait o;
@@ -85,7 +85,7 @@ lock_ended may start mid new f q o a h = record {
 
 -- what it tells, by where it stands
 tells : (may : Bool) (start mid new : Known) (f : LockRun) (from t : LockTurn) (q : LockRun)
-    → HasCome may lock_table lock_exits start mid f q lock_first t → HasRested mid new (lock_worn q t)
+    → HasComeBy may lock_table lock_exits start mid f q lock_first t → HasRested mid new (lock_worn q t)
     → WentOn may start (running.Lock f from) new (lock_left q t) (lock_shown q t)
 tells may start mid new f from (turn.Again s) q a h =
     (come_stayed lock_table lock_exits may start mid new f q lock_first (turn.Again s) h a, refl)
@@ -108,8 +108,8 @@ lock_goes asks may start first old mid new run q last t stands came a h = absurd
 
 -- what is kept of the task then
 under : (ks : KeptBits) (start new : Known) (f : LockRun) (from t : LockTurn) (q : LockRun)
-    → Began ks start (running.Lock f from) → HasCome true lock_table lock_exits start new f q lock_first t
-    → StandsBy lock_table new q t → IsUnderWay ks new (running.Lock q t)
+    → Began ks start (running.Lock f from) → HasComeBy true lock_table lock_exits start new f q lock_first t
+    → StandsBy lock_table new q t → IsCallUnderWay ks new (running.Lock q t)
 under ks start new f from t q began a stands = record {
   start = start;
   first = running.Lock f from;
@@ -120,8 +120,8 @@ under ks start new f from t q began a stands = record {
 
 left_sound : (ks more : KeptBits) (start mid new : Known) (f : LockRun) (from t : LockTurn) (q : LockRun)
     → ((d : Watch) → keeps_in more d ≡ (taken_bits (watch.Bit f.of.wait.word f.of.wait.bit) (lock_took t) d || keeps_in ks d))
-    → IsReady ks start → HasCome true lock_table lock_exits start mid f q lock_first t → HasRested mid new (lock_worn q t)
-    → IsSound (lock_left q t) more new
+    → IsReadyWith ks start → HasComeBy true lock_table lock_exits start mid f q lock_first t → HasRested mid new (lock_worn q t)
+    → IsRunningSound (lock_left q t) more new
 left_sound ks more start mid new f from (turn.Again s) q notes began a h =
     let on = come_stayed lock_table lock_exits true start mid new f q lock_first (turn.Again s) h a in
     under more start new f from (turn.Again s) q (ready_masks ks more start notes began) on
@@ -139,7 +139,7 @@ left_sound ks more start mid new f from (turn.Done o) q notes began a h = lock_r
 
 -- it is about the same bit
 same_bit : (may : Bool) (start old : Known) (f run : LockRun) (last : LockTurn)
-    → HasCome may lock_table lock_exits start old f run lock_first last
+    → HasComeBy may lock_table lock_exits start old f run lock_first last
     → watch.Bit run.of.wait.word run.of.wait.bit ≡ watch.Bit f.of.wait.word f.of.wait.bit
 same_bit may start old f run last c = ap (λ (p : Plan). p.watch)
     (way_plan (may ≡ true) lock_table lock_exits lock_may_leave law start f lock_first old run last c.way)
@@ -149,7 +149,7 @@ sound_from : (ks more : KeptBits) (asks : Bool) (start : Known) (first : Running
     → ((d : Watch) → keeps_in more d ≡ (taken_bits (watch.Bit run.of.wait.word run.of.wait.bit) (lock_took t) d || keeps_in ks d))
     → Began ks start first → CameFrom true start first old (running.Lock run last) → StandsBy lock_table old run last
     → StretchesOn asks lock_table lock_exits old mid run q last t → HasRested mid new (lock_worn q t)
-    → IsSound (lock_left q t) more new
+    → IsRunningSound (lock_left q t) more new
 sound_from ks more asks start (running.Lock f from) old mid new run q last t notes began came stands a h =
     left_sound ks more start mid new f from t q
     (λ d. notes d ∙ ap (λ (c : Watch). taken_bits c (lock_took t) d || keeps_in ks d) (same_bit true start old f run last came))
@@ -160,7 +160,7 @@ sound_from ks more asks start first old mid new run q last t notes began came st
 pub lock_sound : (ks more : KeptBits) (asks : Bool) (old mid new : Known) (run q : LockRun)
     (last t : LockTurn)
     → ((d : Watch) → keeps_in more d ≡ (taken_bits (watch.Bit run.of.wait.word run.of.wait.bit) (lock_took t) d || keeps_in ks d))
-    → IsSound (running.Lock run last) ks old → StretchesOn asks lock_table lock_exits old mid run q last t
-    → HasRested mid new (lock_worn q t) → IsSound (lock_left q t) more new
+    → IsRunningSound (running.Lock run last) ks old → StretchesOn asks lock_table lock_exits old mid run q last t
+    → HasRested mid new (lock_worn q t) → IsRunningSound (lock_left q t) more new
 lock_sound ks more asks old mid new run q last t notes u a h = sound_from ks more asks u.start u.first old mid new run q
     last t notes u.began u.came u.stands a h

@@ -22,7 +22,7 @@ use Rattle.wait_rule.proofs.KnownLaws.TaskHistories.{history_after}
 use Rattle.wait_class.specs.declared.stages.Run.{Run}
 use Rattle.wait_class.specs.declared.stages.Turn.{Turn}
 use Rattle.wait_class.specs.declared.stages.Turn.TheVariants as turn
-use Rattle.wait_class.specs.Laws.{IsLawfulTable}
+use Rattle.wait_class.specs.Laws.{IsLawfulCallTable}
 use Rattle.wait_class.specs.Tables.{CallTable, Plan, plan_program}
 use Rattle.wait_class.specs.Wholes.{HasRested}
 use Rattle.wait_leave.specs.ExitLaws.{AreLawfulExits}
@@ -88,7 +88,7 @@ module _ (me : ℕ) (p : Plan) (low : QueuesLow p) where
   asks y k e s q = tt
 
 module _ {C S O : Type 0} (A : Type 0) (t : CallTable C S O) (x : Exits C S O) (law : AreLawfulExits t x)
-    (lawful : IsLawfulTable t) where
+    (lawful : IsLawfulCallTable t) where
   out_low : (e u : Turn S O) (k new : Known) (r q : Run C) → QueuesLow (t.plan_of r.of) → GoesOut t k new r q e u
       → Adding IsLow k new
   out_low (turn.Again n) u k new r q low a = goes_adding IsLow (plan_program k.view.number 0 (t.plan_of r.of))

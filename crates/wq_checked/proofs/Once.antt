@@ -19,9 +19,9 @@ use Rattle.wait_rule.specs.Known.{Known}
 use Rattle.wait_rule.specs.Says.{added}
 use Rattle.wait_rule.specs.Stays.{Carries, unchanged}
 use Rattle.wait_rule.proofs.KnownLaws.AsideCalls.{items_stay_off}
-use Rattle.wait_event.specs.Conds.{HasTaken}
+use Rattle.wait_event.specs.Conds.{HasTakenCond}
 use Rattle.bit_wait.specs.Tries.{HasTriedBit, tried_answer}
-use Rattle.wq_checked.specs.Kept.{IsReady, keeps_in}
+use Rattle.wq_checked.specs.Kept.{IsReadyWith, keeps_in}
 use Rattle.wq_checked.specs.Begins.{Does}
 use Rattle.wq_checked.specs.Signals.{Woke, who_if}
 use Rattle.wq_checked.specs.declared.calls.Answer.TheVariants as told
@@ -30,28 +30,28 @@ use Rattle.wq_checked.specs.declared.kept_bits.KeptBits.{KeptBits}
 use Rattle.wq_checked.proofs.Elsewhere.{bit_low, calls_off, plain_low}
 use Rattle.wq_checked.proofs.Readiness.{ready_carried, ready_sets}
 
-pub took_ready : (ks : KeptBits) (old new : Known) (c v : ℕ) → c < PLAIN_CONDITIONS → HasTaken old new c v
-    → Carries unchanged old new → IsReady ks old → IsReady ks new
+pub took_ready : (ks : KeptBits) (old new : Known) (c v : ℕ) → c < PLAIN_CONDITIONS → HasTakenCond old new c v
+    → Carries unchanged old new → IsReadyWith ks old → IsReadyWith ks new
 took_ready ks old new c v few took carries r = ready_carried ks old new carries
     (calls_off (calls.Take c) old new (next.Go at.Take) (next.Ends (answer.Value v)) (plain_low c few) r.told took) r
 
 pub tried_ready : (ks more : KeptBits) (old new : Known) (w b : ℕ) (clear : Bool)
     → ((d : Watch) → keeps_in more d ≡ (taken_bits (watch.Bit w b) clear d || keeps_in ks d))
-    → HasTriedBit old new w b clear → SetsBit old new (watch.Bit w b) clear → IsReady ks old → IsReady more new
+    → HasTriedBit old new w b clear → SetsBit old new (watch.Bit w b) clear → IsReadyWith ks old → IsReadyWith more new
 tried_ready ks more old new w b clear notes tried sets r = ready_sets ks more old new w b clear notes sets
     (calls_off (calls.TryBit w b) old new (next.Go (at.Bit biting.Try)) (next.Ends (tried_answer clear)) (bit_low w b)
     r.told tried) r
 
 -- a single step that is about no head, and an add to a tally
 pub item_ready : (ks : KeptBits) (old new : Known) (x : Item) → IsAsideItem x → new ≡ added old x
-    → Carries unchanged old new → IsReady ks old → IsReady ks new
+    → Carries unchanged old new → IsReadyWith ks old → IsReadyWith ks new
 item_ready ks old new x aside is carries r = ready_carried ks old new carries
     (subst (λ (k : Known). StaysOff old k) (sym is) (items_stay_off old x aside)) r
 
 -- a signal that was raised, and its wake that was tried
 pub raised_ready : (ks : KeptBits) (old mid new : Known) (who mask found met : ℕ) (fatal : Bool)
     → mid ≡ added old (item.Made (step.Signal who fatal found)) → Carries unchanged old mid
-    → new ≡ added mid (item.Made (step.Wake who mask met)) → Carries unchanged mid new → IsReady ks old → IsReady ks new
+    → new ≡ added mid (item.Made (step.Wake who mask met)) → Carries unchanged mid new → IsReadyWith ks old → IsReadyWith ks new
 raised_ready ks old mid new who mask found met fatal sent still woke carries r =
     item_ready ks mid new (item.Made (step.Wake who mask met)) tt woke carries
     (item_ready ks old mid (item.Made (step.Signal who fatal found)) tt sent still r)

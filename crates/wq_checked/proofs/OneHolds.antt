@@ -19,8 +19,8 @@ use Rattle.completion_cell.specs.CellTurns as cells
 use Rattle.completion_cell.specs.declared.cell_turns.CellCall.{CellCall}
 use Rattle.completion_cell.specs.declared.cell_turns.CellRun.{CellRun}
 use Rattle.completion_cell.specs.declared.cell_turns.CellStage.TheVariants as cell_stage
-use Rattle.wq_checked.specs.Calls.{CameFrom, IsSwaking, IsUnderWay}
-use Rattle.wq_checked.specs.Kept.{IsReady, but_kept}
+use Rattle.wq_checked.specs.Calls.{CameFrom, IsSwaking, IsCallUnderWay}
+use Rattle.wq_checked.specs.Kept.{IsReadyWith, but_kept}
 use Rattle.wq_checked.specs.declared.calls.Running.TheVariants as running
 use Rattle.wq_checked.specs.declared.kept_bits.KeptBits.{KeptBits}
 use Rattle.wq_checked.proofs.Begun.{under}
@@ -29,8 +29,8 @@ use Rattle.wq_checked.proofs.Publishing.{set_keeps, set_owes}
 use Rattle.wq_checked.proofs.WakeTurns.{owes_wider}
 
 -- a call about a completion
-pub cell_sound : (ks : KeptBits) (k : Known) (r : CellRun) (q : CellCall) (d : ℕ) → IsReady ks k → cells.IsFresh r q d
-    → d < COMPLETIONS → IsUnderWay ks k (running.Cell r cell_stage.First)
+pub cell_sound : (ks : KeptBits) (k : Known) (r : CellRun) (q : CellCall) (d : ℕ) → IsReadyWith ks k → cells.IsFreshCell r q d
+    → d < COMPLETIONS → IsCallUnderWay ks k (running.Cell r cell_stage.First)
 cell_sound ks k r q d ready fresh there = under ks k (running.Cell r cell_stage.First) ready tt (record {
   at = record {
     up = ready.up;
@@ -49,7 +49,7 @@ pub record Swaking (ks : KeptBits) (k : Known) (cond : ℕ) : Type 0 where
   pub idle : IsIdle k
   pub may : IsSwaking ks k cond
 
-pub ready_swaking : (ks : KeptBits) (k : Known) (cond : ℕ) → IsReady ks k → Swaking ks k cond
+pub ready_swaking : (ks : KeptBits) (k : Known) (cond : ℕ) → IsReadyWith ks k → Swaking ks k cond
 ready_swaking ks k cond r = record {
   up = r.up;
   idle = r.idle;
@@ -61,7 +61,7 @@ ready_swaking ks k cond r = record {
   };
 }
 
-pub set_swaking : (ks : KeptBits) (old mid : Known) (cond value found : ℕ) → IsReady ks old
+pub set_swaking : (ks : KeptBits) (old mid : Known) (cond value found : ℕ) → IsReadyWith ks old
     → mid ≡ added old (item.Made (step.Publish (watch.Plain cond) value found))
     → Carries (publish_change (watch.Plain cond)) old mid → Swaking ks mid cond
 set_swaking ks old mid cond value found r is p = record {
@@ -76,7 +76,7 @@ set_swaking ks old mid cond value found r is p = record {
 }
 
 module _ (ks : KeptBits) (k : Known) (r : SwakeRun) (cond : ℕ) (all : Bool) (w : Swaking ks k cond)
-    (fresh : swakes.IsFresh r cond all) (simple : IsSimpleCond cond) where
+    (fresh : swakes.IsFreshSwake r cond all) (simple : IsSimpleCond cond) where
   pub swake_came : (may : Bool) → CameFrom may k (running.Swake r swake_stage.First) k (running.Swake r swake_stage.First)
   swake_came may = record {
     at = record { up = w.up; idle = w.idle; simple = subst IsSimpleCond (sym fresh.cond) simple; stands = refl };
@@ -84,6 +84,6 @@ module _ (ks : KeptBits) (k : Known) (r : SwakeRun) (cond : ℕ) (all : Bool) (w
     all = refl;
   }
 
-  pub swake_sound : IsUnderWay ks k (running.Swake r swake_stage.First)
+  pub swake_sound : IsCallUnderWay ks k (running.Swake r swake_stage.First)
   swake_sound = under ks k (running.Swake r swake_stage.First) (subst (IsSwaking ks k) (sym fresh.cond) w.may) tt
       (swake_came true)

@@ -5,7 +5,7 @@ use Rattle.wait_rule.specs.Known.{Known}
 use Rattle.wait_class.specs.declared.stages.Run.{Run}
 use Rattle.wait_class.specs.declared.stages.Turn.{Turn}
 use Rattle.wait_class.specs.declared.stages.Turn.TheVariants as turn
-use Rattle.wait_class.specs.Laws.{IsLawfulTable}
+use Rattle.wait_class.specs.Laws.{IsLawfulCallTable}
 use Rattle.wait_class.specs.Tables.{CallTable}
 use Rattle.wait_leave.specs.ExitLaws.{AreLawfulExits}
 use Rattle.wait_leave.specs.Leaves.{Exits}
@@ -13,7 +13,7 @@ use Rattle.wait_leave.specs.OnTheWay.{OnTheWay}
 use Rattle.wait_leave.proofs.Ways.{way_then}
 use Rattle.wq_checked.specs.Outs.{OnFrom}
 
-module _ {C S O : Type 0} (t : CallTable C S O) (x : Exits C S O) (law : AreLawfulExits t x) (lawful : IsLawfulTable t)
+module _ {C S O : Type 0} (t : CallTable C S O) (x : Exits C S O) (law : AreLawfulExits t x) (lawful : IsLawfulCallTable t)
     (old : Known) (r : Run C) (s : S) where
   -- with nothing more done
   way_same : (mid new : Known) (m q : Run C) (v u : Turn S O) → OnTheWay (Unit {0}) t x old r s mid m v → new ≡ mid

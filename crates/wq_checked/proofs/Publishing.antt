@@ -19,7 +19,7 @@ use Rattle.wq_head.proofs.HeadLooks.{found_none_over}
 use Rattle.wq_head.specs.Scanned.{HasEndedAt, HasScanned, unmade}
 use Rattle.wq_head.specs.Walks.{IsFull}
 use Rattle.wait_event.proofs.Setting.{set_idle}
-use Rattle.wq_checked.specs.Kept.{IsReady, but_kept, keeps_in}
+use Rattle.wq_checked.specs.Kept.{IsReadyWith, but_kept, keeps_in}
 use Rattle.wq_checked.specs.Begins.{LooksBehind}
 use Rattle.wq_checked.specs.Advancing.{Waking, WakesAs}
 use Rattle.wq_checked.proofs.Elsewhere.{scan_off, step_off}
@@ -62,7 +62,7 @@ unfolding with_wakes with_bits
 bits_hold ks k c d o none = kept_none (keeps_in ks d) ((told_of k).bits.keeps d) none (o.holds d)
 
 -- a condition or a variable that was published
-module _ (ks : KeptBits) (old mid : Known) (c : Watch) (r : IsReady ks old) (p : Carries (publish_change c) old mid)
+module _ (ks : KeptBits) (old mid : Known) (c : Watch) (r : IsReadyWith ks old) (p : Carries (publish_change c) old mid)
     (not_bit : is_bit c ≡ false) where
   pub set_owes : Owes (with_wakes c mode.Normal (but_kept ks)) mid
   set_owes = p.owes (but_kept ks) r.owes
@@ -74,7 +74,7 @@ module _ (ks : KeptBits) (old mid : Known) (c : Watch) (r : IsReady ks old) (p :
       by true at = bits_hold ks mid c d set_owes (no_bit ks c d not_bit at) ∙ sym (no_bit ks c d not_bit at)
       by false at = p.keeps d at ∙ r.keeps d
 
-module _ (ks : KeptBits) (old mid : Known) (aim : Aim) (r : IsReady ks old) (value found : ℕ)
+module _ (ks : KeptBits) (old mid : Known) (aim : Aim) (r : IsReadyWith ks old) (value found : ℕ)
     (is : mid ≡ added old (item.Made (step.Publish aim.watch value found)))
     (p : Carries (publish_change aim.watch) old mid) (normal : aim.mode ≡ mode.Normal)
     (not_bit : is_bit aim.watch ≡ false) (full : IsFull aim.watch) where
@@ -91,7 +91,7 @@ module _ (ks : KeptBits) (old mid : Known) (aim : Aim) (r : IsReady ks old) (val
   }
 
 -- a ready task may wake for a condition
-pub ready_waking : (ks : KeptBits) (k : Known) (aim : Aim) → IsReady ks k → IsFull aim.watch → Waking ks k aim
+pub ready_waking : (ks : KeptBits) (k : Known) (aim : Aim) → IsReadyWith ks k → IsFull aim.watch → Waking ks k aim
 ready_waking ks k aim r full = record {
   up = r.up;
   idle = r.idle;
@@ -104,7 +104,7 @@ ready_waking ks k aim r full = record {
 
 -- a bit that was given back
 pub gave_waking : (ks less : KeptBits) (old mid : Known) (aim : Aim) (w b found : ℕ) → aim.watch ≡ watch.Bit w b
-    → aim.mode ≡ mode.Normal → IsFull (watch.Bit w b) → IsReady ks old
+    → aim.mode ≡ mode.Normal → IsFull (watch.Bit w b) → IsReadyWith ks old
     → ((d : Watch) → keeps_in less d ≡ (not (same d (watch.Bit w b)) && keeps_in ks d))
     → keeps_in ks (watch.Bit w b) ≡ true → ClearsBit old mid (watch.Bit w b)
     → mid ≡ added old (item.Made (step.Publish (watch.Bit w b) 0 found)) → Waking less mid aim
@@ -148,7 +148,7 @@ module _ (ks : KeptBits) (mid new : Known) (aim : Aim) (k : Waking ks mid aim) (
     off = looked_off;
   }
 
-  pub silent_ready : aim.mode ≡ mode.Normal → HasEndedAt mid new (head_of aim.watch) → IsReady ks new
+  pub silent_ready : aim.mode ≡ mode.Normal → HasEndedAt mid new (head_of aim.watch) → IsReadyWith ks new
   silent_ready normal e = record {
     up = s.awake ∙ k.up;
     idle = looked_idle;

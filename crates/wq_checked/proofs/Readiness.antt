@@ -12,8 +12,8 @@ use Rattle.wait_rule.specs.Queues.{IsAgreedHold, index}
 use Rattle.wait_rule.specs.Says.{AsksNoPage, Duty, Owes, excuses, has_duty, no_excuse, told_of, wake_of, page_asked, end_unclosed}
 use Rattle.wait_rule.specs.Stays.{Carries, unchanged, with_bit, with_bits}
 use Rattle.wait_class.specs.Posts.{IsOut}
-use Rattle.wq_checked.specs.Kept.{IsReady, but_kept, keeps_in}
-use Rattle.wq_checked.specs.Calls.{IsSound}
+use Rattle.wq_checked.specs.Kept.{IsReadyWith, but_kept, keeps_in}
+use Rattle.wq_checked.specs.Calls.{IsRunningSound}
 use Rattle.wq_checked.specs.Reasons.{busy_reason}
 use Rattle.wq_checked.specs.declared.calls.Running.{Running}
 use Rattle.wq_checked.specs.declared.calls.Running.TheVariants as running
@@ -24,11 +24,11 @@ or_none true = refl
 or_none false = refl
 
 -- it holds no head
-pub ready_agreed : (ks : KeptBits) (k : Known) → IsReady ks k → IsAgreedHold k
+pub ready_agreed : (ks : KeptBits) (k : Known) → IsReadyWith ks k → IsAgreedHold k
 ready_agreed ks k r h is = absurd (let e = r.idle.free.head in cc)
 
 -- its entries are off, and it asks for no page
-pub ready_out : (ks : KeptBits) (k : Known) → IsReady ks k → IsOut k
+pub ready_out : (ks : KeptBits) (k : Known) → IsReadyWith ks k → IsOut k
 unfolding with_bits
 ready_out ks k r = r.owes.unqueued (index k.view.number 0)
 
@@ -39,7 +39,7 @@ asks_none ks k h (wake_of c σ) = h (wake_of c σ)
 asks_none ks k h page_asked = h page_asked
 asks_none ks k h (end_unclosed e) = h (end_unclosed e)
 
-pub ready_asks : (ks : KeptBits) (k : Known) → IsReady ks k → AsksNoPage k
+pub ready_asks : (ks : KeptBits) (k : Known) → IsReadyWith ks k → AsksNoPage k
 ready_asks ks k r d is = asks_none ks k r.owes.debts.none d
 
 -- other masks of the same bits
@@ -54,7 +54,7 @@ owes_masks ks more k h o = owes_by (λ d. keeps_in ks d || false) (λ d. keeps_i
     (λ d. ap (λ (b : Bool). b || false) (sym (h d))) o
 
 pub ready_masks : (ks more : KeptBits) (k : Known) → ((d : Watch) → keeps_in more d ≡ keeps_in ks d)
-    → IsReady ks k → IsReady more k
+    → IsReadyWith ks k → IsReadyWith more k
 ready_masks ks more k h r = record {
   up = r.up;
   idle = r.idle;
@@ -127,7 +127,7 @@ owes_given ks less w b k notes kept o = owes_by (λ d. keeps_in ks d || false)
         ∙ ap (λ (u : Bool). u || false) (notes d ∙ ap (λ (t : Bool). not t && keeps_in ks d) at))
 
 -- where no call is under way the task is ready
-pub ready_of : (ks : KeptBits) (k : Known) (r : Running) → busy_reason r ≡ None → IsSound r ks k → IsReady ks k
+pub ready_of : (ks : KeptBits) (k : Known) (r : Running) → busy_reason r ≡ None → IsRunningSound r ks k → IsReadyWith ks k
 ready_of ks k running.Idle is s = s
 ready_of ks k (running.Event run last) is s = absurd (cc)
 ready_of ks k (running.Bit run last) is s = absurd (cc)
@@ -140,7 +140,7 @@ ready_of ks k (running.Wake run last) is s = absurd (cc)
 ready_of ks k running.Starved is s = absurd (cc)
 
 -- and the other way
-pub sound_idle : (ks : KeptBits) (k : Known) (r : Running) → busy_reason r ≡ None → IsReady ks k → IsSound r ks k
+pub sound_idle : (ks : KeptBits) (k : Known) (r : Running) → busy_reason r ≡ None → IsReadyWith ks k → IsRunningSound r ks k
 sound_idle ks k running.Idle is ready = ready
 sound_idle ks k (running.Event run last) is ready = absurd (cc)
 sound_idle ks k (running.Bit run last) is ready = absurd (cc)
@@ -153,8 +153,8 @@ sound_idle ks k (running.Wake run last) is ready = absurd (cc)
 sound_idle ks k running.Starved is ready = absurd (cc)
 
 -- a call that changes nothing of it, and one that takes a bit where it is clear
-pub ready_carried : (ks : KeptBits) (old new : Known) → Carries unchanged old new → StaysOff old new → IsReady ks old
-    → IsReady ks new
+pub ready_carried : (ks : KeptBits) (old new : Known) → Carries unchanged old new → StaysOff old new → IsReadyWith ks old
+    → IsReadyWith ks new
 ready_carried ks old new c off r = record {
   up = c.awake ∙ r.up;
   idle = record {
@@ -170,7 +170,7 @@ ready_carried ks old new c off r = record {
 
 pub ready_sets : (ks more : KeptBits) (old new : Known) (w b : ℕ) (clear : Bool)
     → ((d : Watch) → keeps_in more d ≡ (taken_bits (watch.Bit w b) clear d || keeps_in ks d))
-    → SetsBit old new (watch.Bit w b) clear → StaysOff old new → IsReady ks old → IsReady more new
+    → SetsBit old new (watch.Bit w b) clear → StaysOff old new → IsReadyWith ks old → IsReadyWith more new
 ready_sets ks more old new w b clear notes s off r = record {
   up = s.stays.awake ∙ r.up;
   idle = record {

@@ -2,7 +2,7 @@
 use Rattle.std.proofs.Common.{refl}
 use Rattle.std.specs.Prelude.{◌≡◌, true, false}
 use Rattle.wait_rule.specs.Known.{Known}
-use Rattle.wq_checked.specs.Begins.{Begins, HasJustBegun, is_short, publishes_first}
+use Rattle.wq_checked.specs.Begins.{BeginsCall, HasJustBegun, is_short, publishes_first}
 use Rattle.wq_checked.specs.declared.calls.Call.{Call}
 use Rattle.wq_checked.specs.declared.calls.Call.TheVariants as call
 use Rattle.wq_checked.specs.declared.calls.Progress.TheVariants as progress
@@ -10,7 +10,7 @@ use Rattle.wq_checked.specs.declared.calls.Running.{Running}
 use Rattle.wq_checked.specs.declared.kept_bits.KeptBits.{KeptBits}
 
 pub begins_on : (c : Call) (k : Known) (ks : KeptBits) (now : Running) → publishes_first c ≡ false → is_short c ≡ false
-    → HasJustBegun c k now → Begins c k k ks progress.Again now
+    → HasJustBegun c k now → BeginsCall c k k ks progress.Again now
 begins_on (call.Wait a b) k ks now silent long begun = (refl, refl, begun)
 begins_on (call.SimpleWait a b) k ks now silent long begun = (refl, refl, begun)
 begins_on (call.WaitVar a b d) k ks now silent long begun = (refl, refl, begun)

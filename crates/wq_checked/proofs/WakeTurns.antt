@@ -11,20 +11,20 @@ use Rattle.wait_rule.specs.Known.{Known}
 use Rattle.wait_rule.specs.Says.{Excuse, Owes}
 use Rattle.wait_rule.specs.Stays.{with_wakes}
 use Rattle.wait_rule.proofs.KnownLaws.CarriedTasks.{owes_more}
-use Rattle.wq_head.specs.Turns.{HasTurned, IsAt, IsOver}
+use Rattle.wq_head.specs.Turns.{HasTurned, IsAtWake, IsWakeOver}
 use Rattle.wq_head.specs.Walks.{IsFull}
 use Rattle.wq_head.specs.declared.wakes.WakeRun.{WakeRun}
 use Rattle.wq_head.specs.declared.wakes.WakeStage.{WakeStage}
 use Rattle.wq_head.specs.declared.wakes.WakeStage.TheVariants as stage
 use Rattle.wq_head.specs.declared.wakes.WakeTurn.{WakeTurn}
 use Rattle.wq_head.specs.declared.wakes.WakeTurn.TheVariants as turn
-use Rattle.wq_checked.specs.Kept.{IsReady, but_kept}
+use Rattle.wq_checked.specs.Kept.{IsReadyWith, but_kept}
 use Rattle.wq_checked.specs.Begins.{HasJustBegun, BeginsAs}
 use Rattle.wq_checked.specs.declared.calls.Call.{Call}
 use Rattle.wq_checked.specs.Calls.{
   Began,
   CameFrom,
-  IsSound,
+  IsRunningSound,
   IsWaking,
   WakesFirst,
   WentOn,
@@ -37,12 +37,12 @@ use Rattle.wq_checked.specs.declared.kept_bits.KeptBits.{KeptBits}
 
 -- where it stands, by where it began
 at_from : (ks : KeptBits) (may : Bool) (start : Known) (first : Running) (k : Known) (run : WakeRun) (s : WakeStage)
-    → CameFrom may start first k (running.Wake run s) → IsAt start k run s
+    → CameFrom may start first k (running.Wake run s) → IsAtWake start k run s
 at_from ks may start (running.Wake f from) k run s came = came.0
 at_from ks may start first k run s came = absurd came
 
-pub wake_at : (ks : KeptBits) (k : Known) (run : WakeRun) (s : WakeStage) → IsSound (running.Wake run s) ks k
-    → (start : Known) × IsAt start k run s
+pub wake_at : (ks : KeptBits) (k : Known) (run : WakeRun) (s : WakeStage) → IsRunningSound (running.Wake run s) ks k
+    → (start : Known) × IsAtWake start k run s
 wake_at ks k run s u = (u.start, at_from ks true u.start u.first k run s u.came)
 
 -- what a turn tells
@@ -55,13 +55,13 @@ tells may start new f from run q (turn.Locked stage.NextTurn) is h = ((h.turns, 
 tells may start new f from run q turn.Broken is h = ((h.turns, h.aim ∙ is), tt)
 tells may start new f from run q (turn.Done w) is h = (
   refl,
-  subst (λ (a : Aim). IsOver a start new w) (h.aim ∙ is) h.turns,
+  subst (λ (a : Aim). IsWakeOver a start new w) (h.aim ∙ is) h.turns,
 )
 tells may start new f from run q (turn.Starved n) is h = refl
 
 pub wake_goes : (may now : Bool) (start : Known) (first : Running) (old new : Known) (run q : WakeRun) (s : WakeStage) (t : WakeTurn)
     → CameFrom may start first old (running.Wake run s)
-    → ((start : Known) → IsAt start old run s → HasTurned start new run q t)
+    → ((start : Known) → IsAtWake start old run s → HasTurned start new run q t)
     → WentOn now start first new (wake_left q t) (wake_shown q t)
 wake_goes may now start (running.Wake f from) old new run q s t came turned = tells now start new f from run q t came.1
     (turned start came.0)
@@ -69,7 +69,7 @@ wake_goes may now start first old new run q s t came turned = absurd came
 
 -- what is kept of the task then
 over_ready : (ks : KeptBits) (start new : Known) (f : WakeRun) (w : Walked) → IsWaking ks start f
-    → IsOver f.aim start new w → IsReady ks new
+    → IsWakeOver f.aim start new w → IsReadyWith ks new
 over_ready ks start new f w b o = record {
   up = o.up;
   idle = o.idle;
@@ -80,7 +80,7 @@ over_ready ks start new f w b o = record {
 }
 
 left_sound : (ks : KeptBits) (start new : Known) (f : WakeRun) (from : WakeStage) (run q : WakeRun) (t : WakeTurn)
-    → IsWaking ks start f → run.aim ≡ f.aim → HasTurned start new run q t → IsSound (wake_left q t) ks new
+    → IsWaking ks start f → run.aim ≡ f.aim → HasTurned start new run q t → IsRunningSound (wake_left q t) ks new
 left_sound ks start new f from run q (turn.Locked s) b is h = record {
   start = start;
   first = running.Wake f from;
@@ -96,23 +96,23 @@ left_sound ks start new f from run q turn.Broken b is h = record {
   stands = tt;
 }
 left_sound ks start new f from run q (turn.Done w) b is h = over_ready ks start new f w b
-    (subst (λ (a : Aim). IsOver a start new w) (h.aim ∙ is) h.turns)
+    (subst (λ (a : Aim). IsWakeOver a start new w) (h.aim ∙ is) h.turns)
 left_sound ks start new f from run q (turn.Starved n) b is h = tt
 
 sound_from : (ks : KeptBits) (start : Known) (first : Running) (old new : Known) (run q : WakeRun) (s : WakeStage)
     (t : WakeTurn) → Began ks start first → CameFrom true start first old (running.Wake run s)
-    → ((start : Known) → IsAt start old run s → HasTurned start new run q t) → IsSound (wake_left q t) ks new
+    → ((start : Known) → IsAtWake start old run s → HasTurned start new run q t) → IsRunningSound (wake_left q t) ks new
 sound_from ks start (running.Wake f from) old new run q s t began came turned = left_sound ks start new f from run q t
     began came.1 (turned start came.0)
 sound_from ks start first old new run q s t began came turned = absurd came
 
 pub wake_sound : (ks : KeptBits) (old new : Known) (run q : WakeRun) (s : WakeStage) (t : WakeTurn)
-    → IsSound (running.Wake run s) ks old → ((start : Known) → IsAt start old run s → HasTurned start new run q t)
-    → IsSound (wake_left q t) ks new
+    → IsRunningSound (running.Wake run s) ks old → ((start : Known) → IsAtWake start old run s → HasTurned start new run q t)
+    → IsRunningSound (wake_left q t) ks new
 wake_sound ks old new run q s t u turned = sound_from ks u.start u.first old new run q s t u.began u.came turned
 
 module _ (ks : KeptBits) (k : Known) (aim : Aim) (now : Running) (m : Waking ks k aim) (w : WakesFirst aim now) where
-  first_at : IsAt k k w.run stage.First
+  first_at : IsAtWake k k w.run stage.First
   first_at = record {
     up = m.up;
     idle = m.idle;
@@ -128,8 +128,8 @@ module _ (ks : KeptBits) (k : Known) (aim : Aim) (now : Running) (m : Waking ks 
     came = subst (λ (r : Running). CameFrom false k r k r) (sym w.is) (first_at, refl);
   }
 
-  pub first_sound : IsSound now ks k
-  first_sound = subst (λ (r : Running). IsSound r ks k) (sym w.is) (record {
+  pub first_sound : IsRunningSound now ks k
+  first_sound = subst (λ (r : Running). IsRunningSound r ks k) (sym w.is) (record {
     start = k;
     first = running.Wake w.run stage.First;
     began = record {

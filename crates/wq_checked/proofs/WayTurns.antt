@@ -6,7 +6,7 @@ use Rattle.wait_rule.specs.Known.{Known}
 use Rattle.wait_class.specs.declared.stages.Run.{Run}
 use Rattle.wait_class.specs.declared.stages.Turn.{Turn}
 use Rattle.wait_class.specs.declared.stages.Turn.TheVariants as turn
-use Rattle.wait_class.specs.Laws.{IsLawfulTable}
+use Rattle.wait_class.specs.Laws.{IsLawfulCallTable}
 use Rattle.wait_class.specs.Tables.{Advances, CallTable, IsAt, Lands, SleepsNot, next_in, plan_program}
 use Rattle.wait_leave.specs.ExitLaws.{AreLawfulExits}
 use Rattle.wait_leave.specs.Leaves.{Exits, GoesOut, Leaves, asked_run, stays_awake}
@@ -14,7 +14,7 @@ use Rattle.wait_leave.specs.OnTheWay.{OnTheWay, left_at, straight}
 use Rattle.wait_leave.proofs.Awake.{goes_awake, rest_awake}
 use Rattle.wait_class.proofs.AwakeSteps.{sleeps_not_on, sleeps_not_same}
 use Rattle.wait_leave.proofs.Ways.{way_again, way_lands, way_none, way_then}
-use Rattle.wq_checked.specs.Stages.{HasCome, StandsBy, StretchesOn}
+use Rattle.wq_checked.specs.Stages.{HasComeBy, StandsBy, StretchesOn}
 use Rattle.wq_checked.proofs.GroundTurns.{joined}
 
 pub either_left : (a b : Bool) → a ≡ true → (a || b) ≡ true
@@ -38,7 +38,7 @@ pub way_straight : {C S O : Type 0} (t : CallTable C S O) (x : Exits C S O) (old
 way_straight t x old r s _ _ _ (straight new q u a) = a
 way_straight t x old r s _ _ _ (left_at mid m n new q u c w l) = absurd (let no = c in cc)
 
-module _ {C S O : Type 0} (t : CallTable C S O) (x : Exits C S O) (law : AreLawfulExits t x) (lawful : IsLawfulTable t)
+module _ {C S O : Type 0} (t : CallTable C S O) (x : Exits C S O) (law : AreLawfulExits t x) (lawful : IsLawfulCallTable t)
   where
     out_awake : (e u : Turn S O) (k new : Known) (r q : Run C) → GoesOut t k new r q e u → stays_awake t x e ≡ true
         → SleepsNot k new
@@ -94,13 +94,13 @@ module _ {C S O : Type 0} (t : CallTable C S O) (x : Exits C S O) (law : AreLawf
       came_on s u w a = way_then Why t x law lawful start f first old new run q s u w
           (way_by (asks ≡ true) Why (either_left asks may) t x old run s new q u a)
 
-      so_far : (last : Turn S O) → HasCome may t x start old f run first last
+      so_far : (last : Turn S O) → HasComeBy may t x start old f run first last
           → OnTheWay Why t x start f first old run last
       so_far last c = way_by (may ≡ true) Why (either_right asks may) t x start f first old run last c.way
 
       -- one stretch more
-      pub come_on : (last u : Turn S O) → StandsBy t old run last → HasCome may t x start old f run first last
-          → StretchesOn asks t x old new run q last u → HasCome (asks || may) t x start new f q first u
+      pub come_on : (last u : Turn S O) → StandsBy t old run last → HasComeBy may t x start old f run first last
+          → StretchesOn asks t x old new run q last u → HasComeBy (asks || may) t x start new f q first u
       come_on (turn.Again s) u stands c a = record {
         unasked = c.unasked;
         way = came_on s u (so_far (turn.Again s) c) a;
@@ -117,24 +117,24 @@ module _ {C S O : Type 0} (t : CallTable C S O) (x : Exits C S O) (law : AreLawf
 
     -- a call that begins
     pub come_none : (may : Bool) (k : Known) (r : Run C) (s : S) → (t.plan_of r.of).asked ≡ false → IsAt t k r s
-        → HasCome may t x k k r r s (turn.Again s)
+        → HasComeBy may t x k k r r s (turn.Again s)
     come_none may k r s none at = record {
       unasked = none;
       way = way_none (may ≡ true) t x law lawful k r s at;
     }
 
-    pub come_lands : (may : Bool) (start k : Known) (f r : Run C) (s : S) (u : Turn S O) → HasCome may t x start k f r s u
+    pub come_lands : (may : Bool) (start k : Known) (f r : Run C) (s : S) (u : Turn S O) → HasComeBy may t x start k f r s u
         → Lands t k r u
     come_lands may start k f r s u c = way_lands (may ≡ true) t x law lawful start f s k r u c.way
 
 -- one that may have been asked
 pub for_all : {C S O : Type 0} (asks : Bool) (t : CallTable C S O) (x : Exits C S O) (start new : Known) (f q : Run C)
-    (first : S) (u : Turn S O) → HasCome (asks || true) t x start new f q first u → HasCome true t x start new f q first u
+    (first : S) (u : Turn S O) → HasComeBy (asks || true) t x start new f q first u → HasComeBy true t x start new f q first u
 for_all true t x start new f q first u c = c
 for_all false t x start new f q first u c = c
 
 -- where it does not rest it stands as before
 pub come_stayed : {C S O : Type 0} (t : CallTable C S O) (x : Exits C S O) (may : Bool) (start mid new : Known)
-    (f q : Run C) (first : S) (u : Turn S O) → new ≡ mid → HasCome may t x start mid f q first u
-    → HasCome may t x start new f q first u
-come_stayed t x may start mid new f q first u is c = subst (λ (k : Known). HasCome may t x start k f q first u) (sym is) c
+    (f q : Run C) (first : S) (u : Turn S O) → new ≡ mid → HasComeBy may t x start mid f q first u
+    → HasComeBy may t x start new f q first u
+come_stayed t x may start mid new f q first u is c = subst (λ (k : Known). HasComeBy may t x start k f q first u) (sym is) c

@@ -10,7 +10,7 @@ use Rattle.wait_rule.specs.Queues.{IsIdle}
 use Rattle.wait_rule.specs.Says.{IsUp, Owes, told_of}
 use Rattle.wait_rule.specs.Stays.{with_wakes}
 use Rattle.wq_head.specs.Walks.{IsFull}
-use Rattle.bit_wait.specs.BitTables.{is_worn}
+use Rattle.bit_wait.specs.BitTables.{is_bit_worn}
 use Rattle.bit_wait.specs.BitLeaves.{bit_until_in}
 use Rattle.bit_wait.specs.LockLeaves.{until_in}
 use Rattle.page_lock.specs.PageLeaves.{page_until}
@@ -121,7 +121,7 @@ cell_shown r (cell_turn.Starved n) = progress.Starved
 
 -- no place was left for the entry of a wait that ended so
 abbrev pub bit_worn : BitTurn → Bool
-bit_worn (turn.Done o) = is_worn o
+bit_worn (turn.Done o) = is_bit_worn o
 bit_worn _ = false
 
 abbrev pub lock_worn : LockRun → LockTurn → Bool
@@ -141,9 +141,9 @@ abbrev pub lock_took : LockTurn → Bool
 lock_took (turn.Done o) = lock_over o
 lock_took _ = false
 
-abbrev pub page_took : PageTurn → Bool
-page_took (turn.Done o) = page_over o
-page_took _ = false
+abbrev pub turn_took_page : PageTurn → Bool
+turn_took_page (turn.Done o) = page_over o
+turn_took_page _ = false
 
 -- A task that may begin a wake with this aim: it may owe the wakes that this one makes.
 pub record Waking (ks : KeptBits) (k : Known) (aim : Aim) : Type 0 where

@@ -16,7 +16,7 @@ use Rattle.wait_rule.specs.Says.{AddsOf, FindsTally, added}
 use Rattle.wait_rule.specs.declared.journal.Item.TheVariants as item
 use Rattle.wait_class.specs.declared.frame_stages.Stage.TheVariants as frame_stage
 use Rattle.wait_class.specs.declared.stages.Turn.TheVariants as turn
-use Rattle.wait_event.specs.Conds.{HasTaken}
+use Rattle.wait_event.specs.Conds.{HasTakenCond}
 use Rattle.wait_event.specs.Waits as events
 use Rattle.wait_event.specs.declared.waits.WaitStage.TheVariants as event_stage
 use Rattle.var_wait.specs.VarWaits.{shared_in}
@@ -125,20 +125,20 @@ refusal_to c t = refusal_by c t.running t.kept
 -- The call under way is this one before its first stretch, with its numbers.
 abbrev pub BeginsAs : Call → Running → Type 0
 BeginsAs (call.Wait c how) (running.Event r (turn.Again event_stage.First)) =
-    events.IsFresh r.of (watch.Plain c) how
+    events.IsFreshWait r.of (watch.Plain c) how
 BeginsAs (call.SimpleWait c st) (running.Event r (turn.Again event_stage.First)) =
-    events.IsFresh r.of (watch.Plain c) (tail_in st)
+    events.IsFreshWait r.of (watch.Plain c) (tail_in st)
 BeginsAs (call.WaitVar v old st) (running.Event r (turn.Again event_stage.First)) =
-    events.IsFresh r.of (watch.Var v old) (shared_in st)
+    events.IsFreshWait r.of (watch.Var v old) (shared_in st)
 BeginsAs (call.WaitBit w b st) (running.Bit r (turn.Again (frame_stage.Test bit_test.First))) =
-    bits.IsFresh r.of.wait w b st
+    bits.IsFreshBitWait r.of.wait w b st
 BeginsAs (call.LockBit w b st) (running.Lock r (turn.Again (frame_stage.Test lock_test.First))) =
-    locks.IsFresh r.of.wait w b st
-BeginsAs (call.LockPage p st) (running.Page r (turn.Again page_stage.First)) = pages.IsFresh r.of p st
-BeginsAs (call.WaitFor d st) (running.Await r (turn.Again await_stage.First)) = awaits.IsFresh r.of d st
-BeginsAs (call.Cell q d) (running.Cell r cell_stage.First) = cells.IsFresh r q d
-BeginsAs (call.SimpleWake c all) (running.Swake r swake_stage.First) = swakes.IsFresh r c all
-BeginsAs (call.SetAndSimpleWake c x all) (running.Swake r swake_stage.First) = swakes.IsFresh r c all
+    locks.IsFreshLock r.of.wait w b st
+BeginsAs (call.LockPage p st) (running.Page r (turn.Again page_stage.First)) = pages.IsFreshPageWait r.of p st
+BeginsAs (call.WaitFor d st) (running.Await r (turn.Again await_stage.First)) = awaits.IsFreshAwait r.of d st
+BeginsAs (call.Cell q d) (running.Cell r cell_stage.First) = cells.IsFreshCell r q d
+BeginsAs (call.SimpleWake c all) (running.Swake r swake_stage.First) = swakes.IsFreshSwake r c all
+BeginsAs (call.SetAndSimpleWake c x all) (running.Swake r swake_stage.First) = swakes.IsFreshSwake r c all
 BeginsAs (call.Wake c md n) (running.Wake r wake_stage.First) =
     r.aim ≡ record { watch = watch.Plain c; mode = md; count = n }
 BeginsAs (call.SetAndWake c x n) (running.Wake r wake_stage.First) =
@@ -170,7 +170,7 @@ pub record LooksBehind (c : Call) (w : Watch) (old new : Known) (told : Progress
   pub looked : HasScanned old new (head_of w) hit
   pub goes : GoesWhere hit c new told now
 
-pub record Publishes (c : Call) (w : Watch) (value : ℕ) (old new : Known) (told : Progress) (now : Running) : Type 0
+pub record PublishesFirst (c : Call) (w : Watch) (value : ℕ) (old new : Known) (told : Progress) (now : Running) : Type 0
   where
     pub between : Known
     pub published : WasPublished w value old between
@@ -181,7 +181,7 @@ abbrev pub Does : Call → Known → Known → KeptBits → Answer → Type 0
 Does (call.TryBit w b) old new ks (answer.Tried clear) =
     HasTriedBit old new w b clear × (clear ≡ true → keeps_in ks (watch.Bit w b) ≡ true)
 Does (call.AddTally p n) old new ks (answer.Value v) = (new ≡ added old (item.Tally p n v)) × FindsTally old.view p v
-Does (call.Take c) old new ks (answer.Value v) = HasTaken old new c v
+Does (call.Take c) old new ks (answer.Value v) = HasTakenCond old new c v
 Does (call.Signal who fatal) old new ks (answer.Raised None) = Woke old new who fatal false
 Does (call.Signal who fatal) old new ks (answer.Raised (Some w)) = (w ≡ who) × Woke old new who fatal true
 Does (call.Kick who) old new ks (answer.Kicked woke rouse) = HasKicked old new who woke rouse
@@ -197,20 +197,20 @@ IsDone (call.Kick who) old new ks progress.Starved now = (new ≡ old) × (now �
 IsDone _ old new ks told now = ⊥
 
 -- What a call begins: it publishes first, or is over at once, or the task is as it was, and the call is under way.
-abbrev pub Begins : Call → Known → Known → KeptBits → Progress → Running → Type 0
-Begins (call.SetAndWake c x n) old new ks told now =
+abbrev pub BeginsCall : Call → Known → Known → KeptBits → Progress → Running → Type 0
+BeginsCall (call.SetAndWake c x n) old new ks told now =
     (told ≡ progress.Again) × WasPublished (watch.Plain c) x old new × HasJustBegun (call.SetAndWake c x n) new now
-Begins (call.SetAndSimpleWake c x all) old new ks told now =
+BeginsCall (call.SetAndSimpleWake c x all) old new ks told now =
     (told ≡ progress.Again) × WasPublished (watch.Plain c) x old new × HasJustBegun (call.SetAndSimpleWake c x all) new now
-Begins (call.SetVar v x) old new ks told now = Publishes (call.SetVar v x) (watch.Var v 0) x old new told now
-Begins (call.ClearBit w b) old new ks told now = Publishes (call.ClearBit w b) (watch.Bit w b) 0 old new told now
-Begins (call.TryBit w b) old new ks told now = IsDone (call.TryBit w b) old new ks told now
-Begins (call.AddTally p n) old new ks told now = IsDone (call.AddTally p n) old new ks told now
-Begins (call.Take c) old new ks told now = IsDone (call.Take c) old new ks told now
-Begins (call.Signal who fatal) old new ks told now = IsDone (call.Signal who fatal) old new ks told now
-Begins (call.Kick who) old new ks told now = IsDone (call.Kick who) old new ks told now
-Begins call.Accept old new ks told now = IsDone call.Accept old new ks told now
-Begins c old new ks told now = (told ≡ progress.Again) × (new ≡ old) × HasJustBegun c new now
+BeginsCall (call.SetVar v x) old new ks told now = PublishesFirst (call.SetVar v x) (watch.Var v 0) x old new told now
+BeginsCall (call.ClearBit w b) old new ks told now = PublishesFirst (call.ClearBit w b) (watch.Bit w b) 0 old new told now
+BeginsCall (call.TryBit w b) old new ks told now = IsDone (call.TryBit w b) old new ks told now
+BeginsCall (call.AddTally p n) old new ks told now = IsDone (call.AddTally p n) old new ks told now
+BeginsCall (call.Take c) old new ks told now = IsDone (call.Take c) old new ks told now
+BeginsCall (call.Signal who fatal) old new ks told now = IsDone (call.Signal who fatal) old new ks told now
+BeginsCall (call.Kick who) old new ks told now = IsDone (call.Kick who) old new ks told now
+BeginsCall call.Accept old new ks told now = IsDone call.Accept old new ks told now
+BeginsCall c old new ks told now = (told ≡ progress.Again) × (new ≡ old) × HasJustBegun c new now
 
 -- the calls that publish, and those that are over at once
 abbrev pub publishes_first : Call → Bool

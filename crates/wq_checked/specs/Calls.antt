@@ -46,12 +46,12 @@ use Rattle.wq_head.specs.Turns as wakes
 use Rattle.wq_head.specs.declared.rousing.Rousing.{Rousing}
 use Rattle.wq_head.specs.declared.wakes.WakeRun.{WakeRun}
 use Rattle.wq_head.specs.declared.wakes.WakeStage.TheVariants as wake_stage
-use Rattle.wq_checked.specs.Kept.{IsReady, but_kept, keeps_in}
+use Rattle.wq_checked.specs.Kept.{IsReadyWith, but_kept, keeps_in}
 use Rattle.wq_checked.specs.Locks.{awaited_in, refusal_told}
 use Rattle.wq_checked.specs.Stages.{
   AwaitRun,
   BitRun,
-  HasCome,
+  HasComeBy,
   LockRun,
   PageRun,
   StandsBy,
@@ -70,26 +70,26 @@ use Rattle.wq_checked.specs.declared.kept_bits.KeptBits.{KeptBits}
 
 -- A wait that has not begun.
 abbrev pub IsFreshEvent : WaitCall → Type 0
-IsFreshEvent r = (w : Watch) × (how : How) × events.IsFresh r w how
+IsFreshEvent r = (w : Watch) × (how : How) × events.IsFreshWait r w how
 
 -- One for a plain condition or a variable has come to here.
 pub record EventCame (may : Bool) (start k : Known) (first run : WaitRun) (last : WaitTurn) : Type 0 where
-  pub came : HasCome may events.wait_table event_leaves.wait_exits start k first run event_stage.First last
+  pub came : HasComeBy may events.wait_table event_leaves.wait_exits start k first run event_stage.First last
   pub fresh : IsFreshEvent first.of
 
 -- A wait for a completion has come to here, and began with no head held.
 pub record AwaitCame (may : Bool) (start k : Known) (first run : AwaitRun) (last : AwaitTurn) : Type 0 where
-  pub came : HasCome may awaits.await_table await_leaves.await_exits start k first run await_stage.First last
+  pub came : HasComeBy may awaits.await_table await_leaves.await_exits start k first run await_stage.First last
   pub held : (told_of start).hold.head ≡ None
 
 -- the same call about a completion, and the same wake of a simple queue
 pub record CellCame (start k : Known) (first run : CellRun) (s : CellStage) : Type 0 where
-  pub at : cells.IsAt start k run s
+  pub at : cells.IsAtCell start k run s
   pub call : run.call ≡ first.call
   pub cell : run.cell ≡ first.cell
 
 pub record SwakeCame (start k : Known) (first run : SwakeRun) (s : SwakeStage) : Type 0 where
-  pub at : swakes.IsAt start k run s
+  pub at : swakes.IsAtSwake start k run s
   pub cond : run.cond ≡ first.cond
   pub all : run.all ≡ first.all
 
@@ -99,14 +99,14 @@ abbrev pub CameFrom : Bool → Known → Running → Known → Running → Type 
 CameFrom may start (running.Event first from) k (running.Event run last) =
     EventCame may start k first run last
 CameFrom may start (running.Bit first from) k (running.Bit run last) =
-    HasCome may bits.bit_table bit_leaves.bit_exits start k first run bit_first last
+    HasComeBy may bits.bit_table bit_leaves.bit_exits start k first run bit_first last
 CameFrom may start (running.Lock first from) k (running.Lock run last) =
-    HasCome may locks.lock_table lock_leaves.lock_exits start k first run lock_first last
+    HasComeBy may locks.lock_table lock_leaves.lock_exits start k first run lock_first last
 CameFrom may start (running.Page first from) k (running.Page run last) =
-    HasCome may pages.page_table page_leaves.page_exits start k first run page_stage.First last
+    HasComeBy may pages.page_table page_leaves.page_exits start k first run page_stage.First last
 CameFrom may start (running.Await first from) k (running.Await run last) = AwaitCame may start k first run last
 CameFrom may start (running.Wake first from) k (running.Wake run last) =
-    wakes.IsAt start k run last × (run.aim ≡ first.aim)
+    wakes.IsAtWake start k run last × (run.aim ≡ first.aim)
 CameFrom may start (running.Swake first from) k (running.Swake run last) = SwakeCame start k first run last
 CameFrom may start (running.Cell first from) k (running.Cell run last) = CellCame start k first run last
 CameFrom _ _ _ _ _ = ⊥
@@ -134,7 +134,7 @@ await_answer (until.Left seen) = answer.Left seen false
 pub record EventEnded (may : Bool) (start new : Known) (first : WaitRun) (a : Answer) : Type 0 where
   pub watch : Watch
   pub how : How
-  pub fresh : events.IsFresh first.of watch how
+  pub fresh : events.IsFreshWait first.of watch how
   pub result : WaitUntil (Result (Unit {0}) WaitEnd)
   pub ended : event_leaves.EndsWaitUntil (may ≡ true) start new watch how result
   pub answers : a ≡ event_answer watch ended.leaves.at.of.seen result
@@ -170,9 +170,9 @@ Ended may start (running.Bit first from) new a = BitEnded may start new first a
 Ended may start (running.Lock first from) new a = LockEnded may start new first a
 Ended may start (running.Page first from) new a = PageEnded may start new first a
 Ended may start (running.Await first from) new a = AwaitEnded may start new first a
-Ended may start (running.Wake first from) new (answer.Walked w) = wakes.IsOver first.aim start new w
-Ended may start (running.Swake first from) new (answer.Selected n) = swakes.IsOver start new first.cond first.all n
-Ended may start (running.Cell first from) new (answer.Cell hit) = cells.IsOver first.call first.cell hit start new
+Ended may start (running.Wake first from) new (answer.Walked w) = wakes.IsWakeOver first.aim start new w
+Ended may start (running.Swake first from) new (answer.Selected n) = swakes.IsSwakeOver start new first.cond first.all n
+Ended may start (running.Cell first from) new (answer.Cell hit) = cells.IsCellOver first.call first.cell hit start new
 Ended _ _ _ _ _ = ⊥
 
 -- what a stretch tells of a call that is not over
@@ -183,24 +183,24 @@ turn_told r _ = progress.Again
 
 -- What it tells fits where the call stands: a wake waits for its lock where a ticket is drawn, and goes on at once
 -- behind a break; a call of one hold waits for its lock. Where it waits for a lock it tells which.
-abbrev pub Fits : Running → Progress → Type 0
-Fits (running.Event run last) p = p ≡ turn_told (running.Event run last) last
-Fits (running.Bit run last) p = p ≡ turn_told (running.Bit run last) last
-Fits (running.Lock run last) p = p ≡ turn_told (running.Lock run last) last
-Fits (running.Page run last) p = p ≡ turn_told (running.Page run last) last
-Fits (running.Await run last) p = p ≡ turn_told (running.Await run last) last
-Fits (running.Wake run last) progress.Again = Unit {0}
-Fits (running.Wake run last) (progress.Locked a) = awaited_in (running.Wake run last) ≡ Some a
-Fits (running.Swake run last) (progress.Locked a) = awaited_in (running.Swake run last) ≡ Some a
-Fits (running.Cell run last) (progress.Locked a) = awaited_in (running.Cell run last) ≡ Some a
-Fits _ _ = ⊥
+abbrev pub FitsProgress : Running → Progress → Type 0
+FitsProgress (running.Event run last) p = p ≡ turn_told (running.Event run last) last
+FitsProgress (running.Bit run last) p = p ≡ turn_told (running.Bit run last) last
+FitsProgress (running.Lock run last) p = p ≡ turn_told (running.Lock run last) last
+FitsProgress (running.Page run last) p = p ≡ turn_told (running.Page run last) last
+FitsProgress (running.Await run last) p = p ≡ turn_told (running.Await run last) last
+FitsProgress (running.Wake run last) progress.Again = Unit {0}
+FitsProgress (running.Wake run last) (progress.Locked a) = awaited_in (running.Wake run last) ≡ Some a
+FitsProgress (running.Swake run last) (progress.Locked a) = awaited_in (running.Swake run last) ≡ Some a
+FitsProgress (running.Cell run last) (progress.Locked a) = awaited_in (running.Cell run last) ≡ Some a
+FitsProgress _ _ = ⊥
 
 -- An advance of the call: it is over, with this answer, and no call is under way; or a wake was starved; or it has come
 -- on, and tells how.
 abbrev pub WentOn : Bool → Known → Running → Known → Running → Progress → Type 0
 WentOn may start first new now (progress.Done a) = (now ≡ running.Idle) × Ended may start first new a
 WentOn may start first new now progress.Starved = now ≡ running.Starved
-WentOn may start first new now p = CameFrom may start first new now × Fits now p
+WentOn may start first new now p = CameFrom may start first new now × FitsProgress now p
 
 -- What held when a call began: the task was ready; but for a wake, which may owe wakes of its watch, as a publish left
 -- it.
@@ -218,14 +218,14 @@ pub record IsSwaking (ks : KeptBits) (start : Known) (cond : ℕ) : Type 0 where
   pub off : HasLeftNone start
 
 abbrev pub Began : KeptBits → Known → Running → Type 0
-Began ks start (running.Event first from) = IsReady ks start × IsFreshEvent first.of
-Began ks start (running.Bit first from) = IsReady ks start
-Began ks start (running.Lock first from) = IsReady ks start
-Began ks start (running.Page first from) = IsReady ks start
-Began ks start (running.Await first from) = IsReady ks start
+Began ks start (running.Event first from) = IsReadyWith ks start × IsFreshEvent first.of
+Began ks start (running.Bit first from) = IsReadyWith ks start
+Began ks start (running.Lock first from) = IsReadyWith ks start
+Began ks start (running.Page first from) = IsReadyWith ks start
+Began ks start (running.Await first from) = IsReadyWith ks start
 Began ks start (running.Wake first from) = IsWaking ks start first
 Began ks start (running.Swake first from) = IsSwaking ks start first.cond
-Began ks start (running.Cell first from) = IsReady ks start
+Began ks start (running.Cell first from) = IsReadyWith ks start
 Began ks start _ = ⊥
 
 -- where it stands
@@ -241,7 +241,7 @@ StandsOn k (running.Cell run last) = Unit {0}
 StandsOn k _ = ⊥
 
 -- A call is under way that began with the task ready.
-pub record IsUnderWay (ks : KeptBits) (k : Known) (r : Running) : Type 0 where
+pub record IsCallUnderWay (ks : KeptBits) (k : Known) (r : Running) : Type 0 where
   pub start : Known
   pub first : Running
   pub began : Began ks start first
@@ -249,10 +249,10 @@ pub record IsUnderWay (ks : KeptBits) (k : Known) (r : Running) : Type 0 where
   pub stands : StandsOn k r
 
 -- What is kept of the task is so: between two calls, and while one is under way.
-abbrev pub IsSound : Running → KeptBits → Known → Type 0
-IsSound running.Idle ks k = IsReady ks k
-IsSound running.Starved ks k = Unit {0}
-IsSound r ks k = IsUnderWay ks k r
+abbrev pub IsRunningSound : Running → KeptBits → Known → Type 0
+IsRunningSound running.Idle ks k = IsReadyWith ks k
+IsRunningSound running.Starved ks k = Unit {0}
+IsRunningSound r ks k = IsCallUnderWay ks k r
 
 -- a wake with this aim before its first hold
 pub record WakesFirst (aim : Aim) (now : Running) : Type 0 where

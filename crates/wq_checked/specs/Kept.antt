@@ -23,7 +23,7 @@ but_kept ks = with_bits (keeps_in ks) no_excuse
 
 -- A task between two calls: it is awake and idle, it keeps just the bits that the masks show, but for them it owes
 -- nothing, and it has left no own entry at a completion.
-pub record IsReady (ks : KeptBits) (k : Known) : Type 0 where
+pub record IsReadyWith (ks : KeptBits) (k : Known) : Type 0 where
   pub up : IsUp k
   pub idle : IsIdle k
   pub told : (told_of k).hold.head ≡ None

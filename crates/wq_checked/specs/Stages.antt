@@ -79,7 +79,7 @@ StretchesOn asks t x old new r q (turn.Done o) u = ⊥
 
 -- A call that began unasked, at this stage, has come to here: it went straight by its program, or, where it `may` have
 -- been asked to leave, was on its way to stages at which it was, and went out there.
-pub record HasCome {C S O : Type 0} (may : Bool) (t : CallTable C S O) (x : Exits C S O) (start k : Known)
+pub record HasComeBy {C S O : Type 0} (may : Bool) (t : CallTable C S O) (x : Exits C S O) (start k : Known)
     (first run : Run C) (s : S) (last : Turn S O) : Type 0 where
   pub unasked : (t.plan_of first.of).asked ≡ false
   pub way : OnTheWay (may ≡ true) t x start first s k run last

@@ -11,10 +11,10 @@ ghost use Rattle.wait_model.specs.declared.watches.Watch.TheVariants as watch;
 ghost use Rattle.wait_rule.specs.Bits.{taken_bits};
 ghost use Rattle.wq_checked.specs.Kept.{keeps_in};
 ghost use Rattle.wait_event.specs.WaitLeaves.{wait_until_in};
-ghost use Rattle.wq_checked.specs.Calls.{CameFrom, IsSound, Rouses, WentOn, bit_answer, event_answer, waited};
+ghost use Rattle.wq_checked.specs.Calls.{CameFrom, IsRunningSound, Rouses, WentOn, bit_answer, event_answer, waited};
 ghost use Rattle.wq_checked.specs.Advancing.{event_left, event_shown, bit_left, bit_shown, lock_left, lock_shown};
 ghost use Rattle.wq_checked.specs.Advancing.{wake_left, wake_shown};
-ghost use Rattle.wq_checked.specs.Advancing.{page_left, page_shown, bit_worn, lock_worn, lock_took, page_took};
+ghost use Rattle.wq_checked.specs.Advancing.{page_left, page_shown, bit_worn, lock_worn, lock_took, turn_took_page};
 ghost use Rattle.wq_checked.specs.Outs.{WentOut};
 ghost use Rattle.wq_checked.specs.Reasons.{stopped_reason};
 ghost use Rattle.wq_checked.specs.declared.calls.Running.{Running as TheRunning};
@@ -106,9 +106,9 @@ pub(crate) fn event_on(
 ) -> (Running, Progress)
     requires of { task.old.domain ≡ domain.now }
     requires passes { PassesNone passing.old }
-    requires sound { IsSound (running.Event run last) kept.now task.old }
+    requires sound { IsRunningSound (running.Event run last) kept.now task.old }
     ensures of { task.new.domain ≡ domain.now }
-    ensures sound { IsSound result.0 kept.now task.new }
+    ensures sound { IsRunningSound result.0 kept.now task.new }
     ensures goes { (may : Bool) (start : Known) (first : TheRunning)
         → CameFrom may start first task.old (running.Event run last)
         → WentOn (asks || may) start first task.new result.0 result.1 }
@@ -160,9 +160,9 @@ pub(crate) fn bit_on(
 ) -> (Running, Progress)
     requires of { task.old.domain ≡ domain.now }
     requires passes { PassesNone passing.old }
-    requires sound { IsSound (running.Bit run last) kept.now task.old }
+    requires sound { IsRunningSound (running.Bit run last) kept.now task.old }
     ensures of { task.new.domain ≡ domain.now }
-    ensures sound { IsSound result.0 kept.now task.new }
+    ensures sound { IsRunningSound result.0 kept.now task.new }
     ensures goes { (may : Bool) (start : Known) (first : TheRunning)
         → CameFrom may start first task.old (running.Bit run last)
         → WentOn (asks || may) start first task.new result.0 result.1 }
@@ -200,7 +200,7 @@ fn has_bit(turn: LockTurn) -> bool
 
 /// Whether a wait ended with the page.
 fn has_page(turn: PageTurn) -> bool
-    ensures { result ≡ page_took turn }
+    ensures { result ≡ turn_took_page turn }
 {
     match turn {
         Turn::Done(outcome) => match outcome {
@@ -250,9 +250,9 @@ pub(crate) fn lock_on(
 ) -> (Running, Progress)
     requires of { task.old.domain ≡ domain.now }
     requires passes { PassesNone passing.old }
-    requires sound { IsSound (running.Lock run last) kept.old task.old }
+    requires sound { IsRunningSound (running.Lock run last) kept.old task.old }
     ensures of { task.new.domain ≡ domain.now }
-    ensures sound { IsSound result.0 kept.new task.new }
+    ensures sound { IsRunningSound result.0 kept.new task.new }
     ensures goes { (may : Bool) (start : Known) (first : TheRunning)
         → CameFrom may start first task.old (running.Lock run last)
         → WentOn (asks || may) start first task.new result.0 result.1 }
@@ -293,9 +293,9 @@ pub(crate) fn page_on(
 ) -> (Running, Progress)
     requires of { task.old.domain ≡ domain.now }
     requires passes { PassesNone passing.old }
-    requires sound { IsSound (running.Page run last) kept.old task.old }
+    requires sound { IsRunningSound (running.Page run last) kept.old task.old }
     ensures of { task.new.domain ≡ domain.now }
-    ensures sound { IsSound result.0 kept.new task.new }
+    ensures sound { IsRunningSound result.0 kept.new task.new }
     ensures goes { (may : Bool) (start : Known) (first : TheRunning)
         → CameFrom may start first task.old (running.Page run last)
         → WentOn (asks || may) start first task.new result.0 result.1 }
@@ -333,9 +333,9 @@ pub(crate) fn wake_on(
     requires of { task.old.domain ≡ domain.now }
     requires passes { PassesNone passing.old }
     requires none { tasks_in rousing.old ≡ [] }
-    requires sound { IsSound (running.Wake run stage) kept.now task.old }
+    requires sound { IsRunningSound (running.Wake run stage) kept.now task.old }
     ensures of { task.new.domain ≡ domain.now }
-    ensures sound { IsSound result.0 kept.now task.new }
+    ensures sound { IsRunningSound result.0 kept.now task.new }
     ensures goes { (may now : Bool) (start : Known) (first : TheRunning)
         → CameFrom may start first task.old (running.Wake run stage)
         → WentOn now start first task.new result.0 result.1 }
@@ -362,9 +362,9 @@ pub(crate) fn go_on(
     requires passes { PassesNone passing.old }
     requires none { tasks_in rousing.old ≡ [] }
     requires under { stopped_reason running ≡ None }
-    requires sound { IsSound running kept.old task.old }
+    requires sound { IsRunningSound running kept.old task.old }
     ensures of { task.new.domain ≡ domain.now }
-    ensures sound { IsSound result.0 kept.new task.new }
+    ensures sound { IsRunningSound result.0 kept.new task.new }
     ensures goes { (may : Bool) (start : Known) (first : TheRunning) → CameFrom may start first task.old running
         → WentOn (asks || may) start first task.new result.0 result.1 }
     ensures asks { asks ≡ true → WentOut task.old running task.new result.0 result.1 }

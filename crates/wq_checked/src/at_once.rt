@@ -3,8 +3,8 @@
 
 ghost use Rattle.std.specs.Prelude.{◌≡◌, true, None};
 ghost use Rattle.wq_checked.specs.Begins.{IsDone, is_short, numbers_fit, keeping_reason};
-ghost use Rattle.wq_checked.specs.Calls.{IsSound};
-ghost use Rattle.wq_checked.specs.Kept.{IsReady};
+ghost use Rattle.wq_checked.specs.Calls.{IsRunningSound};
+ghost use Rattle.wq_checked.specs.Kept.{IsReadyWith};
 ghost use Rattle.wq_checked.specs.Signals.{who_if};
 ghost use Rattle.wq_checked.specs.declared.calls.Call.TheVariants as task_call;
 
@@ -29,9 +29,9 @@ fn raise(
     fatal: bool,
 ) -> (Running, Progress)
     requires of { task.old.domain ≡ domain.now }
-    requires ready { IsReady kept.now task.old }
+    requires ready { IsReadyWith kept.now task.old }
     ensures of { task.new.domain ≡ domain.now }
-    ensures sound { IsSound result.0 kept.now task.new }
+    ensures sound { IsRunningSound result.0 kept.now task.new }
     ensures does { IsDone (task_call.Signal who fatal) task.old task.new kept.now result.1 result.0 }
 {
     let _ = kept;
@@ -56,9 +56,9 @@ fn who_if(who: u8, rouse: bool) -> Option<u8>
 /// as in no run.
 fn kick(domain: &Domain, task: &mut Task, kept: &KeptBits, who: u8) -> (Running, Progress)
     requires of { task.old.domain ≡ domain.now }
-    requires ready { IsReady kept.now task.old }
+    requires ready { IsReadyWith kept.now task.old }
     ensures of { task.new.domain ≡ domain.now }
-    ensures sound { IsSound result.0 kept.now task.new }
+    ensures sound { IsRunningSound result.0 kept.now task.new }
     ensures does { IsDone (task_call.Kick who) task.old task.new kept.now result.1 result.0 }
 {
     let _ = kept;
@@ -83,12 +83,12 @@ pub(crate) fn do_at_once(
     call: Call,
 ) -> (Running, Progress)
     requires of { task.old.domain ≡ domain.now }
-    requires ready { IsReady kept.old task.old }
+    requires ready { IsReadyWith kept.old task.old }
     requires within { numbers_fit call ≡ true }
     requires keeps { keeping_reason call kept.old ≡ None }
     requires short { is_short call ≡ true }
     ensures of { task.new.domain ≡ domain.now }
-    ensures sound { IsSound result.0 kept.new task.new }
+    ensures sound { IsRunningSound result.0 kept.new task.new }
     ensures does { IsDone call task.old task.new kept.new result.1 result.0 }
 {
     match call {

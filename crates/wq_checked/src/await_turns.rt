@@ -4,7 +4,7 @@ ghost use Rattle.std.specs.Prelude.{◌≡◌, ◌||◌, Bool, true};
 ghost use Rattle.wait_rule.specs.Known.{Known};
 ghost use Rattle.wait_rule.specs.PassedLocks.{PassesNone};
 ghost use Rattle.wq_checked.specs.Advancing.{await_left, await_shown};
-ghost use Rattle.wq_checked.specs.Calls.{CameFrom, IsSound, WentOn, await_answer};
+ghost use Rattle.wq_checked.specs.Calls.{CameFrom, IsRunningSound, WentOn, await_answer};
 ghost use Rattle.wq_checked.specs.Outs.{WentOut};
 ghost use Rattle.wq_checked.specs.declared.calls.Running.{Running as TheRunning};
 ghost use Rattle.wq_checked.specs.declared.calls.Running.TheVariants as running;
@@ -61,9 +61,9 @@ pub(crate) fn await_on(
 ) -> (Running, Progress)
     requires of { task.old.domain ≡ domain.now }
     requires passes { PassesNone passing.old }
-    requires sound { IsSound (running.Await run last) kept.now task.old }
+    requires sound { IsRunningSound (running.Await run last) kept.now task.old }
     ensures of { task.new.domain ≡ domain.now }
-    ensures sound { IsSound result.0 kept.now task.new }
+    ensures sound { IsRunningSound result.0 kept.now task.new }
     ensures goes { (may : Bool) (start : Known) (first : TheRunning)
         → CameFrom may start first task.old (running.Await run last)
         → WentOn (asks || may) start first task.new result.0 result.1 }

@@ -1,10 +1,10 @@
 //! Calls that begin: each is tested, and goes on by `CheckedTask::advance`.
 
 ghost use Rattle.std.specs.Prelude.{◌≡◌, true, false, IfErr, IfOk, None, Some};
-ghost use Rattle.wq_checked.specs.Begins.{Begins, HasJustBegun, is_short, is_unlisted, numbers_fit, keeping_reason};
+ghost use Rattle.wq_checked.specs.Begins.{BeginsCall, HasJustBegun, is_short, is_unlisted, numbers_fit, keeping_reason};
 ghost use Rattle.wq_checked.specs.Begins.{publishes_first, refusal_to};
-ghost use Rattle.wq_checked.specs.Calls.{IsSound};
-ghost use Rattle.wq_checked.specs.Kept.{IsReady};
+ghost use Rattle.wq_checked.specs.Calls.{IsRunningSound};
+ghost use Rattle.wq_checked.specs.Kept.{IsReadyWith};
 
 use crate::admission::refusal_by;
 use crate::at_once::do_at_once;
@@ -36,12 +36,12 @@ use wait_rule::{Domain, Task};
 
 /// A call that publishes nothing and is not over at once, before its first stretch.
 fn first_of(task: &Task, kept: &KeptBits, call: Call) -> Running
-    requires ready { IsReady kept.now task.now }
+    requires ready { IsReadyWith kept.now task.now }
     requires within { numbers_fit call ≡ true }
     requires listed { is_unlisted call ≡ false }
     requires silent { publishes_first call ≡ false }
     requires long { is_short call ≡ false }
-    ensures sound { IsSound result kept.now task.now }
+    ensures sound { IsRunningSound result kept.now task.now }
     ensures begun { HasJustBegun call task.now result }
 {
     let _ = kept;
@@ -86,13 +86,13 @@ fn first_of(task: &Task, kept: &KeptBits, call: Call) -> Running
 
 /// A call that publishes nothing and is not over at once: it is under way, and nothing of the task has changed.
 fn begin_silently(task: &Task, kept: &KeptBits, call: Call) -> (Running, Progress)
-    requires ready { IsReady kept.now task.now }
+    requires ready { IsReadyWith kept.now task.now }
     requires within { numbers_fit call ≡ true }
     requires listed { is_unlisted call ≡ false }
     requires silent { publishes_first call ≡ false }
     requires long { is_short call ≡ false }
-    ensures sound { IsSound result.0 kept.now task.now }
-    ensures begun { Begins call task.now task.now kept.now result.1 result.0 }
+    ensures sound { IsRunningSound result.0 kept.now task.now }
+    ensures begun { BeginsCall call task.now task.now kept.now result.1 result.0 }
 {
     (first_of(task, kept, call), Progress::Again)
 }
@@ -105,13 +105,13 @@ fn begin_call(
     call: Call,
 ) -> (Running, Progress)
     requires of { task.old.domain ≡ domain.now }
-    requires ready { IsReady kept.old task.old }
+    requires ready { IsReadyWith kept.old task.old }
     requires within { numbers_fit call ≡ true }
     requires listed { is_unlisted call ≡ false }
     requires keeps { keeping_reason call kept.old ≡ None }
     ensures of { task.new.domain ≡ domain.now }
-    ensures sound { IsSound result.0 kept.new task.new }
-    ensures begun { Begins call task.old task.new kept.new result.1 result.0 }
+    ensures sound { IsRunningSound result.0 kept.new task.new }
+    ensures begun { BeginsCall call task.old task.new kept.new result.1 result.0 }
 {
     match call {
         Call::SetAndWake { cond, value, count } => {
@@ -160,7 +160,7 @@ impl CheckedTask {
         ensures refused { IfErr result (λ e. refusal_to call self.old ≡ Some e) }
         ensures same { IfErr result (λ _. self.new ≡ self.old) }
         ensures may { IfOk result (λ _. refusal_to call self.old ≡ None) }
-        ensures begun { IfOk result (λ told. Begins call self.old.task self.new.task self.new.kept told
+        ensures begun { IfOk result (λ told. BeginsCall call self.old.task self.new.task self.new.kept told
             self.new.running) }
     {
         match refusal_by(call, &self.running, &self.kept) {

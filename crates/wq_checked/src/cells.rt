@@ -6,7 +6,7 @@ ghost use Rattle.wait_rule.specs.Known.{Known};
 ghost use Rattle.wait_rule.specs.PassedLocks.{PassesNone};
 ghost use Rattle.wq_head.specs.Roused.{IsRousing, tasks_in};
 ghost use Rattle.wq_checked.specs.Advancing.{cell_left, cell_shown};
-ghost use Rattle.wq_checked.specs.Calls.{CameFrom, IsSound, WentOn};
+ghost use Rattle.wq_checked.specs.Calls.{CameFrom, IsRunningSound, WentOn};
 ghost use Rattle.wq_checked.specs.declared.calls.Running.{Running as TheRunning};
 ghost use Rattle.wq_checked.specs.declared.calls.Running.TheVariants as running;
 
@@ -42,9 +42,9 @@ pub(crate) fn cell_on(
     requires of { task.old.domain ≡ domain.now }
     requires passes { PassesNone passing.old }
     requires none { tasks_in rousing.old ≡ [] }
-    requires sound { IsSound (running.Cell run stage) kept.now task.old }
+    requires sound { IsRunningSound (running.Cell run stage) kept.now task.old }
     ensures of { task.new.domain ≡ domain.now }
-    ensures sound { IsSound result.0 kept.now task.new }
+    ensures sound { IsRunningSound result.0 kept.now task.new }
     ensures goes { (may now : Bool) (start : Known) (first : TheRunning)
         → CameFrom may start first task.old (running.Cell run stage)
         → WentOn now start first task.new result.0 result.1 }

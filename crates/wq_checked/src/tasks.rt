@@ -9,7 +9,7 @@ ghost use Rattle.wait_rule.specs.Says.{newcomer};
 ghost use Rattle.wq_head.specs.Roused.{tasks_in};
 ghost use Rattle.wq_checked.specs.Calls.{CameFrom, Rouses, WentOn};
 ghost use Rattle.wq_checked.specs.Checked.{shared_by};
-ghost use Rattle.wq_checked.specs.Kept.{IsReady, keeps_in};
+ghost use Rattle.wq_checked.specs.Kept.{IsReadyWith, keeps_in};
 ghost use Rattle.wq_checked.specs.Locks.{IsDrawn, Passes, awaited_in};
 ghost use Rattle.wq_checked.specs.Outs.{WentOut};
 ghost use Rattle.wq_checked.specs.Reasons.{IsNoFork, busy_reason, stopped_reason};
@@ -84,7 +84,7 @@ impl CheckedTask {
     /// is want of memory.
     pub fn start(alloc: Global) -> Result<CheckedTask, AllocError>
         ensures first { IfOk result (λ t. t.task ≡ newcomer t.task.domain 0 1 (TASKS - 1)) }
-        ensures ready { IfOk result (λ t. (t.running ≡ running.Idle) × (IsReady t.kept t.task)) }
+        ensures ready { IfOk result (λ t. (t.running ≡ running.Idle) × (IsReadyWith t.kept t.task)) }
         ensures none { IfOk result (λ t. (c : Watch) → keeps_in t.kept c ≡ false) }
     {
         let (domain, task) = Domain::new(alloc)?;
@@ -107,7 +107,7 @@ impl CheckedTask {
             × (1 + share ≤ self.old.task.view.spare)) }
         ensures new { IfOk result (λ t. t.task ≡ newcomer self.old.task.domain self.old.task.view.next
             (self.old.task.view.next + 1) share) }
-        ensures ready { IfOk result (λ t. (t.running ≡ running.Idle) × (IsReady t.kept t.task)) }
+        ensures ready { IfOk result (λ t. (t.running ≡ running.Idle) × (IsReadyWith t.kept t.task)) }
         ensures none { IfOk result (λ t. (c : Watch) → keeps_in t.kept c ≡ false) }
         ensures old { IfOk result (λ _. self.new ≡ shared_by share self.old) }
     {

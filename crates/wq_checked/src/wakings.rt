@@ -4,7 +4,7 @@ ghost use Rattle.std.specs.Prelude.{◌≡◌, true};
 ghost use Rattle.wait_model.specs.declared.watches.Mode.TheVariants as mode;
 ghost use Rattle.wq_checked.specs.Advancing.{Waking, WakesAs, normal_wake};
 ghost use Rattle.wq_checked.specs.Begins.{LooksBehind};
-ghost use Rattle.wq_checked.specs.Calls.{IsSound, WakesFirst};
+ghost use Rattle.wq_checked.specs.Calls.{IsRunningSound, WakesFirst};
 ghost use Rattle.wq_checked.specs.declared.calls.Call.{Call};
 
 use crate::calls::{Answer, Progress, Running};
@@ -33,7 +33,7 @@ pub(crate) fn look(
     requires of { task.old.domain ≡ domain.now }
     requires waking { Waking kept.now task.old (normal_wake watch) }
     ensures of { task.new.domain ≡ domain.now }
-    ensures sound { IsSound result.0 kept.now task.new }
+    ensures sound { IsRunningSound result.0 kept.now task.new }
     ensures looks { (c : Call) → WakesAs c (normal_wake watch)
         → LooksBehind c watch task.old task.new result.1 result.0 }
 {

@@ -71,7 +71,7 @@ use Rattle.wq_head.specs.declared.looks.ShownMember.{ShownMember}
 use Rattle.wq_head.specs.Holds.{IsHolding}
 use Rattle.wq_head.specs.Members.{AreStanding}
 use Rattle.wq_head.proofs.FirstAndLast.{below_or}
-use Rattle.wq_head.specs.Looks.{Looks, IsLow, AreLow, AreSeen, IsBetween, IsFirst, IsLast, place_of}
+use Rattle.wq_head.specs.Looks.{Looks, IsLow, AreLow, AreSeen, IsBetween, IsFirst, IsLast, place_of_shown}
 use Rattle.wq_head.specs.Adds.{IsForPlain, IsFullKind, HasAdded, HasAddedForCell, HasQueued, HasRemoved}
 use Rattle.wq_head.specs.Adds.{tail_entry, priority_entry}
 use Rattle.wq_head.proofs.OneMoreLook.{saw_told, saw_looks, whole_of, looks_on, holding_on}
@@ -94,7 +94,7 @@ stands_in k count low high s b = record {
 }
 
 lowest_of : (k : Known) (low high : ℕ) (f : Option ShownMember) → IsFirst (place_by k) MEMBERS low high f
-    → IsLowest k MEMBERS low high (place_of f)
+    → IsLowest k MEMBERS low high (place_of_shown f)
 lowest_of k low high None is = λ p h. is (record { place = p; member = h.member }) (stand_of k MEMBERS low high p h)
 lowest_of k low high (Some s) is = (
   stands_in k MEMBERS low high s is.0,
@@ -102,7 +102,7 @@ lowest_of k low high (Some s) is = (
 )
 
 highest_of : (k : Known) (low high : ℕ) (f : Option ShownMember) → IsLast (place_by k) MEMBERS low high f
-    → IsHighest k MEMBERS low high (place_of f)
+    → IsHighest k MEMBERS low high (place_of_shown f)
 highest_of k low high None is = λ p h. is (record { place = p; member = h.member }) (stand_of k MEMBERS low high p h)
 highest_of k low high (Some s) is = (
   stands_in k MEMBERS low high s is.0,
@@ -378,30 +378,30 @@ placed_at place_for o l r p q same gives left is = ap place_for (sym same) ∙ (
 
 -- so at the front, and at the tail
 pub front_placed : (k : Known) (o : Option ShownMember) (l r : Option ℕ) (p q : ℕ)
-    → IsFirst (place_by k) MEMBERS MIDDLE PLACES o → l ≡ place_of o → r ≡ front_for l → r ≡ Some p → q ≡ p
+    → IsFirst (place_by k) MEMBERS MIDDLE PLACES o → l ≡ place_of_shown o → r ≡ front_for l → r ≡ Some p → q ≡ p
     → IsFrontPlace k q
 front_placed k o l r p q is same gives left made =
-    (place_of o, lowest_of k MIDDLE PLACES o is, placed_at front_for (place_of o) l r p q same gives left made)
+    (place_of_shown o, lowest_of k MIDDLE PLACES o is, placed_at front_for (place_of_shown o) l r p q same gives left made)
 
 pub front_worn : (k : Known) (o : Option ShownMember) (l r : Option ℕ) (w : ℕ)
     → IsFirst (place_by k) MEMBERS MIDDLE PLACES o
-    → l ≡ place_of o → r ≡ front_for l → r ≡ None → ((p : ℕ) → l ≡ Some p → w ≡ p)
+    → l ≡ place_of_shown o → r ≡ front_for l → r ≡ None → ((p : ℕ) → l ≡ Some p → w ≡ p)
     → IsLowest k MEMBERS MIDDLE PLACES (Some w) × (front_for (Some w) ≡ None)
 front_worn k o l r w is same gives none at = worn_at (IsLowest k MEMBERS MIDDLE PLACES) front_for FIRST_PLACE refl
-    (place_of o) l w same (lowest_of k MIDDLE PLACES o is) (sym gives ∙ none) at
+    (place_of_shown o) l w same (lowest_of k MIDDLE PLACES o is) (sym gives ∙ none) at
 
 pub tail_placed : (k : Known) (o : Option ShownMember) (l r : Option ℕ) (p q : ℕ)
-    → IsLast (place_by k) MEMBERS MIDDLE PLACES o → l ≡ place_of o → r ≡ tail_for l → r ≡ Some p → q ≡ p
+    → IsLast (place_by k) MEMBERS MIDDLE PLACES o → l ≡ place_of_shown o → r ≡ tail_for l → r ≡ Some p → q ≡ p
     → IsTailPlace k q
 tail_placed k o l r p q is same gives left made =
-    (place_of o, highest_of k MIDDLE PLACES o is, placed_at tail_for (place_of o) l r p q same gives left made)
+    (place_of_shown o, highest_of k MIDDLE PLACES o is, placed_at tail_for (place_of_shown o) l r p q same gives left made)
 
 pub tail_worn : (k : Known) (o : Option ShownMember) (l r : Option ℕ) (w : ℕ)
     → IsLast (place_by k) MEMBERS MIDDLE PLACES o
-    → l ≡ place_of o → r ≡ tail_for l → r ≡ None → ((p : ℕ) → l ≡ Some p → w ≡ p)
+    → l ≡ place_of_shown o → r ≡ tail_for l → r ≡ None → ((p : ℕ) → l ≡ Some p → w ≡ p)
     → IsHighest k MEMBERS MIDDLE PLACES (Some w) × (tail_for (Some w) ≡ None)
 tail_worn k o l r w is same gives none at = worn_at (IsHighest k MEMBERS MIDDLE PLACES) tail_for FIRST_PLACE refl
-    (place_of o) l w same (highest_of k MIDDLE PLACES o is) (sym gives ∙ none) at
+    (place_of_shown o) l w same (highest_of k MIDDLE PLACES o is) (sym gives ∙ none) at
 
 -- and with priority, by the entries alone: no bookmark stands below the place before the middle, and no entry there
 module _ (k : Known) (stands : AreStanding k MEMBERS) where
@@ -431,27 +431,27 @@ module _ (k : Known) (stands : AreStanding k MEMBERS) where
       }
 
   prior_of : (f : Option ShownMember) → IsLast (place_by k) MEMBERS 0 (MIDDLE - 1) f
-      → IsHighest k ENTRIES 0 MIDDLE (place_of f)
+      → IsHighest k ENTRIES 0 MIDDLE (place_of_shown f)
   prior_of None is = λ p h. is (record { place = p; member = h.member }) (member_in p h)
   prior_of (Some s) is =
       (entry_in s is.0, λ p h. is.1 (record { place = p; member = h.member }) (member_in p h))
 
   pub priority_placed : (o : Option ShownMember) (l r : Option ℕ) (p q : ℕ)
-      → IsLast (place_by k) MEMBERS 0 (MIDDLE - 1) o → l ≡ place_of o → r ≡ priority_for l → r ≡ Some p → q ≡ p
+      → IsLast (place_by k) MEMBERS 0 (MIDDLE - 1) o → l ≡ place_of_shown o → r ≡ priority_for l → r ≡ Some p → q ≡ p
       → IsPriorityPlace k q
   priority_placed o l r p q is same gives left made =
-      (place_of o, prior_of o is, placed_at priority_for (place_of o) l r p q same gives left made)
+      (place_of_shown o, prior_of o is, placed_at priority_for (place_of_shown o) l r p q same gives left made)
 
   pub priority_worn : (o : Option ShownMember) (l r : Option ℕ) (w : ℕ)
       → IsLast (place_by k) MEMBERS 0 (MIDDLE - 1) o
-      → l ≡ place_of o → r ≡ priority_for l → r ≡ None → ((p : ℕ) → l ≡ Some p → w ≡ p)
+      → l ≡ place_of_shown o → r ≡ priority_for l → r ≡ None → ((p : ℕ) → l ≡ Some p → w ≡ p)
       → IsHighest k ENTRIES 0 MIDDLE (Some w) × (priority_for (Some w) ≡ None)
   priority_worn o l r w is same gives none at = worn_at (IsHighest k ENTRIES 0 MIDDLE) priority_for FIRST_PRIORITY refl
-      (place_of o) l w same (prior_of o is) (sym gives ∙ none) at
+      (place_of_shown o) l w same (prior_of o is) (sym gives ∙ none) at
 
   -- where there is a last one, it stands below the middle
   pub priority_low : (o : Option ShownMember) (l : Option ℕ) (p : ℕ) → IsLast (place_by k) MEMBERS 0 (MIDDLE - 1) o
-      → l ≡ place_of o → l ≡ Some p → p < MIDDLE
+      → l ≡ place_of_shown o → l ≡ Some p → p < MIDDLE
   priority_low None l p is same at = let no : None ≡ Some p = sym same ∙ at in absurd (cc)
   priority_low (Some s) l p is same at =
       let both : Some s.place ≡ Some p = sym same ∙ at in

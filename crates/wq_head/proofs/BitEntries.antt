@@ -55,7 +55,7 @@ use Rattle.wq_head.specs.Walking.{
   WakesOff,
   woke_by,
   SamePlaces,
-  called,
+  entry_called,
   rest_of,
   with_left,
   is_used,
@@ -174,7 +174,7 @@ module _ (a : Aim) (k : Known) (v : ShownEntry) (full : IsFull a.watch) (w : Wal
         load_transition a k v full w n real c r
             ∷ bit_transition a k v full w n real c tested (owner v.member) (mask_of a.mode) found ∷ [],
         goes_on (walk_program a) k tested (woke_by a tested v found) (next.Go (at.Walk (walking.Call real)))
-            (next.Go (at.Walk (walking.Bit (reached real w.calls) (called v))))
+            (next.Go (at.Walk (walking.Bit (reached real w.calls) (entry_called v))))
             (onto a v w real (meets (mask_of a.mode) (task_of found).state))
             (load_transition a k v full w n real c r ∷ [])
             (bit_transition a k v full w n real c tested (owner v.member) (mask_of a.mode) found ∷ [])
@@ -205,10 +205,10 @@ module _ (a : Aim) (k : Known) (v : ShownEntry) (full : IsFull a.watch) (w : Wal
       (finds_bit_set (told_of k).walk a.watch r) (found_set set))
 
   set_calling : v.entry.kind ≡ kind.Bit → misses a.watch r ≡ true
-      → IsCalling a tested (v.entry.place + 1) (rest_of a (past w (called v) false))
+      → IsCalling a tested (v.entry.place + 1) (rest_of a (past w (entry_called v) false))
   set_calling is set = record {
     walking = quiet_walking a k (step.Load a.watch r) (load_quiet a.watch r) w.place (v.entry.place + 1) (rest_of a w)
-        (rest_of a (past w (called v) false)) n.calling.walking
+        (rest_of a (past w (entry_called v) false)) n.calling.walking
         (ap (λ (m : Notes). m.walk) tested_notes ∙ (n.calling.walking.held.aim ∙ rest_same))
         (ap (λ (m : Notes). m.used) tested_notes ∙ (n.calling.walking.held.used ∙ ap is_used rest_same))
         set_called
@@ -221,7 +221,7 @@ module _ (a : Aim) (k : Known) (v : ShownEntry) (full : IsFull a.watch) (w : Wal
     standing = standing_same k tested tested_book tested_marks refl n.calling.standing;
   }
     where
-      rest_same : rest_of a w ≡ rest_of a (past w (called v) false)
+      rest_same : rest_of a w ≡ rest_of a (past w (entry_called v) false)
       rest_same = ap (λ (b : Bool). if b then None else Some (with_left a w.left)) n.going
 
       set_called : AreCalled a tested (v.entry.place + 1)

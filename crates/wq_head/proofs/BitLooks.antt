@@ -16,7 +16,7 @@ use Rattle.wait_rule.specs.Known.{Known}
 use Rattle.wait_rule.specs.Says.{told_of, noted, added}
 use Rattle.wait_rule.specs.Queues.{place_by, saw}
 use Rattle.wq_head.specs.Holds.{IsHolding}
-use Rattle.wq_head.specs.Looks.{Looks, is_seen, entry_place, bookmark_place}
+use Rattle.wq_head.specs.Looks.{Looks, is_seen_member, entry_place, bookmark_place}
 use Rattle.wq_head.specs.Looking.{IsClear, IsSet, IsByBit, AreByBits}
 use Rattle.wq_head.specs.Members.{IsShownMember}
 use Rattle.wq_head.proofs.FirstAndLast.{below_or}
@@ -65,7 +65,7 @@ bookmark_at : (h : ℕ) (o : Option Mark) (bit : Bool) → is_at h o ≡ bit →
 bookmark_at h None bit is = is
 bookmark_at h (Some m) bit is = if_some (m.head == h) m.place ∙ is
 
-by_place : (k : Known) (m : ℕ) (bit : Bool) (o : Option ℕ) → is_seen (told_of k) (noted k) m ≡ true
+by_place : (k : Known) (m : ℕ) (bit : Bool) (o : Option ℕ) → is_seen_member (told_of k) (noted k) m ≡ true
     → place_by k m ≡ o → IsShownMember k m → is_some o ≡ bit → IsByBit bit k m
 by_place k m true None seen at stands is = absurd (cc)
 by_place k m true (Some p) seen at stands is = record { seen = seen; place = p; there = at; stands = stands }

@@ -58,7 +58,7 @@ use Rattle.wait_rule.specs.Says.{told_of, noted, added}
 use Rattle.wait_rule.specs.Shown.{look_entry, shown_entry}
 use Rattle.wait_rule.proofs.KnownLaws.AfterSteps.{told_added, noted_added}
 use Rattle.wq_head.specs.declared.functions.ShownEntry.{ShownEntry}
-use Rattle.wq_head.specs.Walking.{IsNextEntry, AreCalled, called, rest_of, with_left, is_used}
+use Rattle.wq_head.specs.Walking.{IsNextEntry, AreCalled, entry_called, rest_of, with_left, is_used}
 use Rattle.wq_head.proofs.MemberStands.{look_is_shown}
 use Rattle.wq_head.proofs.FullHeads.{bit_kinds, one_of}
 
@@ -132,7 +132,7 @@ module _ (a : Aim) (k : Known) (v : ShownEntry) (w : Walking) (n : IsNextEntry a
     selects = ap (λ (l : Look). met && is_exclusive_look l) n.shows
 
     abbrev left : Option Aim
-    left = rest_of a (past w (called v) met)
+    left = rest_of a (past w (entry_called v) met)
 
     pub call_left : (noted new).walk ≡ left
     call_left = walks ∙ (ap (λ (b : Bool). if b then lowered rest_now else Some rest_now) selects
@@ -334,11 +334,11 @@ module _ (a : Aim) (k : Known) (v : ShownEntry) (w : Walking) (n : IsNextEntry a
   less x e is = sym (ap (λ (u : Told). look_entry (u.hold.book x))
       (told_added k (item.Made (step.Wake who mask found)))) ∙ is
 
-  pub wake_left : (noted woke).walk ≡ rest_of a (past w (called v) met)
+  pub wake_left : (noted woke).walk ≡ rest_of a (past w (entry_called v) met)
   wake_left = call_left a k v w n woke met (ap (λ (m : Notes). m.walk) noted_is) (ap (λ (m : Notes). m.used) noted_is)
       (ap (λ (m : Notes). m.from) noted_is) (ap (λ (m : Notes). m.called) noted_is) less
 
-  pub wake_used : (noted woke).used ≡ is_used (rest_of a (past w (called v) met))
+  pub wake_used : (noted woke).used ≡ is_used (rest_of a (past w (entry_called v) met))
   wake_used = call_used a k v w n woke met (ap (λ (m : Notes). m.walk) noted_is) (ap (λ (m : Notes). m.used) noted_is)
       (ap (λ (m : Notes). m.from) noted_is) (ap (λ (m : Notes). m.called) noted_is) less
 

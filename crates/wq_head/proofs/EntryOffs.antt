@@ -67,9 +67,9 @@ use Rattle.wq_head.specs.Walking.{
   WakesOff,
   woke_by,
   SamePlaces,
-  called,
+  entry_called,
   rest_of,
-  stands_at,
+  next_in_walk,
 }
 use Rattle.wq_head.proofs.CalledEntries.{called_less}
 use Rattle.wq_head.proofs.EntryFunctions.{
@@ -171,8 +171,8 @@ six false false b c d one two three last = absurd (cc)
 -- where the walk is after the wake of such an entry
 abbrev pub onto : Aim → ShownEntry → Walking → Walking → Bool → Next
 onto a v w real b = next.Go (at.Walk (if b
-    then walking.Unqueue (past (reached real w.calls) (called v) b) (owner v.member)
-    else walking.Call (past (reached real w.calls) (called v) b)))
+    then walking.Unqueue (past (reached real w.calls) (entry_called v) b) (owner v.member)
+    else walking.Call (past (reached real w.calls) (entry_called v) b)))
 
 -- the wake of its task
 module _ (a : Aim) (k : Known) (v : ShownEntry) (full : IsFull a.watch) (w : Walking) (n : IsNextEntry a k w v)
@@ -185,8 +185,8 @@ module _ (a : Aim) (k : Known) (v : ShownEntry) (full : IsFull a.watch) (w : Wal
       takes.unpaged
 
   answered : (answer : Bool) → answer ≡ met_task (mask_of a.mode) found
-      → IsCalling a woke (v.entry.place + 1) (rest_of a (past w (called v) answer))
-  answered answer same = subst (λ (b : Bool). IsCalling a woke (v.entry.place + 1) (rest_of a (past w (called v) b)))
+      → IsCalling a woke (v.entry.place + 1) (rest_of a (past w (entry_called v) answer))
+  answered answer same = subst (λ (b : Bool). IsCalling a woke (v.entry.place + 1) (rest_of a (past w (entry_called v) b)))
       (sym same) (wake_calling a k v full w n (owner v.member) (mask_of a.mode) found refl refl gone_by_wake)
 
   roused_is : true ≡ met_task (mask_of a.mode) found → (told_of woke).hold.roused (owner v.member) ≡ true
@@ -233,10 +233,10 @@ module _ (a : Aim) (k : Known) (v : ShownEntry) (full : IsFull a.watch) (w : Wal
     loose slot few at e was own = not_own v.entry e takes
         (sym (n.own slot few at) ∙ (sym woke_stored ∙ was)) own
 
-    calling_off : IsCalling a gone_off (v.entry.place + 1) (rest_of a (past w (called v) true))
+    calling_off : IsCalling a gone_off (v.entry.place + 1) (rest_of a (past w (entry_called v) true))
     calling_off =
         let was = answered true hit in
-        let rest = rest_of a (past w (called v) true) in
+        let rest = rest_of a (past w (entry_called v) true) in
         let notes = noted_stored woke (step.Unqueue x) in
         let book = ap (λ (u : Told). u.hold.book) told in
         let marks = off_marks a woke x in record {
@@ -292,20 +292,20 @@ module _ (a : Aim) (k : Known) (v : ShownEntry) (full : IsFull a.watch) (w : Wal
         (not (is_off (not_mine bit exclusive i))))
         ∙ six (told_of woke).hold.picked v.entry.exclusive (not (is_page v.entry.kind)) (is_bit held.walk.watch)
         (same v.entry.watch held.walk.watch) exclusive (ap not takes.unpaged)
-        (sym (under_one a woke (rest_of a (past w (called v) true)) held).bit ∙ bit)
+        (sym (under_one a woke (rest_of a (past w (entry_called v) true)) held).bit ∙ bit)
         (held.under.watch v.entry.watch ∙ n.sought))
       where
         roused_x : (told_of woke).hold.roused (owner x) ≡ true
         roused_x = roused_is hit
 
     -- and it may raise the spent count where it used up its count
-    off_spends : (past w (called v) true).spent ≡ true → MaySpend (told_of gone_off) true
+    off_spends : (past w (entry_called v) true).spent ≡ true → MaySpend (told_of gone_off) true
     off_spends is = by (counted a.watch) refl
       where
         exclusive : v.entry.exclusive ≡ true
         exclusive = and_left v.entry.exclusive (w.left == 1) is
 
-        held : IsHeld a gone_off (rest_of a (past w (called v) true))
+        held : IsHeld a gone_off (rest_of a (past w (entry_called v) true))
         held = calling_off.walking.held
 
         of_bit : is_bit a.watch ≡ true → MaySpend (told_of gone_off) true
@@ -314,7 +314,7 @@ module _ (a : Aim) (k : Known) (v : ShownEntry) (full : IsFull a.watch) (w : Wal
             let walk_is : walk ≡ held.walk = cc in
             inr (
               ap (λ (t : Walk). is_bit t.watch) walk_is
-                  ∙ (sym (under_one a gone_off (rest_of a (past w (called v) true)) held).bit ∙ bit),
+                  ∙ (sym (under_one a gone_off (rest_of a (past w (entry_called v) true)) held).bit ∙ bit),
               picked_is bit exclusive,
             )
 
@@ -326,7 +326,7 @@ module _ (a : Aim) (k : Known) (v : ShownEntry) (full : IsFull a.watch) (w : Wal
             absurd (cc)
 
         by : (b : Bool) → counted a.watch ≡ b → MaySpend (told_of gone_off) true
-        by true counts = counted_spends a gone_off (rest_of a (past w (called v) true)) held counts
+        by true counts = counted_spends a gone_off (rest_of a (past w (entry_called v) true)) held counts
         by false uncounted = of_other uncounted (is_bit a.watch) refl
 
 -- It came after a step that leaves the hold's book, or after none: `k0` is before that step.
@@ -385,7 +385,7 @@ module _ (a : Aim) (k0 k : Known) (v : ShownEntry) (full : IsFull a.watch) (w : 
         goes = λ real c. let g = goes_by found true same real c in (
           g.0 ++ last,
           goes_on (walk_program a) k0 woke out (next.Go (at.Walk (walking.Call real))) (onto a v w real true)
-              (stands_at (past (reached real w.calls) (called v) true)) g.0 last g.1
+              (next_in_walk (past (reached real w.calls) (entry_called v) true)) g.0 last g.1
               (off_goes a v w real woke v.member (task_of found) refl (ap look_entry shows)),
         );
         keeps = keeps_on a k0 woke out (woke_keeps found)

@@ -33,7 +33,7 @@ use Rattle.wait_rule.proofs.KnownLaws.MemberBits.{told_stored, noted_stored}
 use Rattle.wq_head.specs.Looks.{Looks}
 use Rattle.wq_head.specs.Members.{AreStanding}
 use Rattle.wq_head.specs.Selects.{ShowsNoEntry, simple_aim}
-use Rattle.wq_head.specs.Selecting.{IsFirstEntry, HasTaken}
+use Rattle.wq_head.specs.Selecting.{IsFirstEntry, HasSelectedFirst}
 use Rattle.wq_head.proofs.KeptHolds.{hold_on, hold_looks, hold_wake, hold_off}
 use Rattle.wq_head.proofs.LookingHold.{looks_whole, looks_place, looks_standing}
 use Rattle.wq_head.proofs.MemberStands.{few, entry_shown, look_is_shown, place_under}
@@ -207,7 +207,7 @@ module _ (old seen : Known) (x w : ℕ) (f : IsFirstEntry old x)
             (λ same. absurd (away same)) (λ _. s)
         by false s = s
 
-    taken : IsLawfulWord v → HasTaken old new x
+    taken : IsLawfulWord v → HasSelectedFirst old new x
     taken lawful = record {
       selects = record {
         seen = seen;
@@ -235,8 +235,8 @@ module _ (old seen : Known) (x w : ℕ) (f : IsFirstEntry old x)
     }
 
     pub taken_by : IsLawfulWord v → (by : Known) → by ≡ woke → (slot : ℕ) → index who slot ≡ x → (new_by : Known)
-        → new_by ≡ stored_with by (step.Unqueue (index who slot)) → HasTaken old new_by x
-    taken_by lawful by by_is slot at_x new_by is_new = subst (λ (k : Known). HasTaken old k x)
+        → new_by ≡ stored_with by (step.Unqueue (index who slot)) → HasSelectedFirst old new_by x
+    taken_by lawful by by_is slot at_x new_by is_new = subst (λ (k : Known). HasSelectedFirst old k x)
         (sym (is_new ∙ (λ i. stored_with (by_is i) (step.Unqueue (at_x i))))) (taken lawful)
 
 -- whose entry it is, and in which slot

@@ -7,7 +7,7 @@ use Rattle.wait_rule.specs.Known.{Known}
 use Rattle.wait_rule.specs.Says.{told_of, noted}
 use Rattle.wait_rule.specs.Queues.{place_by}
 use Rattle.wait_rule.specs.LookCounts.{Looked}
-use Rattle.wq_head.specs.Looks.{Looks, is_seen, AreSeen, IsEmpty, HasMember}
+use Rattle.wq_head.specs.Looks.{Looks, is_seen_member, AreSeen, IsEmpty, HasMember}
 use Rattle.wq_head.specs.Looking.{IsClear, IsSet, IsByBit, AreNone}
 use Rattle.wq_head.specs.Members.{AreStanding}
 use Rattle.wq_head.proofs.FirstAndLast.{below_or}
@@ -34,7 +34,7 @@ found_none_yet k = record {
   told = λ m low under. absurd (omega arith);
 }
 
-bit_seen : (k : Known) (m : ℕ) (bit : Bool) → IsByBit bit k m → is_seen (told_of k) (noted k) m ≡ true
+bit_seen : (k : Known) (m : ℕ) (bit : Bool) → IsByBit bit k m → is_seen_member (told_of k) (noted k) m ≡ true
 bit_seen k m true s = s.seen
 bit_seen k m false c = c.seen
 
@@ -44,7 +44,7 @@ module _ (old now new : Known) (n w : ℕ) (found : Bool) (s : HasFound old now 
   seen_more : AreSeen new (WORD_BITS * (n + 1))
   seen_more m low = elim (below_or m (WORD_BITS * n)) [
     | inl under ↦ b.looks.from.still m (s.seen m under)
-    | inr over ↦ subst (λ (x : ℕ). is_seen (told_of new) (noted new) x ≡ true) (omega arith)
+    | inr over ↦ subst (λ (x : ℕ). is_seen_member (told_of new) (noted new) x ≡ true) (omega arith)
         (bit_seen new (WORD_BITS * n + (m - WORD_BITS * n)) (bit_at w (m - WORD_BITS * n))
         (b.told (m - WORD_BITS * n) (omega arith)))
   ]

@@ -52,7 +52,7 @@ use Rattle.wq_head.specs.declared.functions.ShownEntry.{ShownEntry}
 use Rattle.wq_head.specs.Members.{AreStanding}
 use Rattle.wq_head.specs.Walks.{IsFull}
 use Rattle.wq_head.specs.Walking.{HandsPage, HasCalled, IsCalling, IsHeld, IsNextEntry, SamePlaces, StaysInWalk}
-use Rattle.wq_head.specs.Walking.{called, rest_of, stands_at, with_left}
+use Rattle.wq_head.specs.Walking.{entry_called, rest_of, next_in_walk, with_left}
 use Rattle.wq_head.proofs.BitEntries.{tested_places}
 use Rattle.wq_head.proofs.CountedCalls.{
   call_called,
@@ -356,7 +356,7 @@ module _ (a : Aim) (k : Known) (v : ShownEntry) (full : IsFull a.watch) (w : Wal
   }
 
   abbrev left : Option Aim
-  left = rest_of a (past w (called v) true)
+  left = rest_of a (past w (entry_called v) true)
 
   handed_held : IsHeld a handed left
   handed_held =
@@ -407,11 +407,11 @@ module _ (a : Aim) (k : Known) (v : ShownEntry) (full : IsFull a.watch) (w : Wal
 
   -- from the test-and-set on, by the program
   abbrev end : Walking → Next
-  end real = stands_at (past (reached real w.calls) (called v) true)
+  end real = next_in_walk (past (reached real w.calls) (entry_called v) true)
 
   pub handed_goes : (real : Walking) → Goes (walk_program a) k (next.Go (at.Walk (at_stage a v w real staging.Try)))
       (try_transition a v w real k t ∷ hand_transition a v w real free ∷ rouse_transition a v w real informed found
-      ∷ leave_transition a v w real woke ∷ []) handed (stands_at (past (reached real w.calls) (called v) true))
+      ∷ leave_transition a v w real woke ∷ []) handed (next_in_walk (past (reached real w.calls) (entry_called v) true))
   handed_goes real = goes_on (walk_program a) k free handed (next.Go (at.Walk (at_stage a v w real staging.Try)))
       (next.Go (at.Walk (at_stage a v w real staging.Hand))) (end real) (try_transition a v w real k t ∷ [])
       (hand_transition a v w real free ∷ rouse_transition a v w real informed found
@@ -444,7 +444,7 @@ module _ (a : Aim) (k : Known) (v : ShownEntry) (full : IsFull a.watch) (w : Wal
           ∷ leave_transition a v w real (woke a mid v full w next_mid is t free h.found) ∷ [],
       goes_on (walk_program a) k mid (handed a mid v full w next_mid is t free h.found)
           (next.Go (at.Walk (walking.Call real))) (next.Go (at.Walk (at_stage a v w real staging.Try)))
-          (stands_at (past (reached real w.calls) (called v) true)) (load_transition a k v full w n real c r ∷ [])
+          (next_in_walk (past (reached real w.calls) (entry_called v) true)) (load_transition a k v full w n real c r ∷ [])
           (try_transition a v w real mid t ∷ hand_transition a v w real (tried a mid v full w next_mid is t)
           ∷ rouse_transition a v w real (informed a mid v full w next_mid is t free h.found) h.found
           ∷ leave_transition a v w real (woke a mid v full w next_mid is t free h.found) ∷ [])

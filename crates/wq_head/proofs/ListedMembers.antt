@@ -10,7 +10,7 @@ use Rattle.wait_model.specs.declared.layout.TheConstants.{MEMBERS}
 use Rattle.wait_rule.specs.Known.{Known}
 use Rattle.wait_rule.specs.Says.{told_of, noted}
 use Rattle.wait_rule.specs.Queues.{place_by}
-use Rattle.wq_head.specs.Looks.{Looks, AreSeen, is_seen}
+use Rattle.wq_head.specs.Looks.{Looks, AreSeen, is_seen_member}
 use Rattle.wq_head.specs.Looking.{AreNone}
 use Rattle.wq_head.specs.Members.{AreStanding, IsShownMember, IsWordOf}
 use Rattle.wq_head.proofs.FirstAndLast.{below_or}
@@ -99,13 +99,13 @@ listed_on k n m ms words few none s = record {
 
 -- one that has seen one member more, which stands
 pub listed_more : (k : Known) (n p word : ℕ) (ms words : List ℕ) → n < MEMBERS → AreListed k n ms words
-    → place_by k n ≡ Some p → is_seen (told_of k) (noted k) n ≡ true → IsShownMember k n → IsWordOf k n word p
+    → place_by k n ≡ Some p → is_seen_member (told_of k) (noted k) n ≡ true → IsShownMember k n → IsWordOf k n word p
     → AreListed k (n + 1) (ms ++ n ∷ []) (set words n word)
 listed_more k n p word ms words small s at seen stands reads = record {
   whole = length-set words n word ∙ s.whole;
   seen = λ m few. elim (below_or m n) [
     | inl under ↦ s.seen m under
-    | inr over ↦ subst (λ (y : ℕ). is_seen (told_of k) (noted k) y ≡ true) (omega arith) seen
+    | inr over ↦ subst (λ (y : ℕ). is_seen_member (told_of k) (noted k) y ≡ true) (omega arith) seen
   ];
   stands = λ m few. elim (below_or m n) [
     | inl under ↦ s.stands m under

@@ -6,7 +6,7 @@ use Rattle.wait_model.specs.Words.{bit_at}
 use Rattle.wait_rule.specs.Known.{Known}
 use Rattle.wq_head.specs.declared.looking.Looking.{Looking}
 use Rattle.wq_head.specs.Looks.{Looks}
-use Rattle.wq_head.specs.Looking.{IsClear, IsSet, IsByBit, AreByBits, AreNone, HasLooked}
+use Rattle.wq_head.specs.Looking.{IsClear, IsSet, IsByBit, AreByBits, AreNone, IsLookingBy}
 use Rattle.wq_head.proofs.FirstAndLast.{below_or}
 use Rattle.wq_head.proofs.BitLooks.{clear_on, bit_on}
 
@@ -31,13 +31,13 @@ module _ (old new : Known) (l : Looks old new) (from next word bit : ℕ) (few :
       (subst (λ (t : Bool). IsByBit t new (WORD_BITS * (next / WORD_BITS) + bit)) is (told bit inside))
 
   -- the look goes on at the end of the word, or behind a set bit
-  pub looked_on : bit ≡ WORD_BITS → HasLooked new (record { word = word; next = index })
+  pub looked_on : bit ≡ WORD_BITS → IsLookingBy new (record { word = word; next = index })
   looked_on end = record {
     within = omega arith;
     loaded = λ more. absurd (omega arith);
   }
 
-  pub looked_past : bit < WORD_BITS → HasLooked new (record { word = word; next = index + 1 })
+  pub looked_past : bit < WORD_BITS → IsLookingBy new (record { word = word; next = index + 1 })
   looked_past inside = record {
     within = omega arith;
     loaded = λ more. subst (λ (q : ℕ). AreByBits new (WORD_BITS * q) word WORD_BITS)
@@ -45,7 +45,7 @@ module _ (old new : Known) (l : Looks old new) (from next word bit : ℕ) (few :
   }
 
 -- what the look has come to stays so
-pub looked_later : (old new : Known) → Looks old new → (s : Looking) → HasLooked old s → HasLooked new s
+pub looked_later : (old new : Known) → Looks old new → (s : Looking) → IsLookingBy old s → IsLookingBy new s
 looked_later old new l s h = record {
   within = h.within;
   loaded = λ more b few. bit_on old new l (WORD_BITS * (s.next / WORD_BITS) + b) (bit_at s.word b)
@@ -53,5 +53,5 @@ looked_later old new l s h = record {
 }
 
 -- one that goes on from the first index
-pub looked_none : (k : Known) → HasLooked k (record { word = 0; next = 0 })
+pub looked_none : (k : Known) → IsLookingBy k (record { word = 0; next = 0 })
 looked_none k = record { within = omega arith; loaded = λ more. absurd (omega arith) }

@@ -25,7 +25,7 @@ use Rattle.wait_rule.specs.Transitions.{Transition, by_step, walk_program, Goes}
 use Rattle.wait_rule.proofs.KnownLaws.MemberBits.{bit_looks}
 use Rattle.wait_rule.proofs.KnownLaws.Transitions.{looks_last, one_transition, only_none}
 use Rattle.wq_head.specs.declared.functions.ShownEntry.{ShownEntry}
-use Rattle.wq_head.specs.Walking.{called, stands_at}
+use Rattle.wq_head.specs.Walking.{entry_called, next_in_walk}
 use Rattle.wq_head.proofs.EntryWakes.{blank_seen}
 
 module _ (a : Aim) (v : ShownEntry) (w real : Walking) where
@@ -33,7 +33,7 @@ module _ (a : Aim) (v : ShownEntry) (w real : Walking) where
   onto = reached real w.calls
 
   abbrev c : CalledEntry
-  c = called v
+  c = entry_called v
 
   abbrev pub at_stage : PageStage → WalkPoint
   at_stage st = walking.Page st onto c
@@ -102,7 +102,7 @@ module _ (a : Aim) (v : ShownEntry) (w real : Walking) where
 
   pub leave_goes : (k : Known) → shown_entry k v.member ≡ Some v.entry
       → Goes (walk_program a) k (next.Go (at.Walk (at_stage staging.Off))) (leave_transition k ∷ [])
-      (stored_with k (step.Unqueue v.member)) (stands_at (past onto c true))
+      (stored_with k (step.Unqueue v.member)) (next_in_walk (past onto c true))
   leave_goes k there = looks_last (walk_program a) k (added k (item.Made (step.Unqueue v.member)))
       (stored_with k (step.Unqueue v.member)) (next.Go (at.Walk (at_stage staging.Off)))
       (next.Go (onward (past onto c true))) (leave_transition k ∷ [])

@@ -44,7 +44,7 @@ use Rattle.wait_rule.proofs.KnownLaws.MemberBits.{bit_looks}
 use Rattle.wait_rule.proofs.KnownLaws.Transitions.{only_none, goes_on, looks_first}
 use Rattle.wait_rule.proofs.KnownLaws.Turns.{serve_looks}
 use Rattle.wq_head.specs.Holds.{HasLocked}
-use Rattle.wq_head.specs.Selects.{SelectsFirst, Selects, HasSelected, EndsSelection, simple_aim}
+use Rattle.wq_head.specs.Selects.{SelectsFirst, SelectsMany, HasSelected, EndsSelection, simple_aim}
 use Rattle.wq_head.proofs.EntryWakes.{blank_seen}
 use Rattle.wq_head.proofs.FirstEntries.{no_entry, wake_book, wake_notes}
 use Rattle.wq_head.proofs.LockWaits.{turn_of, turn_looks}
@@ -162,7 +162,7 @@ module _ (me slot : ℕ) (call : Call) where
     )
 
   -- so many selections
-  pub selects_go : (most : ℕ) → count_of call ≡ most → (old new : Known) (n : ℕ) → Selects old n new
+  pub selects_go : (most : ℕ) → count_of call ≡ most → (old new : Known) (n : ℕ) → SelectsMany old n new
       → (most ≢ 0 → n ≤ most) → (ts : List Transition) × Goes f old (at_next 0) ts new (at_next n)
   selects_go most counts old new zero is few = (
     [],

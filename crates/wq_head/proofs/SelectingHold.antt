@@ -18,12 +18,12 @@ use Rattle.wq_head.specs.Selects.{
   HasSelected,
   IsSimpleHold,
   KeepsHold,
-  Selects,
+  SelectsMany,
   ShowsNoEntry,
   EndsSelection,
   simple_aim,
 }
-use Rattle.wq_head.specs.Selecting.{IsFirstEntry, HasTaken}
+use Rattle.wq_head.specs.Selecting.{IsFirstEntry, HasSelectedFirst}
 use Rattle.wq_head.proofs.CountedLooks.{marked_longer}
 use Rattle.wq_head.proofs.KeptHolds.{hold_on, hold_looks, hold_holds}
 use Rattle.wq_head.proofs.MemberStands.{shown_place}
@@ -53,7 +53,7 @@ queue_few k = few_below (place_by k) MEMBERS
 -- are off, and all others stand as they did.
 pub record InSelection (old now found : Known) (i n : ℕ) : Type 0 where
   pub looks : Looks old found
-  pub selects : Selects found n now
+  pub selects : SelectsMany found n now
   pub keeps : KeepsHold old now
   pub holding : IsHolding now
   pub simple : FIRST_SIMPLE_HEAD ≤ now.at
@@ -146,11 +146,11 @@ module _ (old now found : Known) (i n : ℕ) (h : InSelection old now found i n)
     }
 
     -- an entry was selected
-    pub takes_entry : s.member < ENTRIES → (new : Known) → HasTaken now new s.member
+    pub takes_entry : s.member < ENTRIES → (new : Known) → HasSelectedFirst now new s.member
         → InSelection old new found (i + 1) (n + 1)
     takes_entry low new t = record {
       looks = h.looks;
-      selects = subst (λ (j : ℕ). Selects found j new) (let e : suc n ≡ n + 1 = omega arith in e)
+      selects = subst (λ (j : ℕ). SelectsMany found j new) (let e : suc n ≡ n + 1 = omega arith in e)
           (now, h.selects, t.selects);
       keeps = hold_on old now new h.keeps t.keeps;
       holding = hold_holds now new t.keeps h.holding;

@@ -8,7 +8,7 @@ use Rattle.wq_head.specs.declared.looks.ShownMember.{ShownMember}
 use Rattle.wq_head.specs.Looks.{
   Looks,
   IsLow,
-  is_seen,
+  is_seen_member,
   IsBetween,
   IsOutermost,
   IsFirst,
@@ -85,12 +85,12 @@ module _ (old new : Known) (l : Looks old new) (j low high : ℕ) (first last : 
   same : (m : ℕ) → m < j → place_by new m ≡ place_by old m
   same m few = l.from.places m (s.seen m few)
 
-  pub surveyed_more : is_seen (told_of new) (noted new) j ≡ true → IsLow at → IsShownMember new j
+  pub surveyed_more : is_seen_member (told_of new) (noted new) j ≡ true → IsLow at → IsShownMember new j
       → IsSurveyed new (j + 1) low high (first_with first low high j at) (last_with last low high j at)
   surveyed_more seen low_at here = record {
     seen = λ m few. elim (below_or m j) [
       | inl under ↦ l.from.still m (s.seen m under)
-      | inr over ↦ subst (λ (y : ℕ). is_seen (told_of new) (noted new) y ≡ true) (omega arith) seen
+      | inr over ↦ subst (λ (y : ℕ). is_seen_member (told_of new) (noted new) y ≡ true) (omega arith) seen
     ];
     below = λ m few. elim (below_or m j) [
       | inl under ↦ subst IsLow (sym (same m under)) (s.below m under)

@@ -19,9 +19,9 @@ use Rattle.wq_head.specs.declared.wakes.WakeTurn.TheVariants as turn
 use Rattle.wq_head.specs.declared.wakes.WakeStage.{WakeStage}
 use Rattle.wq_head.specs.Turns.{
   HasTurned,
-  Rests,
+  WakeRests,
   InWalk,
-  IsAt,
+  IsAtWake,
   IsServed,
   IsTurnStage,
   IsBroken,
@@ -40,7 +40,7 @@ Locks now new h walk = (word : ℕ) × IsHeadWord word × (held_of word ≡ fals
     × (new ≡ at_head h (added now (item.Made (step.Lock h (walk_of_hold h walk) word))))
 
 -- the first hold
-module _ (start mid new : Known) (r : WakeRun) (h found : ℕ) (at : IsAt start mid r stage.FirstTurn)
+module _ (start mid new : Known) (r : WakeRun) (h found : ℕ) (at : IsAtWake start mid r stage.FirstTurn)
     (at_h : h ≡ head_of r.aim.watch) (is : new ≡ added mid (item.Serving h found)) where
   drawn : HasWaited (added start (item.Drawn h r.ticket)) mid
   drawn = subst (λ (i : ℕ). HasWaited (added start (item.Drawn i r.ticket)) mid) (sym at_h) at.stands
@@ -73,7 +73,7 @@ module _ (start mid new : Known) (r : WakeRun) (h found : ℕ) (at : IsAt start 
         (turn_locked start mid new h r.ticket found drawn is same (walk_of_hold h (Some r.aim)) three l)))
 
 -- the next hold, after a break
-module _ (start mid new : Known) (r : WakeRun) (h found : ℕ) (at : IsAt start mid r stage.NextTurn)
+module _ (start mid new : Known) (r : WakeRun) (h found : ℕ) (at : IsAtWake start mid r stage.NextTurn)
     (at_h : h ≡ head_of r.aim.watch) (is : new ≡ added mid (item.Serving h found)) where
   abbrev base : Known
   base = at.stands.0
@@ -119,20 +119,20 @@ module _ (start mid new : Known) (r : WakeRun) (h found : ℕ) (at : IsAt start 
 
 -- the draw of a ticket, by the stage before it
 module _ (start now : Known) (r : WakeRun) where
-  pub free_first : IsAt start now r stage.First → IsFree now
+  pub free_first : IsAtWake start now r stage.First → IsFree now
   free_first at = subst IsFree (sym at.stands) at.idle.free
 
-  pub free_next : IsAt start now r stage.Next → IsFree now
+  pub free_next : IsAtWake start now r stage.Next → IsFree now
   free_next at = base_free r.aim at.full start now r.walk at.stands
 
-  pub up_first : IsAt start now r stage.First → IsUp now
+  pub up_first : IsAtWake start now r stage.First → IsUp now
   up_first at = subst IsUp (sym at.stands) at.up
 
-  pub up_next : IsAt start now r stage.Next → IsUp now
+  pub up_next : IsAtWake start now r stage.Next → IsUp now
   up_next at = base_up r.aim at.full start now r.walk at.stands
 
   -- between two looks at the ticket
-  pub up_drawn : (s : WakeStage) → IsTurnStage s → IsAt start now r s → IsUp now
+  pub up_drawn : (s : WakeStage) → IsTurnStage s → IsAtWake start now r s → IsUp now
   up_drawn stage.FirstTurn turn at = ap (λ (k : Known). k.book.awake) at.stands.is ∙ at.up
   up_drawn stage.NextTurn turn at = ap (λ (k : Known). k.book.awake) at.stands.2.is
       ∙ base_up r.aim at.full start at.stands.0 r.walk at.stands.1
@@ -140,7 +140,7 @@ module _ (start now : Known) (r : WakeRun) where
   up_drawn stage.Next turn at = absurd turn
 
   module _ (new : Known) (h n : ℕ) (at_h : h ≡ head_of r.aim.watch) (is : new ≡ added now (item.Drawn h n)) where
-    pub draws_first : IsAt start now r stage.First → IsAt start new (record r { ticket = n }) stage.FirstTurn
+    pub draws_first : IsAtWake start now r stage.First → IsAtWake start new (record r { ticket = n }) stage.FirstTurn
     draws_first at = record {
       up = at.up;
       idle = at.idle;
@@ -150,7 +150,7 @@ module _ (start now : Known) (r : WakeRun) where
       stands = draws start new (head_of r.aim.watch) n (is ∙ (λ i. added (at.stands i) (item.Drawn (at_h i) n)));
     }
 
-    pub draws_next : IsAt start now r stage.Next → IsAt start new (record r { ticket = n }) stage.NextTurn
+    pub draws_next : IsAtWake start now r stage.Next → IsAtWake start new (record r { ticket = n }) stage.NextTurn
     draws_next at = record {
       up = at.up;
       idle = at.idle;
@@ -167,8 +167,8 @@ module _ (start now : Known) (r : WakeRun) where
 -- one look at the number that is served, by the stage at which the ticket is drawn
 module _ (start mid new : Known) (r : WakeRun) (h found : ℕ) (at_h : h ≡ head_of r.aim.watch)
     (is : new ≡ added mid (item.Serving h found)) where
-  pub waits_on : (s : WakeStage) → IsTurnStage s → IsAt start mid r s → found ≢ r.ticket
-      → IsAt start new (record r { served = found }) s
+  pub waits_on : (s : WakeStage) → IsTurnStage s → IsAtWake start mid r s → found ≢ r.ticket
+      → IsAtWake start new (record r { served = found }) s
   waits_on stage.FirstTurn turn at other = record {
     up = at.up;
     idle = at.idle;
@@ -188,13 +188,13 @@ module _ (start mid new : Known) (r : WakeRun) (h found : ℕ) (at_h : h ≡ hea
   waits_on stage.First turn at other = absurd turn
   waits_on stage.Next turn at other = absurd turn
 
-  pub outside_on : (s : WakeStage) → IsTurnStage s → IsAt start mid r s → new.book.head ≡ None
+  pub outside_on : (s : WakeStage) → IsTurnStage s → IsAtWake start mid r s → new.book.head ≡ None
   outside_on stage.FirstTurn turn at = first_outside start mid new r h found at at_h is
   outside_on stage.NextTurn turn at = next_outside start mid new r h found at at_h is
   outside_on stage.First turn at = absurd turn
   outside_on stage.Next turn at = absurd turn
 
-  looked_at : (s : WakeStage) → IsTurnStage s → IsAt start mid r s → IsAt start mid (record r { served = found }) s
+  looked_at : (s : WakeStage) → IsTurnStage s → IsAtWake start mid r s → IsAtWake start mid (record r { served = found }) s
   looked_at stage.FirstTurn turn at =
       record {
         up = at.up;
@@ -216,7 +216,7 @@ module _ (start mid new : Known) (r : WakeRun) (h found : ℕ) (at_h : h ≡ hea
   looked_at stage.First turn at = absurd turn
   looked_at stage.Next turn at = absurd turn
 
-  pub served_on : (s : WakeStage) → IsTurnStage s → IsAt start mid r s → found ≡ r.ticket
+  pub served_on : (s : WakeStage) → IsTurnStage s → IsAtWake start mid r s → found ≡ r.ticket
       → IsServed start new (record r { served = found }) s
   served_on s turn at same = record {
     turn = turn;
@@ -238,8 +238,8 @@ module _ (start now : Known) (r : WakeRun) (s : WakeStage) (v : IsServed start n
   served = v.is ∙ sym (ap (λ (i : ℕ). added v.last (item.Serving i r.ticket)) at_h)
 
   module _ (first : s ≡ stage.FirstTurn) where
-    at_first : IsAt start v.last r stage.FirstTurn
-    at_first = subst (IsAt start v.last r) first v.at
+    at_first : IsAtWake start v.last r stage.FirstTurn
+    at_first = subst (IsAtWake start v.last r) first v.at
 
     pub begins_turn : IsTurn now h
     begins_turn = first_turn start v.last now r h r.ticket at_first at_h served refl
@@ -254,8 +254,8 @@ module _ (start now : Known) (r : WakeRun) (s : WakeStage) (v : IsServed start n
     begins_walks = first_walks start v.last now r h r.ticket at_first at_h served refl
 
   module _ (next : s ≡ stage.NextTurn) where
-    at_next : IsAt start v.last r stage.NextTurn
-    at_next = subst (IsAt start v.last r) next v.at
+    at_next : IsAtWake start v.last r stage.NextTurn
+    at_next = subst (IsAtWake start v.last r) next v.at
 
     pub goes_turn : IsTurn now h
     goes_turn = next_turn start v.last now r h r.ticket at_next at_h served refl
@@ -274,7 +274,7 @@ module _ (start now : Known) (r : WakeRun) (s : WakeStage) (v : IsServed start n
       goes_walks = next_walks start v.last now r h r.ticket at_next at_h served refl three l
 
 -- where a turn left the wake
-pub rests_of : (start new : Known) (r s : WakeRun) (t : WakeTurn) → HasTurned start new r s t → Rests new s t
+pub rests_of : (start new : Known) (r s : WakeRun) (t : WakeTurn) → HasTurned start new r s t → WakeRests new s t
 rests_of start new r s (turn.Locked after_it) h = (start, h.turns)
 rests_of start new r s turn.Broken h = (start, h.turns)
 rests_of start new r s (turn.Done result) h = (h.turns.up, h.turns.idle)

@@ -8,18 +8,18 @@ use Rattle.wait_rule.specs.LookCounts.{looks_made}
 use Rattle.wait_rule.specs.Says.{told_of, noted}
 use Rattle.wait_rule.specs.Queues.{place_by}
 use Rattle.wq_head.specs.declared.looking.Looking.{Looking}
-use Rattle.wq_head.specs.Looks.{is_seen}
+use Rattle.wq_head.specs.Looks.{is_seen_member}
 use Rattle.wq_head.specs.Members.{IsShownMember}
 
 -- the hold has seen this word, and no member stands there
 pub record IsClear (k : Known) (m : ℕ) : Type 0 where
-  pub seen : is_seen (told_of k) (noted k) m ≡ true
+  pub seen : is_seen_member (told_of k) (noted k) m ≡ true
   pub none : place_by k m ≡ None
   pub stands : IsShownMember k m
 
 -- the hold has seen this word, and a member stands there
 pub record IsSet (k : Known) (m : ℕ) : Type 0 where
-  pub seen : is_seen (told_of k) (noted k) m ≡ true
+  pub seen : is_seen_member (told_of k) (noted k) m ≡ true
   pub place : ℕ
   pub there : place_by k m ≡ Some place
   pub stands : IsShownMember k m
@@ -37,7 +37,7 @@ abbrev pub AreNone : Known → ℕ → ℕ → Type 0
 AreNone k from to = (m : ℕ) → from ≤ m → m < to → IsClear k m
 
 -- The look goes on from an index. Where this is not the first one of its word, the word at hand is that word.
-pub record HasLooked (k : Known) (l : Looking) : Type 0 where
+pub record IsLookingBy (k : Known) (l : Looking) : Type 0 where
   pub within : l.next ≤ MEMBERS
   pub loaded : 0 < l.next % WORD_BITS → AreByBits k (WORD_BITS * (l.next / WORD_BITS)) l.word WORD_BITS
 
@@ -45,7 +45,7 @@ pub record HasLooked (k : Known) (l : Looking) : Type 0 where
 abbrev pub IsNextSet : Known → ℕ → Looking → Option ℕ → Type 0
 IsNextSet k from l None = AreNone k from MEMBERS
 IsNextSet k from l (Some m) =
-    (from ≤ m) × (m < MEMBERS) × AreNone k from m × (l.next ≡ m + 1) × HasLooked k l × IsSet k m
+    (from ≤ m) × (m < MEMBERS) × AreNone k from m × (l.next ≡ m + 1) × IsLookingBy k l × IsSet k m
 
 -- how many words a look has loaded that goes on from an index
 abbrev pub words_to : ℕ → ℕ

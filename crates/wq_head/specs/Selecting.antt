@@ -23,7 +23,7 @@ pub record IsFirstEntry (k : Known) (member : ℕ) : Type 0 where
       → rank (record { at = member; place = place }) ≤ rank (record { at = m; place = p })
 
 -- it was selected, and all other members stand as before
-pub record HasTaken (old new : Known) (member : ℕ) : Type 0 where
+pub record HasSelectedFirst (old new : Known) (member : ℕ) : Type 0 where
   pub selects : SelectsFirst old new
   pub keeps : KeepsHold old new
   pub whole : IsWholeBook new

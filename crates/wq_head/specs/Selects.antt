@@ -62,9 +62,9 @@ pub record SelectsFirst (old new : Known) : Type 0 where
       (step.Unqueue member.at)
 
 -- so many entries were selected, one after another
-abbrev pub Selects : Known → ℕ → Known → Type 0
-Selects old zero new = new ≡ old
-Selects old (suc n) new = (mid : Known) × Selects old n mid × SelectsFirst mid new
+abbrev pub SelectsMany : Known → ℕ → Known → Type 0
+SelectsMany old zero new = new ≡ old
+SelectsMany old (suc n) new = (mid : Known) × SelectsMany old n mid × SelectsFirst mid new
 
 -- as many as were asked for, or all that there were; 0 asks for all
 abbrev pub EndsSelection : Known → ℕ → ℕ → Type 0
@@ -74,6 +74,6 @@ EndsSelection k most n = ((most ≢ 0) × (n ≡ most)) ⊎ (ShowsNoEntry k × (
 pub record HasSelected (old new : Known) (most n : ℕ) : Type 0 where
   pub seen : Known
   pub looks : Looks old seen
-  pub selects : Selects seen n new
+  pub selects : SelectsMany seen n new
   pub whole : IsWholeBook new
   pub ends : EndsSelection new most n

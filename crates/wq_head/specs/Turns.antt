@@ -31,34 +31,34 @@ use Rattle.wq_head.specs.Walking.{
   SameNumbers,
   Counts,
   IsAhead,
-  IsCounted,
+  IsCountedDown,
   StaysInWalk,
   IsStarting,
   IsCalling,
   IsBreak,
   Meeting,
   rest_of,
-  stands_at,
+  next_in_walk,
 }
 
 -- where the program of a walk begins
-abbrev pub started : Next
-started = next.Go (at.Walk walking.Lock)
+abbrev pub walk_start : Next
+walk_start = next.Go (at.Walk walking.Lock)
 
 -- what the walk has done from its beginning up to the beginning of a hold, and up to any place in it
 pub record HasComeTo (a : Aim) (start now : Known) (w : Walking) : Type 0 where
   pub real : Walking
   pub transitions : List Transition
   pub counts : Counts w real
-  pub counted : IsCounted a.count real
-  pub goes : Goes (walk_program a) start started transitions now (stands_at real)
+  pub counted : IsCountedDown a.count real
+  pub goes : Goes (walk_program a) start walk_start transitions now (next_in_walk real)
 
 pub record HasComeOn (a : Aim) (start now : Known) (w : Walking) : Type 0 where
   pub real : Walking
   pub transitions : List Transition
   pub counts : IsAhead a now w real
-  pub counted : IsCounted a.count real
-  pub goes : Goes (walk_program a) start started transitions now (stands_at real)
+  pub counted : IsCountedDown a.count real
+  pub goes : Goes (walk_program a) start walk_start transitions now (next_in_walk real)
 
 -- the task has taken the lock of one of the walk's holds, and has called no entry in it
 pub record InWalk (a : Aim) (start now : Known) (w : Walking) : Type 0 where
@@ -117,23 +117,23 @@ HasDrawn base now r = HasWaited (added base (item.Drawn (head_of r.aim.watch) r.
 
 -- Where a wake stands that began at `start`: before its first hold, or with a bookmark out before its next one; and
 -- whether the ticket of that hold is drawn.
-abbrev pub StandsAt : Known → Known → WakeRun → WakeStage → Type 0
-StandsAt start now r stage.First = now ≡ start
-StandsAt start now r stage.FirstTurn = HasDrawn start now r
-StandsAt start now r stage.Next = IsBroken r.aim start now r.walk
-StandsAt start now r stage.NextTurn = (base : Known) × IsBroken r.aim start base r.walk × HasDrawn base now r
+abbrev pub StandsAtWake : Known → Known → WakeRun → WakeStage → Type 0
+StandsAtWake start now r stage.First = now ≡ start
+StandsAtWake start now r stage.FirstTurn = HasDrawn start now r
+StandsAtWake start now r stage.Next = IsBroken r.aim start now r.walk
+StandsAtWake start now r stage.NextTurn = (base : Known) × IsBroken r.aim start base r.walk × HasDrawn base now r
 
 -- The wake began with an idle task that was up and may wake for the watch, at a full head, and with a count of 32 bits.
-pub record IsAt (start now : Known) (r : WakeRun) (s : WakeStage) : Type 0 where
+pub record IsAtWake (start now : Known) (r : WakeRun) (s : WakeStage) : Type 0 where
   pub up : IsUp start
   pub idle : IsIdle start
   pub full : IsFull r.aim.watch
   pub tries : MayWake r.aim.watch start
   pub small : r.aim.count < 2 ^ 32
-  pub stands : StandsAt start now r s
+  pub stands : StandsAtWake start now r s
 
 -- What a wake did that is over: it went through the program of the walk to its answer, and ended what the task owed.
-pub record IsOver (a : Aim) (start new : Known) (result : Walked) : Type 0 where
+pub record IsWakeOver (a : Aim) (start new : Known) (result : Walked) : Type 0 where
   pub woken : HasWoken start new a result
   pub ended : HasEnded start new a
   pub idle : IsIdle new
@@ -141,11 +141,11 @@ pub record IsOver (a : Aim) (start new : Known) (result : Walked) : Type 0 where
   pub carries : Carries (wake_all_change a.watch a.mode new.at) start new
 
 -- what a turn did
-abbrev pub TurnsTo : Known → Known → WakeRun → WakeTurn → Type 0
-TurnsTo start new r (turn.Locked s) = IsAt start new r s
-TurnsTo start new r turn.Broken = IsAt start new r stage.Next
-TurnsTo start new r (turn.Done result) = IsOver r.aim start new result
-TurnsTo start new r (turn.Starved failed) = HasStarved r.aim new failed
+abbrev pub WakeTurnsTo : Known → Known → WakeRun → WakeTurn → Type 0
+WakeTurnsTo start new r (turn.Locked s) = IsAtWake start new r s
+WakeTurnsTo start new r turn.Broken = IsAtWake start new r stage.Next
+WakeTurnsTo start new r (turn.Done result) = IsWakeOver r.aim start new result
+WakeTurnsTo start new r (turn.Starved failed) = HasStarved r.aim new failed
 
 -- the task as a turn looks at the head: the ticket of the next hold's lock is drawn then
 abbrev pub drawn_by : Known → WakeRun → WakeStage → Known
@@ -169,14 +169,14 @@ IsOutside new _ = new.book.head ≡ None
 pub record HasTurned (start new : Known) (r s : WakeRun) (t : WakeTurn) : Type 0 where
   pub aim : s.aim ≡ r.aim
   pub outside : IsOutside new t
-  pub turns : TurnsTo start new s t
+  pub turns : WakeTurnsTo start new s t
 
 -- where a turn leaves the wake, whenever that began; after its end the task is up and idle
-abbrev pub Rests : Known → WakeRun → WakeTurn → Type 0
-Rests now r (turn.Locked s) = (start : Known) × IsAt start now r s
-Rests now r turn.Broken = (start : Known) × IsAt start now r stage.Next
-Rests now r (turn.Done result) = IsUp now × IsIdle now
-Rests now r (turn.Starved failed) = HasStarved r.aim now failed
+abbrev pub WakeRests : Known → WakeRun → WakeTurn → Type 0
+WakeRests now r (turn.Locked s) = (start : Known) × IsAtWake start now r s
+WakeRests now r turn.Broken = (start : Known) × IsAtWake start now r stage.Next
+WakeRests now r (turn.Done result) = IsUp now × IsIdle now
+WakeRests now r (turn.Starved failed) = HasStarved r.aim now failed
 
 -- the stages at which the ticket of the next hold's lock is drawn
 abbrev pub IsTurnStage : WakeStage → Type 0
@@ -189,5 +189,5 @@ IsTurnStage stage.NextTurn = Unit {0}
 pub record IsServed (start now : Known) (r : WakeRun) (s : WakeStage) : Type 0 where
   pub turn : IsTurnStage s
   pub last : Known
-  pub at : IsAt start last r s
+  pub at : IsAtWake start last r s
   pub is : now ≡ added last (item.Serving (head_of r.aim.watch) r.ticket)

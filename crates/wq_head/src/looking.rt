@@ -6,7 +6,7 @@ ghost use Rattle.wait_model.specs.Words.{bit_at};
 ghost use Rattle.wait_rule.specs.Says.{IsUp};
 ghost use Rattle.wq_head.specs.Holds.{IsHolding};
 ghost use Rattle.wq_head.specs.Looks.{Looks};
-ghost use Rattle.wq_head.specs.Looking.{AreByBits, HasLooked, IsNextSet, HasLoaded};
+ghost use Rattle.wq_head.specs.Looking.{AreByBits, IsLookingBy, IsNextSet, HasLoaded};
 
 use wait_model::layout::{MEMBERS, WORD_BITS};
 use wait_rule::queues::held_member_load;
@@ -37,7 +37,7 @@ pub(crate) fn next_set(domain: &Domain, task: &mut Task, looking: &mut Looking) 
     requires of { task.old.domain ≡ domain.now }
     requires up { IsUp task.old }
     requires held { IsHolding task.old }
-    requires looked { HasLooked task.old looking.old }
+    requires looked { IsLookingBy task.old looking.old }
     ensures looks { Looks task.old task.new }
     ensures next { IsNextSet task.new looking.old.next looking.new result }
     ensures within { looking.new.next ≤ MEMBERS }
@@ -62,7 +62,7 @@ fn load_first(domain: &Domain, task: &mut Task, looking: &mut Looking)
     requires of { task.old.domain ≡ domain.now }
     requires up { IsUp task.old }
     requires held { IsHolding task.old }
-    requires looked { HasLooked task.old looking.old }
+    requires looked { IsLookingBy task.old looking.old }
     requires further { looking.old.next < MEMBERS }
     ensures looks { Looks task.old task.new }
     ensures same { looking.new.next ≡ looking.old.next }

@@ -9,7 +9,7 @@ ghost use Rattle.wait_rule.specs.Tried.{IsStarved};
 ghost use Rattle.wq_head.specs.Holds.{IsHolding};
 ghost use Rattle.wq_head.specs.Roused.{HasRoused, IsRousing, tasks_in};
 ghost use Rattle.wq_head.specs.Selects.{HasSelected, IsSimpleHold, KeepsHold};
-ghost use Rattle.wq_head.specs.Selecting.{HasTaken, IsFirstEntry};
+ghost use Rattle.wq_head.specs.Selecting.{HasSelectedFirst, IsFirstEntry};
 
 use crate::lists::Members;
 use crate::looks::{has_members, members};
@@ -118,7 +118,7 @@ fn take_first(
     requires up { IsUp task.old }
     requires first { IsFirstEntry task.old member }
     requires room { length (tasks_in rousing.old) < MEMBERS }
-    ensures taken { MatchResult result (λ _. HasTaken task.old task.new member)
+    ensures taken { MatchResult result (λ _. HasSelectedFirst task.old task.new member)
         (λ failed. IsStarved failed × KeepsHold task.old task.new) }
     ensures rouses { HasRoused task.old task.new rousing.old rousing.new }
 {

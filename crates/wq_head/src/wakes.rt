@@ -10,7 +10,7 @@ ghost use Rattle.wait_rule.specs.Stays.{Carries, StaysOwing, wake_all_change};
 ghost use Rattle.wq_head.specs.declared.wakes.WakeStage.{WakeStage};
 ghost use Rattle.wq_head.specs.Roused.{IsRousing, RousesNone, tasks_in};
 ghost use Rattle.wq_head.specs.Walks.{IsFull, MayWake, HasWoken, HasEnded};
-ghost use Rattle.wq_head.specs.Turns.{InWalk, IsAt, IsServed, IsTurnStage, HasTurned, Rests, first_counts};
+ghost use Rattle.wq_head.specs.Turns.{InWalk, IsAtWake, IsServed, IsTurnStage, HasTurned, WakeRests, first_counts};
 ghost use Rattle.wq_head.specs.Turns.{IsRefused, drawn_by};
 
 use crate::locks::{give_back, pause};
@@ -175,12 +175,12 @@ pub fn wake_stretch(
 ) -> WakeTurn
     requires of { task.old.domain ≡ domain.now }
     requires passes { PassesNone passing.old }
-    requires at { (start : Known) × IsAt start task.old run.old stage }
+    requires at { (start : Known) × IsAtWake start task.old run.old stage }
     requires none { tasks_in rousing.old ≡ [] }
     ensures of { task.new.domain ≡ domain.now }
-    ensures turned { (start : Known) → IsAt start task.old run.old stage
+    ensures turned { (start : Known) → IsAtWake start task.old run.old stage
         → HasTurned start task.new run.old run.new result }
-    ensures rests { Rests task.new run.new result }
+    ensures rests { WakeRests task.new run.new result }
     ensures refused { IsRefused task.old task.new run.new stage result }
     ensures rouses { IsRousing task.old task.new rousing.new }
 {
@@ -203,11 +203,11 @@ fn draw_turn(
     head: u16,
 ) -> WakeStage
     requires of { task.old.domain ≡ domain.now }
-    requires at { (start : Known) × IsAt start task.old run.old stage }
+    requires at { (start : Known) × IsAtWake start task.old run.old stage }
     requires head { head ≡ head_of run.old.aim.watch }
     ensures of { task.new.domain ≡ domain.now }
     ensures aim { run.new.aim ≡ run.old.aim }
-    ensures drawn { (start : Known) → IsAt start task.old run.old stage → IsAt start task.new run.new result }
+    ensures drawn { (start : Known) → IsAtWake start task.old run.old stage → IsAtWake start task.new run.new result }
     ensures turn { IsTurnStage result }
     ensures draws { task.new ≡ drawn_by task.old run.new stage }
     ensures rouses { RousesNone task.old task.new }

@@ -2,7 +2,7 @@
 
 ghost use Rattle.std.specs.Prelude.{◌≡◌};
 ghost use Rattle.wait_model.specs.Tasks.{IsState};
-ghost use Rattle.wq_head.specs.Readied.{IsReady};
+ghost use Rattle.wq_head.specs.Readied.{IsReadyToCall};
 
 use crate::heads::many::queue_many;
 use crate::heads::waiting::queue_own;
@@ -19,10 +19,10 @@ use wq_head::wakes::wake;
 /// A new task queues its entry, in a state: false where there is no number or no place left.
 fn queue_as<R: Wait>(rt: &R, domain: &Domain, task: &mut Task, exclusive: bool, state: u32) -> bool
     requires of { task.old.domain ≡ domain.now }
-    requires ready { IsReady task.old }
+    requires ready { IsReadyToCall task.old }
     requires state { IsState state }
     ensures of { task.new.domain ≡ domain.now }
-    ensures ready { IsReady task.new }
+    ensures ready { IsReadyToCall task.new }
 {
     match task.fork(domain, 0) {
         Ok(mut other) => queue_own(rt, domain, &mut other, Kind::Default, exclusive, state),
@@ -40,7 +40,7 @@ fn did(walked: Walked, woken: u32, selected: u32, spent: bool) -> bool {
 /// One plain and two exclusive waiters: the count goes by the exclusive ones alone.
 fn wake_two_exclusive<R: Abort + Wait>(rt: &R, domain: &Domain, mut task: Task, count: u32)
     requires of { task.domain ≡ domain.now }
-    requires ready { IsReady task }
+    requires ready { IsReadyToCall task }
 {
     let seen = [
         queue_as(rt, domain, &mut task, false, UNINTERRUPTIBLE),
@@ -73,7 +73,7 @@ fn counts_go_by_exclusive_waiters(rt: HostRuntime) -> Result<(), Fail> {
 /// An exclusive waiter that is awake uses up nothing: the next one is woken.
 fn wake_past_the_awake<R: Abort + Wait>(rt: &R, domain: &Domain, mut task: Task)
     requires of { task.domain ≡ domain.now }
-    requires ready { IsReady task }
+    requires ready { IsReadyToCall task }
 {
     let seen = [
         queue_as(rt, domain, &mut task, true, RUNNING),
@@ -101,7 +101,7 @@ fn awake_waiters_use_up_nothing(rt: HostRuntime) -> Result<(), Fail> {
 /// A hold that breaks keeps the count for the next one, which uses it up.
 fn wake_over_a_break<R: Abort + Wait>(rt: &R, domain: &Domain, mut task: Task)
     requires of { task.domain ≡ domain.now }
-    requires ready { IsReady task }
+    requires ready { IsReadyToCall task }
 {
     let seen = [
         queue_many(rt, domain, &mut task, 66),

@@ -1,7 +1,7 @@
 //! Walks over more entries than one hold calls.
 
 ghost use Rattle.std.specs.Prelude.{◌≡◌};
-ghost use Rattle.wq_head.specs.Readied.{IsReady};
+ghost use Rattle.wq_head.specs.Readied.{IsReadyToCall};
 
 use crate::heads::waiting::{count_members, queue_own};
 use crate::wants::{all_so, another};
@@ -17,9 +17,9 @@ use wq_head::wakes::wake;
 /// A new task queues its entry and stays awake: false where there is no number or no place left.
 fn queue_another<R: Wait>(rt: &R, domain: &Domain, task: &mut Task) -> bool
     requires of { task.old.domain ≡ domain.now }
-    requires ready { IsReady task.old }
+    requires ready { IsReadyToCall task.old }
     ensures of { task.new.domain ≡ domain.now }
-    ensures ready { IsReady task.new }
+    ensures ready { IsReadyToCall task.new }
 {
     match task.fork(domain, 0) {
         Ok(mut other) => queue_own(rt, domain, &mut other, Kind::Default, false, RUNNING),
@@ -30,9 +30,9 @@ fn queue_another<R: Wait>(rt: &R, domain: &Domain, task: &mut Task) -> bool
 /// So many new tasks queue their entries.
 pub(crate) fn queue_many<R: Wait>(rt: &R, domain: &Domain, task: &mut Task, count: u8) -> bool
     requires of { task.old.domain ≡ domain.now }
-    requires ready { IsReady task.old }
+    requires ready { IsReadyToCall task.old }
     ensures of { task.new.domain ≡ domain.now }
-    ensures ready { IsReady task.new }
+    ensures ready { IsReadyToCall task.new }
 {
     for _ in 0..count {
         if !queue_another(rt, domain, task) {
@@ -45,7 +45,7 @@ pub(crate) fn queue_many<R: Wait>(rt: &R, domain: &Domain, task: &mut Task, coun
 /// A walk over so many entries of tasks that are awake takes so many holds, and leaves all entries and no bookmark.
 fn walk_over_many<R: Abort + Wait>(rt: &R, domain: &Domain, mut task: Task, count: u8, holds: u32)
     requires of { task.domain ≡ domain.now }
-    requires ready { IsReady task }
+    requires ready { IsReadyToCall task }
 {
     let mut last = another(rt, domain, &mut task);
     assert!(rt; queue_many(rt, domain, &mut task, count));

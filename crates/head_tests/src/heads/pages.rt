@@ -4,7 +4,7 @@
 ghost use Rattle.std.specs.Prelude.{◌≡◌, ◌<◌};
 ghost use Rattle.wait_model.specs.declared.layout.TheConstants.{BIT_WORDS};
 ghost use Rattle.wait_model.specs.Tasks.{IsState};
-ghost use Rattle.wq_head.specs.Readied.{IsAtRest, IsReady, IsUpAndFree};
+ghost use Rattle.wq_head.specs.Readied.{IsUpAndIdle, IsReadyToCall, IsUpAndFree};
 
 use crate::heads::sleepers::sees_queued;
 use crate::heads::strangers::lock_other;
@@ -32,7 +32,7 @@ const ROUNDS: u32 = 300;
 /// Queues the own entry for a page, and stores a state in the same hold: false where there is no place.
 fn queue_page<R: Wait>(rt: &R, domain: &Domain, task: &mut Task, page: u8, state: u32) -> bool
     requires of { task.old.domain ≡ domain.now }
-    requires ready { IsReady task.old }
+    requires ready { IsReadyToCall task.old }
     requires page { page < BIT_WORDS }
     requires state { IsState state }
     ensures of { task.new.domain ≡ domain.now }
@@ -48,11 +48,11 @@ fn queue_page<R: Wait>(rt: &R, domain: &Domain, task: &mut Task, page: u8, state
 /// A new task does so: false where there is no number left, too.
 fn other_waits<R: Wait>(rt: &R, domain: &Domain, task: &mut Task, page: u8, state: u32) -> bool
     requires of { task.old.domain ≡ domain.now }
-    requires ready { IsReady task.old }
+    requires ready { IsReadyToCall task.old }
     requires page { page < BIT_WORDS }
     requires state { IsState state }
     ensures of { task.new.domain ≡ domain.now }
-    ensures ready { IsReady task.new }
+    ensures ready { IsReadyToCall task.new }
 {
     match task.fork(domain, 0) {
         Ok(mut other) => queue_page(rt, domain, &mut other, page, state),
@@ -70,10 +70,10 @@ fn wake_page<R: Wait>(
     count: u32,
 ) -> Walked
     requires of { task.old.domain ≡ domain.now }
-    requires ready { IsReady task.old }
+    requires ready { IsReadyToCall task.old }
     requires page { page < BIT_WORDS }
     ensures of { task.new.domain ≡ domain.now }
-    ensures rests { IsAtRest task.new }
+    ensures rests { IsUpAndIdle task.new }
 {
     wake(
         rt,
@@ -95,10 +95,10 @@ fn other_wakes<R: Abort + Wait>(
     count: u32,
 ) -> Walked
     requires of { task.old.domain ≡ domain.now }
-    requires ready { IsReady task.old }
+    requires ready { IsReadyToCall task.old }
     requires page { page < BIT_WORDS }
     ensures of { task.new.domain ≡ domain.now }
-    ensures ready { IsReady task.new }
+    ensures ready { IsReadyToCall task.new }
 {
     let mut other = another(rt, domain, task);
     wake_page(rt, domain, &mut other, page, mode, count)
@@ -124,11 +124,11 @@ fn hand_to<R: Abort + Wait>(
     state: u32,
 )
     requires of { task.old.domain ≡ domain.now }
-    requires ready { IsReady task.old }
+    requires ready { IsReadyToCall task.old }
     requires page { page < BIT_WORDS }
     requires state { IsState state }
     ensures of { task.new.domain ≡ domain.now }
-    ensures ready { IsReady task.new }
+    ensures ready { IsReadyToCall task.new }
 {
     let mut other = another(rt, domain, task);
     assert!(rt; queue_page(rt, domain, &mut other, page, state));
@@ -147,7 +147,7 @@ fn hand_to<R: Abort + Wait>(
 /// where the walk's mode would not meet it.
 fn hand_each<R: Abort + Wait>(rt: &R, domain: &Domain, mut task: Task)
     requires of { task.domain ≡ domain.now }
-    requires ready { IsReady task }
+    requires ready { IsReadyToCall task }
 {
     hand_to(rt, domain, &mut task, 1, Mode::Normal, UNINTERRUPTIBLE);
     hand_to(rt, domain, &mut task, 2, Mode::Normal, RUNNING);
@@ -172,7 +172,7 @@ fn pages_are_handed_over(rt: HostRuntime) -> Result<(), Fail> {
 /// one.
 fn stop_each<R: Abort + Wait>(rt: &R, domain: &Domain, mut task: Task)
     requires of { task.domain ≡ domain.now }
-    requires ready { IsReady task }
+    requires ready { IsReadyToCall task }
 {
     let seen = [
         other_waits(rt, domain, &mut task, 5, UNINTERRUPTIBLE),
@@ -206,7 +206,7 @@ fn taken_page_stops_the_walk(rt: HostRuntime) -> Result<(), Fail> {
 /// since the bit is taken by then.
 fn wake_both<R: Abort + Wait>(rt: &R, domain: &Domain, mut task: Task)
     requires of { task.domain ≡ domain.now }
-    requires ready { IsReady task }
+    requires ready { IsReadyToCall task }
 {
     let bit = Watch::Bit { word: 7, bit: 0 };
     let seen = [
@@ -246,7 +246,7 @@ fn bits_and_pages_on_one_head(rt: HostRuntime) -> Result<(), Fail> {
 /// Sleeps once its entry for the page is queued: true where the page was handed over to it as it was woken.
 fn sleep_for<R: Wait>(rt: &R, domain: &Domain, mut task: Task, page: u8) -> bool
     requires of { task.domain ≡ domain.now }
-    requires ready { IsReady task }
+    requires ready { IsReadyToCall task }
     requires page { page < BIT_WORDS }
 {
     if !queue_page(rt, domain, &mut task, page, UNINTERRUPTIBLE) {
@@ -259,7 +259,7 @@ fn sleep_for<R: Wait>(rt: &R, domain: &Domain, mut task: Task, page: u8) -> bool
 /// Looks until the entry of task `who` is queued.
 fn look_for<R: Wait>(rt: &R, domain: &Domain, task: &mut Task, who: u8)
     requires of { task.old.domain ≡ domain.now }
-    requires rests { IsAtRest task.old }
+    requires rests { IsUpAndIdle task.old }
 {
     for _ in rt.forever() {
         if sees_queued(domain, task, who) {
@@ -279,7 +279,7 @@ fn wake_once<R: Wait>(
     yields: u32,
 ) -> Walked
     requires of { (task.domain ≡ domain.now) × (looker.domain ≡ domain.now) }
-    requires ready { IsReady task × IsReady looker }
+    requires ready { IsReadyToCall task × IsReadyToCall looker }
 {
     look_for(rt, domain, &mut looker, who);
     for _ in 0..yields {
@@ -299,16 +299,16 @@ fn meet<R: Threads + Wait + Sync>(
     yields: u32,
 ) -> (bool, Walked)
     requires of { (task.domain ≡ domain.now) × (looker.domain ≡ domain.now) × (sleeper.domain ≡ domain.now) }
-    requires ready { IsReady task × IsReady looker × IsReady sleeper }
+    requires ready { IsReadyToCall task × IsReadyToCall looker × IsReadyToCall sleeper }
 {
     let who = sleeper.number();
     thread::join(
         rt,
         move || -> bool
-            requires { (sleeper.domain ≡ domain.now) × IsReady sleeper }
+            requires { (sleeper.domain ≡ domain.now) × IsReadyToCall sleeper }
         { sleep_for(rt, domain, sleeper, 11) },
         move || -> Walked
-            requires { (task.domain ≡ domain.now) × (looker.domain ≡ domain.now) × IsReady task × IsReady looker }
+            requires { (task.domain ≡ domain.now) × (looker.domain ≡ domain.now) × IsReadyToCall task × IsReadyToCall looker }
         { wake_once(rt, domain, task, looker, who, yields) },
     )
 }
@@ -321,7 +321,7 @@ fn hand_to_sleeper<R: Abort + Threads + Wait + Sync>(
     yields: u32,
 )
     requires of { task.domain ≡ domain.now }
-    requires ready { IsReady task }
+    requires ready { IsReadyToCall task }
 {
     let sleeper = another(rt, domain, &mut task);
     let looker = another(rt, domain, &mut task);

@@ -2,7 +2,7 @@
 //! in Domains whose tasks park at once when they are put asleep.
 
 ghost use Rattle.std.specs.Prelude.{◌≡◌, ◌<◌, ◌≤◌};
-ghost use Rattle.wq_head.specs.Readied.{IsAtRest, IsReady, IsUpAndFree};
+ghost use Rattle.wq_head.specs.Readied.{IsUpAndIdle, IsReadyToCall, IsUpAndFree};
 
 use crate::heads::waiting::{count_members, leave, queue_own};
 use crate::wants::{all_so, another};
@@ -37,7 +37,7 @@ fn sleep_unless_set<R: Wait>(rt: &R, domain: &Domain, task: &mut Task)
 /// Waits once for the condition. True where its entry was still queued then: no wake has taken it off.
 fn wait_once<R: Wait>(rt: &R, domain: &Domain, mut task: Task) -> bool
     requires of { task.domain ≡ domain.now }
-    requires ready { IsReady task }
+    requires ready { IsReadyToCall task }
 {
     if !queue_own(
         rt,
@@ -57,9 +57,9 @@ fn wait_once<R: Wait>(rt: &R, domain: &Domain, mut task: Task) -> bool
 /// Looks at an entry word of another task, outside of a hold: true where it is queued.
 pub(crate) fn sees_queued(domain: &Domain, task: &mut Task, who: u8) -> bool
     requires of { task.old.domain ≡ domain.now }
-    requires rests { IsAtRest task.old }
+    requires rests { IsUpAndIdle task.old }
     ensures of { task.new.domain ≡ domain.now }
-    ensures rests { IsAtRest task.new }
+    ensures rests { IsUpAndIdle task.new }
 {
     entry_load(domain, task, who, 0).queued()
 }
@@ -67,9 +67,9 @@ pub(crate) fn sees_queued(domain: &Domain, task: &mut Task, who: u8) -> bool
 /// Looks until the entries of tasks 1 to 3 are all queued, so often at most.
 fn look_for_three(domain: &Domain, task: &mut Task, looks: u32)
     requires of { task.old.domain ≡ domain.now }
-    requires rests { IsAtRest task.old }
+    requires rests { IsUpAndIdle task.old }
     ensures of { task.new.domain ≡ domain.now }
-    ensures rests { IsAtRest task.new }
+    ensures rests { IsUpAndIdle task.new }
 {
     for _ in 0..looks {
         let one = sees_queued(domain, task, 1);
@@ -93,7 +93,7 @@ fn yield_often(count: u32) {
 /// yields.
 fn set_and_wake<R: Wait>(rt: &R, domain: &Domain, mut task: Task, looks: u32, yields: u32) -> Walked
     requires of { task.domain ≡ domain.now }
-    requires rests { IsAtRest task }
+    requires rests { IsUpAndIdle task }
 {
     let watch = Watch::Plain { cond: 0 };
     look_for_three(domain, &mut task, looks);
@@ -117,15 +117,15 @@ fn two_wait<R: Threads + Wait + Sync>(
     third: Task,
 ) -> (bool, bool)
     requires of { (second.domain ≡ domain.now) × (third.domain ≡ domain.now) }
-    requires ready { IsReady second × IsReady third }
+    requires ready { IsReadyToCall second × IsReadyToCall third }
 {
     thread::join(
         rt,
         move || -> bool
-            requires { (second.domain ≡ domain.now) × IsReady second }
+            requires { (second.domain ≡ domain.now) × IsReadyToCall second }
         { wait_once(rt, domain, second) },
         move || -> bool
-            requires { (third.domain ≡ domain.now) × IsReady third }
+            requires { (third.domain ≡ domain.now) × IsReadyToCall third }
         { wait_once(rt, domain, third) },
     )
 }
@@ -139,16 +139,16 @@ fn three_wait<R: Threads + Wait + Sync>(
     third: Task,
 ) -> u32
     requires of { (first.domain ≡ domain.now) × (second.domain ≡ domain.now) × (third.domain ≡ domain.now) }
-    requires ready { IsReady first × IsReady second × IsReady third }
+    requires ready { IsReadyToCall first × IsReadyToCall second × IsReadyToCall third }
     ensures { result ≤ 3 }
 {
     let (one, (two, three)) = thread::join(
         rt,
         move || -> bool
-            requires { (first.domain ≡ domain.now) × IsReady first }
+            requires { (first.domain ≡ domain.now) × IsReadyToCall first }
         { wait_once(rt, domain, first) },
         move || -> (bool, bool)
-            requires { (second.domain ≡ domain.now) × IsReady second × (third.domain ≡ domain.now) × IsReady third }
+            requires { (second.domain ≡ domain.now) × IsReadyToCall second × (third.domain ≡ domain.now) × IsReadyToCall third }
         { two_wait(rt, domain, second, third) },
     );
     count(one, two, three)
@@ -168,18 +168,18 @@ fn meet<R: Threads + Wait + Sync>(
 ) -> (Walked, u32)
     requires of { (waker.domain ≡ domain.now) × (first.domain ≡ domain.now) × (second.domain ≡ domain.now)
         × (third.domain ≡ domain.now) }
-    requires rests { IsAtRest waker }
-    requires ready { IsReady first × IsReady second × IsReady third }
+    requires rests { IsUpAndIdle waker }
+    requires ready { IsReadyToCall first × IsReadyToCall second × IsReadyToCall third }
     ensures { result.1 ≤ 3 }
 {
     thread::join(
         rt,
         move || -> Walked
-            requires { (waker.domain ≡ domain.now) × IsAtRest waker }
+            requires { (waker.domain ≡ domain.now) × IsUpAndIdle waker }
         { set_and_wake(rt, domain, waker, looks, yields) },
         move || -> u32
             requires of { (first.domain ≡ domain.now) × (second.domain ≡ domain.now) × (third.domain ≡ domain.now) }
-            requires ready { IsReady first × IsReady second × IsReady third }
+            requires ready { IsReadyToCall first × IsReadyToCall second × IsReadyToCall third }
             ensures { result ≤ 3 }
         { three_wait(rt, domain, first, second, third) },
     )
@@ -195,7 +195,7 @@ fn walk_over_three<R: Abort + Threads + Wait + Sync>(
     yields: u32,
 )
     requires of { task.domain ≡ domain.now }
-    requires ready { IsReady task }
+    requires ready { IsReadyToCall task }
 {
     let first = another(rt, domain, &mut task);
     let second = another(rt, domain, &mut task);

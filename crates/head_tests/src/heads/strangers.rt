@@ -3,7 +3,7 @@
 ghost use Rattle.std.specs.Prelude.{◌≡◌};
 ghost use Rattle.wait_model.specs.declared.watches.Kind.TheVariants as kinds;
 ghost use Rattle.wq_head.specs.Adds.{IsFor, IsForBit};
-ghost use Rattle.wq_head.specs.Readied.{IsReady, IsUpAndFree};
+ghost use Rattle.wq_head.specs.Readied.{IsReadyToCall, IsUpAndFree};
 ghost use Rattle.wq_head.specs.Walks.{IsFull};
 
 use crate::wants::all_so;
@@ -29,7 +29,7 @@ pub(crate) fn queue_for<R: Wait>(
     watch: Watch,
 ) -> bool
     requires of { task.old.domain ≡ domain.now }
-    requires ready { IsReady task.old }
+    requires ready { IsReadyToCall task.old }
     requires suits { IsFor watch kind }
     requires full { IsFull watch }
     ensures of { task.new.domain ≡ domain.now }
@@ -45,11 +45,11 @@ pub(crate) fn queue_for<R: Wait>(
 /// A new task does so: false where there is no number left, too.
 fn queue_other<R: Wait>(rt: &R, domain: &Domain, task: &mut Task, kind: Kind, watch: Watch) -> bool
     requires of { task.old.domain ≡ domain.now }
-    requires ready { IsReady task.old }
+    requires ready { IsReadyToCall task.old }
     requires suits { IsFor watch kind }
     requires full { IsFull watch }
     ensures of { task.new.domain ≡ domain.now }
-    ensures ready { IsReady task.new }
+    ensures ready { IsReadyToCall task.new }
 {
     match task.fork(domain, 0) {
         Ok(mut other) => queue_for(rt, domain, &mut other, kind, watch),
@@ -60,7 +60,7 @@ fn queue_other<R: Wait>(rt: &R, domain: &Domain, task: &mut Task, kind: Kind, wa
 /// Queues an exclusive entry for a bit, and stores a state in the same hold.
 fn queue_lock<R: Wait>(rt: &R, domain: &Domain, task: &mut Task, watch: Watch) -> bool
     requires of { task.old.domain ≡ domain.now }
-    requires ready { IsReady task.old }
+    requires ready { IsReadyToCall task.old }
     requires suits { IsForBit watch kinds.Bit }
     requires full { IsFull watch }
     ensures of { task.new.domain ≡ domain.now }
@@ -76,11 +76,11 @@ fn queue_lock<R: Wait>(rt: &R, domain: &Domain, task: &mut Task, watch: Watch) -
 /// A new task does so.
 pub(crate) fn lock_other<R: Wait>(rt: &R, domain: &Domain, task: &mut Task, watch: Watch) -> bool
     requires of { task.old.domain ≡ domain.now }
-    requires ready { IsReady task.old }
+    requires ready { IsReadyToCall task.old }
     requires suits { IsForBit watch kinds.Bit }
     requires full { IsFull watch }
     ensures of { task.new.domain ≡ domain.now }
-    ensures ready { IsReady task.new }
+    ensures ready { IsReadyToCall task.new }
 {
     match task.fork(domain, 0) {
         Ok(mut other) => queue_lock(rt, domain, &mut other, watch),
@@ -98,7 +98,7 @@ fn did(walked: Walked, woken: u32, selected: u32, spent: bool) -> bool {
 /// A wake by a task that has nothing queued.
 fn wake_for<R: Wait>(rt: &R, domain: &Domain, task: &mut Task, watch: Watch, count: u32) -> Walked
     requires of { task.old.domain ≡ domain.now }
-    requires ready { IsReady task.old }
+    requires ready { IsReadyToCall task.old }
     requires full { IsFull watch }
 {
     wake(rt, domain, task, watch, Mode::Normal, count)
@@ -115,10 +115,10 @@ fn wakes<R: Wait>(
     selected: u32,
 ) -> bool
     requires of { task.old.domain ≡ domain.now }
-    requires ready { IsReady task.old }
+    requires ready { IsReadyToCall task.old }
     requires full { IsFull watch }
     ensures of { task.new.domain ≡ domain.now }
-    ensures ready { IsReady task.new }
+    ensures ready { IsReadyToCall task.new }
 {
     match task.fork(domain, 0) {
         Ok(mut other) => {
@@ -133,7 +133,7 @@ fn wakes<R: Wait>(
 /// its old value is.
 fn wake_each<R: Abort + Wait>(rt: &R, domain: &Domain, mut task: Task)
     requires of { task.domain ≡ domain.now }
-    requires ready { IsReady task }
+    requires ready { IsReadyToCall task }
 {
     let bit = Watch::Bit { word: 2, bit: 16 };
     let var = Watch::Var { var: 16, old: 0 };
@@ -164,7 +164,7 @@ fn strangers_on_one_head(rt: HostRuntime) -> Result<(), Fail> {
 /// Of those who wait to take a bit one is selected at a time, behind a stranger that uses up nothing.
 fn select_each<R: Abort + Wait>(rt: &R, domain: &Domain, mut task: Task)
     requires of { task.domain ≡ domain.now }
-    requires ready { IsReady task }
+    requires ready { IsReadyToCall task }
 {
     let bit = Watch::Bit { word: 2, bit: 16 };
     let var = Watch::Var { var: 16, old: 0 };

@@ -1,7 +1,7 @@
 //! Locks and wakes hold by hold, by who waits for no lock.
 
 ghost use Rattle.std.specs.Prelude.{◌≡◌};
-ghost use Rattle.wq_head.specs.Readied.{IsReady};
+ghost use Rattle.wq_head.specs.Readied.{IsReadyToCall};
 
 use crate::heads::many::queue_many;
 use crate::heads::waiting::queue_own;
@@ -88,7 +88,7 @@ fn locked_until_it_is_given_back(rt: HostRuntime) -> Result<(), Fail> {
 /// A wake over 66 entries of tasks that are awake breaks once, and is over with the next hold.
 fn wake_over_66<R: Abort + Wait>(rt: &R, domain: &Domain, mut task: Task)
     requires of { task.domain ≡ domain.now }
-    requires ready { IsReady task }
+    requires ready { IsReadyToCall task }
 {
     assert!(rt; queue_many(rt, domain, &mut task, 66));
     let mut rousing = Rousing::new();
@@ -135,7 +135,7 @@ fn broken_between_two_holds(rt: HostRuntime) -> Result<(), Fail> {
 /// A wake of two tasks, one of which was put asleep: the turn names that one, to be roused.
 fn wake_sleeper<R: Abort + Wait>(rt: &R, domain: &Domain, mut task: Task)
     requires of { task.domain ≡ domain.now }
-    requires ready { IsReady task }
+    requires ready { IsReadyToCall task }
 {
     let mut sleeper = another(rt, domain, &mut task);
     let mut other = another(rt, domain, &mut task);

@@ -6,7 +6,7 @@ ghost use Rattle.wait_model.specs.declared.layout.TheConstants.{FIRST_PLAIN_HEAD
 ghost use Rattle.wait_model.specs.Tasks.{IsState};
 ghost use Rattle.wait_rule.specs.Says.{IsUp};
 ghost use Rattle.wq_head.specs.Holds.{IsHolding};
-ghost use Rattle.wq_head.specs.Readied.{IsPlainKind, IsReady, IsUpAndFree, StaysInHold};
+ghost use Rattle.wq_head.specs.Readied.{IsPlainKind, IsReadyToCall, IsUpAndFree, StaysInHold};
 
 use std::sync::Wait;
 use wait_model::heads::head_of;
@@ -29,7 +29,7 @@ pub(crate) fn queue_own<R: Wait>(
     state: u32,
 ) -> bool
     requires of { task.old.domain ≡ domain.now }
-    requires ready { IsReady task.old }
+    requires ready { IsReadyToCall task.old }
     requires kind { IsPlainKind kind }
     requires state { IsState state }
     ensures of { task.new.domain ≡ domain.now }

@@ -12,7 +12,7 @@ use Rattle.sugwelan_c.proofs.Walks.{sint_Lawful, nothing, peeks, heard, calls_at
 use Rattle.sugwelan_c.proofs.Walks.{Stays, walk_of, stay_dropped, gave_ref, Goes-dropped, Goes-gave_ref, ends_at}
 use Rattle.std.proofs.Common.{ℤ}
 use Rattle.std.specs.Prelude.{MatchResult}
-use Rattle.sugwelan_c.specs.Blocks.{freeing, code_in, gives, owned, puts}
+use Rattle.sugwelan_c.specs.Blocks.{freeing, code_in, gives_block, owned, puts}
 use Rattle.sugwelan_c.specs.Handles.{IsFork, HasNoFork}
 use Rattle.wq_checked.specs.contracts.tasks.CheckedTask.{the_row as R}
 use Rattle.sugwelan_c.proofs.Made.{Made, made_laws, given}
@@ -106,11 +106,11 @@ sugwelan_fork_spec 𝓤 𝓛 𝓜 𝓡 wired =
     await ! tt $ pick ! (λ s. split ! $ split ! $ move ! (2 ∷ []) $ pick ! (λ us. split3 ! $ move ! (1 ∷ []) $
     heard ! (s ≡ code_in m) (λ code_is. move ! (1 ∷ []) $
     let P = IsFork n ws.1.0 share in let Q = HasNoFork n ws.1.0 share in
-    use1 𝓛 (‵ (gives P Q s us.1.0 out.now)) (given 𝓛 P Q us.1.0 out.now (fork_errno n ws.1.0 share) m s so code_is) $
+    use1 𝓛 (‵ (gives_block P Q s us.1.0 out.now)) (given 𝓛 P Q us.1.0 out.now (fork_errno n ws.1.0 share) m s so code_is) $
     -- [what is given; the last values; the token; the result; what is held]
     move ! (4 ∷ 0 ∷ []) $ fjoin ! $
     fpack ! R.Denot (λ now. fsep (owned (block_ptr b o) now)
-    (gives (IsFork n now share) (HasNoFork n now share) s us.1.0 out.now)) ws.1.0 $
+    (gives_block (IsFork n now share) (HasNoFork n now share) s us.1.0 out.now)) ws.1.0 $
     move ! (1 ∷ []) $ fsplit ! $ drop ! $ nothing ! $ join ! $ nothing ! $ join ! $ nothing ! $ join ! $
     move ! (3 ∷ []) $ peeks ! i32 (Is i32) (shows 𝓛 i32) s (u ∷ []) (λ is'.
     lands_as ! refl refl ((sint_Lawful 𝓛 w32).typed s _ is').0 $

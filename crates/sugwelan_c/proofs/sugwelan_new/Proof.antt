@@ -9,7 +9,7 @@ use Rattle.sugwelan_c.proofs.Walks.{lasts, triple_of, framed, Stays, walk_of, st
 use Rattle.sugwelan_c.proofs.Walks.{Goes-gave_ref, ends_at}
 use Rattle.std.proofs.Common.{ℤ}
 use Rattle.std.specs.Prelude.{MatchResult}
-use Rattle.sugwelan_c.specs.Blocks.{code_in, gives, puts}
+use Rattle.sugwelan_c.specs.Blocks.{code_in, gives_block, puts}
 use Rattle.sugwelan_c.specs.Handles.{IsNew, NoNew}
 use Rattle.sugwelan_c.proofs.Made.{Made, made_laws, errno_at, given}
 use Rattle.sugwelan_c.specs.contracts.sugwelan_new as f
@@ -67,7 +67,7 @@ sugwelan_new_spec 𝓤 𝓛 𝓜 𝓡 wired =
     (raw (fact 𝓤 (s ≡ code_in m)) ⊛ ‵ (puts m ws.1.0 out.now)))))) (id⊢ 𝓤 _) $
     await ! tt $ pick ! (λ s. split ! $ split ! $ move ! (2 ∷ []) $ pick ! (λ ws. split3 ! $ move ! (1 ∷ []) $
     heard ! (s ≡ code_in m) (λ code_is. move ! (1 ∷ []) $
-    use1 𝓛 (‵ (gives IsNew NoNew s ws.1.0 out.now)) (given 𝓛 IsNew NoNew ws.1.0 out.now (errno_at 11) m s so code_is) $
+    use1 𝓛 (‵ (gives_block IsNew NoNew s ws.1.0 out.now)) (given 𝓛 IsNew NoNew ws.1.0 out.now (errno_at 11) m s so code_is) $
     -- [what is given; the last values; the token; the result]
     move ! (1 ∷ []) $ fsplit ! $ drop ! $ nothing ! $ join ! $
     move ! (3 ∷ []) $ peeks ! i32 (Is i32) (shows 𝓛 i32) s (u ∷ []) (λ is'.

@@ -24,7 +24,7 @@ use Rattle.wait_rule.proofs.KnownLaws.TaskHistories.{history_after}
 use Rattle.wait_rule.proofs.KnownLaws.Transitions.{only_none}
 use Rattle.wait_class.specs.Posts.{IsStateFor, Post, Stands}
 use Rattle.wait_class.specs.Posts.{EndsWith, own_of}
-use Rattle.wait_class.specs.Findings.{nothing, with_own}
+use Rattle.wait_class.specs.Findings.{saw_nothing, with_own}
 use Rattle.wait_event.specs.WokenWaits.{
   HasHeardSo,
   Hears,
@@ -66,7 +66,7 @@ heard_more k st e es (found, own, ends) = (
 
 -- what the program finds of the flag
 abbrev pub with_flag : Bool → Seen
-with_flag b = record nothing { flag = b }
+with_flag b = record saw_nothing { flag = b }
 
 module _ (old : Known) (st : SleepState) where
   -- the state is stored
@@ -77,7 +77,7 @@ module _ (old : Known) (st : SleepState) where
       let new = added old (item.Made (step.State σ)) in
       let keeps = keeps_by (λ _. σ) old new carries in record {
         went = record {
-          runs = runs_one (woken_program old.view.number st) (at.Woken hearing.State) old old new nothing
+          runs = runs_one (woken_program old.view.number st) (at.Woken hearing.State) old old new saw_nothing
               (by_step (step.State σ)) (only_none old) same (tt, tt, tt) (only_none new);
           keeps = keeps;
         };
@@ -220,7 +220,7 @@ module _ (old : Known) (st : SleepState) where
       let new = added old (item.Made (step.State 0)) in
       let keeps = keeps_by (λ _. 0) old new carries in record {
         went = record {
-          runs = runs_one (woken_program old.view.number st) (at.Woken hearing.Run) old old new nothing
+          runs = runs_one (woken_program old.view.number st) (at.Woken hearing.Run) old old new saw_nothing
               (by_step (step.State 0)) (only_none old) refl (tt, tt, tt) (only_none new);
           keeps = keeps;
         };
@@ -242,7 +242,7 @@ module _ (old : Known) (st : SleepState) where
       let new = added old (item.Made e) in
       let keeps = keeps_by (λ σ. σ) old new carries in record {
         went = record {
-          runs = runs_one (woken_program old.view.number st) (at.Woken hearing.Clear) old old new nothing (by_step e)
+          runs = runs_one (woken_program old.view.number st) (at.Woken hearing.Clear) old old new saw_nothing (by_step e)
               (only_none old) (refl, inl refl) (tt, tt, tt) (only_none new);
           keeps = keeps;
         };

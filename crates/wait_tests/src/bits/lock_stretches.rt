@@ -3,7 +3,7 @@
 ghost use Rattle.std.specs.Prelude.{◌≡◌};
 ghost use Rattle.wait_model.specs.declared.watches.Watch.TheVariants as watch;
 ghost use Rattle.wait_rule.specs.Bits.{KeepsBitOf};
-ghost use Rattle.wait_tests.specs.BitTasks.{IsAtRest, IsReadyToWait};
+ghost use Rattle.wait_tests.specs.BitTasks.{IsAtRest, IsReadyForBit};
 
 use crate::bits::alone::{give, take};
 use crate::bits::rousing::rouse_and_go;
@@ -29,7 +29,7 @@ fn play<R: Wait>(rt: &R, domain: &Domain, holder: &mut Task, waiter: &mut Task, 
     requires of { (holder.old.domain ≡ domain.now) × (waiter.old.domain ≡ domain.now) }
     requires holder { IsAtRest holder.old }
     requires keeps { KeepsBitOf holder.old (watch.Bit 0 0) }
-    requires waiter { IsReadyToWait waiter.old }
+    requires waiter { IsReadyForBit waiter.old }
 {
     let mut run = begin_lock(waiter, 0, 0, SleepState::Uninterruptible);
     let begins = Turn::Again(Stage::Test(LockTest::First));

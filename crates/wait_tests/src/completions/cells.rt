@@ -1,7 +1,7 @@
 //! Calls by stretches, by who waits for no lock.
 
 ghost use Rattle.std.specs.Prelude.{◌≡◌};
-ghost use Rattle.wait_tests.specs.CompletionTasks.{IsAwaiting, IsReadyToWait, MayComplete};
+ghost use Rattle.wait_tests.specs.CompletionTasks.{IsAwaiting, IsReadyForCell, MayComplete};
 
 use crate::completions::stretches::{CELL, go_on};
 use crate::wants::{all_so, another};
@@ -141,7 +141,7 @@ fn go_often(domain: &Domain, task: &mut Task, run: &mut AwaitRun, last: AwaitTur
 fn complete_for_sleeper<R: Abort>(rt: &R, domain: &Domain, task: &mut Task, waiter: &mut Task)
     requires of { (task.old.domain ≡ domain.now) × (waiter.old.domain ≡ domain.now) }
     requires may { MayComplete task.old }
-    requires waiter { IsReadyToWait waiter.old }
+    requires waiter { IsReadyForCell waiter.old }
 {
     let mut wait = begin_await(waiter, CELL, SleepState::Uninterruptible);
     let first = Turn::Again(AwaitStage::First);

@@ -1,7 +1,7 @@
 //! Two waits and one who completes on one thread, which goes on with one of them at a time: what an executor does.
 
 ghost use Rattle.std.specs.Prelude.{◌≡◌};
-ghost use Rattle.wait_tests.specs.CompletionTasks.{IsAwaiting, IsReadyToWait, MayComplete};
+ghost use Rattle.wait_tests.specs.CompletionTasks.{IsAwaiting, IsReadyForCell, MayComplete};
 
 use crate::turns::next_number;
 use completion_cell::asks::try_wait;
@@ -82,8 +82,8 @@ fn play<R: Wait>(
     requires of { (waker.old.domain ≡ domain.now) × (first.old.domain ≡ domain.now)
         × (second.old.domain ≡ domain.now) }
     requires may { MayComplete waker.old }
-    requires first { IsReadyToWait first.old }
-    requires second { IsReadyToWait second.old }
+    requires first { IsReadyForCell first.old }
+    requires second { IsReadyForCell second.old }
 {
     let mut one = begin_await(first, CELL, SleepState::Interruptible);
     let mut two = begin_await(second, CELL, SleepState::Uninterruptible);

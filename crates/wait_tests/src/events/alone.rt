@@ -2,7 +2,7 @@
 
 ghost use Rattle.std.specs.Prelude.{◌≡◌, ◌<◌};
 ghost use Rattle.wait_model.specs.declared.layout.TheConstants.{FIRST_SIMPLE};
-ghost use Rattle.wait_tests.specs.EventTasks.{IsReadyToWait};
+ghost use Rattle.wait_tests.specs.EventTasks.{IsReadyForEvent};
 
 use crate::wants::all_so;
 use std::sync::Wait;
@@ -38,10 +38,10 @@ pub(crate) fn prepare_shared<R: Wait>(
     state: SleepState,
 ) -> bool
     requires of { task.old.domain ≡ domain.now }
-    requires ready { IsReadyToWait task.old }
+    requires ready { IsReadyForEvent task.old }
     requires full { cond < FIRST_SIMPLE }
     ensures of { task.new.domain ≡ domain.now }
-    ensures ready { IsReadyToWait task.new }
+    ensures ready { IsReadyForEvent task.new }
 {
     let watch = Watch::Plain { cond };
     let queued = prepare_to_wait(rt, domain, task, Kind::Autoremove, watch, state);
@@ -52,10 +52,10 @@ pub(crate) fn prepare_shared<R: Wait>(
 /// An exclusive one: true where its entry was the first.
 pub(crate) fn prepare_first<R: Wait>(rt: &R, domain: &Domain, task: &mut Task, cond: u8) -> bool
     requires of { task.old.domain ≡ domain.now }
-    requires ready { IsReadyToWait task.old }
+    requires ready { IsReadyForEvent task.old }
     requires full { cond < FIRST_SIMPLE }
     ensures of { task.new.domain ≡ domain.now }
-    ensures ready { IsReadyToWait task.new }
+    ensures ready { IsReadyForEvent task.new }
 {
     let watch = Watch::Plain { cond };
     let first = prepare_exclusive(
@@ -79,10 +79,10 @@ pub(crate) fn prepare_asking<R: Wait>(
     how: How,
 ) -> bool
     requires of { task.old.domain ≡ domain.now }
-    requires ready { IsReadyToWait task.old }
+    requires ready { IsReadyForEvent task.old }
     requires full { cond < FIRST_SIMPLE }
     ensures of { task.new.domain ≡ domain.now }
-    ensures ready { IsReadyToWait task.new }
+    ensures ready { IsReadyForEvent task.new }
 {
     let watch = Watch::Plain { cond };
     let prepared = prepare_event(rt, domain, task, Kind::Autoremove, watch, how);
@@ -93,7 +93,7 @@ pub(crate) fn prepare_asking<R: Wait>(
 /// An entry that is added and removed: true where there was a place for it.
 fn enter_and_leave<R: Wait>(rt: &R, domain: &Domain, task: &mut Task, form: Form) -> bool
     requires of { task.old.domain ≡ domain.now }
-    requires ready { IsReadyToWait task.old }
+    requires ready { IsReadyForEvent task.old }
     requires first { task.old.view.number ≡ 0 }
 {
     match add_entry(rt, domain, task, 1, Kind::Default, form) {

@@ -5,7 +5,7 @@ ghost use Rattle.wait_model.specs.declared.tasks.SleepState.TheVariants as state
 ghost use Rattle.wait_model.specs.declared.watches.Kind.TheVariants as kinds;
 ghost use Rattle.wait_model.specs.declared.watches.Watch.TheVariants as watch;
 ghost use Rattle.wait_model.specs.Watches.{IsThere};
-ghost use Rattle.wait_event.specs.Prepares.{Suits, exclusive_in};
+ghost use Rattle.wait_event.specs.Prepares.{SuitsWait, exclusive_in};
 ghost use Rattle.wait_rule.specs.Says.{IsClean};
 
 use crate::meetings::{Part, four_meet, two_meet};
@@ -37,7 +37,7 @@ fn prepare_twice<R: Wait>(
 ) -> bool
     requires of { task.old.domain ≡ domain.now }
     requires clean { IsClean task.old }
-    requires suits { Suits watch kind how }
+    requires suits { SuitsWait watch kind how }
     requires sort { kind ≡ kinds.Woken → ⊥ }
     ensures of { task.new.domain ≡ domain.now }
     ensures clean { IsClean task.new }
@@ -82,7 +82,7 @@ fn prepare_around_wake<R: Wait>(
 ) -> (bool, u32, bool)
     requires of { (task.old.domain ≡ domain.now) × (waker.old.domain ≡ domain.now) }
     requires clean { IsClean task.old × IsClean waker.old }
-    requires suits { Suits (watch.Plain 0) kind (exclusive_in states.Interruptible) }
+    requires suits { SuitsWait (watch.Plain 0) kind (exclusive_in states.Interruptible) }
     requires sort { kind ≡ kinds.Woken → ⊥ }
     ensures of { (task.new.domain ≡ domain.now) × (waker.new.domain ≡ domain.now) }
     ensures clean { IsClean task.new × IsClean waker.new }
@@ -107,7 +107,7 @@ pub(crate) fn wait_in_turns<R: Wait>(
     requires of { task.old.domain ≡ domain.now }
     requires clean { IsClean task.old }
     requires there { IsThere watch }
-    requires suits { Suits watch kind (record { state = state; exclusive = false }) }
+    requires suits { SuitsWait watch kind (record { state = state; exclusive = false }) }
     requires sort { kind ≡ kinds.Woken → ⊥ }
     ensures of { task.new.domain ≡ domain.now }
     ensures clean { IsClean task.new }

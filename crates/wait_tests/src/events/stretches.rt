@@ -1,7 +1,7 @@
 //! Two waits and a waker on one thread, which goes on with one of them at a time: what an executor does.
 
 ghost use Rattle.std.specs.Prelude.{◌≡◌};
-ghost use Rattle.wait_tests.specs.EventTasks.{IsReadyToWait, IsWaker};
+ghost use Rattle.wait_tests.specs.EventTasks.{IsReadyForEvent, IsWaker};
 
 use crate::orders::{Wakes, play_two};
 use crate::wants::another;
@@ -45,8 +45,8 @@ fn play<R: Wait>(
     requires of { (waker.old.domain ≡ domain.now) × (first.old.domain ≡ domain.now)
         × (second.old.domain ≡ domain.now) }
     requires waker { IsWaker waker.old }
-    requires first { IsReadyToWait first.old }
-    requires second { IsReadyToWait second.old }
+    requires first { IsReadyForEvent first.old }
+    requires second { IsReadyForEvent second.old }
 {
     let how = How {
         state: SleepState::Interruptible,

@@ -3,8 +3,8 @@
 ghost use Rattle.std.specs.Prelude.{◌≡◌};
 ghost use Rattle.wq_head.specs.declared.wakes.WakeStage.TheVariants as stages;
 ghost use Rattle.wq_head.specs.declared.wakes.WakeTurn.TheVariants as turns;
-ghost use Rattle.wq_head.specs.Turns.{Rests};
-ghost use Rattle.wait_tests.specs.EventTasks.{IsReadyToWait, IsWaiting, IsWaker};
+ghost use Rattle.wq_head.specs.Turns.{WakeRests};
+ghost use Rattle.wait_tests.specs.EventTasks.{IsReadyForEvent, IsTestedWait, IsWaker};
 
 use crate::events::stretches::is_over;
 use crate::turns::{go_on, next_number};
@@ -37,7 +37,7 @@ fn begin_wake(domain: &Domain, waker: &mut Task) -> WakeRun
     requires of { waker.old.domain ≡ domain.now }
     requires waker { IsWaker waker.old }
     ensures of { waker.new.domain ≡ domain.now }
-    ensures waking { Rests waker.new result (turns.Locked stages.First) }
+    ensures waking { WakeRests waker.new result (turns.Locked stages.First) }
 {
     waker.told();
     publish(domain, waker, WATCH, 1);
@@ -47,9 +47,9 @@ fn begin_wake(domain: &Domain, waker: &mut Task) -> WakeRun
 /// Goes on with the wake by one turn. No thread is parked in this test, so that none is to be roused.
 fn wake_on(domain: &Domain, waker: &mut Task, run: &mut WakeRun, last: WakeTurn) -> WakeTurn
     requires of { waker.old.domain ≡ domain.now }
-    requires waking { Rests waker.old run.old last }
+    requires waking { WakeRests waker.old run.old last }
     ensures of { waker.new.domain ≡ domain.now }
-    ensures waking { Rests waker.new run.new result }
+    ensures waking { WakeRests waker.new run.new result }
 {
     let stage = match last {
         WakeTurn::Locked(stage) => stage,
@@ -72,9 +72,9 @@ fn wake_if(
     its_turn: bool,
 ) -> WakeTurn
     requires of { waker.old.domain ≡ domain.now }
-    requires waking { Rests waker.old run.old last }
+    requires waking { WakeRests waker.old run.old last }
     ensures of { waker.new.domain ≡ domain.now }
-    ensures waking { Rests waker.new run.new result }
+    ensures waking { WakeRests waker.new run.new result }
 {
     if its_turn {
         wake_on(domain, waker, run, last)
@@ -92,9 +92,9 @@ fn wait_if(
     its_turn: bool,
 ) -> WaitTurn
     requires of { task.old.domain ≡ domain.now }
-    requires waiting { IsWaiting task.old run.old last }
+    requires waiting { IsTestedWait task.old run.old last }
     ensures of { task.new.domain ≡ domain.now }
-    ensures waiting { IsWaiting task.new run.new result }
+    ensures waiting { IsTestedWait task.new run.new result }
 {
     if its_turn {
         go_on(domain, task, run, last)
@@ -108,8 +108,8 @@ fn play(domain: &Domain, waker: &mut Task, first: &mut Task, second: &mut Task, 
     requires of { (waker.old.domain ≡ domain.now) × (first.old.domain ≡ domain.now)
         × (second.old.domain ≡ domain.now) }
     requires waker { IsWaker waker.old }
-    requires first { IsReadyToWait first.old }
-    requires second { IsReadyToWait second.old }
+    requires first { IsReadyForEvent first.old }
+    requires second { IsReadyForEvent second.old }
 {
     let how = How {
         state: SleepState::Interruptible,

@@ -1,7 +1,7 @@
 //! The parts of a wait for a condition, then a wake and a wait, then an entry that is added and removed.
 
 ghost use Rattle.std.specs.Prelude.{◌≡◌};
-ghost use Rattle.wait_tests.specs.EventTasks.{IsReadyToWait};
+ghost use Rattle.wait_tests.specs.EventTasks.{IsReadyForEvent};
 
 use super::met_nobody;
 use crate::events::alone::{prepare_asking, prepare_first, prepare_shared};
@@ -23,9 +23,9 @@ const SHARED: How = How {
 /// Sets condition 0 and wakes one who waits for it.
 fn set_one<R: Wait>(rt: &R, domain: &Domain, task: &mut Task) -> Walked
     requires of { task.old.domain ≡ domain.now }
-    requires ready { IsReadyToWait task.old }
+    requires ready { IsReadyForEvent task.old }
     ensures of { task.new.domain ≡ domain.now }
-    ensures ready { IsReadyToWait task.new }
+    ensures ready { IsReadyForEvent task.new }
 {
     set_and_wake(rt, domain, task, 0, 1, Mode::Normal, 1)
 }
@@ -33,9 +33,9 @@ fn set_one<R: Wait>(rt: &R, domain: &Domain, task: &mut Task) -> Walked
 /// Waits for it: true where it was set.
 fn wait_for_it<R: Wait>(rt: &R, domain: &Domain, task: &mut Task) -> bool
     requires of { task.old.domain ≡ domain.now }
-    requires ready { IsReadyToWait task.old }
+    requires ready { IsReadyForEvent task.old }
     ensures of { task.new.domain ≡ domain.now }
-    ensures ready { IsReadyToWait task.new }
+    ensures ready { IsReadyForEvent task.new }
 {
     wait_event(rt, domain, task, 0, SHARED).is_ok()
 }
@@ -43,7 +43,7 @@ fn wait_for_it<R: Wait>(rt: &R, domain: &Domain, task: &mut Task) -> bool
 /// Adds an entry at the front for condition 1, and removes it: true where there was a place for it.
 fn enter_and_leave<R: Wait>(rt: &R, domain: &Domain, task: &mut Task) -> bool
     requires of { task.old.domain ≡ domain.now }
-    requires ready { IsReadyToWait task.old }
+    requires ready { IsReadyForEvent task.old }
 {
     match add_entry(rt, domain, task, 1, Kind::Default, Form::Front) {
         Ok(()) => {

@@ -1,7 +1,7 @@
 //! Two waits in a simple queue and a waker on one thread, which goes on with one of them at a time.
 
 ghost use Rattle.std.specs.Prelude.{◌≡◌};
-ghost use Rattle.wait_tests.specs.EventTasks.{IsReadyToWait, IsWaker};
+ghost use Rattle.wait_tests.specs.EventTasks.{IsReadyForEvent, IsWaker};
 
 use crate::orders::{Wakes, play_two};
 use crate::wants::another;
@@ -56,8 +56,8 @@ fn play<R: Wait>(
     requires of { (waker.old.domain ≡ domain.now) × (first.old.domain ≡ domain.now)
         × (second.old.domain ≡ domain.now) }
     requires waker { IsWaker waker.old }
-    requires first { IsReadyToWait first.old }
-    requires second { IsReadyToWait second.old }
+    requires first { IsReadyForEvent first.old }
+    requires second { IsReadyForEvent second.old }
 {
     let one = begin_swait(first, COND, SleepState::Interruptible);
     let two = begin_swait(second, COND, SleepState::Uninterruptible);

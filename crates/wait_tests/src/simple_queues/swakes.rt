@@ -1,7 +1,7 @@
 //! Wakes by stretches, by who waits for no lock.
 
 ghost use Rattle.std.specs.Prelude.{◌≡◌};
-ghost use Rattle.wait_tests.specs.EventTasks.{IsReadyToWait, IsWaker};
+ghost use Rattle.wait_tests.specs.EventTasks.{IsReadyForEvent, IsWaker};
 
 use crate::simple_queues::stretches::{COND, is_over};
 use crate::turns::go_often;
@@ -66,7 +66,7 @@ fn wake_waits_for_its_turn(rt: HostRuntime) -> Result<(), Fail> {
 fn wake_sleeper<R: Abort>(rt: &R, domain: &Domain, waker: &mut Task, waiter: &mut Task)
     requires of { (waker.old.domain ≡ domain.now) × (waiter.old.domain ≡ domain.now) }
     requires waker { IsWaker waker.old }
-    requires waiter { IsReadyToWait waiter.old }
+    requires waiter { IsReadyForEvent waiter.old }
 {
     let mut wait = begin_swait(waiter, COND, SleepState::Uninterruptible);
     let begins = Turn::Again(WaitStage::First);

@@ -1,7 +1,7 @@
 //! Two waits for one variable and a publisher on one thread, which goes on with one of them at a time.
 
 ghost use Rattle.std.specs.Prelude.{◌≡◌};
-ghost use Rattle.wait_tests.specs.EventTasks.{IsReadyToWait, IsWaker};
+ghost use Rattle.wait_tests.specs.EventTasks.{IsReadyForEvent, IsWaker};
 
 use crate::orders::{Wakes, play_two};
 use crate::variables::alone::VAR;
@@ -51,8 +51,8 @@ fn play<R: Wait>(
     requires of { (waker.old.domain ≡ domain.now) × (first.old.domain ≡ domain.now)
         × (second.old.domain ≡ domain.now) }
     requires waker { IsWaker waker.old }
-    requires first { IsReadyToWait first.old }
-    requires second { IsReadyToWait second.old }
+    requires first { IsReadyForEvent first.old }
+    requires second { IsReadyForEvent second.old }
 {
     let one = begin_var(first, VAR, 0, SleepState::Interruptible);
     let two = begin_var(second, VAR, 0, SleepState::Uninterruptible);

@@ -4,7 +4,7 @@ use Rattle.wait_class.specs.declared.frame_stages.Stage.TheVariants as stage
 use Rattle.wait_class.proofs.Framing.{framed_lawful}
 use Rattle.wait_class.proofs.Turns.{advances_none}
 use Rattle.wait_class.proofs.UnderWay.{begun_here}
-use Rattle.bit_wait.specs.LockTables.{IsRunning, lock_frame, lock_table}
+use Rattle.bit_wait.specs.LockTables.{IsRunningLock, lock_frame, lock_table}
 use Rattle.bit_wait.specs.declared.lock_runs.LockBit.{LockBit}
 use Rattle.bit_wait.specs.declared.lock_runs.LockTest.TheVariants as test
 use Rattle.bit_wait.proofs.LockEndings.{begins_at}
@@ -13,7 +13,7 @@ use Rattle.bit_wait.proofs.lock_calls.begin_lock.Goals as goal
 
 pub returns-clause-at : goal.returns-clause-at
 returns-clause-at c = begins_at c.args.task.now c.new.result
-    (subst (λ (f : Framed LockBit). IsRunning f.wait) (sym c.new.ensures)
+    (subst (λ (f : Framed LockBit). IsRunningLock f.wait) (sym c.new.ensures)
     (record { word = c.requires.word; bit = c.requires.bit }))
     c.told.ensures c.requires.up c.requires.idle c.requires.out
 

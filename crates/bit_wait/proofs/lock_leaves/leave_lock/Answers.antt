@@ -4,7 +4,7 @@ use Rattle.wait_rule.specs.Queues.{index}
 use Rattle.wait_leave.specs.declared.exits.Until.{Until}
 use Rattle.bit_wait.specs.LockLeaves.{LeavesBitLock, takes_until}
 use Rattle.bit_wait.specs.LockStays.{LockKeeps}
-use Rattle.bit_wait.specs.LockTables.{bit_in, lock_table}
+use Rattle.bit_wait.specs.LockTables.{lock_bit_in, lock_table}
 use Rattle.bit_wait.specs.declared.wait_calls.BitEnd.{BitEnd}
 use Rattle.bit_wait.proofs.LockLeaving.{left_domain, left_ended, left_idle, left_kept, left_lock, left_out, left_tries, left_up}
 use Rattle.wait_class.proofs.AwakeSteps.{sleeps_not_on}
@@ -35,7 +35,7 @@ returns-clause-tries g c = left_tries (Unit {0}) c.args.task.now c.leave-outcome
 
 pub returns-clause-keeps : goal.returns-clause-keeps
 returns-clause-keeps g c = subst (λ (x : Until (Result (Unit {0}) BitEnd)). LockKeeps (index c.args.task.now.view.number 0)
-    (bit_in c.args.call.now.of.wait) (lock_table.took c.args.stage) (takes_until x) c.args.task.now c.rest.new.task)
+    (lock_bit_in c.args.call.now.of.wait) (lock_table.took c.args.stage) (takes_until x) c.args.task.now c.rest.new.task)
     (sym c.until_of.ensures)
     (left_kept (Unit {0}) c.args.task.now c.leave-outcome.new.task c.rest.new.task c.args.call.now
     c.leave-outcome.new.call c.args.stage c.leave-outcome.result c.leave-outcome.ensures.way c.rest.ensures)

@@ -3,13 +3,13 @@ use Rattle.wait_class.proofs.Turns.{advances_none}
 use Rattle.wait_class.proofs.UnderWay.{begun_here}
 use Rattle.page_lock.specs.declared.waits.PageStage.TheVariants as stage
 use Rattle.page_lock.proofs.PageLaws.{page_lawful}
-use Rattle.page_lock.specs.PageTables.{IsRunning, page_table}
+use Rattle.page_lock.specs.PageTables.{IsRunningPageWait, page_table}
 use Rattle.page_lock.specs.declared.waits.LockPage.{LockPage}
 use Rattle.page_lock.proofs.PageEndings.{begins_at}
 use Rattle.page_lock.proofs.wait_calls.begin_page.Goals as goal
 
 pub returns-clause-at : goal.returns-clause-at
-returns-clause-at c = begins_at c.args.task.now c.new.result (subst IsRunning (sym c.new.ensures) c.requires.page)
+returns-clause-at c = begins_at c.args.task.now c.new.result (subst IsRunningPageWait (sym c.new.ensures) c.requires.page)
     c.told.ensures c.requires.up c.requires.idle c.requires.out c.requires.asks
 
 pub returns-clause-fresh : goal.returns-clause-fresh

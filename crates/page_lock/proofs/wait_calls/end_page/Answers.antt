@@ -3,12 +3,12 @@ use Rattle.std.specs.Prelude.{MatchBool, Result}
 use Rattle.wait_rule.specs.Says.{IsClean}
 use Rattle.bit_wait.specs.Holders.{IsHolder}
 use Rattle.bit_wait.specs.declared.wait_calls.BitEnd.{BitEnd}
-use Rattle.page_lock.specs.PageEnds.{EndsPageLock, has_taken}
+use Rattle.page_lock.specs.PageEnds.{EndsPageLock, has_taken_page}
 use Rattle.page_lock.proofs.PageEndings.{ends_wait, under_clean}
 use Rattle.page_lock.proofs.wait_calls.end_page.Goals as goal
 
 pub returns-clause-holder : goal.returns-clause-holder
-returns-clause-holder c = λ p i. subst (λ (x : Result (Unit {0}) BitEnd). MatchBool (has_taken x)
+returns-clause-holder c = λ p i. subst (λ (x : Result (Unit {0}) BitEnd). MatchBool (has_taken_page x)
     (IsHolder c.args.task.now p.watch) (IsClean c.args.task.now)) (sym c.end_of.ensures)
     (under_clean p c.args.task.now c.args.wait.now c.args.outcome i)
 

@@ -1,6 +1,6 @@
 use Rattle.std.proofs.Common.{◌∙◌, subst, sym}
 use Rattle.std.specs.Prelude.{Result}
-use Rattle.page_lock.specs.PageEnds.{EndsPageLock, has_taken}
+use Rattle.page_lock.specs.PageEnds.{EndsPageLock, has_taken_page}
 use Rattle.page_lock.specs.PageStays.{TakesPage}
 use Rattle.bit_wait.specs.declared.wait_calls.BitEnd.{BitEnd}
 use Rattle.page_lock.proofs.PageEndings.{ends_idle, ends_out, ends_takes, ends_up, ends_wait, locks_clean}
@@ -27,11 +27,11 @@ returns-clause-out g c = ends_out c.args.task.now c.run-outcome.new.task c.begin
 
 pub returns-clause-takes : goal.returns-clause-takes
 returns-clause-takes g c = subst (λ (r : Result (Unit {0}) BitEnd). TakesPage c.args.task.now c.run-outcome.new.task
-    c.args.page (has_taken r)) (sym c.end_of.ensures)
+    c.args.page (has_taken_page r)) (sym c.end_of.ensures)
     (ends_takes c.args.task.now c.run-outcome.new.task c.begin_page-call.result c.run-outcome.new.run c.args.page
     c.args.state c.begin_page-call.ensures.fresh c.run-outcome.result c.run-outcome.ensures c.requires.up
     c.requires.idle c.requires.out (c.begin_page-call.ensures.told.head ∙ c.requires.idle.free.head))
 
 pub returns-clause-holder : goal.returns-clause-holder
 returns-clause-holder g c clean = locks_clean c.args.task.now c.run-outcome.new.task c.args.page clean
-    (returns-clause-up g c) (returns-clause-idle g c) (has_taken c.end_of.result) (returns-clause-takes g c)
+    (returns-clause-up g c) (returns-clause-idle g c) (has_taken_page c.end_of.result) (returns-clause-takes g c)

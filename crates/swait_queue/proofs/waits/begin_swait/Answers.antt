@@ -4,7 +4,7 @@ use Rattle.wait_model.specs.declared.watches.Watch.TheVariants as watch
 use Rattle.wait_class.proofs.Turns.{advances_none}
 use Rattle.wait_class.proofs.UnderWay.{begun_here}
 use Rattle.wait_event.specs.declared.waits.WaitStage.TheVariants as stage
-use Rattle.wait_event.specs.Waits.{IsFresh, wait_table}
+use Rattle.wait_event.specs.Waits.{IsFreshWait, wait_table}
 use Rattle.wait_event.proofs.WaitLaws.{wait_lawful}
 use Rattle.wait_event.proofs.Conditions.{tail_runs}
 use Rattle.wait_event.proofs.Endings.{begins_at}
@@ -12,7 +12,7 @@ use Rattle.swait_queue.specs.SimpleWaits.{tail_in}
 use Rattle.swait_queue.proofs.waits.begin_swait.Goals as goal
 
 pub returns-clause-fresh : goal.returns-clause-fresh
-returns-clause-fresh c = subst (λ (h : How). IsFresh c.fresh_wait.result.of (watch.Plain c.args.cond) h) c.tail_in.ensures
+returns-clause-fresh c = subst (λ (h : How). IsFreshWait c.fresh_wait.result.of (watch.Plain c.args.cond) h) c.tail_in.ensures
     c.fresh_wait.ensures
 
 pub returns-clause-at : goal.returns-clause-at

@@ -1,11 +1,11 @@
 use Rattle.std.specs.Prelude.{◌≡◌, []}
 use Rattle.wait_rule.specs.PassedLocks.{PassesNone}
 use Rattle.wq_head.specs.Roused.{tasks_in}
-use Rattle.swait_queue.specs.SwakeTurns.{IsAt, IsFresh}
+use Rattle.swait_queue.specs.SwakeTurns.{IsAtSwake, IsFreshSwake}
 use Rattle.swait_queue.proofs.wakes.swake.Given as goal
 
 abbrev pub invariant-loop : goal.invariant-loop
-invariant-loop g l = IsFresh l.run l.fn.cond l.fn.all × IsAt l.fn.task l.task l.run l.stage
+invariant-loop g l = IsFreshSwake l.run l.fn.cond l.fn.all × IsAtSwake l.fn.task l.task l.run l.stage
     × (l.task.domain ≡ l.fn.domain) × (tasks_in l.rousing ≡ []) × PassesNone l.passing
 
 -- a wake that starves does not return

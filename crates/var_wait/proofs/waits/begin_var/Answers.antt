@@ -4,7 +4,7 @@ use Rattle.wait_model.specs.declared.watches.Watch.TheVariants as watch
 use Rattle.wait_class.proofs.Turns.{advances_none}
 use Rattle.wait_class.proofs.UnderWay.{begun_here}
 use Rattle.wait_event.specs.declared.waits.WaitStage.TheVariants as stage
-use Rattle.wait_event.specs.Waits.{IsFresh, wait_table}
+use Rattle.wait_event.specs.Waits.{IsFreshWait, wait_table}
 use Rattle.wait_event.proofs.WaitLaws.{wait_lawful}
 use Rattle.wait_event.proofs.Conditions.{var_runs}
 use Rattle.wait_event.proofs.Endings.{begins_at}
@@ -12,7 +12,7 @@ use Rattle.var_wait.specs.VarWaits.{shared_in}
 use Rattle.var_wait.proofs.waits.begin_var.Goals as goal
 
 pub returns-clause-fresh : goal.returns-clause-fresh
-returns-clause-fresh c = subst (λ (h : How). IsFresh c.fresh_wait.result.of (watch.Var c.args.var c.args.old) h)
+returns-clause-fresh c = subst (λ (h : How). IsFreshWait c.fresh_wait.result.of (watch.Var c.args.var c.args.old) h)
     c.shared_in.ensures c.fresh_wait.ensures
 
 pub returns-clause-at : goal.returns-clause-at

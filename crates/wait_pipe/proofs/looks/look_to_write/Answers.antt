@@ -2,7 +2,7 @@ use Rattle.std.proofs.Common.{add-zero, subst, sym}
 use Rattle.std.specs.Prelude.{ℕ, ◌*◌}
 use Rattle.wait_model.specs.declared.layout.TheConstants.{PIPE_ENDS}
 use Rattle.wait_rule.specs.PipeSays.{IsOpen, end_at}
-use Rattle.wait_pipe.specs.Pieces.{HasSeen, Waits}
+use Rattle.wait_pipe.specs.Pieces.{HasSeen, WaitsAtPipe}
 use Rattle.wait_pipe.specs.Trails.{LoadsOther}
 use Rattle.wait_pipe.proofs.looks.look_to_write.Goals as goal
 
@@ -11,7 +11,7 @@ look_over-requires-clause-still c = subst (λ (k : ℕ). IsOpen (end_at k c.args
     (sym (add-zero (PIPE_ENDS * c.args.pipe))) c.requires.still
 
 pub returns-clause-waits : goal.returns-clause-waits
-returns-clause-waits c = subst (λ (k : ℕ). Waits k c.args.task.now c.look_over.new.task)
+returns-clause-waits c = subst (λ (k : ℕ). WaitsAtPipe k c.args.task.now c.look_over.new.task)
     (add-zero (PIPE_ENDS * c.args.pipe)) c.look_over.ensures.waits
 
 pub returns-clause-seen : goal.returns-clause-seen

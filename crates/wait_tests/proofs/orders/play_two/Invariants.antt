@@ -1,5 +1,5 @@
 use Rattle.std.proofs.Common.{◌≡◌}
-use Rattle.wait_tests.specs.EventTasks.{IsWaiting, IsWaker}
+use Rattle.wait_tests.specs.EventTasks.{IsTestedWait, IsWaker}
 use Rattle.wait_tests.proofs.orders.play_two.Given as goal
 
 abbrev pub invariant-loop : goal.invariant-loop
@@ -8,6 +8,6 @@ invariant-loop g l = record {
   of_first : l.first.domain ≡ l.fn.domain;
   of_second : l.second.domain ≡ l.fn.domain;
   waker : IsWaker l.waker;
-  one : IsWaiting l.first l.one l.one_at;
-  two : IsWaiting l.second l.two l.two_at;
+  one : IsTestedWait l.first l.one l.one_at;
+  two : IsTestedWait l.second l.two l.two_at;
 }

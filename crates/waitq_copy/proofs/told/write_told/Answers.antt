@@ -3,14 +3,14 @@ use Rattle.std.proofs.Common.{ℕ, ◌++◌, codes, decimal, refl, subst}
 use Rattle.std.proofs.lemmas.Result.{err_from_is_err_and}
 use Rattle.edge_io.specs.Text.{WritesText}
 use Rattle.edge_io.proofs.Prefix.{begun, broke_off, handed_on, sooner, went_on}
-use Rattle.waitq_copy.specs.Copying.{copy_text, tells, watch_lines}
+use Rattle.waitq_copy.specs.Copying.{copy_text, told_pieces, watch_lines}
 use Rattle.waitq_alone.specs.Drill.{number_line}
 use Rattle.waitq_copy.proofs.Telling.{first_line}
 use Rattle.waitq_copy.proofs.told.write_told.Goals as goal
 
 pub returns-in_err-write_number-clause-text : goal.returns-in_err-write_number-clause-text
 returns-in_err-write_number-clause-text g c =
-    let told = tells (g.W.Watchers.entries c.args.watch.now) in
+    let told = told_pieces (g.W.Watchers.entries c.args.watch.now) in
     let reader = c.args.reader.now in
     let p = err_from_is_err_and c.from_residual.result c.from_residual.ensures.1 in
     rw p.1 (sooner (g.O.Sink.held c.args.out.now) (g.O.Sink.held c.write_number.new.out)
@@ -20,7 +20,7 @@ returns-in_err-write_number-clause-text g c =
 
 pub returns-in_err-write_number-2-clause-text : goal.returns-in_err-write_number-2-clause-text
 returns-in_err-write_number-2-clause-text g c =
-    let told = tells (g.W.Watchers.entries c.args.watch.now) in
+    let told = told_pieces (g.W.Watchers.entries c.args.watch.now) in
     let reader = c.args.reader.now in
     let moved = number_line (codes "moved ") c.args.moved in
     let signals = watch_lines 0 told ++ number_line (codes "signals ") reader.sent in
@@ -36,7 +36,7 @@ returns-in_err-write_number-2-clause-text g c =
 
 pub returns-in_err-write_watchers-clause-text : goal.returns-in_err-write_watchers-clause-text
 returns-in_err-write_watchers-clause-text g c =
-    let told = tells (g.W.Watchers.entries c.args.watch.now) in
+    let told = told_pieces (g.W.Watchers.entries c.args.watch.now) in
     let reader = c.args.reader.now in
     let moved = number_line (codes "moved ") c.args.moved in
     let signals = number_line (codes "signals ") reader.sent in
@@ -54,7 +54,7 @@ returns-in_err-write_watchers-clause-text g c =
 
 pub returns-clause-text : goal.returns-clause-text
 returns-clause-text g c =
-    let told = tells (g.W.Watchers.entries c.args.watch.now) in
+    let told = told_pieces (g.W.Watchers.entries c.args.watch.now) in
     let reader = c.args.reader.now in
     let moved = number_line (codes "moved ") c.args.moved in
     let signals = number_line (codes "signals ") reader.sent in

@@ -1,5 +1,5 @@
 use Rattle.std.proofs.Common.{Err, inl, inr, refl, ap, ◌∙◌, ◌≡◌, rules}
-use Rattle.waitq_copy.specs.Copying.{copy_text, outside, tells}
+use Rattle.waitq_copy.specs.Copying.{copy_text, outside, told_pieces}
 use Rattle.waitq_alone.specs.declared.fault.Fault.TheVariants as fault
 use Rattle.waitq_copy.proofs.CopyCauses.{causes}
 use Rattle.waitq_copy.proofs.Passed.{from_begun}
@@ -33,7 +33,7 @@ returns-clause-left g c =
       told = c.conclude.ensures.told;
       causes = causes c.args.domain.now c.copy_through.new.task before after order.src.now order.dst.now
           order.plan.now (g.W.Watchers.entries c.args.watch) (g.W.Watchers.entries left.watch) left.reader left.stop
-          left.moved left.stored (copy_text left.reader.read left.moved (tells (g.W.Watchers.entries left.watch))
+          left.moved left.stored (copy_text left.reader.read left.moved (told_pieces (g.W.Watchers.entries left.watch))
           left.reader.sent) through c.conclude.result c.conclude.ensures.told;
     })
 

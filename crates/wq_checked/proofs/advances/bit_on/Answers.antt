@@ -1,7 +1,7 @@
 use Rattle.std.proofs.Common.{subst, sym}
 use Rattle.wait_class.specs.Wholes.{HasRested}
 use Rattle.std.specs.Prelude.{◌||◌, Bool}
-use Rattle.wq_checked.specs.Calls.{IsSound}
+use Rattle.wq_checked.specs.Calls.{IsRunningSound}
 use Rattle.wq_checked.specs.Advancing.{bit_left, bit_shown}
 use Rattle.wq_checked.specs.declared.calls.Running.{Running}
 use Rattle.wq_checked.proofs.Going.{went_as}
@@ -11,7 +11,7 @@ use Rattle.wq_checked.proofs.advances.bit_on.Goals as goal
 pub returns-clause-sound : goal.returns-clause-sound
 returns-clause-sound c =
     let t = c.ground_turn-turn in
-    subst (λ (r : Running). IsSound r c.args.kept.now c.rest.new.task) (sym c.bit_leaves.ensures.left)
+    subst (λ (r : Running). IsRunningSound r c.args.kept.now c.rest.new.task) (sym c.bit_leaves.ensures.left)
     (bit_sound c.args.kept.now c.args.asks c.args.task.now t.new.task c.rest.new.task c.args.run t.new.run c.args.last
     t.result c.requires.sound t.ensures.goes
     (subst (λ (b : Bool). HasRested t.new.task c.rest.new.task b) c.found_worn.ensures c.rest.ensures))

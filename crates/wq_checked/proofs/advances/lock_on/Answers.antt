@@ -1,7 +1,7 @@
 use Rattle.std.proofs.Common.{subst, sym}
 use Rattle.wait_class.specs.Wholes.{HasRested}
 use Rattle.std.specs.Prelude.{◌||◌, Bool}
-use Rattle.wq_checked.specs.Calls.{IsSound}
+use Rattle.wq_checked.specs.Calls.{IsRunningSound}
 use Rattle.wq_checked.specs.Advancing.{lock_left, lock_shown, lock_took}
 use Rattle.wq_checked.specs.declared.calls.Running.{Running}
 use Rattle.wq_checked.proofs.Going.{noted, went_as}
@@ -11,7 +11,7 @@ use Rattle.wq_checked.proofs.advances.lock_on.Goals as goal
 pub returns-clause-sound : goal.returns-clause-sound
 returns-clause-sound c =
     let t = c.ground_turn-turn in
-    subst (λ (r : Running). IsSound r c.note.new.kept c.rest.new.task) (sym c.lock_leaves.ensures.left)
+    subst (λ (r : Running). IsRunningSound r c.note.new.kept c.rest.new.task) (sym c.lock_leaves.ensures.left)
     (lock_sound c.args.kept.now c.note.new.kept c.args.asks c.args.task.now t.new.task c.rest.new.task c.args.run t.new.run
     c.args.last t.result (noted c.args.kept.now c.note.new.kept c.args.run.of.wait.word c.args.run.of.wait.bit c.has_bit.result
     (lock_took t.result) c.has_bit.ensures c.note.ensures) c.requires.sound t.ensures.goes

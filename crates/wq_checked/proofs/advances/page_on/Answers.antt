@@ -1,7 +1,7 @@
 use Rattle.std.proofs.Common.{refl, subst, sym}
 use Rattle.std.specs.Prelude.{◌||◌}
-use Rattle.wq_checked.specs.Calls.{IsSound}
-use Rattle.wq_checked.specs.Advancing.{page_left, page_shown, page_took}
+use Rattle.wq_checked.specs.Calls.{IsRunningSound}
+use Rattle.wq_checked.specs.Advancing.{page_left, page_shown, turn_took_page}
 use Rattle.wq_checked.specs.declared.calls.Running.{Running}
 use Rattle.wq_checked.proofs.Going.{noted, went_as}
 use Rattle.wq_checked.proofs.PageTurns.{page_goes, page_sound}
@@ -10,10 +10,10 @@ use Rattle.wq_checked.proofs.advances.page_on.Goals as goal
 pub returns-clause-sound : goal.returns-clause-sound
 returns-clause-sound c =
     let t = c.ground_turn-turn in
-    subst (λ (r : Running). IsSound r c.note.new.kept t.new.task) (sym c.page_leaves.ensures.left)
+    subst (λ (r : Running). IsRunningSound r c.note.new.kept t.new.task) (sym c.page_leaves.ensures.left)
     (page_sound c.args.kept.now c.note.new.kept c.args.asks c.args.task.now t.new.task c.args.run t.new.run
     c.args.last t.result (noted c.args.kept.now c.note.new.kept c.args.run.of.page 0 c.has_page.result
-    (page_took t.result) c.has_page.ensures c.note.ensures) c.requires.sound t.ensures.goes)
+    (turn_took_page t.result) c.has_page.ensures c.note.ensures) c.requires.sound t.ensures.goes)
 
 pub returns-clause-goes : goal.returns-clause-goes
 returns-clause-goes c may start first came =

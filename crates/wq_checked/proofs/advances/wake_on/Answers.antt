@@ -1,5 +1,5 @@
 use Rattle.std.proofs.Common.{subst, sym}
-use Rattle.wq_checked.specs.Calls.{IsSound}
+use Rattle.wq_checked.specs.Calls.{IsRunningSound}
 use Rattle.wq_checked.specs.Advancing.{wake_left, wake_shown}
 use Rattle.wq_checked.specs.declared.calls.Running.{Running}
 use Rattle.wq_checked.proofs.Going.{went_as}
@@ -13,7 +13,7 @@ wake_stretch-turn-requires-clause-at c = wake_at c.args.kept.now c.args.task.now
 pub returns-clause-sound : goal.returns-clause-sound
 returns-clause-sound c =
     let t = c.wake_stretch-turn in
-    subst (λ (r : Running). IsSound r c.args.kept.now t.new.task) (sym c.wake_leaves.ensures.left)
+    subst (λ (r : Running). IsRunningSound r c.args.kept.now t.new.task) (sym c.wake_leaves.ensures.left)
     (wake_sound c.args.kept.now c.args.task.now t.new.task c.args.run t.new.run c.args.stage t.result
     c.requires.sound t.ensures.turned)
 

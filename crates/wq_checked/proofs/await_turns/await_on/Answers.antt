@@ -1,6 +1,6 @@
 use Rattle.std.proofs.Common.{refl, subst, sym}
 use Rattle.std.specs.Prelude.{◌||◌}
-use Rattle.wq_checked.specs.Calls.{IsSound}
+use Rattle.wq_checked.specs.Calls.{IsRunningSound}
 use Rattle.wq_checked.specs.Advancing.{await_left, await_shown}
 use Rattle.wq_checked.specs.declared.calls.Running.{Running}
 use Rattle.wq_checked.proofs.Going.{went_as}
@@ -10,7 +10,7 @@ use Rattle.wq_checked.proofs.await_turns.await_on.Goals as goal
 pub returns-clause-sound : goal.returns-clause-sound
 returns-clause-sound c =
     let t = c.ground_turn-turn in
-    subst (λ (r : Running). IsSound r c.args.kept.now t.new.task) (sym c.await_leaves.ensures.left)
+    subst (λ (r : Running). IsRunningSound r c.args.kept.now t.new.task) (sym c.await_leaves.ensures.left)
     (await_sound c.args.kept.now c.args.asks c.args.task.now t.new.task c.args.run t.new.run c.args.last t.result c.requires.sound
     t.ensures.goes)
 

@@ -1,13 +1,13 @@
 use Rattle.std.proofs.Common.{◌≤◌, ◌-◌}
 use Rattle.wait_model.specs.declared.layout.TheConstants.{MEMBERS}
 use Rattle.wq_head.specs.Looks.{Looks}
-use Rattle.wq_head.specs.Looking.{AreNone, HasLooked, HasLoaded}
+use Rattle.wq_head.specs.Looking.{AreNone, IsLookingBy, HasLoaded}
 use Rattle.wq_head.proofs.looking.next_set.Given as goal
 
 abbrev pub invariant-loop-looking : goal.invariant-loop-looking
 invariant-loop-looking l = record {
   looks : Looks l.fn.task l.task;
-  looked : HasLooked l.task l.looking;
+  looked : IsLookingBy l.task l.looking;
   none : AreNone l.task l.fn.looking.next l.looking.next;
   low : l.fn.looking.next ≤ l.looking.next;
   loaded : HasLoaded l.fn.task l.task l.fn.looking.next l.looking.next;

@@ -3,7 +3,7 @@ use Rattle.wait_model.specs.declared.layout.TheConstants.{SLOTS}
 use Rattle.wait_rule.specs.Ends.{place_in}
 use Rattle.wait_rule.specs.Says.{told_of, noted}
 use Rattle.wait_rule.specs.Queues.{index}
-use Rattle.wq_head.specs.Looks.{IsLow, entry_place, bookmark_place, is_seen}
+use Rattle.wq_head.specs.Looks.{IsLow, entry_place, bookmark_place, is_seen_member}
 use Rattle.wq_head.proofs.OneMoreLook.{
   entry_low,
   mark_low,
@@ -31,7 +31,7 @@ returns-then-m-lt-ENTRIES-clause-seen c =
     let m = c.args.m in
     let new = c.entry_load-word.new.task in
     let low = c.if-m-lt-ENTRIES.true in
-    subst (λ (y : ℕ). is_seen (told_of new) (noted new) y ≡ true) (there m)
+    subst (λ (y : ℕ). is_seen_member (told_of new) (noted new) y ≡ true) (there m)
     (saw_is_seen _ _ _ _ c.requires.held c.entry_load-word.ensures.step c.entry_load-word.ensures.knew
     (few (index (m / SLOTS) (m % SLOTS)) (omega arith)))
 

@@ -1,7 +1,7 @@
 use Rattle.std.proofs.Common.{◌-◌}
 use Rattle.wait_model.specs.declared.layout.TheConstants.{MEMBERS}
 use Rattle.wq_head.specs.Looks.{Looks}
-use Rattle.wq_head.specs.Looking.{HasLooked}
+use Rattle.wq_head.specs.Looking.{IsLookingBy}
 use Rattle.wq_head.proofs.ListedMembers.{AreListed}
 use Rattle.wq_head.proofs.CountedLooks.{IsCounted}
 use Rattle.wq_head.proofs.looks.members.Given as goal
@@ -9,7 +9,7 @@ use Rattle.wq_head.proofs.looks.members.Given as goal
 abbrev pub invariant-loop-m : goal.invariant-loop-m
 invariant-loop-m l = record {
   looks : Looks l.fn.task l.task;
-  looked : HasLooked l.task l.looking;
+  looked : IsLookingBy l.task l.looking;
   listed : AreListed l.task l.looking.next l.into.order.items l.into.words;
   counted : IsCounted l.fn.task l.task l.looking.next;
 }

@@ -1,7 +1,7 @@
 use Rattle.std.proofs.Common.{sym, refl, subst, arith}
 use Rattle.wait_rule.specs.declared.journal.Item.TheVariants as item
 use Rattle.wq_head.specs.Roused.{RousesNone}
-use Rattle.wq_head.specs.Turns.{IsAt}
+use Rattle.wq_head.specs.Turns.{IsAtWake}
 use Rattle.wq_head.proofs.FullHeads.{head_small}
 use Rattle.wq_head.proofs.RousedTasks.{none_added}
 use Rattle.wq_head.proofs.WakeTurns.{draws_next, up_first, up_next}
@@ -16,12 +16,12 @@ draw-run-requires-clause-head c =
 pub draw-run-requires-clause-up : goal.draw-run-requires-clause-up
 draw-run-requires-clause-up c =
     let at = c.requires.at in
-    up_first at.0 c.args.task.now c.args.run.now (subst (IsAt at.0 c.args.task.now c.args.run.now) c.in-First.is at.1)
+    up_first at.0 c.args.task.now c.args.run.now (subst (IsAtWake at.0 c.args.task.now c.args.run.now) c.in-First.is at.1)
 
 pub draw-run-requires-in-Next-clause-up : goal.draw-run-requires-in-Next-clause-up
 draw-run-requires-in-Next-clause-up c =
     let at = c.requires.at in
-    up_next at.0 c.args.task.now c.args.run.now (subst (IsAt at.0 c.args.task.now c.args.run.now) c.in-Next.is at.1)
+    up_next at.0 c.args.task.now c.args.run.now (subst (IsAtWake at.0 c.args.task.now c.args.run.now) c.in-Next.is at.1)
 
 pub draw-run-requires-in-Next-clause-head : goal.draw-run-requires-in-Next-clause-head
 draw-run-requires-in-Next-clause-head c =
@@ -36,7 +36,7 @@ returns-in-First-clause-rouses c = subst (RousesNone c.args.task.now) (sym c.dra
 pub returns-in-Next-clause-drawn : goal.returns-in-Next-clause-drawn
 returns-in-Next-clause-drawn c start is_at = draws_next start c.args.task.now c.args.run.now c.draw-run-in-Next.new.task
     c.args.head c.draw-run-in-Next.result c.requires.head c.draw-run-in-Next.ensures.step
-    (subst (IsAt start c.args.task.now c.args.run.now) c.in-Next.is is_at)
+    (subst (IsAtWake start c.args.task.now c.args.run.now) c.in-Next.is is_at)
 
 pub returns-in-Next-clause-rouses : goal.returns-in-Next-clause-rouses
 returns-in-Next-clause-rouses c = subst (RousesNone c.args.task.now) (sym c.draw-run-in-Next.ensures.step)

@@ -2,7 +2,7 @@ use Rattle.std.proofs.Common.{◌<◌, ℕ, arith, refl, subst, sym}
 use Rattle.wait_model.specs.declared.layout.TheConstants.{COMPLETIONS}
 use Rattle.wq_head.specs.LockTurns.{AwaitsLock}
 use Rattle.completion_cell.specs.declared.cell_turns.CellCall.{CellCall}
-use Rattle.completion_cell.specs.CellTurns.{HasBegun, cell_head, peeks}
+use Rattle.completion_cell.specs.CellTurns.{HasBegunCell, cell_head, peeks_first}
 use Rattle.completion_cell.proofs.CellDraws.{fits}
 use Rattle.wait_tests.proofs.completions.cells.complete_in_turn.Goals as goal
 
@@ -23,7 +23,7 @@ cell_stretch-requires-2-clause-at g c =
         stands = record {
           told = c.told.ensures;
           base = k;
-          begun = subst (λ (e : CellCall). HasBegun (peeks e) r.result.cell k k) (sym r.ensures.call_is) refl;
+          begun = subst (λ (e : CellCall). HasBegunCell (peeks_first e) r.result.cell k k) (sym r.ensures.call_is) refl;
           awaits = subst (λ (d : ℕ). AwaitsLock k c.draw_lock.new.task (cell_head d) c.draw_lock.result)
               (sym r.ensures.cell) (subst (λ (h : ℕ). AwaitsLock k c.draw_lock.new.task h c.draw_lock.result)
               c.head_of.ensures c.draw_lock.ensures.awaits);

@@ -26,7 +26,7 @@ use Rattle.wait_model.specs.Watches.{head_of}
 use Rattle.wait_model.specs.Words.{bit_at}
 use Rattle.wait_rule.specs.Known.{Known}
 use Rattle.wait_rule.specs.Queues.{IsIdle, IsTold, index}
-use Rattle.wait_rule.specs.Says.{Excuse, IsClean, IsOutBut, IsUp, Owes, history_of, no_excuse, told_of}
+use Rattle.wait_rule.specs.Says.{Excuse, IsClean, IsOutBut, IsUp, OwesBut, history_of, no_excuse, told_of}
 use Rattle.wait_model.specs.Views.{is_trying_for}
 use Rattle.wait_rule.specs.Stays.{Carries, with_entry}
 use Rattle.wait_rule.proofs.KnownLaws.StayingParts.{owes_also, owes_out}
@@ -388,7 +388,7 @@ module _ (old ended : Known) (q : Run (Framed WaitBit)) (o : BitOutcome) (kept :
   out_then = ap (λ (n : ℕ). (told_of ended).bits.stored (index n 0)) (sym kept.number)
       ∙ none_of (wait_bit_in q.of.wait) ((told_of ended).bits.stored (index ended.view.number 0)) at_end.stands.home
 
-  owes_still : (x : Excuse) → Owes x ended → Owes x new
+  owes_still : (x : Excuse) → OwesBut x ended → OwesBut x new
   owes_still x o = record {
     unmarked = rested.mark ∙ o.unmarked;
     debts = rested.debts x o.debts;
@@ -398,7 +398,7 @@ module _ (old ended : Known) (q : Run (Framed WaitBit)) (o : BitOutcome) (kept :
     tries_none = λ y d. ap (λ (s : Option Entry). is_trying_for s d) (rested.stored y) ∙ o.tries_none y d;
   }
 
-  owes_on : (x : Excuse) → Owes x old → Owes x new
+  owes_on : (x : Excuse) → OwesBut x old → OwesBut x new
   owes_on x owes =
       let i = index old.view.number 0 in
       owes_still x (owes_out i x ended out_then (kept.owes x (owes_also i x old owes)))

@@ -20,7 +20,7 @@ use Rattle.wait_rule.specs.Bits.{SetsBit, StaysBeside, taken_bits}
 use Rattle.wait_rule.specs.Known.{Known}
 use Rattle.wait_rule.specs.Members.{IsOwnKind}
 use Rattle.wait_rule.specs.Queues.{IsIdle, at_head, index, walk_of_hold}
-use Rattle.wait_rule.specs.Says.{Excuse, IsClean, IsOutBut, IsUp, Owes, added, no_excuse, told_of}
+use Rattle.wait_rule.specs.Says.{Excuse, IsClean, IsOutBut, IsUp, OwesBut, added, no_excuse, told_of}
 use Rattle.wait_rule.specs.Stays.{with_bits}
 use Rattle.wait_rule.specs.Transitions.{Finds, Goes, IsMadeFor, OnlyLooks, Program, Transition, by_step}
 use Rattle.wait_rule.proofs.KnownLaws.AfterSteps.{told_added}
@@ -206,7 +206,7 @@ module _ (old ended new : Known) (w b : ℕ) (g : Bool)
       by true is = ap (told_of new).bits.pending (same_bit_is d c (same_bit d c is refl) is) ∙ none
       by false is = away is
 
-  takes_owes : (x : Excuse) → Owes x old → Owes (with_bits (taken_bits c g) x) new
+  takes_owes : (x : Excuse) → OwesBut x old → OwesBut (with_bits (taken_bits c g) x) new
   unfolding with_bits
   takes_owes x o =
       let m = k.owes x (record {

@@ -50,7 +50,7 @@ use Rattle.wait_rule.specs.Counts.{FindsCount, StoresCount}
 use Rattle.wait_rule.specs.HeldValues.{count_in}
 use Rattle.wait_rule.specs.Known.{Known}
 use Rattle.wait_rule.specs.Queues.{IsTold, IsWholeBook, MayRise, index, simple_watch, walk_of_hold}
-use Rattle.wait_rule.specs.Says.{IsFree, Excuse, added, history_of, told_of, unlocked_with, Owes}
+use Rattle.wait_rule.specs.Says.{IsFree, Excuse, added, history_of, told_of, unlocked_with, OwesBut}
 use Rattle.wait_rule.specs.Stays.{
   Carries,
   lock_change,
@@ -164,9 +164,9 @@ module _ (d : ℕ) (old a b m new : Known) (most n : ℕ) (spent : Bool) (free :
   over : (spent ≡ true) ⊎ ((IsWholeBook m) × (ShowsNoEntry m))
   over = elim s.ends [ inl all ↦ inl (full all.1 all.0) | inr none ↦ inr (s.whole, none.0) ]
 
-  ends_owed : (x : Excuse) → Owes (with_wakes (watch.Done d) mode.Normal x) m → Owes x new
+  ends_owed : (x : Excuse) → OwesBut (with_wakes (watch.Done d) mode.Normal x) m → OwesBut x new
   ends_owed x o = (simple_ended m m new spent (stays_same m) (λ c σ. refl) refl hold over is).settled x
-      (subst (λ (c : Watch). Owes (with_wakes c mode.Normal x) m) (sym (ap simple_watch at_d ∙ own_done d)) o)
+      (subst (λ (c : Watch). OwesBut (with_wakes c mode.Normal x) m) (sym (ap simple_watch at_d ∙ own_done d)) o)
 
   pub completed_carried : Carries (set_change (watch.Done d) mode.Normal new.at) old new
   completed_carried = record {

@@ -15,7 +15,7 @@ use Rattle.wait_rule.specs.HeldValues.{count_in}
 use Rattle.wait_rule.specs.Known.{Known}
 use Rattle.wait_rule.specs.LeftEntries.{LeftOff}
 use Rattle.wait_rule.specs.Queues.{IsIdle, IsTold, index}
-use Rattle.wait_rule.specs.Says.{Excuse, IsClean, IsUp, Owes, history_of, no_excuse, told_of}
+use Rattle.wait_rule.specs.Says.{Excuse, IsClean, IsUp, OwesBut, history_of, no_excuse, told_of}
 use Rattle.wait_rule.specs.Stays.{Carries, with_left_entry}
 use Rattle.wait_rule.specs.Transitions.{Goes, Program, call_program}
 use Rattle.wait_rule.proofs.KnownLaws.StayingParts.{owes_also, owes_left, owes_off, owes_out}
@@ -75,7 +75,7 @@ module _ (old new : Known) (q : Run AwaitCall) (o : AwaitOutcome) (ended : IsEnd
   out_by = none_of (await_watch q.of) ((told_of new).bits.stored (index new.view.number 0)) ended.stands.home
 
   -- who began idle goes on as it was, and leaves no entry at a completion
-  pub owed_by : StaysOff old new → (x : Excuse) → Owes x old → Owes x new
+  pub owed_by : StaysOff old new → (x : Excuse) → OwesBut x old → OwesBut x new
   owed_by off x o = owes_off x new (λ none d. off d (o.debts.off none d)) (λ none. shows_none new ended.stands.told)
       (owes_out (own_of old) (with_left_entry x) new
       (ap (λ (n : ℕ). (told_of new).bits.stored (index n 0)) (sym keeps.number) ∙ out_by)

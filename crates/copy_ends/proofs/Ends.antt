@@ -38,12 +38,12 @@ use Rattle.wait_rule.specs.PipeSays.{EndBecomes, EndsStay, end_at}
 use Rattle.wait_rule.specs.Queues.{index}
 use Rattle.wait_rule.specs.Says.{
   Debts,
-  Duty,
+  Obligation,
   Excuse,
   IsFree,
   IsOutBut,
   IsUp,
-  Owes,
+  OwesBut,
   OwesNothing,
   added,
   end_unclosed,
@@ -81,13 +81,13 @@ covered true false false more is = is
 
 module _ (x y : Excuse) (k : Known) (wakes : y.wakes ≡ x.wakes) (asks : y.asks ≡ x.asks) (left : y.left ≡ x.left)
     (more : (j : ℕ) → x.ends j ≡ true → y.ends j ≡ true) where
-  ends_none : Debts x k → (d : Duty) → (has_duty k d && not (excuses y d)) ≡ false
+  ends_none : Debts x k → (d : Obligation) → (has_duty k d && not (excuses y d)) ≡ false
   ends_none d (wake_of c σ) = ap (λ (f : Watch → ℕ → Bool). (told_of k).duty.owes c σ
       && not (f c σ || not (meets (mask_of mode.Normal) σ))) wakes ∙ d.none (wake_of c σ)
   ends_none d page_asked = ap (λ (b : Bool). has_duty k page_asked && not b) asks ∙ d.none page_asked
   ends_none d (end_unclosed e) = covered (has_end e k) (x.ends e) (y.ends e) (more e) (d.none (end_unclosed e))
 
-  pub owes_ends : y.entries ≡ x.entries → y.bits ≡ x.bits → Owes x k → Owes y k
+  pub owes_ends : y.entries ≡ x.entries → y.bits ≡ x.bits → OwesBut x k → OwesBut y k
   owes_ends entries bits o = record {
     unmarked = o.unmarked;
     debts = record {
@@ -101,14 +101,14 @@ module _ (x y : Excuse) (k : Known) (wakes : y.wakes ≡ x.wakes) (asks : y.asks
     tries_none = o.tries_none;
   }
 
-pub owes_work : (k : Known) → OwesNothing k → Owes but_ends k
+pub owes_work : (k : Known) → OwesNothing k → OwesBut but_ends k
 owes_work k o = owes_ends no_excuse but_ends k refl refl refl (λ j is. refl) refl refl o
 
-owes_opened : (e : ℕ) (k : Known) → Owes (with_end e but_ends) k → Owes but_ends k
+owes_opened : (e : ℕ) (k : Known) → OwesBut (with_end e but_ends) k → OwesBut but_ends k
 unfolding with_end
 owes_opened e k o = owes_ends (with_end e but_ends) but_ends k refl refl refl (λ j is. refl) refl refl o
 
-owes_unopened : (e : ℕ) (k : Known) → Owes but_ends k → Owes (with_end e but_ends) k
+owes_unopened : (e : ℕ) (k : Known) → OwesBut but_ends k → OwesBut (with_end e but_ends) k
 unfolding with_end
 owes_unopened e k o = owes_ends but_ends (with_end e but_ends) k refl refl refl (λ j is. or_true (j == e)) refl refl o
 
@@ -117,8 +117,8 @@ or_swapped true true c is = refl
 or_swapped true false c is = refl
 or_swapped false b c is = is
 
-pub owes_swapped : (d e : ℕ) (x : Excuse) (k : Known) → Owes (with_end d (with_end e x)) k
-    → Owes (with_end e (with_end d x)) k
+pub owes_swapped : (d e : ℕ) (x : Excuse) (k : Known) → OwesBut (with_end d (with_end e x)) k
+    → OwesBut (with_end e (with_end d x)) k
 unfolding with_end
 owes_swapped d e x k o = owes_ends (with_end d (with_end e x)) (with_end e (with_end d x)) k refl refl refl
     (λ j is. or_swapped (j == d) (j == e) (x.ends j) is) refl refl o
@@ -158,20 +158,20 @@ leaves_then a b c one two = record {
 pub record Opens (k : ℕ) (old new : Known) : Type 0 where
   pub leaves : Leaves old new
   pub work : IsAtWork new
-  pub owes : (x : Excuse) → Owes x old → Owes (with_end k x) new
+  pub owes : (x : Excuse) → OwesBut x old → OwesBut (with_end k x) new
   pub becomes : EndBecomes k old new new_end
 
 pub record Fails (k : ℕ) (old new : Known) : Type 0 where
   pub leaves : Leaves old new
   pub work : IsAtWork new
-  pub owes : (x : Excuse) → Owes x old → Owes x new
+  pub owes : (x : Excuse) → OwesBut x old → OwesBut x new
   pub ends : EndsStay old new
   pub refused : was_refused k new.view.items ≡ true
 
 pub record Closes (k : ℕ) (old new : Known) : Type 0 where
   pub leaves : Leaves old new
   pub work : IsAtWork new
-  pub owes : (x : Excuse) → Owes (with_end k x) old → Owes x new
+  pub owes : (x : Excuse) → OwesBut (with_end k x) old → OwesBut x new
   pub own : end_at k new ≡ closed (end_at k old)
   pub others : OtherPipesStay k old new
   pub claims : (j : ℕ) → (end_at j new).mine ≡ (end_at j old).mine
@@ -225,7 +225,7 @@ module _ (k found : ℕ) (got : Bool) (old new : Known) (is : new ≡ added old 
     signals = item_signals old new (item.Piped k act.Claim found) is ∙ append-nil (signals_of old.view.items);
   }
 
-  claim_work : Owes but_ends new → IsAtWork new
+  claim_work : OwesBut but_ends new → IsAtWork new
   claim_work owes = record {
     up = c.awake ∙ work.up;
     idle = record {
@@ -241,8 +241,8 @@ module _ (k found : ℕ) (got : Bool) (old new : Known) (is : new ≡ added old 
 
   pub opens : got ≡ true → EndBecomes k old new (if got then new_end else end_at k old) → Opens k old new
   opens hit becomes =
-      let owes : (x : Excuse) → Owes x old → Owes (with_end k x) new
-      = λ x o. subst (λ (b : Bool). Owes ((claim_change k b).to x) new) hit (c.owes x o) in
+      let owes : (x : Excuse) → OwesBut x old → OwesBut (with_end k x) new
+      = λ x o. subst (λ (b : Bool). OwesBut ((claim_change k b).to x) new) hit (c.owes x o) in
       record {
         leaves = claim_leaves;
         work = claim_work (owes_opened k new (owes but_ends work.owes));
@@ -259,8 +259,8 @@ module _ (k found : ℕ) (got : Bool) (old new : Known) (is : new ≡ added old 
   pub fails : got ≡ false → got ≡ (found == 0) → EndBecomes k old new (if got then new_end else end_at k old)
       → Fails k old new
   fails miss tells becomes =
-      let owes : (x : Excuse) → Owes x old → Owes x new
-      = λ x o. subst (λ (b : Bool). Owes ((claim_change k b).to x) new) miss (c.owes x o) in
+      let owes : (x : Excuse) → OwesBut x old → OwesBut x new
+      = λ x o. subst (λ (b : Bool). OwesBut ((claim_change k b).to x) new) miss (c.owes x o) in
       let kept : EndBecomes k old new (end_at k old)
       = subst (λ (b : Bool). EndBecomes k old new (if b then new_end else end_at k old)) miss becomes in
       record {

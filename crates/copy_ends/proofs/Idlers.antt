@@ -12,9 +12,9 @@ use Rattle.wait_rule.specs.declared.journal.Part.{Part}
 use Rattle.wait_rule.specs.Aside.{Grows}
 use Rattle.wait_rule.specs.Known.{Known}
 use Rattle.wait_rule.specs.Says.{
-  Duty,
+  Obligation,
   IsClean,
-  Owes,
+  OwesBut,
   end_unclosed,
   excuses,
   has_duty,
@@ -46,7 +46,7 @@ and_false true = refl
 and_false false = refl
 
 -- who owes nothing owes nothing but to close its ends
-pub but_ends_more : (k : Known) → Owes no_excuse k → Owes but_ends k
+pub but_ends_more : (k : Known) → OwesBut no_excuse k → OwesBut but_ends k
 but_ends_more k o = record {
   unmarked = o.unmarked;
   debts = record { none = by; off = o.debts.off; shows = o.debts.shows };
@@ -56,7 +56,7 @@ but_ends_more k o = record {
   tries_none = o.tries_none;
 }
   where
-    by : (d : Duty) → (has_duty k d && not (excuses but_ends d)) ≡ false
+    by : (d : Obligation) → (has_duty k d && not (excuses but_ends d)) ≡ false
     by (wake_of c σ) = o.debts.none (wake_of c σ)
     by page_asked = o.debts.none page_asked
     by (end_unclosed e) = and_false (has_duty k (end_unclosed e))
@@ -160,7 +160,7 @@ newcomer_idles domain number next spare = record {
   off = newcomers_leave_none domain number next spare ENDED_CELL;
 }
   where
-    by : (d : Duty) → (has_duty (newcomer domain number next spare) d && not (excuses no_excuse d)) ≡ false
+    by : (d : Obligation) → (has_duty (newcomer domain number next spare) d && not (excuses no_excuse d)) ≡ false
     by (wake_of c σ) = refl
     by page_asked = refl
     by (end_unclosed e) = refl
@@ -192,7 +192,7 @@ joined_clean domain next spare ps = record {
   };
 }
   where
-    by : (u : Duty) → (has_duty (seen_with (newcomer domain 0 next spare) (joined_parts next spare ps)) u
+    by : (u : Obligation) → (has_duty (seen_with (newcomer domain 0 next spare) (joined_parts next spare ps)) u
         && not (excuses no_excuse u)) ≡ false
     by (wake_of w σ) = refl
     by page_asked = refl

@@ -14,7 +14,7 @@ use Rattle.wait_rule.specs.LeftEntries.{LeftOff}
 use Rattle.wait_rule.specs.Known.{Known}
 use Rattle.wait_rule.specs.PipeSays.{EndsStay, end_at}
 use Rattle.wait_rule.specs.Queues.{IsIdle}
-use Rattle.wait_rule.specs.Says.{Excuse, IsUp, Owes, added, history_of, no_excuse}
+use Rattle.wait_rule.specs.Says.{Excuse, IsUp, OwesBut, added, history_of, no_excuse}
 use Rattle.wait_rule.specs.Stays.{with_bit}
 use Rattle.wait_rule.specs.Tallies.{amounts_of}
 use Rattle.wait_class.specs.Posts.{IsOut}
@@ -34,7 +34,7 @@ pub record IsAtWork (k : Known) : Type 0 where
   pub up : IsUp k
   pub idle : IsIdle k
   pub out : IsOut k
-  pub owes : Owes but_ends k
+  pub owes : OwesBut but_ends k
   pub off : LeftOff ENDED_CELL k
 
 -- Over a part of its work a worker stays at work and owes what it owed; its list grows, and it claims no end.
@@ -42,7 +42,7 @@ pub record Works (old new : Known) : Type 0 where
   pub work : IsAtWork new
   pub domain : new.domain ≡ old.domain
   pub grows : Grows old new
-  pub owes : (x : Excuse) → Owes x old → Owes x new
+  pub owes : (x : Excuse) → OwesBut x old → OwesBut x new
   pub claims : (k : ℕ) → (end_at k new).mine ≡ (end_at k old).mine
 
 -- it added to no tally, and raised no signal
@@ -87,7 +87,7 @@ pub record Locks (old new : Known) : Type 0 where
   pub keeps : KeepsBitOf new (page COUNTED_PAGE)
   pub domain : new.domain ≡ old.domain
   pub grows : Grows old new
-  pub owes : (x : Excuse) → Owes x old → Owes (with_bit (page COUNTED_PAGE) x) new
+  pub owes : (x : Excuse) → OwesBut x old → OwesBut (with_bit (page COUNTED_PAGE) x) new
   pub ends : EndsStay old new
   pub sums : SumsStay old new
   pub signals : SignalsStay old new

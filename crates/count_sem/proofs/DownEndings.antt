@@ -22,7 +22,7 @@ use Rattle.wait_rule.specs.HeldValues.{count_in}
 use Rattle.wait_rule.specs.Known.{Known}
 use Rattle.wait_rule.specs.LeftEntries.{LeftOff}
 use Rattle.wait_rule.specs.Queues.{IsIdle, IsTold, index}
-use Rattle.wait_rule.specs.Says.{Excuse, IsClean, IsFree, IsUp, Owes, history_of, no_excuse, told_of}
+use Rattle.wait_rule.specs.Says.{Excuse, IsClean, IsFree, IsUp, OwesBut, history_of, no_excuse, told_of}
 use Rattle.wait_rule.specs.Stays.{Carries, with_left_entry}
 use Rattle.wait_rule.specs.Transitions.{Goes, IsStepFor, Program, Transition, after_transition}
 use Rattle.wait_rule.proofs.KnownLaws.CalledPermits.{shows_none}
@@ -121,7 +121,7 @@ module _ (old new : Known) (b : StandsBehind old new) where
   behind_idle unmarked = record { running = b.running; free = b.free; unmarked = b.keeps.mark ∙ unmarked }
 
   -- who began idle goes on as it was
-  behind_owed : StaysOff old new → (x : Excuse) → Owes x old → Owes x new
+  behind_owed : StaysOff old new → (x : Excuse) → OwesBut x old → OwesBut x new
   behind_owed off x w = owes_off x new (λ none d. off d (w.debts.off none d)) (λ none. shows_none new b.told)
       (owes_out (own_of old) (with_left_entry x) new
       (ap (λ (n : ℕ). (told_of new).bits.stored (index n 0)) (sym b.keeps.number) ∙ b.out)

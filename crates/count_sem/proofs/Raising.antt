@@ -45,7 +45,7 @@ use Rattle.wait_rule.specs.HeldValues.{count_in}
 use Rattle.wait_rule.specs.Known.{Known}
 use Rattle.wait_rule.specs.LeftEntries.{LeftOff}
 use Rattle.wait_rule.specs.Queues.{IsTold, IsWholeBook, index, simple_watch, walk_of_hold}
-use Rattle.wait_rule.specs.Says.{Excuse, IsFree, IsUp, Owes, added, history_of, told_of, unlocked_with}
+use Rattle.wait_rule.specs.Says.{Excuse, IsFree, IsUp, OwesBut, added, history_of, told_of, unlocked_with}
 use Rattle.wait_rule.specs.Shown.{shown_entry}
 use Rattle.wait_rule.specs.Stays.{
   Carries,
@@ -119,9 +119,9 @@ module _ (d : ℕ) (old a m b new : Known) (spent : Bool) (free : IsFree old) (t
     (three : Carries (publish_change (watch.Done d)) m b) (four : Carries unlock_change b new)
     (hold : IsSimpleHold b) (at_d : b.at ≡ sem_head d)
     (over : (spent ≡ true) ⊎ ((IsWholeBook b) × (ShowsNoEntry b))) (is : new ≡ unlocked_with b b.at spent) where
-  ends_owed : (x : Excuse) → Owes (with_wakes (watch.Done d) mode.Normal x) b → Owes x new
+  ends_owed : (x : Excuse) → OwesBut (with_wakes (watch.Done d) mode.Normal x) b → OwesBut x new
   ends_owed x o = (simple_ended b b new spent (stays_same b) (λ c σ. refl) refl hold over is).settled x
-      (subst (λ (c : Watch). Owes (with_wakes c mode.Normal x) b) (sym (ap simple_watch at_d ∙ own_done d)) o)
+      (subst (λ (c : Watch). OwesBut (with_wakes c mode.Normal x) b) (sym (ap simple_watch at_d ∙ own_done d)) o)
 
   pub up_carried : Carries (set_change (watch.Done d) mode.Normal new.at) old new
   up_carried = record {

@@ -25,10 +25,10 @@ use Rattle.wait_rule.specs.PipeSays.{EndsStay}
 use Rattle.wait_rule.specs.Queues.{IsIdle, IsTold, index}
 use Rattle.wait_rule.specs.Says.{
   AsksNoPage,
-  Duty,
+  Obligation,
   Excuse,
   IsUp,
-  Owes,
+  OwesBut,
   TriesNone,
   added,
   excuses,
@@ -61,7 +61,7 @@ holds_none k told idle = told.head ∙ idle.free.head
 
 -- and asks for no page
 pub asks_none : (k : Known) → IsAtWork k → AsksNoPage k
-asks_none k work d is = subst (λ (e : Duty). (has_duty k e && not (excuses no_excuse e)) ≡ false) (sym is)
+asks_none k work d is = subst (λ (e : Obligation). (has_duty k e && not (excuses no_excuse e)) ≡ false) (sym is)
     (work.owes.debts.none page_asked)
 
 -- A call about a page, whatever it is.
@@ -182,7 +182,7 @@ module _ (old a b : Known) (n found : ℕ) (work : IsAtWork old) (locks : Locks 
         (subst (λ (m : ℕ). (told_of b).bits.stored (index m 0) ≡ None) (sym gives.stays.number)
         (still_out a b c locks.out))
 
-    owes : (y : Excuse) → Owes y old → Owes y new
+    owes : (y : Excuse) → OwesBut y old → OwesBut y new
     owes y o = gives.owes y (c.owes (with_bit (page COUNTED_PAGE) y) (locks.owes y o))
 
     works : Works old new

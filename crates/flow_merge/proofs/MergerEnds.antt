@@ -8,7 +8,7 @@ use Rattle.wait_rule.specs.Aside.{Grows, signals_of}
 use Rattle.wait_rule.specs.Known.{Known}
 use Rattle.wait_rule.specs.Pipes.{End, closed, moved_bytes, new_end, read_end, write_end}
 use Rattle.wait_rule.specs.PipeSays.{EndBecomes, end_at, reading, writing}
-use Rattle.wait_rule.specs.Says.{Excuse, Owes, OwesNothing, added, no_excuse}
+use Rattle.wait_rule.specs.Says.{Excuse, OwesBut, OwesNothing, added, no_excuse}
 use Rattle.wait_rule.specs.Stays.{Carries, claim_change}
 use Rattle.wait_rule.specs.Tallies.{amounts_of}
 use Rattle.wait_pipe.specs.Pieces.{IsAtEnd, IsSettled}
@@ -190,7 +190,7 @@ module _ (a b c d : Known) (has : Has) (o : OpensEnds a b has) (q : ShutsEnds c 
   behind : RestStays c d
   behind = rests_then c q.one d q.pen.rests (rests_then q.one q.two d q.right.rests q.left.rests)
 
-  settled : ((x : Excuse) → Owes x b → Owes x c) → OwesNothing d
+  settled : ((x : Excuse) → OwesBut x b → OwesBut x c) → OwesNothing d
   settled between = q.left.owes no_excuse (q.right.owes (with_if left has.left no_excuse)
       (q.pen.owes (with_if right has.right (with_if left has.left no_excuse))
       (between (with_if pen has.pen (with_if right has.right (with_if left has.left no_excuse)))
@@ -222,7 +222,7 @@ module _ (a b c d : Known) (has : Has) (o : OpensEnds a b has) (q : ShutsEnds c 
   pen_was : end_at pen b ≡ (if has.pen then new_end else end_at pen a)
   pen_was = pen_claimed a b has o
 
-  pub served : ((x : Excuse) → Owes x b → Owes x c) → c.domain ≡ b.domain → Grows b c → Served a d
+  pub served : ((x : Excuse) → OwesBut x b → OwesBut x c) → c.domain ≡ b.domain → Grows b c → Served a d
   served between domain grows = record {
     idler = works_idler d q.left.work (settled between);
     domain = behind.domain ∙ (domain ∙ before.domain);
@@ -323,7 +323,7 @@ module _ (a b c d : Known) (has : Has) (o : OpensEnds a b has) (q : ShutsEnds c 
 
     pub merger_fails : MergerWorked a d (record { stop = stop.Taken; moved = 0 })
     merger_fails = record {
-      served = served (λ x w. subst (Owes x) (sym same) w) (ap (λ (k : Known). k.domain) same) grown;
+      served = served (λ x w. subst (OwesBut x) (sym same) w) (ap (λ (k : Known). k.domain) same) grown;
       claims = claims_all (λ j. ap (λ (k : Known). (end_at j k).mine) same);
       taken = lacks_end;
       passed = passed_none;

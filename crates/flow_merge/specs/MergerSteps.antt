@@ -6,7 +6,7 @@ use Rattle.wait_rule.specs.Aside.{Grows}
 use Rattle.wait_rule.specs.Known.{Known}
 use Rattle.wait_rule.specs.Pipes.{End, closed, new_end, read_end, was_refused, write_end}
 use Rattle.wait_rule.specs.PipeSays.{EndBecomes, IsOpen, end_at}
-use Rattle.wait_rule.specs.Says.{Excuse, Owes}
+use Rattle.wait_rule.specs.Says.{Excuse, OwesBut}
 use Rattle.wait_rule.specs.Stays.{with_end}
 use Rattle.copy_plan.specs.declared.stop.Stop.TheVariants as stop
 use Rattle.copy_plan.specs.declared.stop.WorkerEnd.{WorkerEnd}
@@ -30,7 +30,7 @@ pub record RestStays (old new : Known) : Type 0 where
 pub record Claimed (k : ℕ) (got : Bool) (old new : Known) : Type 0 where
   pub rests : RestStays old new
   pub work : IsAtWork new
-  pub owes : (x : Excuse) → Owes x old → Owes (with_if k got x) new
+  pub owes : (x : Excuse) → OwesBut x old → OwesBut (with_if k got x) new
   pub becomes : EndBecomes k old new (if got then new_end else end_at k old)
   pub refused : got ≡ false → was_refused k new.view.items ≡ true
 
@@ -38,7 +38,7 @@ pub record Claimed (k : ℕ) (got : Bool) (old new : Known) : Type 0 where
 pub record Shut (k : ℕ) (got : Bool) (old new : Known) : Type 0 where
   pub rests : RestStays old new
   pub work : IsAtWork new
-  pub owes : (x : Excuse) → Owes (with_if k got x) old → Owes x new
+  pub owes : (x : Excuse) → OwesBut (with_if k got x) old → OwesBut x new
   pub own : end_at k new ≡ (if got then closed (end_at k old) else end_at k old)
   pub others : (j : ℕ) → j / PIPE_ENDS ≢ k / PIPE_ENDS → end_at j new ≡ end_at j old
   pub claims : (j : ℕ) → (end_at j new).mine ≡ (end_at j old).mine

@@ -13,7 +13,7 @@ use Rattle.wait_rule.specs.declared.journal.Journal.{Journal}
 use Rattle.wait_rule.specs.declared.journal.Part.{Part}
 use Rattle.wait_rule.specs.Aside.{Grows}
 use Rattle.wait_rule.specs.Items.{steps_of}
-use Rattle.wait_rule.specs.Journals.{fresh, handed_over, has_of, items_in, joined_with, left_with, one_within, owns, part_of, pushed, times_in}
+use Rattle.wait_rule.specs.Journals.{fresh, handed_over, has_of, items_in, joined_with, left_with, one_within, owns, part_in, pushed, times_in}
 use Rattle.wait_rule.specs.Known.{Known}
 use Rattle.wait_rule.specs.Says.{IsShown, history_of, newcomer, seen_with}
 use Rattle.wait_rule.specs.TableLaws.{HasAll, histories_in}
@@ -292,14 +292,14 @@ module _ (m c o n h k : ℕ) (v : Journal) (xs : List Item) (had : TallyHad v m 
 module _ (v w : Journal) (lives : w.lives ≡ true) (sole : (t : ℕ) → owns t (joined_with v w) ≤ 1) where
   both_own : (t : ℕ) → owns t (joined_with v w) ≡ owns t v + owns t w
   both_own t =
-      let all = times_in-append t v.joined (part_of w ∷ w.joined) in
+      let all = times_in-append t v.joined (part_in w ∷ w.joined) in
       let live : flag (w.lives && eqb w.number t) ≡ flag (eqb w.number t) =
       ap (λ (b : Bool). flag (b && eqb w.number t)) lives in
       omega (arith, all, live)
 
   both_have : (t : ℕ) → has_of t (joined_with v w) ≡ has_of t v ++ has_of t w
   both_have t = ap (λ (xs : List Item). cond (v.lives && eqb v.number t) v.items [] ++ xs)
-      (items_in-append t v.joined (part_of w ∷ w.joined)
+      (items_in-append t v.joined (part_in w ∷ w.joined)
       ∙ ap (λ (b : Bool). items_in t v.joined ++ (cond (b && eqb w.number t) w.items [] ++ items_in t w.joined))
       (sym lives))
       ∙ sym (append_assoc (cond (v.lives && eqb v.number t) v.items []) (items_in t v.joined) (has_of t w))

@@ -25,7 +25,7 @@ use Rattle.wait_rule.specs.Says.{
   IsClean,
   IsFree,
   Excuse,
-  Owes,
+  OwesBut,
   OwesNothing,
   HasSlept,
   no_excuse,
@@ -60,7 +60,7 @@ pub entry_on : (old new : Known) (kd : Kind) → new.view.number ≡ old.view.nu
 entry_on old new kd number stored owing h = record {
   place = h.place;
   queued = (λ i. stored i (index (number i) 0)) ∙ h.queued;
-  owes = subst (λ (n : ℕ). Owes (with_entry (index n 0) no_excuse) new) (sym number)
+  owes = subst (λ (n : ℕ). OwesBut (with_entry (index n 0) no_excuse) new) (sym number)
       (owing (with_entry (index old.view.number 0) no_excuse) h.owes);
 }
 
@@ -112,7 +112,7 @@ entry_added old held queued new kd clean stays owing a u = record {
     entry = entry_on queued new kd u.stays.number (unlocked_stored queued new false u) u.settled (record {
       place = a.place;
       queued = ap (λ (n : ℕ). (told_of queued).bits.stored (index n 0)) a.stays.number ∙ a.queued;
-      owes = subst (λ (n : ℕ). Owes (with_entry (index n 0) no_excuse) queued) (sym a.stays.number)
+      owes = subst (λ (n : ℕ). OwesBut (with_entry (index n 0) no_excuse) queued) (sym a.stays.number)
           (a.carries.owes no_excuse (owing no_excuse clean.settled));
     });
   };
@@ -129,9 +129,9 @@ module _ (old mid : Known) (n w : ℕ) (kd : Kind) (mine : n ≡ old.view.number
   here : index n 0 ≡ index old.view.number 0
   here = ap (λ (m : ℕ). index m 0) mine
 
-  owing : Owes (with_entry (index n 0) no_excuse) mid
+  owing : OwesBut (with_entry (index n 0) no_excuse) mid
   owing = looks.settled (with_entry (index n 0) no_excuse)
-      (subst (λ (x : ℕ). Owes (with_entry x no_excuse) old) (sym here) h.owes)
+      (subst (λ (x : ℕ). OwesBut (with_entry x no_excuse) old) (sym here) h.owes)
 
   pub off_left : entry_of w ≡ None → HasLeft old mid
   off_left none = record {
@@ -183,7 +183,7 @@ left_clean old held off new kd back stays left u = record {
 }
 
 -- a task that is RUNNING, holds no lock and has no bookmark out, by what it owes
-pub idle_by : (k : Known) (x : Excuse) → k.book.state ≡ RUNNING → IsFree k → Owes x k → IsIdle k
+pub idle_by : (k : Known) (x : Excuse) → k.book.state ≡ RUNNING → IsFree k → OwesBut x k → IsIdle k
 idle_by k x running free o = record {
   running = running;
   free = free;
@@ -202,7 +202,7 @@ abbrev pub all_of : Watch → Aim
 all_of c = record { watch = c; mode = mode.Normal; count = 0 }
 
 pub published_owes : (old new : Known) (c : Watch) (n r : ℕ) → new ≡ added old (item.Made (step.Publish c n r))
-    → OwesNothing old → Owes (with_wakes c mode.Normal no_excuse) new
+    → OwesNothing old → OwesBut (with_wakes c mode.Normal no_excuse) new
 published_owes old new c n r is o = (published_carried old new c n r is).owes no_excuse o
 
 pub clean_idle : (k : Known) → IsClean k → IsIdle k
@@ -225,7 +225,7 @@ or_yes : (a b : Bool) → a ≡ true → (a || b) ≡ true
 or_yes true b is = refl
 or_yes false b is = absurd (cc)
 
-owes_spared : (a : Aim) (x : Excuse) (k : Known) → Owes x k → Owes (with_wakes a.watch a.mode x) k
+owes_spared : (a : Aim) (x : Excuse) (k : Known) → OwesBut x k → OwesBut (with_wakes a.watch a.mode x) k
 unfolding with_wakes
 owes_spared a x k o = owes_more x (with_wakes a.watch a.mode x) k refl refl refl refl refl
     (λ c σ. or_yes (x.wakes c σ) (same c a.watch && meets (mask_of a.mode) σ)) o
@@ -236,7 +236,7 @@ entry_woken old new a b e =
       place = h.place;
       queued = ap (λ (n : ℕ). (told_of new).bits.stored (index n 0)) e.stays.number
           ∙ e.stays.stands 0 (omega arith) refl (front_entry (watch.Plain 0) kind.Default h.place) h.queued (inl refl);
-      owes = subst (λ (n : ℕ). Owes (with_entry (index n 0) no_excuse) new) (sym e.stays.number)
+      owes = subst (λ (n : ℕ). OwesBut (with_entry (index n 0) no_excuse) new) (sym e.stays.number)
           (e.settled (with_entry (index old.view.number 0) no_excuse)
           (owes_spared a (with_entry (index old.view.number 0) no_excuse) old h.owes));
     }

@@ -5,7 +5,7 @@ use Rattle.wait_model.specs.declared.layout.TheConstants.{RUNNING}
 use Rattle.wait_model.specs.declared.watches.Kind.{Kind}
 use Rattle.wait_model.specs.declared.watches.Watch.TheVariants as watch
 use Rattle.wait_rule.specs.Known.{Known}
-use Rattle.wait_rule.specs.Says.{IsUp, IsFree, Owes, OwesNothing, no_excuse, told_of}
+use Rattle.wait_rule.specs.Says.{IsUp, IsFree, OwesBut, OwesNothing, no_excuse, told_of}
 use Rattle.wait_rule.specs.Queues.{index}
 use Rattle.wait_rule.specs.Stays.{with_entry}
 use Rattle.wq_head.specs.Adds.{front_entry}
@@ -15,7 +15,7 @@ use Rattle.wq_head.specs.Readied.{StaysInHold}
 pub record HasEntry (k : Known) (kd : Kind) : Type 0 where
   pub place : ℕ
   pub queued : (told_of k).bits.stored (index k.view.number 0) ≡ Some (front_entry (watch.Plain 0) kd place)
-  pub owes : Owes (with_entry (index k.view.number 0) no_excuse) k
+  pub owes : OwesBut (with_entry (index k.view.number 0) no_excuse) k
 
 -- it is awake and holds no lock
 pub record StandsQueued (k : Known) (kd : Kind) : Type 0 where

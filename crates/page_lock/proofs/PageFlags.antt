@@ -15,18 +15,18 @@ use Rattle.wait_model.specs.declared.steps.Step.TheVariants as step
 use Rattle.wait_model.specs.declared.watches.Watch.{Watch}
 use Rattle.wait_model.specs.Fold.{is_off}
 use Rattle.wait_model.specs.PointFacts.{IsHome, absent}
-use Rattle.wait_model.specs.Points.{given_at as given_for}
+use Rattle.wait_model.specs.Points.{was_given_at as given_for}
 use Rattle.wait_model.specs.Programs.{ends_with, go, interrupted}
 use Rattle.wait_model.specs.Tasks.{looks_in}
 use Rattle.wait_model.specs.Watches.{page}
 use Rattle.wait_model.specs.Words.{flag_of}
 use Rattle.wait_rule.specs.declared.journal.Item.TheVariants as item
-use Rattle.wait_rule.specs.Asked.{ask_step, given_at, nothing_asked, was_given}
+use Rattle.wait_rule.specs.Asked.{ask_step, was_given_at, nothing_asked, was_given}
 use Rattle.wait_rule.specs.Bits.{KeepsBitOf}
 use Rattle.wait_rule.specs.Known.{Known}
-use Rattle.wait_rule.specs.PageCalls.{QueuesNoPage, ShowsGiven, ShowsNone}
-use Rattle.wait_rule.specs.Queues.{MayClear, index}
-use Rattle.wait_rule.specs.Quiet.{is_quiet, is_told}
+use Rattle.wait_rule.specs.PageCalls.{QueuesNoPage, ShowsGiven, ShowsNoFlag}
+use Rattle.wait_rule.specs.Queues.{MayClearFlag, index}
+use Rattle.wait_rule.specs.Quiet.{is_quiet_at, is_told}
 use Rattle.wait_rule.specs.Says.{added, asks_for, history_of, told_of}
 use Rattle.wait_rule.specs.Stays.{Carries, unchanged, with_entry}
 use Rattle.wait_rule.specs.Transitions.{IsMadeFor, by_step}
@@ -84,7 +84,7 @@ step_keeps old new c carries = page_keeps_of (own_of old) c false old new (keeps
     (λ w. refl) (λ x away. refl) (λ x. carries.owes (with_entry (own_of old) x)))
 
 -- the flag is cleared
-pub may_clear : (old : Known) (r : Run LockPage) → IsAt page_table old r stage.Unflag → MayClear old 0
+pub may_clear : (old : Known) (r : Run LockPage) → IsAt page_table old r stage.Unflag → MayClearFlag old 0
 may_clear old r a = inl a.trail.0
 
 or_right : (a b : Bool) → b ≡ true → (a || b) ≡ true
@@ -98,8 +98,8 @@ module _ (old : Known) (run : Run LockPage) where
   clear_quiet : (told_of old).bits.stored (own_of old) ≡ None → IsQuiet cleared
   clear_quiet out =
       let x = own_of old in
-      let b = is_quiet x (history_of old) in
-      ap (is_quiet x) (history_after old cleared (step.Unflag x None) refl)
+      let b = is_quiet_at x (history_of old) in
+      ap (is_quiet_at x) (history_after old cleared (step.Unflag x None) refl)
       ∙ (quiet_more x (history_of old) (step.Unflag x None ∷ [])
       ∙ (ap (λ (s : Bool). if s then b || is_off ((told_of old).bits.stored x) else b) (same_number x)
       ∙ or_right b (is_off ((told_of old).bits.stored x)) (ap is_off out)))
@@ -169,7 +169,7 @@ module _ (old : Known) (run : Run LockPage) (w : ℕ) where
   flag_told : IsQuiet old → flag_of w ≡ true → is_told (own_of old) (history_of loaded) ≡ true
   flag_told quiet set =
       let x = own_of old in
-      let q = is_quiet x (history_of old) in
+      let q = is_quiet_at x (history_of old) in
       let b = is_told x (history_of old) in
       ap (is_told x) flag_history ∙ (told_more x (history_of old) (e ∷ [])
       ∙ (ap (λ (s : Bool). if s then (q && flag_of w) || b else b) (same_number x)
@@ -211,10 +211,10 @@ module _ (old : Known) (run : Run LockPage) (w : ℕ) where
 
     -- and after its entry is off
     module _ (a : IsAt page_table old run stage.Last) (given : ShowsGiven old (own_of old) w)
-        (none : ShowsNone old (own_of old) w) where
+        (none : ShowsNoFlag old (own_of old) w) where
       given_set : asks_for old ≡ was_given (own_of old) r.page → flag_of w ≡ true
       given_set asks = ap flag_of (given r.page
-          (ap (given_at (own_of old)) asks
+          (ap (was_given_at (own_of old)) asks
           ∙ ap (λ (b : Bool). if b then Some r.page else None) (same_number (own_of old)))
           (queues_none old (page_in r) a.stands.home)) ∙ handed_flag
 
@@ -302,7 +302,7 @@ module _ (old : Known) (run : Run LockPage) (w : ℕ) where
             asks = flag_asks ∙ is_unasked set;
           })
 
-    flag_from : ShowsGiven old (own_of old) w → ShowsNone old (own_of old) w → (s : PageStage) → FlagsAt s
+    flag_from : ShowsGiven old (own_of old) w → ShowsNoFlag old (own_of old) w → (s : PageStage) → FlagsAt s
         → IsAt page_table old run s → GoesOn page_table old loaded r r s (flagged_to r s (flag_of w))
     flag_from given none stage.Flag own a = turn_from a (flag_of w) refl (looks_in r.state) refl
     flag_from given none stage.Last own a = last_from a given none (flag_of w) refl
@@ -342,7 +342,7 @@ flags_fall r s own hit = absurd own
 
 pub flag_advances : (old new : Known) (r : Run LockPage) (s : PageStage) → FlagsAt s → IsAt page_table old r s → (w : ℕ)
     → new ≡ added old (item.Made (step.Flag (own_of old) w)) → Carries unchanged old new
-    → ShowsGiven old (own_of old) w → ShowsNone old (own_of old) w → (hit : Bool) → hit ≡ flag_of w → (u : PageTurn)
+    → ShowsGiven old (own_of old) w → ShowsNoFlag old (own_of old) w → (hit : Bool) → hit ≡ flag_of w → (u : PageTurn)
     → u ≡ flagged_to r.of s hit → Turned page_table old new r r s u
 flag_advances old new r s own a w is carries given none hit tells u to =
     let loaded = added old (item.Made (step.Flag (own_of old) w)) in
@@ -354,8 +354,8 @@ flag_advances old new r s own a w is carries given none hit tells u to =
 
 -- the task takes note of the page
 pub note_given : (old : Known) (r : Run LockPage) → IsAt page_table old r stage.Clear
-    → given_at (own_of old) (asks_for old) ≡ Some r.of.page
-note_given old r a = ap (given_at (own_of old)) a.trail
+    → was_given_at (own_of old) (asks_for old) ≡ Some r.of.page
+note_given old r a = ap (was_given_at (own_of old)) a.trail
     ∙ ap (λ (b : Bool). if b then Some r.of.page else None) (same_number (own_of old))
 
 pub note_off : (old : Known) (r : Run LockPage) → IsAt page_table old r stage.Clear → QueuesNoPage old (own_of old)

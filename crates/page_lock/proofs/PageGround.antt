@@ -15,10 +15,10 @@ use Rattle.wait_rule.specs.Queues.{index}
 use Rattle.wait_rule.specs.Says.{
   AsksNoPage,
   Debts,
-  Duty,
+  Obligation,
   Excuse,
   IsOutBut,
-  Owes,
+  OwesBut,
   added,
   asks_for,
   end_unclosed,
@@ -109,7 +109,7 @@ twice true b s o = o
 twice false b s o = o
 
 owes_once : (i : ℕ) (c : Watch) (g : Bool) (x : Excuse) (k : Known)
-    → Owes (with_page (with_entry i (amid i c g x))) k → Owes (amid i c g x) k
+    → OwesBut (with_page (with_entry i (amid i c g x))) k → OwesBut (amid i c g x) k
 unfolding with_page with_entry with_bits
 owes_once i c g x k o = record {
   unmarked = o.unmarked;
@@ -137,7 +137,7 @@ page_keeps_queued i c g old new k = record {
 
 -- the page is tried
 set_owes : (i : ℕ) (c : Watch) (got : Bool) (old new : Known) → SetsBit old new c got → (x : Excuse)
-    → Owes (amid i c false x) old → Owes (amid i c got x) new
+    → OwesBut (amid i c false x) old → OwesBut (amid i c got x) new
 unfolding with_page with_entry with_bits
 set_owes i c got old new s x o = s.owes (amid i c false x) o
 
@@ -182,13 +182,13 @@ module _ (i x p : ℕ) (old new : Known) (is : new ≡ added old (item.Made (ste
       none_and true = refl
       none_and false = refl
 
-      by : (o : Duty) → (has_duty new o && not (excuses (amid i (page p) true f) o)) ≡ false
+      by : (o : Obligation) → (has_duty new o && not (excuses (amid i (page p) true f) o)) ≡ false
       by (wake_of c σ) = ap (λ (v : Told). v.duty.owes c σ && not (is_excused f c σ)) note_told ∙ d.none (wake_of c σ)
       by page_asked = none_and (is_asking (asks_for new))
       by (end_unclosed e) = ap (λ (b : Bool). b && not (f.ends e)) (ap (has_end e) is
           ∙ end_added old (item.Made (step.Unflag x (Some p))) e) ∙ d.none (end_unclosed e)
 
-  note_owes : (f : Excuse) → Owes (amid i (page p) false f) old → Owes (amid i (page p) true f) new
+  note_owes : (f : Excuse) → OwesBut (amid i (page p) false f) old → OwesBut (amid i (page p) true f) new
   unfolding with_page with_entry with_bits
   note_owes f o = record {
     unmarked = ap (λ (v : Told). v.mark) note_told ∙ o.unmarked;
@@ -216,7 +216,7 @@ module _ (i x p : ℕ) (old new : Known) (is : new ≡ added old (item.Made (ste
   }
 
 -- as the call begins, and at its end
-pub amid_from : (i : ℕ) (c : Watch) (x : Excuse) (k : Known) → Owes x k → Owes (amid i c false x) k
+pub amid_from : (i : ℕ) (c : Watch) (x : Excuse) (k : Known) → OwesBut x k → OwesBut (amid i c false x) k
 unfolding with_page with_entry with_bits
 amid_from i c x k o = owes_also i (with_page (with_bits (taken_bits c false) x)) k (record {
   unmarked = o.unmarked;
@@ -231,13 +231,13 @@ amid_from i c x k o = owes_also i (with_page (with_bits (taken_bits c false) x))
     none_and true = refl
     none_and false = refl
 
-    by : (d : Duty) → (has_duty k d && not (excuses (with_page (with_bits (taken_bits c false) x)) d)) ≡ false
+    by : (d : Obligation) → (has_duty k d && not (excuses (with_page (with_bits (taken_bits c false) x)) d)) ≡ false
     by (wake_of w σ) = o.debts.none (wake_of w σ)
     by page_asked = none_and (is_asking (asks_for k))
     by (end_unclosed e) = o.debts.none (end_unclosed e)
 
 pub amid_to : (i : ℕ) (c : Watch) (g : Bool) (x : Excuse) (k : Known) → (told_of k).bits.stored i ≡ None
-    → asks_for k ≡ nothing_asked → Owes (amid i c g x) k → Owes (with_bits (taken_bits c g) x) k
+    → asks_for k ≡ nothing_asked → OwesBut (amid i c g x) k → OwesBut (with_bits (taken_bits c g) x) k
 unfolding with_page with_bits
 amid_to i c g x k out none o =
     let u = owes_out i (with_page (with_bits (taken_bits c g) x)) k out o in record {
@@ -249,7 +249,7 @@ amid_to i c g x k out none o =
       tries_none = u.tries_none;
     }
   where
-    by : Owes (with_page (with_bits (taken_bits c g) x)) k → (d : Duty)
+    by : OwesBut (with_page (with_bits (taken_bits c g) x)) k → (d : Obligation)
         → (has_duty k d && not (excuses (with_bits (taken_bits c g) x) d)) ≡ false
     by u (wake_of w σ) = u.debts.none (wake_of w σ)
     by u page_asked = ap (λ (q : Asked). is_asking q && not x.asks) none
@@ -257,5 +257,5 @@ amid_to i c g x k out none o =
 
 -- who asks for nothing asks for no page
 pub unasked_asks : (k : Known) → asks_for k ≡ nothing_asked → AsksNoPage k
-unasked_asks k none d is = subst (λ (o : Duty). (has_duty k o && not (excuses no_excuse o)) ≡ false) (sym is)
+unasked_asks k none d is = subst (λ (o : Obligation). (has_duty k o && not (excuses no_excuse o)) ≡ false) (sym is)
     (ap (λ (q : Asked). is_asking q && true) none)

@@ -18,7 +18,7 @@ use Rattle.wait_rule.specs.HandedPermits.{OwesNoPermit}
 use Rattle.wait_rule.specs.Items.{steps_of}
 use Rattle.wait_rule.specs.Known.{Known}
 use Rattle.wait_rule.specs.Queues.{MayUnqueue, index}
-use Rattle.wait_rule.specs.Quiet.{is_quiet}
+use Rattle.wait_rule.specs.Quiet.{is_quiet_at}
 use Rattle.wait_rule.specs.Says.{AsksNoPage, added, asks_for, history_of, stored_with, told_of, unlocked_with}
 use Rattle.wait_rule.specs.Stays.{Carries, only_looks, take_off_change}
 use Rattle.wait_rule.specs.Transitions.{AreLooks, OnlyLooks}
@@ -82,9 +82,9 @@ queue_quiet : (seen new : Known) (p place : ℕ)
     → IsQuiet new
 queue_quiet seen new p place is quiet =
     let e = step.Queue (own_of seen) (tail_entry true (page p) kind.Page place) in
-    (λ i. is_quiet (index ((is i).view.number) 0) (stored_history seen new e is i))
+    (λ i. is_quiet_at (index ((is i).view.number) 0) (stored_history seen new e is i))
     ∙ (quiet_more (own_of seen) (history_of seen) (e ∷ [])
-    ∙ (same_and (own_of seen) (is_quiet (own_of seen) (history_of seen)) ∙ quiet))
+    ∙ (same_and (own_of seen) (is_quiet_at (own_of seen) (history_of seen)) ∙ quiet))
 
 module _ (old : Known) (run : Run LockPage) (a : IsAt page_table old run stage.Queue) where
   abbrev r : LockPage

@@ -16,7 +16,7 @@ use Rattle.wait_rule.specs.Bits.{KeepsBitOf}
 use Rattle.wait_rule.specs.Items.{steps_of}
 use Rattle.wait_rule.specs.Known.{Known}
 use Rattle.wait_rule.specs.Queues.{index}
-use Rattle.wait_rule.specs.Quiet.{is_quiet, is_told, quiet_after, quiet_from, told_from}
+use Rattle.wait_rule.specs.Quiet.{is_quiet_at, is_told, quiet_after, quiet_from, told_from}
 use Rattle.wait_rule.specs.Says.{asks_for, history_of, told_of}
 use Rattle.wait_rule.proofs.KnownLaws.QuietFlags.{quiet_more}
 use Rattle.wait_rule.proofs.KnownLaws.ToldFlags.{told_more}
@@ -127,9 +127,9 @@ calm_told x v q (e ∷ es) calm = calm_told x (after e v) (quiet_after x v e q) 
 module _ (old new : Known) (r : LockPage) (es : List Step) (number : new.view.number ≡ old.view.number)
     (more : history_of new ≡ history_of old ++ es) (calm : are_calm es ≡ true) where
   pub quiet_on : IsQuiet old → IsQuiet new
-  quiet_on quiet = (λ i. is_quiet (index (number i) 0) (more i))
+  quiet_on quiet = (λ i. is_quiet_at (index (number i) 0) (more i))
       ∙ (quiet_more (own_of old) (history_of old) es
-      ∙ (calm_quiet (own_of old) (view_of (history_of old)) (is_quiet (own_of old) (history_of old)) es calm ∙ quiet))
+      ∙ (calm_quiet (own_of old) (view_of (history_of old)) (is_quiet_at (own_of old) (history_of old)) es calm ∙ quiet))
 
   abbrev pub set_on : FoundSet old r → FoundSet new r
   set_on f = record {
@@ -160,8 +160,8 @@ module _ (old new : Known) (r : LockPage) (es : List Step) (number : new.view.nu
   out_on awake false (inl told) = inl ((λ i. is_told (index (number i) 0) (more i))
       ∙ (told_more (own_of old) (history_of old) es
       ∙ (ap (λ (b : Bool). told_from (own_of old) (view_of (history_of old))
-      (is_quiet (own_of old) (history_of old)) b es) told
-      ∙ calm_told (own_of old) (view_of (history_of old)) (is_quiet (own_of old) (history_of old)) es calm)))
+      (is_quiet_at (own_of old) (history_of old)) b es) told
+      ∙ calm_told (own_of old) (view_of (history_of old)) (is_quiet_at (own_of old) (history_of old)) es calm)))
   out_on awake false (inr f) = inr (signal_on awake f)
 
   pub left_on : has_sleep es ≡ false → HasLeftPage old r → HasLeftPage new r

@@ -22,7 +22,7 @@ use Rattle.wait_rule.specs.declared.journal.Item.TheVariants as item
 use Rattle.wait_rule.specs.Bits.{KeepsBitOf, SetsBit}
 use Rattle.wait_rule.specs.Known.{Known}
 use Rattle.wait_rule.specs.Queues.{IsAgreedHold, index}
-use Rattle.wait_rule.specs.Quiet.{is_quiet}
+use Rattle.wait_rule.specs.Quiet.{is_quiet_at}
 use Rattle.wait_rule.specs.Says.{added, asks_for, history_of, told_of}
 use Rattle.wait_rule.specs.Transitions.{IsMadeFor, by_step}
 use Rattle.wait_rule.proofs.KnownLaws.AfterSteps.{told_added}
@@ -135,7 +135,7 @@ module _ (old : Known) (run : Run LockPage) (v : ℕ) where
         (seated_waits (page_in r) ((told_of old).bits.stored (own_of old)) a.stands.home))
         (record {
           asks = asks ∙ a.trail.asks;
-          quiet = ap (is_quiet (own_of old)) history ∙ (quiet_more (own_of old) (history_of old) (tries_page q)
+          quiet = ap (is_quiet_at (own_of old)) history ∙ (quiet_more (own_of old) (history_of old) (tries_page q)
               ∙ a.trail.quiet);
           found = record {
             before = a.trail.ends.0;

@@ -9,7 +9,7 @@ use Rattle.wait_rule.specs.Bits.{KeepsBitOf, StaysBeside, taken_bits}
 use Rattle.wait_rule.specs.Known.{Known}
 use Rattle.wait_rule.specs.Members.{IsOwnKind}
 use Rattle.wait_rule.specs.Queues.{index}
-use Rattle.wait_rule.specs.Says.{AsksNoPage, Excuse, Owes, told_of}
+use Rattle.wait_rule.specs.Says.{AsksNoPage, Excuse, OwesBut, told_of}
 use Rattle.wait_rule.specs.Stays.{with_bits, with_entry, with_page}
 
 -- In the meantime the task is excused of its entry of this index, of asking for a page, and of this bit where the call
@@ -31,7 +31,7 @@ pub record PageKeeps (i : ℕ) (c : Watch) (had has : Bool) (old new : Known) : 
       → (told_of new).bits.stored (index old.view.number slot) ≡ Some e
   pub grows : has ≡ false → had ≡ false
   pub keeps : (d : Watch) → taken_bits c has d ≡ false → (told_of new).bits.keeps d ≡ (told_of old).bits.keeps d
-  pub owes : (x : Excuse) → Owes (amid i c had x) old → Owes (amid i c has x) new
+  pub owes : (x : Excuse) → OwesBut (amid i c had x) old → OwesBut (amid i c has x) new
 
 -- What a whole call says of the task that was to lock a page: it owes what it owed, keeps the page where it got it, and
 -- else the bits that it kept. It asks for no page any more.
@@ -40,4 +40,4 @@ pub record TakesPage (old new : Known) (p : ℕ) (got : Bool) : Type 0 where
   pub keeps : got ≡ true → KeepsBitOf new (page p)
   pub asks : AsksNoPage new
   pub fewer : (w : Watch) (σ : ℕ) → (told_of old).duty.owes w σ ≡ false → (told_of new).duty.owes w σ ≡ false
-  pub owes : (x : Excuse) → Owes x old → Owes (with_bits (taken_bits (page p) got) x) new
+  pub owes : (x : Excuse) → OwesBut x old → OwesBut (with_bits (taken_bits (page p) got) x) new

@@ -26,7 +26,7 @@ use Rattle.wait_model.specs.Words.{bit_at}
 use Rattle.wait_rule.specs.Asked.{nothing_asked, waits_for, was_given}
 use Rattle.wait_rule.specs.Bits.{KeepsBitOf}
 use Rattle.wait_rule.specs.Known.{Known}
-use Rattle.wait_rule.specs.Quiet.{is_quiet, is_told}
+use Rattle.wait_rule.specs.Quiet.{is_quiet_at, is_told}
 use Rattle.wait_rule.specs.Says.{asks_for, history_of, told_of}
 use Rattle.wait_rule.specs.Tickets.{no_ticket}
 use Rattle.wait_class.specs.Posts.{EndsWith, FoundWorn, Post, own_of}
@@ -241,7 +241,7 @@ abbrev pub IsUnasked : Known → Type 0
 IsUnasked k = asks_for k ≡ nothing_asked
 
 abbrev pub IsQuiet : Known → Type 0
-IsQuiet k = is_quiet (own_of k) (history_of k) ≡ true
+IsQuiet k = is_quiet_at (own_of k) (history_of k) ≡ true
 
 abbrev pub IsGiven : Known → LockPage → Type 0
 IsGiven k r = asks_for k ≡ was_given (own_of k) r.page

@@ -16,7 +16,7 @@ use Rattle.wait_rule.specs.declared.journal.Item.TheVariants as item
 use Rattle.wait_rule.specs.Aside.{GrowsAside, raised_by}
 use Rattle.wait_rule.specs.Items.{steps_of}
 use Rattle.wait_rule.specs.Known.{Known}
-use Rattle.wait_rule.specs.Pipes.{End, after_look, end_step, if_unclosed, no_end, other_end}
+use Rattle.wait_rule.specs.Pipes.{End, after_end_look, end_step, if_unclosed, no_end, other_end}
 use Rattle.wait_rule.specs.PipeSays.{KeepsEnd, end_at}
 use Rattle.wait_rule.specs.Says.{added, history_of}
 use Rattle.wait_rule.specs.Transitions.{AreLooks, OnlyLooks, after_step_or_look, by_step, with_lock}
@@ -122,11 +122,11 @@ step_low : (e : Step) → IsBeside e → AddsLow e
 step_low (step.Queue x e) is = is
 step_low e is = tt
 
-load_ends : (b : Bool) (r : ℕ) (e : End) → KeepsEnd e (if b then if_unclosed (after_look r) e else e)
+load_ends : (b : Bool) (r : ℕ) (e : End) → KeepsEnd e (if b then if_unclosed (after_end_look r) e else e)
 load_ends false r e = ends_same e e refl
 load_ends true r e = by (e.mine && not e.shut)
   where
-    by : (b : Bool) → KeepsEnd e (if b then after_look r e else e)
+    by : (b : Bool) → KeepsEnd e (if b then after_end_look r e else e)
     by true = record { mine = refl; shut = refl; count = refl; before = refl; cells = refl }
     by false = ends_same e e refl
 

@@ -4,7 +4,7 @@ use Rattle.std.specs.Prelude.{ℕ, ◌≡◌, ◌==◌, ◌||◌, Bool, true, fa
 use Rattle.wait_model.specs.declared.watches.Entry.{Entry}
 use Rattle.wait_rule.specs.Known.{Known}
 use Rattle.wait_rule.specs.Queues.{index}
-use Rattle.wait_rule.specs.Says.{Excuse, IsOutBut, Owes, told_of}
+use Rattle.wait_rule.specs.Says.{Excuse, IsOutBut, OwesBut, told_of}
 use Rattle.wait_rule.specs.Stays.{Carries, Change, unchanged, with_entry}
 use Rattle.wait_rule.proofs.KnownLaws.Debts.{entries_debts}
 
@@ -23,7 +23,7 @@ changes from to but state at = record unchanged {
 pub carries_more : (f g : Excuse → Excuse) (less : ℕ → Bool) (looks : Bool) (s at : ℕ → ℕ) (from to : Excuse → Excuse)
     (but : ℕ → Bool) (a b : Known)
     → Carries (record unchanged { from = f; to = g; but = less; looks = looks; state = s; at = at }) a b
-    → ((x : ℕ) → but x ≡ false → less x ≡ false) → ((x : Excuse) → Owes (from x) a → Owes (to x) b)
+    → ((x : ℕ) → but x ≡ false → less x ≡ false) → ((x : Excuse) → OwesBut (from x) a → OwesBut (to x) b)
     → Carries (changes from to but s (λ _. b.at)) a b
 carries_more f g less looks s at from to but a b c away owes = record {
   domain = c.domain;
@@ -74,8 +74,8 @@ out_swap true false c s o = tt
 out_swap false true c s o = tt
 out_swap false false c s o = o
 
-pub owes_swap : (i j : ℕ) (x : Excuse) (k : Known) → Owes (with_entry i (with_entry j x)) k
-    → Owes (with_entry j (with_entry i x)) k
+pub owes_swap : (i j : ℕ) (x : Excuse) (k : Known) → OwesBut (with_entry i (with_entry j x)) k
+    → OwesBut (with_entry j (with_entry i x)) k
 unfolding with_entry
 owes_swap i j x k o = record {
   unmarked = o.unmarked;

@@ -5,12 +5,12 @@ use Rattle.wait_model.specs.declared.watches.Mode.TheVariants as mode
 use Rattle.wait_model.specs.declared.watches.Watch.TheVariants as watch
 use Rattle.wait_rule.specs.Known.{Known}
 use Rattle.wait_rule.specs.LosesNone.{HasNoWakeOf, LeavesNoneAsleep}
-use Rattle.wait_rule.specs.Says.{Excuse, Owes}
+use Rattle.wait_rule.specs.Says.{Excuse, OwesBut}
 use Rattle.wait_rule.specs.Stays.{Carries, wake_all_change, with_wakes}
 
 -- Before the call the task owed wakes of the condition, as one that has set it does, and at most this beside them.
 abbrev pub SwakesLoseNone : Type 0
 SwakesLoseNone = (old new : Known) (c : ℕ) (x : Excuse) → HasNoWakeOf (watch.Plain c) x
-    → Owes (with_wakes (watch.Plain c) mode.Normal x) old
+    → OwesBut (with_wakes (watch.Plain c) mode.Normal x) old
     → Carries (wake_all_change (watch.Plain c) mode.Normal new.at) old new
     → LeavesNoneAsleep (watch.Plain c) mode.Normal new

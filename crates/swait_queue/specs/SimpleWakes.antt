@@ -10,7 +10,7 @@ use Rattle.wait_model.specs.declared.watches.Watch.TheVariants as watch
 use Rattle.wait_model.specs.Watches.{head_of}
 use Rattle.wait_rule.specs.Known.{Known}
 use Rattle.wait_rule.specs.Queues.{walk_of_hold}
-use Rattle.wait_rule.specs.Says.{Excuse, unlocked_with, Owes}
+use Rattle.wait_rule.specs.Says.{Excuse, unlocked_with, OwesBut}
 use Rattle.wait_rule.specs.Transitions.{call_program}
 use Rattle.wait_class.specs.Posts.{Runs}
 use Rattle.wq_head.specs.Holds.{HasLocked}
@@ -39,4 +39,4 @@ pub record EndsSimpleWake (old new : Known) (c : ℕ) (all : Bool) (n : ℕ) : T
 
 -- but for what the task was excused of before it owes nothing, as before
 abbrev pub OwesAtMost : Known → Known → Type 0
-OwesAtMost old new = (x : Excuse) → Owes x old → Owes x new
+OwesAtMost old new = (x : Excuse) → OwesBut x old → OwesBut x new

@@ -5,7 +5,7 @@ use Rattle.wait_rule.specs.Known.{Known}
 use Rattle.wait_rule.specs.Pipes.{read_end, write_end}
 use Rattle.wait_rule.specs.PipeSays.{end_at}
 use Rattle.wait_rule.specs.Queues.{IsIdle}
-use Rattle.wait_rule.specs.Says.{IsUp, Owes, no_excuse}
+use Rattle.wait_rule.specs.Says.{IsUp, OwesBut, no_excuse}
 use Rattle.wait_rule.specs.Stays.{with_end}
 use Rattle.wait_class.specs.Posts.{IsOut}
 use Rattle.wait_leave.specs.declared.exits.Until.{Until}
@@ -19,7 +19,7 @@ pub record HasEnd (k : ℕ) (x : Known) : Type 0 where
   pub idle : IsIdle x
   pub out : IsOut x
   pub settled : IsSettled (end_at k x)
-  pub owes : Owes (with_end k no_excuse) x
+  pub owes : OwesBut (with_end k no_excuse) x
 
 abbrev pub IsWriter : ℕ → Known → Type 0
 IsWriter p x = HasEnd (write_end p) x

@@ -35,7 +35,7 @@ use Rattle.wait_rule.specs.Known.{Known}
 use Rattle.wait_rule.specs.Tickets.{Ticket, no_ticket, drawn, taken}
 use Rattle.wait_rule.specs.Members.{IsOwnKind}
 use Rattle.wait_model.specs.Words.{entry_of}
-use Rattle.wait_rule.specs.Says.{Excuse, history_of, told_of, added, Owes}
+use Rattle.wait_rule.specs.Says.{Excuse, history_of, told_of, added, OwesBut}
 use Rattle.wait_rule.specs.declared.journal.Item.TheVariants as item
 use Rattle.wait_rule.specs.Members.{IsEntryWord}
 use Rattle.wait_rule.specs.Queues.{IsAgreed, KnewEntry, index, saw}
@@ -99,7 +99,7 @@ pub record KeepsBut (meanwhile : Excuse → Excuse) (i : ℕ) (old new : Known) 
       → (told_of old).bits.stored (index old.view.number slot) ≡ Some e → IsOwnKind e.kind
       → (told_of new).bits.stored (index old.view.number slot) ≡ Some e
   pub keeps : (d : Watch) → (told_of new).bits.keeps d ≡ (told_of old).bits.keeps d
-  pub owes : (x : Excuse) → Owes (with_entry i (meanwhile x)) old → Owes (with_entry i (meanwhile x)) new
+  pub owes : (x : Excuse) → OwesBut (with_entry i (meanwhile x)) old → OwesBut (with_entry i (meanwhile x)) new
 
 abbrev pub Keeps : ℕ → Known → Known → Type 0
 Keeps i old new = KeepsBut (λ x. x) i old new

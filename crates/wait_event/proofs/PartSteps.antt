@@ -20,8 +20,8 @@ use Rattle.wait_rule.specs.declared.journal.Item.TheVariants as item
 use Rattle.wait_rule.specs.Ends.{WasWorn}
 use Rattle.wait_rule.specs.Known.{Known}
 use Rattle.wait_rule.specs.Queues.{MayUnqueue, index, saw}
-use Rattle.wait_rule.specs.Asked.{ask}
-use Rattle.wait_rule.specs.Says.{Excuse, Owes, added, asks_for, stored_with, told_of}
+use Rattle.wait_rule.specs.Asked.{after_item}
+use Rattle.wait_rule.specs.Says.{Excuse, OwesBut, added, asks_for, stored_with, told_of}
 use Rattle.wait_rule.specs.Stays.{Carries, no_entries, only, queue_change, state_change, take_off_change}
 use Rattle.wait_rule.specs.Stays.{unchanged, with_entry}
 use Rattle.wait_rule.specs.Transitions.{Finds, Goes, IsMadeFor, IsSeenAs, OnlyLooks, Program, StepOrLook, after_step_or_look}
@@ -56,7 +56,7 @@ use Rattle.wait_event.specs.declared.prepares.Part.{Part}
 pub part_of : (from to : Excuse → Excuse) (but : ℕ → Bool) (looks : Bool) (s : ℕ → ℕ) (i : ℕ) (old new : Known)
     → Carries (record unchanged { from = from; to = to; but = but; looks = looks; state = s }) old new
     → ((x : ℕ) → (x == i) ≡ false → but x ≡ false)
-    → ((x : Excuse) → Owes (with_entry i x) old → Owes (with_entry i x) new) → Carries (part_change i s) old new
+    → ((x : Excuse) → OwesBut (with_entry i x) old → OwesBut (with_entry i x) new) → Carries (part_change i s) old new
 part_of from to but looks s i old new c away owes = record {
   domain = c.domain;
   number = c.number;
@@ -185,7 +185,7 @@ heeds_look p old new w hit one tells is carries =
       };
       quiet = refl;
       carries = carries;
-      asks = λ none. ap asks_for is ∙ (asked_added old (item.Made (step.Look w)) ∙ (ap (ask (item.Made (step.Look w))) none
+      asks = λ none. ap asks_for is ∙ (asked_added old (item.Made (step.Look w)) ∙ (ap (after_item (item.Made (step.Look w))) none
           ∙ asks_nothing (step.Look w) (λ x e at. absurd (cc))));
       found = λ hit_is. record {
         asks = and_left p.asks (looks_in p.how.state) one;

@@ -15,7 +15,7 @@ use Rattle.wait_model.specs.Tasks.{meets}
 use Rattle.wait_model.specs.Watches.{same, mask_of}
 use Rattle.wait_rule.specs.declared.journal.Item.TheVariants as item
 use Rattle.wait_rule.specs.Known.{Known}
-use Rattle.wait_rule.specs.Says.{Excuse, Owes, added, told_of}
+use Rattle.wait_rule.specs.Says.{Excuse, OwesBut, added, told_of}
 use Rattle.wait_rule.specs.Queues.{IsIdle, index}
 use Rattle.wait_rule.specs.Stays.{Carries, publish_change, wake_all_change, with_wakes}
 use Rattle.wait_rule.specs.Transitions.{by_step, call_program}
@@ -57,13 +57,13 @@ wider : (w s m : Bool) → w ≡ true → (w || (s && m)) ≡ true
 wider true s m is = refl
 wider false s m is = absurd (cc)
 
-owes_wider : (c : Watch) (m : Mode) (x : Excuse) (k : Known) → Owes x k → Owes (with_wakes c m x) k
+owes_wider : (c : Watch) (m : Mode) (x : Excuse) (k : Known) → OwesBut x k → OwesBut (with_wakes c m x) k
 unfolding with_wakes
 owes_wider c m x k o = owes_more x (with_wakes c m x) k refl refl refl refl refl
     (λ d σ. wider (x.wakes d σ) (same d c) (meets (mask_of m) σ)) o
 
 set_owes : (c : Watch) (m : Mode) (old mid new : Known) → Carries (publish_change c) old mid
-    → Carries (wake_all_change c m new.at) mid new → (x : Excuse) → Owes x old → Owes (left_owed m c x) new
+    → Carries (wake_all_change c m new.at) mid new → (x : Excuse) → OwesBut x old → OwesBut (left_owed m c x) new
 set_owes c mode.Normal old mid new a b x o = b.owes x (a.owes x o)
 set_owes c mode.Interruptible old mid new a b x o = b.owes (with_wakes c mode.Normal x)
     (owes_wider c mode.Interruptible (with_wakes c mode.Normal x) mid (a.owes x o))

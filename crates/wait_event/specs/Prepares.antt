@@ -23,7 +23,7 @@ use Rattle.wait_model.specs.Tasks.{pending, state_mask, task_of}
 use Rattle.wait_model.specs.Watches.{bare, head_of, kind_for}
 use Rattle.wait_rule.specs.Ends.{WasWorn}
 use Rattle.wait_rule.specs.Known.{Known}
-use Rattle.wait_rule.specs.Says.{Excuse, IsFree, IsUp, Owes, told_of}
+use Rattle.wait_rule.specs.Says.{Excuse, IsFree, IsUp, OwesBut, told_of}
 use Rattle.wait_rule.specs.Stays.{Carries, Change, only, unchanged, with_entry}
 use Rattle.wait_rule.specs.Transitions.{Program}
 use Rattle.wq_head.specs.declared.adds.Worn.{Worn}
@@ -176,4 +176,4 @@ CarriesPrepare old new σ _ = Carries (leave_change (own_of old) new.at) old new
 
 -- Of a task that had no entry queued: it owes the entry then.
 abbrev pub BeginsOwing : Known → Known → Type 0
-BeginsOwing old new = (x : Excuse) → Owes x old → Owes (with_entry (own_of old) x) new
+BeginsOwing old new = (x : Excuse) → OwesBut x old → OwesBut (with_entry (own_of old) x) new

@@ -18,7 +18,7 @@ use Rattle.wait_model.specs.Tasks.{state_mask}
 use Rattle.wait_model.specs.Words.{flag_of}
 use Rattle.wait_rule.specs.Known.{Known}
 use Rattle.wait_rule.specs.Tickets.{no_ticket}
-use Rattle.wait_rule.specs.Says.{Excuse, IsDown, IsUp, told_of, Owes}
+use Rattle.wait_rule.specs.Says.{Excuse, IsDown, IsUp, told_of, OwesBut}
 use Rattle.wait_rule.specs.Transitions.{Program, call_program}
 use Rattle.wait_event.specs.Entries.{HasWokenEntry}
 use Rattle.wait_class.specs.Posts.{Post, Runs, Stands, post_at}
@@ -113,7 +113,7 @@ pub record KeepsEntries (old new : Known) : Type 0 where
   pub fewer : (w : Watch) (σ : ℕ) → (told_of old).duty.owes w σ ≡ false → (told_of new).duty.owes w σ ≡ false
   pub stored : (x : ℕ) → (told_of new).bits.stored x ≡ (told_of old).bits.stored x
   pub keeps : (d : Watch) → (told_of new).bits.keeps d ≡ (told_of old).bits.keeps d
-  pub owes : (x : Excuse) → Owes x old → Owes x new
+  pub owes : (x : Excuse) → OwesBut x old → OwesBut x new
 
 pub record WentHearing (old new : Known) (st : SleepState) (from to : Next) : Type 0 where
   pub runs : Runs (woken_program old.view.number st) old new from to

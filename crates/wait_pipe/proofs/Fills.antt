@@ -51,7 +51,7 @@ use Rattle.wait_rule.specs.Pipes.{
   cell_bytes,
   end_word,
   moved_bytes,
-  passed,
+  with_all_passed,
   read_end,
   with_cell,
   word_counts,
@@ -114,17 +114,17 @@ went_on e now text w m = record {
 
 -- passed on
 moves_all : (e now : End) (text : List ℕ) → IsSettled e → Midway e now text
-    → IsSettled (passed now) × (moved_bytes (passed now) ≡ moved_bytes e ++ text)
+    → IsSettled (with_all_passed now) × (moved_bytes (with_all_passed now) ≡ moved_bytes e ++ text)
 moves_all e now text settled m = (
   record { still = record { mine = m.still.mine; unshut = refl }; passed = refl },
-  all_bytes (passed now) refl ∙ (m.bytes ∙ ap (λ l. l ++ text) (sym (all_bytes e settled.passed))),
+  all_bytes (with_all_passed now) refl ∙ (m.bytes ∙ ap (λ l. l ++ text) (sym (all_bytes e settled.passed))),
 )
 
 -- an advance of the write end, by the number that calls give it
 pub advanced_write : (p : ℕ) (now next : Known)
-    → EndBecomes (PIPE_ENDS * p + 0) now next (passed (end_at (PIPE_ENDS * p + 0) now))
-    → EndBecomes (write_end p) now next (passed (writing p now))
-advanced_write p now next = subst (λ (k : ℕ). EndBecomes k now next (passed (end_at k now))) (add-zero (PIPE_ENDS * p))
+    → EndBecomes (PIPE_ENDS * p + 0) now next (with_all_passed (end_at (PIPE_ENDS * p + 0) now))
+    → EndBecomes (write_end p) now next (with_all_passed (writing p now))
+advanced_write p now next = subst (λ (k : ℕ). EndBecomes k now next (with_all_passed (end_at k now))) (add-zero (PIPE_ENDS * p))
 
 -- cells that a task has stored or loaded, and no more than these, since it knew `old`
 pub record HasCells (k : ℕ) (old now : Known) : Type 0 where
@@ -260,31 +260,31 @@ fill_goes p old now next bytes at left done end w f some_left more fits most end
     }
 
 pub fill_ends : (p : ℕ) (old now next last : Known) (bytes : List ℕ) (at left done : ℕ) → IsSettled (writing p old)
-    → Filling p old now bytes at left done → EndBecomes (write_end p) now next (passed (writing p now))
+    → Filling p old now bytes at left done → EndBecomes (write_end p) now next (with_all_passed (writing p now))
     → OtherPipesStay (write_end p) next last → writing p last ≡ writing p next
     → Moved (write_end p) old last (take done bytes)
 fill_ends p old now next last bytes at left done settled f step others same =
     let m = moves_all (writing p old) (writing p now) (take done bytes) settled f.midway in record {
       others = others_on (write_end p) old next last (others_on (write_end p) old now next f.others
-          (others_becomes (write_end p) now next (passed (writing p now)) step)) others;
+          (others_becomes (write_end p) now next (with_all_passed (writing p now)) step)) others;
       settled = subst IsSettled (sym (same ∙ step.own)) m.0;
       bytes = ap moved_bytes (same ∙ step.own) ∙ m.1;
     }
 
 pub fill_ended : (p : ℕ) (old now next last : Known) (bytes : List ℕ) (at left done : ℕ)
-    → Filling p old now bytes at left done → EndBecomes (write_end p) now next (passed (writing p now))
+    → Filling p old now bytes at left done → EndBecomes (write_end p) now next (with_all_passed (writing p now))
     → writing p last ≡ writing p next → (writing p last).ended ≡ (writing p old).ended
 fill_ended p old now next last bytes at left done f step same = ap (λ (e : End). e.ended) (same ∙ step.own)
     ∙ f.midway.ended
 
 pub fill_cells : (p : ℕ) (old now next last : Known) (bytes : List ℕ) (at left done : ℕ) → IsSettled (writing p old)
-    → Filling p old now bytes at left done → EndBecomes (write_end p) now next (passed (writing p now))
+    → Filling p old now bytes at left done → EndBecomes (write_end p) now next (with_all_passed (writing p now))
     → writing p last ≡ writing p next → (writing p last).count ≡ (writing p old).count + (done + 6) / 7
 fill_cells p old now next last bytes at left done settled f step same = ap (λ (e : End). e.count) (same ∙ step.own)
     ∙ (f.dense ∙ ap (λ n. n + (done + 6) / 7) (sym settled.passed))
 
 pub fill_full : (p : ℕ) (old now next last : Known) (bytes : List ℕ) (at left done : ℕ)
-    → Filling p old now bytes at left done → EndBecomes (write_end p) now next (passed (writing p now))
+    → Filling p old now bytes at left done → EndBecomes (write_end p) now next (with_all_passed (writing p now))
     → writing p last ≡ writing p next → left ≡ 0 → (writing p last).count ≡ (writing p last).seen + PIPE_CELLS
 fill_full p old now next last bytes at left done f step same none =
     let count : (writing p last).count ≡ length (writing p now).cells = ap (λ (e : End). e.count) (same ∙ step.own) in
@@ -301,7 +301,7 @@ pub fill_stores : (p v : ℕ) (old now next new : Known) (bytes : List ℕ) (at 
     → StoresCells (write_end p) old new bytes done
 fill_stores p v old now next new bytes at left done found walked settled f made is some none wakes =
     let count = cells_count (write_end p) old now f.stored in
-    let passed = settled.passed in
+    let with_all_passed = settled.passed in
     let place = f.place in
     let room = f.room in
     let dense = f.dense in
@@ -374,12 +374,12 @@ drain_goes p old now next size buf after at left done end w f some_left more fit
 
 pub drain_ends : (p : ℕ) (old now next last : Known) (size : ℕ) (buf : List ℕ) (at left done : ℕ)
     → IsSettled (reading p old) → Draining p old now size buf at left done
-    → EndBecomes (read_end p) now next (passed (reading p now)) → OtherPipesStay (read_end p) next last
+    → EndBecomes (read_end p) now next (with_all_passed (reading p now)) → OtherPipesStay (read_end p) next last
     → reading p last ≡ reading p next → Moved (read_end p) old last (take done buf)
 drain_ends p old now next last size buf at left done settled f step others same =
     let m = moves_all (reading p old) (reading p now) (take done buf) settled f.midway in record {
       others = others_on (read_end p) old next last (others_on (read_end p) old now next f.others
-          (others_becomes (read_end p) now next (passed (reading p now)) step)) others;
+          (others_becomes (read_end p) now next (with_all_passed (reading p now)) step)) others;
       settled = subst IsSettled (sym (same ∙ step.own)) m.0;
       bytes = ap moved_bytes (same ∙ step.own) ∙ m.1;
     }
@@ -392,7 +392,7 @@ pub drain_loads : (p v : ℕ) (old now next new : Known) (size : ℕ) (buf : Lis
     → LoadsCells (read_end p) old new buf done
 drain_loads p v old now next new size buf at left done found walked settled f made is none wakes =
     let count = cells_count (read_end p) old now f.loaded in
-    let passed = settled.passed in
+    let with_all_passed = settled.passed in
     let place = f.place in
     let there = f.there in
     let fits : (reading p old).count + length f.loaded.cells ≤ (reading p old).seen = omega arith in
@@ -405,7 +405,7 @@ drain_loads p v old now next new size buf at left done found walked settled f ma
     }
 
 pub drain_all : (p : ℕ) (old now next last : Known) (size : ℕ) (buf : List ℕ) (at left done : ℕ)
-    → Draining p old now size buf at left done → EndBecomes (read_end p) now next (passed (reading p now))
+    → Draining p old now size buf at left done → EndBecomes (read_end p) now next (with_all_passed (reading p now))
     → reading p last ≡ reading p next → left ≡ 0 → (reading p last).count ≡ (reading p last).seen
 drain_all p old now next last size buf at left done f step same none =
     let count : (reading p last).count ≡ length (reading p now).cells = ap (λ (e : End). e.count) (same ∙ step.own) in

@@ -43,8 +43,8 @@ use Rattle.wait_rule.specs.declared.journal.Item.TheVariants as item
 use Rattle.wait_rule.specs.Known.{Known}
 use Rattle.wait_rule.specs.Pipes.{
   End,
-  after_look,
-  count_from,
+  after_end_look,
+  count_on,
   end_item,
   end_word,
   if_unclosed,
@@ -123,17 +123,17 @@ module _ (k v r : ℕ) (old new : Known) (other : v ≡ other_end k) (pipe : v /
   loaded_end : (j : ℕ) → end_at j new ≡ end_item j x (end_at j old)
   loaded_end j = ap (end_at j) is ∙ end_append j no_end old.view.items (x ∷ [])
 
-  pub loaded_own : IsOpen (end_at k old) → end_at k new ≡ after_look r (end_at k old)
+  pub loaded_own : IsOpen (end_at k old) → end_at k new ≡ after_end_look r (end_at k old)
   loaded_own still = loaded_end k
-      ∙ (ap (λ (b : Bool). if b then if_unclosed (after_look r) (end_at k old) else end_at k old)
+      ∙ (ap (λ (b : Bool). if b then if_unclosed (after_end_look r) (end_at k old) else end_at k old)
       (test_on v (other_end k) other)
-      ∙ ap (λ (b : Bool). if b then after_look r (end_at k old) else end_at k old)
+      ∙ ap (λ (b : Bool). if b then after_end_look r (end_at k old) else end_at k old)
       (ap (λ (b : Bool). b && not (end_at k old).shut) still.mine ∙ ap not still.unshut))
 
   -- the other end's word tells the task of its own end alone
   loaded_others : OtherPipesStay k old new
   loaded_others j ne = loaded_end j
-      ∙ ap (λ (b : Bool). if b then if_unclosed (after_look r) (end_at j old) else end_at j old)
+      ∙ ap (λ (b : Bool). if b then if_unclosed (after_end_look r) (end_at j old) else end_at j old)
       (test_off v (other_end j) (λ q. ne (sym (sym pipe ∙ (ap (λ (i : ℕ). i / PIPE_ENDS) q ∙ other_pipe j)))))
 
   pub look_only : IsOpen (end_at k old) → IsUp old → IsFree old → Carries unchanged old new → OnlyLooked k old new
@@ -160,7 +160,7 @@ module _ (k v r : ℕ) (old new : Known) (other : v ≡ other_end k) (pipe : v /
       let made = loaded_own still in
       let shut : (end_at k new).shut ≡ false = ap (λ (e : End). e.shut) made ∙ still.unshut in
       let clear : own ≡ end_word (end_at k new).count false = word ∙ ap (end_word (end_at k new).count) shut in
-      let seen : (end_at k new).seen ≡ count_from (end_at k old).seen r = ap (λ (e : End). e.seen) made in record {
+      let seen : (end_at k new).seen ≡ count_on (end_at k old).seen r = ap (λ (e : End). e.seen) made in record {
         own = omega arith;
         other = omega arith;
         sound = sound;

@@ -45,7 +45,7 @@ use Rattle.wait_rule.specs.declared.journal.Journal.{Journal}
 use Rattle.wait_rule.specs.Aside.{Grows, GrowsAside}
 use Rattle.wait_rule.specs.Heeding.{EndsSignalled, trail_of}
 use Rattle.wait_rule.specs.Known.{Known}
-use Rattle.wait_rule.specs.Pipes.{End, after_look, end_word, if_unclosed, no_end, other_end, word_counts}
+use Rattle.wait_rule.specs.Pipes.{End, after_end_look, end_word, if_unclosed, no_end, other_end, word_counts}
 use Rattle.wait_rule.specs.PipeSays.{KeepsEnd, end_at}
 use Rattle.wait_rule.specs.Says.{MeetsLaw, added, grown}
 use Rattle.wait_rule.specs.Transitions.{call_program}
@@ -112,11 +112,11 @@ turns_aside k old [] new w = subst (GrowsAside old) (sym w) (quiet_none old).asi
 turns_aside k old (t ∷ ts) new w = aside_join old t new (turn_aside k old t (Ok tt) w.0) (turns_aside k t ts new w.1)
 
 -- The end stays over them, but for what was seen.
-if_keeps : (b : Bool) (r : ℕ) (e : End) → KeepsEnd e (if b then if_unclosed (after_look r) e else e)
+if_keeps : (b : Bool) (r : ℕ) (e : End) → KeepsEnd e (if b then if_unclosed (after_end_look r) e else e)
 if_keeps false r e = keeps_none e
 if_keeps true r e = by (e.mine && not e.shut)
   where
-    by : (b : Bool) → KeepsEnd e (if b then after_look r e else e)
+    by : (b : Bool) → KeepsEnd e (if b then after_end_look r e else e)
     by true = record { mine = refl; shut = refl; count = refl; before = refl; cells = refl }
     by false = keeps_none e
 

@@ -42,26 +42,26 @@ ask_step (step.TasFor x p r) k = given_if (was_clear (page p) r) x k
 ask_step (step.Unflag x o) k = took_note x k
 ask_step _ k = k
 
-abbrev pub ask : Item → Asked → Asked
-ask (item.Made e) k = ask_step e k
-ask _ k = k
+abbrev pub after_item : Item → Asked → Asked
+after_item (item.Made e) k = ask_step e k
+after_item _ k = k
 
 -- what more items tell of it, and what a list does; both have the oldest item first
 abbrev pub asked_from : Asked → List Item → Asked
 asked_from k [] = k
-asked_from k (x ∷ xs) = asked_from (ask x k) xs
+asked_from k (x ∷ xs) = asked_from (after_item x k) xs
 
-abbrev pub asked_of : List Item → Asked
-asked_of xs = asked_from nothing_asked xs
+abbrev pub asked_by_items : List Item → Asked
+asked_by_items xs = asked_from nothing_asked xs
 
 -- the page for which the entry of this index is queued, and the one that was taken for its task
 abbrev pub waits_at : ℕ → Asked → Option ℕ
 waits_at x (waits_for y p) = if y == x then Some p else None
 waits_at x _ = None
 
-abbrev pub given_at : ℕ → Asked → Option ℕ
-given_at x (was_given y p) = if y == x then Some p else None
-given_at x _ = None
+abbrev pub was_given_at : ℕ → Asked → Option ℕ
+was_given_at x (was_given y p) = if y == x then Some p else None
+was_given_at x _ = None
 
 abbrev pub is_asking : Asked → Bool
 is_asking nothing_asked = false
@@ -69,4 +69,4 @@ is_asking _ = true
 
 -- what each task asks for, by its list
 abbrev pub all_asked : (ℕ → List Item) → ℕ → Asked
-all_asked items t = asked_of (items t)
+all_asked items t = asked_by_items (items t)

@@ -8,7 +8,7 @@ use Rattle.wait_model.specs.declared.watches.Mode.TheVariants as mode
 use Rattle.wait_model.specs.Watches.{page, same}
 use Rattle.wait_rule.specs.Known.{Known}
 use Rattle.wait_rule.specs.Members.{IsOwnKind}
-use Rattle.wait_rule.specs.Says.{Excuse, Owes, told_of}
+use Rattle.wait_rule.specs.Says.{Excuse, OwesBut, told_of}
 use Rattle.wait_rule.specs.Queues.{index}
 use Rattle.wait_rule.specs.Stays.{with_bit, with_bits, with_page, with_wakes}
 
@@ -46,16 +46,16 @@ pub record SetsBit (old new : Known) (c : Watch) (clear : Bool) : Type 0 where
   pub keeps : clear ≡ true → KeepsBitOf new c
   pub tries : (told_of new).bits.pending c ≡ false
   pub duty : (told_of new).duty ≡ (told_of old).duty
-  pub owes : (x : Excuse) → Owes x old → Owes (with_bits (taken_bits c clear) x) new
+  pub owes : (x : Excuse) → OwesBut x old → OwesBut (with_bits (taken_bits c clear) x) new
 
 -- A clear: the task keeps the bit no more, and owes a wake of it, beside what it owed.
 pub record ClearsBit (old new : Known) (c : Watch) : Type 0 where
   pub stays : StaysBeside (λ d. same d c) old new
   pub keeps : (told_of new).bits.keeps c ≡ false
-  pub owes : (x : Excuse) → Owes (with_bit c x) old → Owes (with_wakes c mode.Normal x) new
+  pub owes : (x : Excuse) → OwesBut (with_bit c x) old → OwesBut (with_wakes c mode.Normal x) new
 
 -- It took note of a page that was taken for it: it keeps it from then on, and asks for none any more.
 pub record NotesPage (old new : Known) (p : ℕ) : Type 0 where
   pub stays : StaysBeside (λ d. same d (page p)) old new
   pub duty : (told_of new).duty ≡ (told_of old).duty
-  pub owes : (x : Excuse) → Owes (with_page x) old → Owes (with_bit (page p) x) new
+  pub owes : (x : Excuse) → OwesBut (with_page x) old → OwesBut (with_bit (page p) x) new

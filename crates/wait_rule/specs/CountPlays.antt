@@ -12,14 +12,14 @@ use Rattle.wait_rule.specs.Known.{known}
 use Rattle.wait_rule.specs.Plays.{Play, seat_with}
 
 -- the completion whose count this is
-abbrev pub cell_at : ℕ → ℕ
-cell_at p = p - (CONDITION_AT + FIRST_DONE)
+abbrev pub cell_of_place : ℕ → ℕ
+cell_of_place p = p - (CONDITION_AT + FIRST_DONE)
 
 abbrev pub count_loaded_play : Play
-count_loaded_play st m r n = (n ≡ seat_with m (item.Made (step.Load (watch.Done (cell_at st.word)) r)))
-    × ((t : TableId) → FindsCount (known t m.0 0) (cell_at st.word) r)
+count_loaded_play st m r n = (n ≡ seat_with m (item.Made (step.Load (watch.Done (cell_of_place st.word)) r)))
+    × ((t : TableId) → FindsCount (known t m.0 0) (cell_of_place st.word) r)
 
 -- a store: what it replaced stands in the history
 abbrev pub count_stored_play : Play
-count_stored_play st m r n = (found : ℕ) × ((t : TableId) → FindsCount (known t m.0 0) (cell_at st.word) found)
-    × (n ≡ seat_with m (item.Made (set_step (watch.Done (cell_at st.word)) st.first found)))
+count_stored_play st m r n = (found : ℕ) × ((t : TableId) → FindsCount (known t m.0 0) (cell_of_place st.word) found)
+    × (n ≡ seat_with m (item.Made (set_step (watch.Done (cell_of_place st.word)) st.first found)))

@@ -22,20 +22,20 @@ use Rattle.wait_rule.specs.TableLaws.{HasAll, histories_in}
 use Rattle.wait_rule.specs.Transitions.{Goes, Program, Transition}
 
 -- the completion of the head that it took last, where that is one's
-abbrev pub cell_at : Known → ℕ
-cell_at k = k.at - FIRST_DONE_HEAD
+abbrev pub cell_of_head : Known → ℕ
+cell_of_head k = k.at - FIRST_DONE_HEAD
 
 -- The head that the task holds may be given back: it is none of a completion. Or the hold has looked at the own entry,
 -- if the task's last hold of it left that there, and it has no permit to hand on or to take, or has seen nobody queued.
 abbrev pub OwesNoPermit : Known → Type 0
 OwesNoPermit k = (k.at < FIRST_DONE_HEAD)
-    ⊎ (OrderOf k → MayGiveBack (cell_at k) (own k.view.number) (told_of k) (dealt_of (cell_at k) k))
+    ⊎ (OrderOf k → MayGiveBack (cell_of_head k) (own k.view.number) (told_of k) (dealt_of (cell_of_head k) k))
 
 -- An own entry may be queued at the head that the task holds: it is none of a completion. Or the entry is that of slot
 -- 0, and the hold has loaded or stored the count last as 0.
 abbrev pub FoundNoPermit : Known → ℕ → Type 0
 FoundNoPermit k slot = (k.at < FIRST_DONE_HEAD)
-    ⊎ ((slot ≡ 0) × (count_in (cell_at k) (history_of k) ≡ Some 0))
+    ⊎ ((slot ≡ 0) × (count_in (cell_of_head k) (history_of k) ≡ Some 0))
 
 -- Permits are handed on in each table that meets the rule, after each order of steps that are allowed and hand them on,
 -- and in the table that a task sees that has joined all others, which has just the histories that it has.

@@ -89,8 +89,8 @@ left_with share v = record {
 abbrev pub handed_over : ℕ → Journal → Journal
 handed_over share v = fresh v.next (v.next + 1) share
 
-abbrev pub part_of : Journal → Part
-part_of w = record { number = w.number; next = w.next; spare = w.spare; items = w.items }
+abbrev pub part_in : Journal → Part
+part_in w = record { number = w.number; next = w.next; spare = w.spare; items = w.items }
 
 -- the journal takes in what another has
 abbrev pub joined_with : Journal → Journal → Journal
@@ -100,5 +100,5 @@ joined_with v w = record {
   next = v.next;
   spare = v.spare;
   items = v.items;
-  joined = v.joined ++ part_of w ∷ w.joined;
+  joined = v.joined ++ part_in w ∷ w.joined;
 }

@@ -13,7 +13,7 @@ use Rattle.wait_model.specs.Wakes.{IsTried, Sleeps, UsedUp}
 use Rattle.wait_rule.specs.declared.journal.Item.{Item}
 use Rattle.wait_rule.specs.Known.{Known}
 use Rattle.wait_rule.specs.Rule.{IsRuled}
-use Rattle.wait_rule.specs.Says.{Excuse, Owes, told_of}
+use Rattle.wait_rule.specs.Says.{Excuse, OwesBut, told_of}
 
 -- some task other than t owes a wake of the entry's watch for its owner's state, and has not yet passed the entry
 abbrev pub IsCoveredByOther : ℕ → Table → ℕ → Entry → Type 0
@@ -39,7 +39,7 @@ abbrev pub HasNoWakeOf : Watch → Excuse → Type 0
 HasNoWakeOf c x = (d : Watch) (σ : ℕ) → same d c ≡ true → x.wakes d σ ≡ false
 
 pub record OwesBeside (c : Watch) (x : Excuse) (k : Known) : Type 0 where
-  pub most : Owes x k
+  pub most : OwesBut x k
   pub none : HasNoWakeOf c x
 
 -- Such tasks leave nobody; so of a call that wakes the law is what the call says that the task owes after it.

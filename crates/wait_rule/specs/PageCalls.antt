@@ -12,9 +12,9 @@ use Rattle.wait_model.specs.Watches.{is_page, mask_of, page}
 use Rattle.wait_rule.specs.declared.journal.Item.TheVariants as item
 use Rattle.wait_rule.specs.Known.{Known, known}
 use Rattle.wait_rule.specs.Items.{page_taken, page_told}
-use Rattle.wait_rule.specs.Asked.{given_at, nothing_asked}
+use Rattle.wait_rule.specs.Asked.{was_given_at, nothing_asked}
 use Rattle.wait_rule.specs.Pages.{IsPageless}
-use Rattle.wait_rule.specs.Quiet.{is_quiet, is_told}
+use Rattle.wait_rule.specs.Quiet.{is_quiet_at, is_told}
 use Rattle.wait_rule.specs.Says.{added, asks_for, history_of, noted, stored_with, told_of}
 use Rattle.wait_rule.specs.Queues.{ShowsEntry, index}
 use Rattle.wait_rule.specs.Plays.{Play, seat_with}
@@ -56,13 +56,13 @@ IsFlagWord w = (w ≡ 0) ⊎ ((w ≡ WOKEN) ⊎ (w ≡ HANDED))
 
 -- DONE stands in the own flag word where a page was given to the task by that entry, which is off.
 abbrev pub ShowsGiven : Known → ℕ → ℕ → Type 0
-ShowsGiven k x w = (p : ℕ) → given_at x (asks_for k) ≡ Some p → QueuesNoPage k x → w ≡ HANDED
+ShowsGiven k x w = (p : ℕ) → was_given_at x (asks_for k) ≡ Some p → QueuesNoPage k x → w ≡ HANDED
 
 -- Where the task asks for no page it was told of none by its flag, and no flag stands in the own flag word where it is
 -- quiet there.
-abbrev pub ShowsNone : Known → ℕ → ℕ → Type 0
-ShowsNone k x w = asks_for k ≡ nothing_asked
-    → (is_told x (history_of k) ≡ false) × (is_quiet x (history_of k) ≡ true → w ≡ 0)
+abbrev pub ShowsNoFlag : Known → ℕ → ℕ → Type 0
+ShowsNoFlag k x w = asks_for k ≡ nothing_asked
+    → (is_told x (history_of k) ≡ false) × (is_quiet_at x (history_of k) ≡ true → w ≡ 0)
 
 -- a test-and-set of a page for the task of entry x, a store of DONE, a load of the own flag word, and its clearing by
 -- which the task takes note of page p
@@ -76,7 +76,7 @@ told_play st m r n = n ≡ seat_with m (item.Made (step.Handed (st.word - FLAG_A
 abbrev pub flag_word_play : Play
 flag_word_play st m r n = (n ≡ seat_with m (item.Made (step.Flag (st.word - FLAG_AT) r))) × (IsFlagWord r
     × ((d : TableId) → ShowsGiven (known d m.0 0) (st.word - FLAG_AT) r)
-    × ((d : TableId) → ShowsNone (known d m.0 0) (st.word - FLAG_AT) r))
+    × ((d : TableId) → ShowsNoFlag (known d m.0 0) (st.word - FLAG_AT) r))
 
 abbrev pub noted_play : ℕ → Play
 noted_play p st m r n = n ≡ seat_with m (item.Made (step.Unflag (st.word - FLAG_AT) (Some p)))

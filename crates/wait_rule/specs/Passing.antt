@@ -14,7 +14,7 @@ pub record IsReady (domain : TableId) (k : Known) : Type 0 where
   pub idle : IsIdle k
 
 -- which has end e and has not closed it, and has passed on all of its n cells
-pub record HasPassed (domain : TableId) (e n : ℕ) (k : Known) : Type 0 where
+pub record HasPassedCells (domain : TableId) (e n : ℕ) (k : Known) : Type 0 where
   pub ready : IsReady domain k
   pub still : IsOpen (end_at e k)
   pub cells : length (end_at e k).cells ≡ n

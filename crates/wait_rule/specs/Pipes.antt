@@ -66,8 +66,8 @@ abbrev pub end_word : ℕ → Bool → ℕ
 end_word count shut = 2 * (count % word_counts) + flag shut
 
 -- the first count from `seen` on that the word of an end shows
-abbrev pub count_from : ℕ → ℕ → ℕ
-count_from seen w = seen + (w / 2 + word_counts - seen % word_counts) % word_counts
+abbrev pub count_on : ℕ → ℕ → ℕ
+count_on seen w = seen + (w / 2 + word_counts - seen % word_counts) % word_counts
 
 -- the bytes of a cell: their number in the lowest byte, then the bytes
 abbrev pub cell_length : ℕ → ℕ
@@ -108,20 +108,20 @@ abbrev pub claimed : ℕ → End → End
 claimed found e = if found == 0 then new_end else e
 
 -- after a load of the other end's word
-abbrev pub after_look : ℕ → End → End
-after_look w e = record e { seen = count_from e.seen w; ended = w % 2 == 1 }
+abbrev pub after_end_look : ℕ → End → End
+after_end_look w e = record e { seen = count_on e.seen w; ended = w % 2 == 1 }
 
 -- the end passes on its first `count` cells, and is closed with it or not
 abbrev pub advanced : ℕ → Bool → End → End
 advanced count shut e = record e { count = count; shut = shut; before = if e.shut then e.before else count }
 
 -- after a store of the own word
-abbrev pub after_publish : ℕ → End → End
-after_publish w e = advanced (count_from e.count w) (e.shut || (w % 2 == 1)) e
+abbrev pub after_end_publish : ℕ → End → End
+after_end_publish w e = advanced (count_on e.count w) (e.shut || (w % 2 == 1)) e
 
 -- all cells that were stored or loaded are passed on, and the end is closed
-abbrev pub passed : End → End
-passed e = advanced (length e.cells) false e
+abbrev pub with_all_passed : End → End
+with_all_passed e = advanced (length e.cells) false e
 
 abbrev pub closed : End → End
 closed e = advanced e.count true e
@@ -136,8 +136,8 @@ if_unclosed f e = if e.mine && not e.shut then f e else e
 -- A step on the word of an end: a load of the other end's word, from which nothing is learned any more once the own
 -- one is closed, or a publish of the own.
 abbrev pub end_step : ℕ → Step → End → End
-end_step k (step.Load (watch.Var v o) r) e = if v == other_end k then if_unclosed (after_look r) e else e
-end_step k (step.Publish (watch.Var v o) n r) e = if v == k then if_mine (after_publish n) e else e
+end_step k (step.Load (watch.Var v o) r) e = if v == other_end k then if_unclosed (after_end_look r) e else e
+end_step k (step.Publish (watch.Var v o) n r) e = if v == k then if_mine (after_end_publish n) e else e
 end_step k _ e = e
 
 abbrev pub end_act : EndAct → ℕ → End → End

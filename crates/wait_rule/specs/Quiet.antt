@@ -22,8 +22,8 @@ abbrev pub quiet_from : ℕ → View → Bool → List Step → Bool
 quiet_from x v b [] = b
 quiet_from x v b (e ∷ es) = quiet_from x (after e v) (quiet_after x v e b) es
 
-abbrev pub is_quiet : ℕ → List Step → Bool
-is_quiet x es = quiet_from x blank true es
+abbrev pub is_quiet_at : ℕ → List Step → Bool
+is_quiet_at x es = quiet_from x blank true es
 
 -- Where it was quiet and found the flag set it was told of a page, until it clears the flag.
 abbrev pub told_after : ℕ → Step → Bool → Bool → Bool
@@ -40,7 +40,7 @@ is_told x es = told_from x blank true false es
 
 -- in the flag word of an entry whose task is quiet there WOKEN stands with DONE alone
 abbrev pub AreQuiet : Table → Type 0
-AreQuiet s = (x : ℕ) → is_quiet x (s.history (owner x)) ≡ true → s.flag x ≡ true → s.done x ≡ true
+AreQuiet s = (x : ℕ) → is_quiet_at x (s.history (owner x)) ≡ true → s.flag x ≡ true → s.done x ≡ true
 
 -- and in that of one whose task was told DONE stands
 abbrev pub AreTold : Table → Type 0

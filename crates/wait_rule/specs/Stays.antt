@@ -16,7 +16,7 @@ use Rattle.wait_model.specs.Words.{entry_of}
 use Rattle.wait_rule.specs.Known.{Known}
 use Rattle.wait_rule.specs.Tickets.{Ticket, given, no_ticket, taken}
 use Rattle.wait_rule.specs.Members.{IsOwnKind}
-use Rattle.wait_rule.specs.Says.{Debts, Excuse, Owes, TriesNone, told_of}
+use Rattle.wait_rule.specs.Says.{Debts, Excuse, OwesBut, TriesNone, told_of}
 use Rattle.wait_rule.specs.Queues.{MayUnqueue, index}
 
 -- no entry word, and one
@@ -48,7 +48,7 @@ pub record Stays (but : ℕ → Bool) (old new : Known) : Type 0 where
 
 -- who owed nothing but what it is excused of owes nothing but that
 abbrev pub StaysOwing : Known → Known → Type 0
-StaysOwing old new = (x : Excuse) → Owes x old → Owes x new
+StaysOwing old new = (x : Excuse) → OwesBut x old → OwesBut x new
 
 -- it is excused of an entry too, of wakes of a watch in the states that a mode meets, and of bits
 unfoldable pub with_entry : ℕ → Excuse → Excuse
@@ -203,7 +203,7 @@ pub record Carries (c : Change) (old new : Known) : Type 0 where
       → (told_of old).bits.stored (index old.view.number slot) ≡ Some e → IsOwnKind e.kind
       → (told_of new).bits.stored (index old.view.number slot) ≡ Some e
   pub keeps : (d : Watch) → c.publishes d ≡ false → (told_of new).bits.keeps d ≡ (told_of old).bits.keeps d
-  pub owes : (x : Excuse) → Owes (c.from x) old → Owes (c.to x) new
+  pub owes : (x : Excuse) → OwesBut (c.from x) old → OwesBut (c.to x) new
 
 -- the head of a stored entry, and whether a word shows an entry
 abbrev pub head_stored : Option Entry → Option ℕ
@@ -221,4 +221,4 @@ pub record FindsOwnWord (old new : Known) (who slot w : ℕ) : Type 0 where
       → head_stored ((told_of old).bits.stored (index who slot)) ≡ Some old.at → is_on (entry_of w) ≡ true
       → MayUnqueue new who slot
   pub gone : entry_of w ≡ None → (told_of new).bits.stored (index who slot) ≡ None
-  pub off : entry_of w ≡ None → (x : Excuse) → Owes (with_entry (index who slot) x) old → Owes x new
+  pub off : entry_of w ≡ None → (x : Excuse) → OwesBut (with_entry (index who slot) x) old → OwesBut x new

@@ -45,13 +45,13 @@ pub record StoresEntry (i : ℕ) (e : Entry) (old new : Known) : Type 0 where
   pub page : is_page e.kind ≡ true → head_of e.watch < FIRST_DONE_HEAD → Carries (put_page_change i) old new
 
 -- the place of a bookmark
-abbrev pub mark_place : Option Mark → Option ℕ
-mark_place None = None
-mark_place (Some m) = Some m.place
+abbrev pub place_of_mark : Option Mark → Option ℕ
+place_of_mark None = None
+place_of_mark (Some m) = Some m.place
 
 -- The own bookmark was stored, or taken out. So long as one is out no excuse covers it, and no `Carries` holds.
 pub record StoresMark (o : Option Mark) (old new : Known) : Type 0 where
   pub stays : StaysOver old new
-  pub mark : (told_of new).mark ≡ mark_place o
+  pub mark : (told_of new).mark ≡ place_of_mark o
   pub stored : (told_of new).bits.stored ≡ (told_of old).bits.stored
   pub debts : (x : Excuse) → Debts x old → Debts x new

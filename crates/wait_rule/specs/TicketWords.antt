@@ -10,7 +10,7 @@ use Rattle.wait_model.specs.Tables.{Table}
 use Rattle.wait_model.specs.Locations as place
 use Rattle.wait_rule.specs.declared.journal.Item.{Item}
 use Rattle.wait_rule.specs.Items.{book_of}
-use Rattle.wait_rule.specs.Tickets.{Ticket, taken, is_of, is_served, is_given, ShowsNumber, out_below}
+use Rattle.wait_rule.specs.Tickets.{Ticket, taken, is_ticket_of, is_served, is_given, ShowsNumber, out_below}
 
 -- what each task has out, by its list
 abbrev pub all_tickets : (ℕ → List Item) → ℕ → Ticket
@@ -38,11 +38,11 @@ pub record AreTickets (s : Table) (tickets : ℕ → Ticket) (beside : place.Loc
   pub number : ℕ → ℕ
   pub next : (h : ℕ) → beside (place.Next h) ≡ draws h % 2 ^ 64
   pub serving : (h : ℕ) → beside (place.Serving h) ≡ serves h % 2 ^ 64
-  pub within : (a h : ℕ) → is_of h (tickets a) ≡ true → (serves h ≤ number a) × (number a < draws h)
-  pub each : (h n : ℕ) → serves h ≤ n → n < draws h → (a : ℕ) × ((is_of h (tickets a) ≡ true) × (number a ≡ n))
-  pub once : (a b h : ℕ) → is_of h (tickets a) ≡ true → is_of h (tickets b) ≡ true → number a ≡ number b → a ≡ b
+  pub within : (a h : ℕ) → is_ticket_of h (tickets a) ≡ true → (serves h ≤ number a) × (number a < draws h)
+  pub each : (h n : ℕ) → serves h ≤ n → n < draws h → (a : ℕ) × ((is_ticket_of h (tickets a) ≡ true) × (number a ≡ n))
+  pub once : (a b h : ℕ) → is_ticket_of h (tickets a) ≡ true → is_ticket_of h (tickets b) ≡ true → number a ≡ number b → a ≡ b
   pub count : (h : ℕ) → draws h ≡ serves h + out_below tickets h TASKS
   pub shown : (a : ℕ) → ShowsNumber (tickets a) (number a)
-  pub turn : (a h : ℕ) → is_of h (tickets a) ≡ true → is_served (tickets a) ≡ true → number a ≡ serves h
+  pub turn : (a h : ℕ) → is_ticket_of h (tickets a) ≡ true → is_served (tickets a) ≡ true → number a ≡ serves h
   pub held : (a h : ℕ) → (s.view a).hold.head ≡ Some h → tickets a ≡ taken h
   pub unlocks : (h : ℕ) → unlocked_at h s.history ≡ serves h + unserved h tickets

@@ -21,12 +21,12 @@ after_serving h w (taken g) = taken g
 after_serving h w (given g) = given g
 
 -- a ticket of this head is out
-abbrev pub is_of : ℕ → Ticket → Bool
-is_of h no_ticket = false
-is_of h (drawn g n) = g == h
-is_of h (served g n) = g == h
-is_of h (taken g) = g == h
-is_of h (given g) = g == h
+abbrev pub is_ticket_of : ℕ → Ticket → Bool
+is_ticket_of h no_ticket = false
+is_ticket_of h (drawn g n) = g == h
+is_ticket_of h (served g n) = g == h
+is_ticket_of h (taken g) = g == h
+is_ticket_of h (given g) = g == h
 
 -- the task knows that its number is served
 abbrev pub is_served : Ticket → Bool
@@ -55,4 +55,4 @@ ShowsNumber (given g) k = Unit {0}
 -- how many of the tasks below this number have a ticket of the head out
 abbrev pub out_below : (ℕ → Ticket) → ℕ → ℕ → ℕ
 out_below tickets h zero = 0
-out_below tickets h (suc t) = flag (is_of h (tickets t)) + out_below tickets h t
+out_below tickets h (suc t) = flag (is_ticket_of h (tickets t)) + out_below tickets h t

@@ -48,7 +48,7 @@ use Rattle.wait_rule.specs.declared.journal.Item.TheVariants as item
 use Rattle.wait_rule.specs.Items.{book_from}
 use Rattle.wait_rule.specs.HeldValues.{value_from}
 use Rattle.wait_rule.specs.Known.{Known}
-use Rattle.wait_rule.specs.Asked.{given_at as page_at}
+use Rattle.wait_rule.specs.Asked.{was_given_at as page_at}
 use Rattle.wait_rule.specs.Says.{told_of, history_of, noted, added, asks_for, grown}
 use Rattle.wait_rule.specs.Queues.{IsWholeBook, IsWalkOfCall, at_head, index}
 use Rattle.wait_rule.specs.Shown.{shown_entry, shown_queue}

@@ -20,18 +20,18 @@ HasTried old new who mask tried = AddsOf old new (λ found. step.Wake who mask f
     (λ found. (tried.met ≡ met_task mask found) × (tried.rouse ≡ rouses mask found))
 
 -- how many failed
-abbrev pub counted : FailedTries → ℕ
-counted failed = failed.count
+abbrev pub failed_count : FailedTries → ℕ
+failed_count failed = failed.count
 
 -- one more failed; the count stands at the end of 64 bits
 abbrev pub IsOneMore : FailedTries → FailedTries → Type 0
-IsOneMore old new = counted new ≡ min (counted old + 1) (2 ^ 64 - 1)
+IsOneMore old new = failed_count new ≡ min (failed_count old + 1) (2 ^ 64 - 1)
 
 -- The count of failed tries is as it was where a try was made, whatever it answered, and else one more.
-abbrev pub CountsFailed : {A : Type 0} → FailedTries → FailedTries → Option A → Type 0
-CountsFailed old new (Some answer) = new ≡ old
-CountsFailed old new None = IsOneMore old new
+abbrev pub CountsFailedTry : {A : Type 0} → FailedTries → FailedTries → Option A → Type 0
+CountsFailedTry old new (Some answer) = new ≡ old
+CountsFailedTry old new None = IsOneMore old new
 
 -- so many tries failed, one after another, as no run makes
 abbrev pub IsStarved : FailedTries → Type 0
-IsStarved failed = counted failed ≡ TRIES
+IsStarved failed = failed_count failed ≡ TRIES

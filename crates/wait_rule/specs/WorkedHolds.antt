@@ -109,12 +109,12 @@ abbrev pub marked_still : ℕ → Bool → Bool → List Item
 marked_still count first second = broken count first second ++ hold_of count first second
 
 -- what is left of the count of the walk, none where it is used up, and whether a rise of the spent count is allowed
-abbrev pub count_in : Option Aim → Option ℕ
-count_in None = None
-count_in (Some a) = Some a.count
+abbrev pub aim_count : Option Aim → Option ℕ
+aim_count None = None
+aim_count (Some a) = Some a.count
 
 abbrev pub IsLeft : List Item → Option ℕ → Bool → Type 0
-IsLeft xs count used = (count_in (notes_of 0 xs).walk ≡ count) × ((notes_of 0 xs).used ≡ used)
+IsLeft xs count used = (aim_count (notes_of 0 xs).walk ≡ count) × ((notes_of 0 xs).used ≡ used)
 
 -- A wake calls the first entry of its task that the hold shows where its walk goes on or after, and has not called.
 pub record CallsRightly : Type 0 where

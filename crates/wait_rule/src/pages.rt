@@ -8,11 +8,11 @@ ghost use Rattle.wait_model.specs.declared.layout.TheConstants.{BIT_WORDS, SLOTS
 ghost use Rattle.wait_model.specs.declared.steps.Step.TheVariants as step;
 ghost use Rattle.wait_model.specs.Watches.{page};
 ghost use Rattle.wait_rule.specs.declared.journal.Item.TheVariants as item;
-ghost use Rattle.wait_rule.specs.Asked.{given_at};
+ghost use Rattle.wait_rule.specs.Asked.{was_given_at};
 ghost use Rattle.wait_rule.specs.Bits.{KeepsBitOf, NotesPage};
 ghost use Rattle.wait_rule.specs.PageCalls.{tried_for_play, told_play, flag_word_play, noted_play};
 ghost use Rattle.wait_rule.specs.PageCalls.{HandsOver, HasTaken, HasTold, IsFlagWord, MayTryFor};
-ghost use Rattle.wait_rule.specs.PageCalls.{QueuesNoPage, ShowsGiven, ShowsNone};
+ghost use Rattle.wait_rule.specs.PageCalls.{QueuesNoPage, ShowsGiven, ShowsNoFlag};
 ghost use Rattle.wait_rule.specs.Queues.{IsAgreed, IsLocked, ShowsEntry, index};
 ghost use Rattle.wait_rule.specs.Says.{IsUp, added, asks_for, stored_with};
 ghost use Rattle.wait_rule.specs.Stays.{Carries, take_off_change, unchanged};
@@ -184,7 +184,7 @@ pub fn flag_load(domain: &Domain, task: &mut Task, slot: u8) -> u64
     ensures step { task.new ≡ added task.old (item.Made (step.Flag (index task.old.view.number slot) result)) }
     ensures word { IsFlagWord result }
     ensures given { ShowsGiven task.old (index task.old.view.number slot) result }
-    ensures none { ShowsNone task.old (index task.old.view.number slot) result }
+    ensures none { ShowsNoFlag task.old (index task.old.view.number slot) result }
     ensures carries { Carries unchanged task.old task.new }
 {
     let at = flag_at(task.number, slot) as usize;
@@ -197,7 +197,7 @@ pub fn page_note(domain: &Domain, task: &mut Task, slot: u8, word: u8)
     requires of { task.old.domain ≡ domain.now }
     requires up { IsUp task.old }
     requires slot { slot < SLOTS }
-    requires given { given_at (index task.old.view.number slot) (asks_for task.old) ≡ Some word }
+    requires given { was_given_at (index task.old.view.number slot) (asks_for task.old) ≡ Some word }
     requires off { QueuesNoPage task.old (index task.old.view.number slot) }
     ensures step { task.new ≡ added task.old (item.Made (step.Unflag (index task.old.view.number slot) (Some word))) }
     ensures keeps { KeepsBitOf task.new (page word) }
@@ -210,7 +210,7 @@ fn note_as<J: Numbering>(domain: &Domain, task: &mut Task, slot: u8, word: u8)
     requires page { word ≡ J.number }
     requires of { task.old.domain ≡ domain.now }
     requires slot { slot < SLOTS }
-    requires given { given_at (index task.old.view.number slot) (asks_for task.old) ≡ Some word }
+    requires given { was_given_at (index task.old.view.number slot) (asks_for task.old) ≡ Some word }
     requires off { QueuesNoPage task.old (index task.old.view.number slot) }
     ensures { task.new ≡ added task.old (item.Made (step.Unflag (index task.old.view.number slot) (Some word))) }
 {

@@ -10,7 +10,7 @@ ghost use Rattle.wait_model.specs.declared.watches.Watch.TheVariants as watch;
 ghost use Rattle.wait_rule.specs.declared.journal.EndAct.TheVariants as act;
 ghost use Rattle.wait_rule.specs.declared.journal.Item.TheVariants as item;
 ghost use Rattle.wait_rule.specs.LookCounts.{Looked};
-ghost use Rattle.wait_rule.specs.Pipes.{IsCell, closed, end_word, new_end, passed, read_end, with_cell};
+ghost use Rattle.wait_rule.specs.Pipes.{IsCell, closed, end_word, new_end, with_all_passed, read_end, with_cell};
 ghost use Rattle.wait_rule.specs.Pipes.{word_counts, write_end};
 ghost use Rattle.wait_rule.specs.PipePlays.{cell_loaded_play, cell_stored_play, claimed_play};
 ghost use Rattle.wait_rule.specs.PipePlays.{end_load_play, end_published_play};
@@ -161,7 +161,7 @@ pub fn advance(domain: &Domain, task: &mut Task, pipe: u8, end: u8, count: u16)
     ensures step { (found : _) × (task.new ≡ added task.old
         (item.Made (step.Publish (watch.Var (PIPE_ENDS * pipe + end) 0) (2 * count) found))) }
     ensures becomes { EndBecomes (PIPE_ENDS * pipe + end) task.old task.new
-        (passed (end_at (PIPE_ENDS * pipe + end) task.old)) }
+        (with_all_passed (end_at (PIPE_ENDS * pipe + end) task.old)) }
     ensures carries { Carries (publish_change (watch.Var (PIPE_ENDS * pipe + end) 0)) task.old task.new }
 {
     let var = PIPE_ENDS as u8 * pipe + end;

@@ -3,7 +3,7 @@ use Rattle.std.proofs.Common.{◌∙◌, ap, sym, refl, subst, inr, arith}
 use Rattle.std.specs.Prelude.{ℕ, ◌≡◌, false}
 use Rattle.wait_model.specs.declared.tasks.SleepState.TheVariants as states
 use Rattle.wait_rule.specs.Known.{Known}
-use Rattle.wait_rule.specs.Says.{IsClean, IsFree, IsUp, Owes, no_excuse, told_of}
+use Rattle.wait_rule.specs.Says.{IsClean, IsFree, IsUp, OwesBut, no_excuse, told_of}
 use Rattle.wait_rule.specs.Queues.{index}
 use Rattle.wait_rule.specs.Stays.{Carries, Change, unchanged, with_entry}
 use Rattle.wait_event.specs.Entries.{HasWokenEntry, MayRemove, add_change, hold_change, remove_change}
@@ -12,9 +12,9 @@ use Rattle.wait_class.specs.Posts.{own_of}
 use Rattle.wait_event.specs.WokenWaits.{HasHeard}
 
 -- what owes nothing but the own entry, by the number that the task had
-pub owes_own : (old new : Known) → new.view.number ≡ old.view.number → Owes (with_entry (own_of old) no_excuse) new
-    → Owes (with_entry (own_of new) no_excuse) new
-owes_own old new number = subst (λ (n : ℕ). Owes (with_entry (index n 0) no_excuse) new) (sym number)
+pub owes_own : (old new : Known) → new.view.number ≡ old.view.number → OwesBut (with_entry (own_of old) no_excuse) new
+    → OwesBut (with_entry (own_of new) no_excuse) new
+owes_own old new number = subst (λ (n : ℕ). OwesBut (with_entry (index n 0) no_excuse) new) (sym number)
 
 pub entered : (old new : Known) → IsClean old → MayRemove new → HasWokenEntry new
     → Carries (add_change (own_of old) new.at) old new → IsCleanHearer new

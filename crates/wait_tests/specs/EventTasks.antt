@@ -3,7 +3,7 @@
 use Rattle.std.specs.Prelude.{◌≡◌, Option, Some, None}
 use Rattle.wait_model.specs.declared.tasks.SleepState.TheVariants as states
 use Rattle.wait_rule.specs.Known.{Known}
-use Rattle.wait_rule.specs.Says.{IsFree, IsUp, Owes, no_excuse}
+use Rattle.wait_rule.specs.Says.{IsFree, IsUp, OwesBut, no_excuse}
 use Rattle.wait_rule.specs.Queues.{IsIdle}
 use Rattle.wait_rule.specs.Stays.{with_entry}
 use Rattle.wait_class.specs.Posts.{IsOut, own_of}
@@ -41,7 +41,7 @@ pub record IsHearer (k : Known) : Type 0 where
 
 pub record IsCleanHearer (k : Known) : Type 0 where
   pub hearer : IsHearer k
-  pub owes : Owes (with_entry (own_of k) no_excuse) k
+  pub owes : OwesBut (with_entry (own_of k) no_excuse) k
 
 -- it stands between two waits, or where the last turn of one left it
 abbrev pub IsHearingOn : Known → Option WokenTurn → Type 0

@@ -18,7 +18,7 @@ use Rattle.wait_model.specs.Views.{Look}
 use Rattle.wait_model.specs.Watches.{head_of}
 use Rattle.wait_model.proofs.HistoryLaws.PlainReadings.{failed_told}
 use Rattle.wait_rule.specs.Known.{Known}
-use Rattle.wait_rule.specs.Looking.{ShowsNone}
+use Rattle.wait_rule.specs.Looking.{ShowsEmpty}
 use Rattle.wait_rule.specs.Queues.{IsWholeBook, place_by}
 use Rattle.wait_rule.specs.Says.{newcomer, told_of}
 use Rattle.wait_rule.specs.Shown.{queue_below, queue_with, shown_queue}
@@ -57,12 +57,12 @@ empty_below at zero absent = refl
 empty_below at (suc n) absent = ap (λ (o : Option ℕ). queue_with n o (queue_below at n)) (absent n (omega arith))
     ∙ empty_below at n (λ m small. absent m (omega arith))
 
-empty_queue : (k : Known) → ShowsNone k → shown_queue k ≡ []
+empty_queue : (k : Known) → ShowsEmpty k → shown_queue k ≡ []
 unfolding shown_queue
 empty_queue k s = empty_below (place_by k) MEMBERS (λ m small. none_at (place_by k m)
     (λ p is. none_by k s m p small is))
 
-module _ (k : Known) (l : OnlyLooks (with_steps up_to_hold (newcomer k.domain 0 1 1)) k) (none : ShowsNone k) where
+module _ (k : Known) (l : OnlyLooks (with_steps up_to_hold (newcomer k.domain 0 1 1)) k) (none : ShowsEmpty k) where
   abbrev first : Known
   first = newcomer k.domain 0 1 1
 

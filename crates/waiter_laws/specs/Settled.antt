@@ -17,7 +17,7 @@ use Rattle.wait_rule.specs.Interleavings.{TaskStep}
 use Rattle.wait_rule.specs.Known.{Known}
 use Rattle.wait_rule.specs.LosesNone.{HasNoWakeOf, LeavesNoneAsleep, OwesBeside, OwesNoneOf}
 use Rattle.wait_rule.specs.Rule.{IsRuled}
-use Rattle.wait_rule.specs.Says.{Excuse, Owes}
+use Rattle.wait_rule.specs.Says.{Excuse, OwesBut}
 use Rattle.wait_rule.specs.Setters.{NobodySleeps, StaysSet, UsesUpNone, step_by}
 use Rattle.wait_rule.specs.Stays.{with_wakes}
 use Rattle.wq_head.specs.declared.wakes.WakeRun.{WakeRun}
@@ -69,7 +69,7 @@ WakesSettle = (start new : Known) (r q : WakeRun) (walked : Walked)
 -- and at most this beside them.
 abbrev pub SwakesSettle : Type 0
 SwakesSettle = (start new : Known) (r q : SwakeRun) (n : ℕ) (x : Excuse) → HasNoWakeOf (watch.Plain q.cond) x
-    → Owes (with_wakes (watch.Plain q.cond) mode.Normal x) start
+    → OwesBut (with_wakes (watch.Plain q.cond) mode.Normal x) start
     → SwakeTurned start new r q (swake_turn.Done n) → SettlesAll (watch.Plain q.cond) mode.Normal new
 
 -- and of a `complete` or a `complete_all`, by a task that owed no wake of the completion

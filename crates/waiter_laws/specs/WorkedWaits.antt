@@ -17,7 +17,7 @@ use Rattle.wait_model.specs.Queues.{place_for}
 use Rattle.wait_model.specs.Readings.{FailedLoad}
 use Rattle.wait_model.specs.Runs.{entry_for}
 use Rattle.wait_rule.specs.Known.{Known}
-use Rattle.wait_rule.specs.Looking.{ShowsNone}
+use Rattle.wait_rule.specs.Looking.{ShowsEmpty}
 use Rattle.wait_rule.specs.Says.{newcomer}
 use Rattle.wait_rule.specs.Transitions.{OnlyLooks, after_step_or_look, by_step}
 use Rattle.waiter_laws.specs.Asleep.{EndsAsleep}
@@ -54,6 +54,6 @@ untested = step.Load the_watch 0 ∷ step.Lock FIRST_PLAIN_HEAD None 0 ∷ step.
     ∷ step.State UNINTERRUPTIBLE ∷ step.Unlock FIRST_PLAIN_HEAD false ∷ step.Sleep (RUNNABLE + UNINTERRUPTIBLE) ∷ []
 
 pub record WorkedWaits : Type 0 where
-  pub asleep : (k : Known) → OnlyLooks (with_steps up_to_hold (newcomer k.domain 0 1 1)) k → ShowsNone k
+  pub asleep : (k : Known) → OnlyLooks (with_steps up_to_hold (newcomer k.domain 0 1 1)) k → ShowsEmpty k
       → EndsAsleep the_wait (newcomer k.domain 0 1 1) (with_steps from_hold k)
   pub not_failed : FailedLoad untested 0 the_watch → ⊥

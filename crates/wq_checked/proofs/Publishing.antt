@@ -13,7 +13,7 @@ use Rattle.wait_rule.specs.Bits.{ClearsBit}
 use Rattle.wait_rule.specs.LeftEntries.{HasLeftNone}
 use Rattle.wait_rule.specs.Known.{Known}
 use Rattle.wait_rule.specs.Queues.{IsIdle}
-use Rattle.wait_rule.specs.Says.{Owes, added, told_of}
+use Rattle.wait_rule.specs.Says.{OwesBut, added, told_of}
 use Rattle.wait_rule.specs.Stays.{Carries, publish_change, unchanged, with_bits, with_wakes}
 use Rattle.wq_head.proofs.HeadLooks.{found_none_over}
 use Rattle.wq_head.specs.Scanned.{HasEndedAt, HasScanned, unmade}
@@ -56,7 +56,7 @@ kept_none : (f k : Bool) → f ≡ false → (not (f || false) && k) ≡ false �
 kept_none true k is h = absurd (cc)
 kept_none false k is h = h
 
-pub bits_hold : (ks : KeptBits) (k : Known) (c d : Watch) → Owes (with_wakes c mode.Normal (but_kept ks)) k
+pub bits_hold : (ks : KeptBits) (k : Known) (c d : Watch) → OwesBut (with_wakes c mode.Normal (but_kept ks)) k
     → keeps_in ks d ≡ false → (told_of k).bits.keeps d ≡ false
 unfolding with_wakes with_bits
 bits_hold ks k c d o none = kept_none (keeps_in ks d) ((told_of k).bits.keeps d) none (o.holds d)
@@ -64,7 +64,7 @@ bits_hold ks k c d o none = kept_none (keeps_in ks d) ((told_of k).bits.keeps d)
 -- a condition or a variable that was published
 module _ (ks : KeptBits) (old mid : Known) (c : Watch) (r : IsReadyWith ks old) (p : Carries (publish_change c) old mid)
     (not_bit : is_bit c ≡ false) where
-  pub set_owes : Owes (with_wakes c mode.Normal (but_kept ks)) mid
+  pub set_owes : OwesBut (with_wakes c mode.Normal (but_kept ks)) mid
   set_owes = p.owes (but_kept ks) r.owes
 
   pub set_keeps : (d : Watch) → (told_of mid).bits.keeps d ≡ keeps_in ks d
@@ -85,7 +85,7 @@ module _ (ks : KeptBits) (old mid : Known) (aim : Aim) (r : IsReadyWith ks old) 
     full = full;
     keeps = set_keeps ks old mid aim.watch r p not_bit;
     told = p.hold ∙ r.told;
-    owes = subst (λ (m : Mode). Owes (with_wakes aim.watch m (but_kept ks)) mid) (sym normal)
+    owes = subst (λ (m : Mode). OwesBut (with_wakes aim.watch m (but_kept ks)) mid) (sym normal)
         (set_owes ks old mid aim.watch r p not_bit);
     off = λ d. step_off old mid (step.Publish aim.watch value found) tt is r.told d (r.off d);
   }
@@ -118,8 +118,8 @@ gave_waking ks less old mid aim w b found at normal full r notes kept c is = rec
   full = subst IsFull (sym at) full;
   keeps = keeps_less ks less old mid w b notes c.stays.keeps c.keeps r.keeps;
   told = c.stays.hold ∙ r.told;
-  owes = subst (λ (v : Watch). Owes (with_wakes v aim.mode (but_kept less)) mid) (sym at)
-      (subst (λ (m : Mode). Owes (with_wakes (watch.Bit w b) m (but_kept less)) mid) (sym normal)
+  owes = subst (λ (v : Watch). OwesBut (with_wakes v aim.mode (but_kept less)) mid) (sym at)
+      (subst (λ (m : Mode). OwesBut (with_wakes (watch.Bit w b) m (but_kept less)) mid) (sym normal)
       (c.owes (but_kept less) (owes_given ks less w b old notes kept r.owes)));
   off = λ d. step_off old mid (step.Publish (watch.Bit w b) 0 found) tt is r.told d (r.off d);
 }
@@ -155,7 +155,7 @@ module _ (ks : KeptBits) (mid new : Known) (aim : Aim) (k : Waking ks mid aim) (
     told = s.hold ∙ k.told;
     keeps = λ d. s.keeps d refl ∙ k.keeps d;
     owes = found_none_over aim.watch mid new e (but_kept ks)
-        (subst (λ (m : Mode). Owes (with_wakes aim.watch m (but_kept ks)) mid) normal k.owes);
+        (subst (λ (m : Mode). OwesBut (with_wakes aim.watch m (but_kept ks)) mid) normal k.owes);
     off = looked_off;
   }
 

@@ -9,7 +9,7 @@ use Rattle.wait_rule.specs.Bits.{SetsBit, taken_bits}
 use Rattle.wait_rule.specs.HandedPermits.{StaysOff}
 use Rattle.wait_rule.specs.Known.{Known}
 use Rattle.wait_rule.specs.Queues.{IsAgreedHold, index}
-use Rattle.wait_rule.specs.Says.{AsksNoPage, Duty, Owes, excuses, has_duty, no_excuse, told_of, wake_of, page_asked, end_unclosed}
+use Rattle.wait_rule.specs.Says.{AsksNoPage, Obligation, OwesBut, excuses, has_duty, no_excuse, told_of, wake_of, page_asked, end_unclosed}
 use Rattle.wait_rule.specs.Stays.{Carries, unchanged, with_bit, with_bits}
 use Rattle.wait_class.specs.Posts.{IsOut}
 use Rattle.wq_checked.specs.Kept.{IsReadyWith, but_kept, keeps_in}
@@ -32,8 +32,8 @@ pub ready_out : (ks : KeptBits) (k : Known) → IsReadyWith ks k → IsOut k
 unfolding with_bits
 ready_out ks k r = r.owes.unqueued (index k.view.number 0)
 
-asks_none : (ks : KeptBits) (k : Known) → ((d : Duty) → (has_duty k d && not (excuses (but_kept ks) d)) ≡ false)
-    → (d : Duty) → (has_duty k d && not (excuses no_excuse d)) ≡ false
+asks_none : (ks : KeptBits) (k : Known) → ((d : Obligation) → (has_duty k d && not (excuses (but_kept ks) d)) ≡ false)
+    → (d : Obligation) → (has_duty k d && not (excuses no_excuse d)) ≡ false
 unfolding with_bits
 asks_none ks k h (wake_of c σ) = h (wake_of c σ)
 asks_none ks k h page_asked = h page_asked
@@ -43,12 +43,12 @@ pub ready_asks : (ks : KeptBits) (k : Known) → IsReadyWith ks k → AsksNoPage
 ready_asks ks k r d is = asks_none ks k r.owes.debts.none d
 
 -- other masks of the same bits
-pub owes_by : (f g : Watch → Bool) (k : Known) → ((d : Watch) → f d ≡ g d) → Owes (record no_excuse { bits = f }) k
-    → Owes (record no_excuse { bits = g }) k
-owes_by f g k h o = subst (λ (p : Watch → Bool). Owes (record no_excuse { bits = p }) k) (λ i d. h d i) o
+pub owes_by : (f g : Watch → Bool) (k : Known) → ((d : Watch) → f d ≡ g d) → OwesBut (record no_excuse { bits = f }) k
+    → OwesBut (record no_excuse { bits = g }) k
+owes_by f g k h o = subst (λ (p : Watch → Bool). OwesBut (record no_excuse { bits = p }) k) (λ i d. h d i) o
 
 pub owes_masks : (ks more : KeptBits) (k : Known) → ((d : Watch) → keeps_in more d ≡ keeps_in ks d)
-    → Owes (but_kept ks) k → Owes (but_kept more) k
+    → OwesBut (but_kept ks) k → OwesBut (but_kept more) k
 unfolding with_bits
 owes_masks ks more k h o = owes_by (λ d. keeps_in ks d || false) (λ d. keeps_in more d || false) k
     (λ d. ap (λ (b : Bool). b || false) (sym (h d))) o
@@ -66,8 +66,8 @@ ready_masks ks more k h r = record {
 
 -- bits that were taken
 pub owes_more_bits : (ks more : KeptBits) (t : Watch → Bool) (k : Known)
-    → ((d : Watch) → keeps_in more d ≡ (t d || keeps_in ks d)) → Owes (with_bits t (but_kept ks)) k
-    → Owes (but_kept more) k
+    → ((d : Watch) → keeps_in more d ≡ (t d || keeps_in ks d)) → OwesBut (with_bits t (but_kept ks)) k
+    → OwesBut (but_kept more) k
 unfolding with_bits
 owes_more_bits ks more t k h o = owes_by (λ d. t d || (keeps_in ks d || false)) (λ d. keeps_in more d || false) k
     (λ d. ap (λ (b : Bool). t d || b) (or_none (keeps_in ks d)) ∙ (sym (h d) ∙ sym (or_none (keeps_in more d)))) o
@@ -113,8 +113,8 @@ keeps_less ks less old new w b notes others gone had d = by (same d (watch.Bit w
 -- who gives a bit back that it keeps is excused of it, and of what is left
 pub owes_given : (ks less : KeptBits) (w b : ℕ) (k : Known)
     → ((d : Watch) → keeps_in less d ≡ (not (same d (watch.Bit w b)) && keeps_in ks d))
-    → keeps_in ks (watch.Bit w b) ≡ true → Owes (but_kept ks) k
-    → Owes (with_bit (watch.Bit w b) (but_kept less)) k
+    → keeps_in ks (watch.Bit w b) ≡ true → OwesBut (but_kept ks) k
+    → OwesBut (with_bit (watch.Bit w b) (but_kept less)) k
 unfolding with_bits
 owes_given ks less w b k notes kept o = owes_by (λ d. keeps_in ks d || false)
     (λ d. same d (watch.Bit w b) || (keeps_in less d || false)) k (λ d. by d (same d (watch.Bit w b)) refl) o

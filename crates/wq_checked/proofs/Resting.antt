@@ -4,10 +4,10 @@ use Rattle.std.specs.Prelude.{◌&&◌, not, Bool, Option}
 use Rattle.wait_model.specs.declared.watches.Entry.{Entry}
 use Rattle.wait_model.specs.Views.{is_trying_for}
 use Rattle.wait_rule.specs.Known.{Known}
-use Rattle.wait_rule.specs.Says.{Excuse, IsOutBut, Owes}
+use Rattle.wait_rule.specs.Says.{Excuse, IsOutBut, OwesBut}
 use Rattle.wait_class.proofs.Wholes.{Rested}
 
-pub owes_rested : (old new : Known) (x : Excuse) → Rested old new → Owes x old → Owes x new
+pub owes_rested : (old new : Known) (x : Excuse) → Rested old new → OwesBut x old → OwesBut x new
 owes_rested old new x r o = record {
   unmarked = r.mark ∙ o.unmarked;
   debts = r.debts x o.debts;

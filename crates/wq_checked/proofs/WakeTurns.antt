@@ -8,7 +8,7 @@ use Rattle.wait_model.specs.declared.watches.Watch.{Watch}
 use Rattle.wait_model.specs.Tasks.{meets}
 use Rattle.wait_model.specs.Watches.{mask_of, same}
 use Rattle.wait_rule.specs.Known.{Known}
-use Rattle.wait_rule.specs.Says.{Excuse, Owes}
+use Rattle.wait_rule.specs.Says.{Excuse, OwesBut}
 use Rattle.wait_rule.specs.Stays.{with_wakes}
 use Rattle.wait_rule.proofs.KnownLaws.CarriedTasks.{owes_more}
 use Rattle.wq_head.specs.Turns.{HasTurned, IsAtWake, IsWakeOver}
@@ -135,7 +135,7 @@ module _ (ks : KeptBits) (k : Known) (aim : Aim) (now : Running) (m : Waking ks 
     began = record {
       keeps = m.keeps;
       told = m.told;
-      owes = subst (λ (a : Aim). Owes (with_wakes a.watch a.mode (but_kept ks)) k) (sym w.aim_is) m.owes;
+      owes = subst (λ (a : Aim). OwesBut (with_wakes a.watch a.mode (but_kept ks)) k) (sym w.aim_is) m.owes;
       off = m.off;
     };
     came = (first_at, refl);
@@ -147,7 +147,7 @@ or_more : (a b : Bool) → a ≡ true → (a || b) ≡ true
 or_more true b is = refl
 or_more false b is = absurd (cc)
 
-pub owes_wider : (c : Watch) (m : Mode) (x : Excuse) (k : Known) → Owes x k → Owes (with_wakes c m x) k
+pub owes_wider : (c : Watch) (m : Mode) (x : Excuse) (k : Known) → OwesBut x k → OwesBut (with_wakes c m x) k
 unfolding with_wakes
 owes_wider c m x k o = owes_more x (with_wakes c m x) k refl refl refl refl refl
     (λ d σ. or_more (x.wakes d σ) (same d c && meets (mask_of m) σ)) o

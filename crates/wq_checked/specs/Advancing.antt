@@ -7,7 +7,7 @@ use Rattle.wait_model.specs.declared.watches.Watch.{Watch}
 use Rattle.wait_rule.specs.Known.{Known}
 use Rattle.wait_rule.specs.LeftEntries.{HasLeftNone}
 use Rattle.wait_rule.specs.Queues.{IsIdle}
-use Rattle.wait_rule.specs.Says.{IsUp, Owes, told_of}
+use Rattle.wait_rule.specs.Says.{IsUp, OwesBut, told_of}
 use Rattle.wait_rule.specs.Stays.{with_wakes}
 use Rattle.wq_head.specs.Walks.{IsFull}
 use Rattle.bit_wait.specs.BitTables.{is_bit_worn}
@@ -152,7 +152,7 @@ pub record Waking (ks : KeptBits) (k : Known) (aim : Aim) : Type 0 where
   pub full : IsFull aim.watch
   pub keeps : (d : Watch) → (told_of k).bits.keeps d ≡ keeps_in ks d
   pub told : (told_of k).hold.head ≡ None
-  pub owes : Owes (with_wakes aim.watch aim.mode (but_kept ks)) k
+  pub owes : OwesBut (with_wakes aim.watch aim.mode (but_kept ks)) k
   pub off : HasLeftNone k
 
 -- the wake of a variable or a bit, and a call that begins with a wake of this aim

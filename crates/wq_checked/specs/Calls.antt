@@ -8,7 +8,7 @@ use Rattle.wait_model.specs.declared.watches.Watch.TheVariants as watch
 use Rattle.wait_rule.specs.HandedPermits.{StaysOff}
 use Rattle.wait_rule.specs.LeftEntries.{HasLeftNone}
 use Rattle.wait_rule.specs.Known.{Known}
-use Rattle.wait_rule.specs.Says.{Owes, told_of}
+use Rattle.wait_rule.specs.Says.{OwesBut, told_of}
 use Rattle.wait_rule.specs.Stays.{with_wakes}
 use Rattle.wait_event.specs.Waits as events
 use Rattle.wait_event.specs.WaitLeaves as event_leaves
@@ -207,14 +207,14 @@ WentOn may start first new now p = CameFrom may start first new now × FitsProgr
 pub record IsWaking (ks : KeptBits) (start : Known) (first : WakeRun) : Type 0 where
   pub keeps : (c : Watch) → (told_of start).bits.keeps c ≡ keeps_in ks c
   pub told : (told_of start).hold.head ≡ None
-  pub owes : Owes (with_wakes first.aim.watch first.aim.mode (but_kept ks)) start
+  pub owes : OwesBut (with_wakes first.aim.watch first.aim.mode (but_kept ks)) start
   pub off : HasLeftNone start
 
 -- and for a wake of a simple queue, which may owe wakes of its condition
 pub record IsSwaking (ks : KeptBits) (start : Known) (cond : ℕ) : Type 0 where
   pub told : (told_of start).hold.head ≡ None
   pub keeps : (c : Watch) → (told_of start).bits.keeps c ≡ keeps_in ks c
-  pub owes : Owes (with_wakes (watch.Plain cond) mode.Normal (but_kept ks)) start
+  pub owes : OwesBut (with_wakes (watch.Plain cond) mode.Normal (but_kept ks)) start
   pub off : HasLeftNone start
 
 abbrev pub Began : KeptBits → Known → Running → Type 0

@@ -8,7 +8,7 @@ use Rattle.wait_model.specs.Words.{bit_at}
 use Rattle.wait_rule.specs.LeftEntries.{HasLeftNone}
 use Rattle.wait_rule.specs.Known.{Known}
 use Rattle.wait_rule.specs.Queues.{IsIdle}
-use Rattle.wait_rule.specs.Says.{Excuse, IsUp, Owes, no_excuse, told_of}
+use Rattle.wait_rule.specs.Says.{Excuse, IsUp, OwesBut, no_excuse, told_of}
 use Rattle.wait_rule.specs.Stays.{with_bits}
 use Rattle.wq_checked.specs.declared.kept_bits.KeptBits.{KeptBits}
 
@@ -28,5 +28,5 @@ pub record IsReadyWith (ks : KeptBits) (k : Known) : Type 0 where
   pub idle : IsIdle k
   pub told : (told_of k).hold.head ≡ None
   pub keeps : (c : Watch) → (told_of k).bits.keeps c ≡ keeps_in ks c
-  pub owes : Owes (but_kept ks) k
+  pub owes : OwesBut (but_kept ks) k
   pub off : HasLeftNone k

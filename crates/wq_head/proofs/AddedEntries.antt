@@ -50,7 +50,7 @@ use Rattle.wait_rule.specs.Queues.{
 }
 use Rattle.wait_rule.specs.Asked.{nothing_asked}
 use Rattle.wait_rule.specs.Pages.{uses_flag}
-use Rattle.wait_rule.specs.Says.{Debts, Excuse, IsOutBut, Owes, TriesNone, added, asks_for, told_of}
+use Rattle.wait_rule.specs.Says.{Debts, Excuse, IsOutBut, OwesBut, TriesNone, added, asks_for, told_of}
 use Rattle.wait_rule.proofs.KnownLaws.Debts.{entries_debts, queued_debts, queues_quiet, stored_debts}
 use Rattle.wait_rule.specs.Stays.{
   Stays,
@@ -501,8 +501,8 @@ module _ (seen new : Known) (x : ℕ) (e : Entry) (is : new ≡ stored_with seen
   }
 
   -- what it owes then, by the debts
-  queue_owing : TriesNo e → (f : Excuse) → (Debts f seen → Debts (with_entry x f) new) → Owes f seen
-      → Owes (with_entry x f) new
+  queue_owing : TriesNo e → (f : Excuse) → (Debts f seen → Debts (with_entry x f) new) → OwesBut f seen
+      → OwesBut (with_entry x f) new
   unfolding with_entry
   queue_owing shared f debts o = record {
     unmarked = ap (λ (v : Told). v.mark) queue_told ∙ o.unmarked;
@@ -516,19 +516,19 @@ module _ (seen new : Known) (x : ℕ) (e : Entry) (is : new ≡ stored_with seen
     tries_none = queue_none shared o.tries_none;
   }
 
-  low_owing : TriesNo e → head_of e.watch < FIRST_DONE_HEAD → (f : Excuse) → Owes f seen → Owes (with_entry x f) new
+  low_owing : TriesNo e → head_of e.watch < FIRST_DONE_HEAD → (f : Excuse) → OwesBut f seen → OwesBut (with_entry x f) new
   unfolding with_entry
   low_owing shared low f = queue_owing shared f
       (λ d. entries_debts f (with_entry x f) new refl refl refl refl (queue_debts shared low f d))
 
-  cell_owing : TriesNo e → (f : Excuse) → Owes f seen → Owes (with_left_entry (with_entry x f)) new
+  cell_owing : TriesNo e → (f : Excuse) → OwesBut f seen → OwesBut (with_left_entry (with_entry x f)) new
   unfolding with_entry with_left_entry
   cell_owing shared f o = queue_owing shared (with_left_entry f)
       (λ d. entries_debts (with_left_entry f) (with_entry x (with_left_entry f)) new refl refl refl refl
       (queued_debts seen new x e (not_paged (is_page e.kind) shared.1) is f o.debts)) (owes_left f seen o)
 
   queue_carried : (old : Known) (to : Excuse → Excuse) → Carries only_looks old seen
-      → ((f : Excuse) → Owes f seen → Owes (to f) new)
+      → ((f : Excuse) → OwesBut f seen → OwesBut (to f) new)
       → Carries (record (queue_change x) { to = to }) old new
   queue_carried old to l owing = record {
     domain = ap (λ (k : Known). k.domain) is ∙ l.domain;
@@ -576,7 +576,7 @@ module _ (old new : Known) (who slot : ℕ) (is : new ≡ stored_with old (step.
       ∙ put_at (λ (s : Option Entry). is_trying_for s c ≡ false) (told_of old).bits.stored (index who slot) None y
       (λ _. refl) (λ _. none y c)
 
-  remove_still : (f : Excuse) → Owes (with_entry (index who slot) f) old → Owes (with_entry (index who slot) f) new
+  remove_still : (f : Excuse) → OwesBut (with_entry (index who slot) f) old → OwesBut (with_entry (index who slot) f) new
   unfolding with_entry
   remove_still f o = record {
     unmarked = ap (λ (v : Told). v.mark) remove_told ∙ o.unmarked;
@@ -591,7 +591,7 @@ module _ (old new : Known) (who slot : ℕ) (is : new ≡ stored_with old (step.
     tries_none = remove_none o.tries_none;
   }
 
-  remove_owing : (f : Excuse) → Owes (with_entry (index who slot) f) old → Owes f new
+  remove_owing : (f : Excuse) → OwesBut (with_entry (index who slot) f) old → OwesBut f new
   remove_owing f o = owes_out (index who slot) f new remove_out (remove_still f o)
 
   remove_carried : Carries (take_off_change (index who slot)) old new

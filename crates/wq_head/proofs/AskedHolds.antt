@@ -9,7 +9,7 @@ use Rattle.wait_model.specs.Watches.{is_page}
 use Rattle.wait_rule.specs.Asked.{Asked, nothing_asked, is_asking}
 use Rattle.wait_rule.specs.Known.{Known}
 use Rattle.wait_rule.specs.Pages.{uses_flag}
-use Rattle.wait_rule.specs.Says.{AsksNoPage, Debts, Duty, Excuse, asks_for, excuses, has_duty, no_excuse}
+use Rattle.wait_rule.specs.Says.{AsksNoPage, Debts, Obligation, Excuse, asks_for, excuses, has_duty, no_excuse}
 use Rattle.wait_rule.specs.Says.{end_unclosed, has_end, page_asked, told_of, wake_of}
 use Rattle.wait_rule.proofs.KnownLaws.AskedPages.{asks_no_page, asks_nothing_of}
 use Rattle.wq_head.specs.Holds.{HasLocked}
@@ -34,7 +34,7 @@ none_and false = refl
 unasked_debts : (k : Known) → asks_for k ≡ nothing_asked → Debts all_but_page k
 unasked_debts k none = record { none = by; off = λ q. absurd (cc); shows = λ q. absurd (cc) }
   where
-    by : (o : Duty) → (has_duty k o && not (excuses all_but_page o)) ≡ false
+    by : (o : Obligation) → (has_duty k o && not (excuses all_but_page o)) ≡ false
     by (wake_of c σ) = none_and ((told_of k).duty.owes c σ)
     by page_asked = ap (λ (q : Asked). is_asking q && true) none
     by (end_unclosed e) = none_and (has_end e k)
@@ -74,7 +74,7 @@ flag_woken k none uses = absurd (cc)
 
 -- over a lock
 pub asks_none : (k : Known) → asks_for k ≡ nothing_asked → AsksNoPage k
-asks_none k none d is = subst (λ (o : Duty). (has_duty k o && not (excuses no_excuse o)) ≡ false) (sym is)
+asks_none k none d is = subst (λ (o : Obligation). (has_duty k o && not (excuses no_excuse o)) ≡ false) (sym is)
     (ap (λ (q : Asked). is_asking q && true) none)
 
 pub locked_asks : (old new : Known) (head : ℕ) (walk : Option Aim) → HasLocked old new head walk → AsksNoPage old

@@ -12,7 +12,7 @@ use Rattle.wait_model.specs.Fold.{after_unlock}
 use Rattle.wait_model.proofs.StepLaws.UnlockSteps.{unlock_bits, unlock_hold}
 use Rattle.wait_rule.specs.Known.{Known}
 use Rattle.wait_rule.specs.Tickets.{no_ticket, taken}
-use Rattle.wait_rule.specs.Says.{Excuse, Owes, is_excused, told_of, unlocked_with, wake_of}
+use Rattle.wait_rule.specs.Says.{Excuse, OwesBut, is_excused, told_of, unlocked_with, wake_of}
 use Rattle.wait_rule.specs.Queues.{IsIdle}
 use Rattle.wait_rule.specs.Stays.{
   Stays,
@@ -87,7 +87,7 @@ ended_wakes false false n true is = is
 
 pub ended_owes : (a : Aim) (old new : Known) → Stays no_entries old new → (told_of new).mark ≡ None
     → ((c : Watch) (σ : ℕ) → (told_of new).duty.owes c σ ≡ still_owed a (told_of old) c σ) → (x : Excuse)
-    → Owes (with_wakes a.watch a.mode x) old → Owes x new
+    → OwesBut (with_wakes a.watch a.mode x) old → OwesBut x new
 unfolding with_wakes
 ended_owes a old new stays unmarked owes x o = owes_wakes (with_wakes a.watch a.mode x) x new refl refl refl refl refl
     (λ c σ. ap (λ (b : Bool). b && not (is_excused x c σ)) (owes c σ)
@@ -100,7 +100,7 @@ more_wakes : (w s m : Bool) → w ≡ true → (w || (s && m)) ≡ true
 more_wakes true s m is = refl
 more_wakes false s m is = absurd (cc)
 
-owes_wider : (a : Aim) (x : Excuse) (k : Known) → Owes x k → Owes (with_wakes a.watch a.mode x) k
+owes_wider : (a : Aim) (x : Excuse) (k : Known) → OwesBut x k → OwesBut (with_wakes a.watch a.mode x) k
 unfolding with_wakes
 owes_wider a x k o = owes_more x (with_wakes a.watch a.mode x) k refl refl refl refl refl
     (λ c σ. more_wakes (x.wakes c σ) (same c a.watch) (meets (mask_of a.mode) σ)) o

@@ -42,7 +42,7 @@ use Rattle.wait_rule.specs.Known.{Known}
 use Rattle.wait_rule.specs.Notes.{
   Notes,
   notes_after_wake,
-  after_call,
+  after_noted_call,
   callee,
   first_due,
   is_due,
@@ -122,7 +122,7 @@ module _ (a : Aim) (k : Known) (v : ShownEntry) (w : Walking) (n : IsNextEntry a
 
   -- what the list tells after it, where the entry's function answered so
   abbrev pub call_notes : Bool → Notes
-  call_notes met = after_call rest_now (Some v.member) met (told_of k) (noted k)
+  call_notes met = after_noted_call rest_now (Some v.member) met (told_of k) (noted k)
 
   module _ (new : Known) (met : Bool) (walks : (noted new).walk ≡ (call_notes met).walk)
       (uses : (noted new).used ≡ (call_notes met).used) (from : (noted new).from ≡ (noted k).from)
@@ -321,13 +321,13 @@ module _ (a : Aim) (k : Known) (v : ShownEntry) (w : Walking) (n : IsNextEntry a
   abbrev woke : Known
   woke = added k (item.Made (step.Wake who mask found))
 
-  noted_is : noted woke ≡ with_normal who (mask == 3) (after_call rest (Some v.member) met view notes)
+  noted_is : noted woke ≡ with_normal who (mask == 3) (after_noted_call rest (Some v.member) met view notes)
   noted_is = noted_added k (item.Made (step.Wake who mask found))
       ∙ ap (with_normal who (mask == 3)) (ap (λ (o : Option Aim). notes_after_wake o who mask met view notes)
       (walk_is a k v w n)
-      ∙ (ap (λ (b : Bool). if b then after_call rest (callee view notes a.watch who) met view notes else notes)
+      ∙ (ap (λ (b : Bool). if b then after_noted_call rest (callee view notes a.watch who) met view notes else notes)
       (eq-eqb mask (mask_of a.mode) masked)
-      ∙ ap (λ (o : Option ℕ). after_call rest o met view notes) callee_is))
+      ∙ ap (λ (o : Option ℕ). after_noted_call rest o met view notes) callee_is))
 
   -- it has called that entry
   less : (x : ℕ) (e : Entry) → shown_entry woke x ≡ Some e → shown_entry k x ≡ Some e

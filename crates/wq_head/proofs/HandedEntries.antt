@@ -27,7 +27,7 @@ use Rattle.wait_rule.specs.Known.{Known}
 use Rattle.wait_rule.specs.Members.{IsOwnKind}
 use Rattle.wait_rule.specs.Notes.{
   Notes,
-  after_call,
+  after_noted_call,
   after_telling,
   callee,
   first_due,
@@ -188,9 +188,9 @@ module _ (a : Aim) (k : Known) (v : ShownEntry) (full : IsFull a.watch) (w : Wal
       ∙ ap (without_normal who)
       (ap (λ (o : Option Aim). after_telling o x (told_of free) (noted free))
       (ap (λ (m : Notes). m.walk) (noted_tried a k v full w n is t) ∙ walk_is a k v w n)
-      ∙ (ap (λ (b : Bool). if b then after_call (rest_now a k v w n) (Some x) true (told_of free) (noted free)
+      ∙ (ap (λ (b : Bool). if b then after_noted_call (rest_now a k v w n) (Some x) true (told_of free) (noted free)
       else noted free) (ap (is_for_look a.watch) shows_free ∙ n.sought)
-      ∙ (λ i. after_call (rest_now a k v w n) (Some x) true (told_tried a k v full w n is t i)
+      ∙ (λ i. after_noted_call (rest_now a k v w n) (Some x) true (told_tried a k v full w n is t i)
       (noted_tried a k v full w n is t i))))
 
   called_it : (noted informed).called x ≡ true
@@ -254,9 +254,9 @@ module _ (a : Aim) (k : Known) (v : ShownEntry) (full : IsFull a.watch) (w : Wal
       none : callee (told_of informed) (noted informed) b.watch who ≡ None
       none = ap (λ (c : Watch). callee (told_of informed) (noted informed) c who) (same_watch b refl) ∙ callee_none
 
-      by : (z : Bool) → (if z then after_call b (callee (told_of informed) (noted informed) b.watch who)
+      by : (z : Bool) → (if z then after_noted_call b (callee (told_of informed) (noted informed) b.watch who)
           (met_task mask found) (told_of informed) (noted informed) else noted informed) ≡ noted informed
-      by true = ap (λ (o : Option ℕ). after_call b o (met_task mask found) (told_of informed) (noted informed)) none
+      by true = ap (λ (o : Option ℕ). after_noted_call b o (met_task mask found) (told_of informed) (noted informed)) none
       by false = refl
 
   noted_woke : noted woke ≡ with_normal who (mask == 3) (without_normal who (call_notes a k v w n true))

@@ -20,10 +20,10 @@ use Rattle.wait_rule.specs.Members.{IsStanding}
 use Rattle.wait_rule.specs.Queues.{IsTailPlace, index}
 use Rattle.wait_rule.specs.Says.{
   Debts,
-  Duty,
+  Obligation,
   Excuse,
   IsOutBut,
-  Owes,
+  OwesBut,
   TriesNone,
   added,
   asks_for,
@@ -187,7 +187,7 @@ module _ (seen new : Known) (x w p : ℕ)
       leaves : f.left ≡ false → LeavesNone new
       leaves none = leaves_stored seen new (step.Queue x e) (page_low w) is (leaves_of f seen d none)
 
-      by : (o : Duty) → (has_duty new o && not (excuses (with_page (with_entry x f)) o)) ≡ false
+      by : (o : Obligation) → (has_duty new o && not (excuses (with_page (with_entry x f)) o)) ≡ false
       by (wake_of c σ) = ap (λ (v : Told). v.duty.owes c σ && not (is_excused f c σ)) told ∙ d.none (wake_of c σ)
       by page_asked = and_none (is_asking (asks_for new))
       by (end_unclosed k) = ap (λ (b : Bool). b && not (f.ends k)) (ap (has_end k) is
@@ -199,7 +199,7 @@ module _ (seen new : Known) (x w p : ℕ)
       ∙ put_at (λ (s : Option Entry). is_trying_for s c ≡ false) (told_of seen).bits.stored x (Some e) y
       (λ _. and_none (same c (page w))) (λ _. none y c)
 
-  page_owing : (f : Excuse) → Owes f seen → Owes (with_page (with_entry x f)) new
+  page_owing : (f : Excuse) → OwesBut f seen → OwesBut (with_page (with_entry x f)) new
   unfolding with_page with_entry
   page_owing f o = record {
     unmarked = ap (λ (v : Told). v.mark) told ∙ o.unmarked;

@@ -19,7 +19,7 @@ use Rattle.wait_rule.specs.declared.journal.Item.{Item}
 use Rattle.wait_rule.specs.declared.journal.Item.TheVariants as item
 use Rattle.wait_rule.specs.Items.{steps_of}
 use Rattle.wait_rule.specs.Known.{Known}
-use Rattle.wait_rule.specs.Says.{Excuse, Owes, told_of, history_of, added, grown, wake_of}
+use Rattle.wait_rule.specs.Says.{Excuse, OwesBut, told_of, history_of, added, grown, wake_of}
 use Rattle.wait_rule.specs.Stays.{with_wakes, Carries, unchanged}
 use Rattle.wait_rule.specs.LookCounts.{Looked, LooksAtMost}
 use Rattle.wait_rule.specs.Transitions.{AreScansOf, has_bit, has_word}
@@ -191,7 +191,7 @@ at_its_head false true m e here is = here refl
 at_its_head false false m e here is = absurd (cc)
 
 pub found_none_over : (c : Watch) (old new : Known) → HasEndedAt old new (head_of c) → (x : Excuse)
-    → Owes (with_wakes c mode.Normal x) old → Owes x new
+    → OwesBut (with_wakes c mode.Normal x) old → OwesBut x new
 unfolding with_wakes
 found_none_over c old new ended x o = ended.settled x (owes_more (with_wakes c mode.Normal x)
     (spares_head (head_of c) x) old refl refl refl refl refl

@@ -8,7 +8,7 @@ use Rattle.wait_model.specs.declared.watches.Watch.{Watch}
 use Rattle.wait_model.specs.Watches.{head_of}
 use Rattle.wait_rule.specs.declared.journal.Item.{Item}
 use Rattle.wait_rule.specs.Known.{Known}
-use Rattle.wait_rule.specs.Says.{Excuse, Owes, told_of, grown}
+use Rattle.wait_rule.specs.Says.{Excuse, OwesBut, told_of, grown}
 use Rattle.wait_rule.specs.Transitions.{AreScansOf, has_bit, has_word}
 
 -- The task loaded member words of the head, all of them where none showed a bit: just what a call's program makes for
@@ -28,7 +28,7 @@ spares_head head x = record x { wakes = λ c σ. x.wakes c σ || (head_of c == h
 pub record HasEndedAt (old new : Known) (head : ℕ) : Type 0 where
   pub here : (c : Watch) (σ : ℕ) → head_of c ≡ head → (told_of new).duty.owes c σ ≡ false
   pub elsewhere : (c : Watch) (σ : ℕ) → head_of c ≢ head → (told_of new).duty.owes c σ ≡ (told_of old).duty.owes c σ
-  pub settled : (x : Excuse) → Owes (spares_head head x) old → Owes x new
+  pub settled : (x : Excuse) → OwesBut (spares_head head x) old → OwesBut x new
 
 -- the answer of a wake that was not made, since the look found no member
 abbrev pub unmade : Walked

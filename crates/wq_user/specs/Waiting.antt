@@ -4,14 +4,14 @@ use Rattle.std.specs.Prelude.{◌≡◌, Some, None}
 use Rattle.wait_model.specs.declared.watches.Watch.TheVariants as watch
 use Rattle.wait_model.specs.Watches.{head_of}
 use Rattle.wait_rule.specs.Known.{Known}
-use Rattle.wait_rule.specs.Says.{IsUp, IsFree, no_excuse, told_of, Owes}
+use Rattle.wait_rule.specs.Says.{IsUp, IsFree, no_excuse, told_of, OwesBut}
 use Rattle.wait_rule.specs.Queues.{index}
 use Rattle.wait_rule.specs.Stays.{with_entry, head_stored}
 
 -- it has stored the entry at the condition's head, and owes nothing but this entry
 pub record HasQueuedOwn (k : Known) : Type 0 where
   pub queued : head_stored ((told_of k).bits.stored (index k.view.number 0)) ≡ Some (head_of (watch.Plain 0))
-  pub owes : Owes (with_entry (index k.view.number 0) no_excuse) k
+  pub owes : OwesBut (with_entry (index k.view.number 0) no_excuse) k
   pub mark : (told_of k).mark ≡ None
 
 -- it is awake and holds no lock

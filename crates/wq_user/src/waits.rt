@@ -3,7 +3,7 @@
 ghost use Rattle.std.specs.Prelude.{◌≡◌, ◌<◌, IfOk, IfErr, Some};
 ghost use Rattle.wait_model.specs.declared.watches.Watch.TheVariants as watch;
 ghost use Rattle.wait_model.specs.Watches.{head_of};
-ghost use Rattle.wait_rule.specs.Says.{IsClean, IsUp, no_excuse, Owes};
+ghost use Rattle.wait_rule.specs.Says.{IsClean, IsUp, no_excuse, OwesBut};
 ghost use Rattle.wait_rule.specs.Stays.{Carries, take_off_change};
 ghost use Rattle.wq_head.specs.Holds.{IsHolding};
 ghost use Rattle.wq_head.specs.Readied.{IsPlainKind};
@@ -46,7 +46,7 @@ fn add_own(domain: &Domain, task: &mut Task, kind: Kind) -> Result<(), Worn>
     requires up { IsUp task.old }
     requires held { IsHolding task.old }
     requires at { task.old.at ≡ head_of (watch.Plain 0) }
-    requires owes { Owes no_excuse task.old }
+    requires owes { OwesBut no_excuse task.old }
     requires kind { IsPlainKind kind }
     ensures of { task.new.domain ≡ domain.now }
     ensures up { IsUp task.new }
@@ -54,7 +54,7 @@ fn add_own(domain: &Domain, task: &mut Task, kind: Kind) -> Result<(), Worn>
     ensures at { task.new.at ≡ task.old.at }
     ensures state { task.new.book.state ≡ task.old.book.state }
     ensures queued { IfOk result (λ _. HasQueuedOwn task.new) }
-    ensures worn { IfErr result (λ _. Owes no_excuse task.new) }
+    ensures worn { IfErr result (λ _. OwesBut no_excuse task.new) }
 {
     let watch = Watch::Plain { cond: 0 };
     add_tail(domain, task, 0, kind, false, watch)
@@ -94,7 +94,7 @@ fn take_off(domain: &Domain, task: &mut Task)
     ensures held { IsHolding task.new }
     ensures at { task.new.at ≡ task.old.at }
     ensures state { task.new.book.state ≡ task.old.book.state }
-    ensures owes { Owes no_excuse task.new }
+    ensures owes { OwesBut no_excuse task.new }
 {
     let who = task.number();
     let word = entry_load(domain, task, who, 0);

@@ -7,7 +7,7 @@ ghost use Rattle.wait_model.specs.declared.steps.Step.TheVariants as step;
 ghost use Rattle.wait_model.specs.Watches.{head_of as head_for, is_page, page};
 ghost use Rattle.wait_rule.specs.Asked.{nothing_asked};
 ghost use Rattle.wait_rule.specs.Bits.{KeepsBitOf};
-ghost use Rattle.wait_rule.specs.Looking.{IsWaitingFor, ShowsNone, StaysIdle, page_entry};
+ghost use Rattle.wait_rule.specs.Looking.{IsQueuedForPage, ShowsEmpty, StaysIdle, page_entry};
 ghost use Rattle.wait_rule.specs.Queues.{IsAgreed, IsIdle, IsLocked, index};
 ghost use Rattle.wait_rule.specs.Says.{IsUp, asks_for, stored_with};
 
@@ -46,7 +46,7 @@ fn queue_for_page(domain: &Domain, task: &mut Task, word: u8)
     requires word { word < PAGES }
     requires few { task.old.view.number < TASKS }
     requires at { task.old.at ≡ head_for (page word) }
-    requires none { ShowsNone task.old }
+    requires none { ShowsEmpty task.old }
     requires asks { asks_for task.old ≡ nothing_asked }
     ensures { task.new ≡ stored_with task.old (step.Queue (index task.old.view.number 0) (page_entry word)) }
 {
@@ -68,7 +68,7 @@ fn come_for_page(domain: &Domain, task: &mut Task, word: u8) -> bool
     requires word { word < PAGES }
     requires asks { asks_for task.old ≡ nothing_asked }
     ensures waits { result ≡ true → StaysIdle task.old task.new }
-    ensures asks { result ≡ true → IsWaitingFor task.new word }
+    ensures asks { result ≡ true → IsQueuedForPage task.new word }
 {
     let _me = task.number();
     let head = head_of(Watch::Bit { word, bit: 0 });
@@ -152,7 +152,7 @@ fn note_page(domain: &Domain, task: &mut Task, word: u8) -> bool
     requires up { IsUp task.old }
     requires idle { IsIdle task.old }
     requires word { word < PAGES }
-    requires waits { IsWaitingFor task.old word }
+    requires waits { IsQueuedForPage task.old word }
     ensures stays { StaysIdle task.old task.new }
     ensures keeps { result ≡ true → KeepsBitOf task.new (page word) }
 {

@@ -2,7 +2,7 @@
 
 ghost use Rattle.std.specs.Prelude.{◌≡◌, ◌+◌, ◌*◌, ◌<◌, true};
 ghost use Rattle.wait_model.specs.declared.layout.TheConstants.{PIPES, PIPE_CELLS, PIPE_ENDS};
-ghost use Rattle.wait_rule.specs.Passing.{HasPassed, IsReady, OthersStay};
+ghost use Rattle.wait_rule.specs.Passing.{HasPassedCells, IsReady, OthersStay};
 ghost use Rattle.wait_rule.specs.Pipes.{IsCell, end_word, read_end, write_end};
 ghost use Rattle.wait_rule.specs.PipeSays.{reading, writing};
 ghost use Rattle.wait_rule.specs.Says.{IsClean};
@@ -36,8 +36,8 @@ fn cell(n: u16) -> u64
 /// counts are in order.
 fn has_room(domain: &Domain, task: &mut Task, pipe: u8, n: u16) -> bool
     requires pipe { pipe < PIPES }
-    requires passed { HasPassed domain.now (write_end pipe) n task.old }
-    ensures passed { HasPassed domain.now (write_end pipe) n task.new }
+    requires passed { HasPassedCells domain.now (write_end pipe) n task.old }
+    ensures passed { HasPassedCells domain.now (write_end pipe) n task.new }
     ensures room { result ≡ true → n < (writing pipe task.new).seen + PIPE_CELLS }
     ensures others { OthersStay (write_end pipe) task.old task.new }
 {
@@ -51,11 +51,11 @@ fn has_room(domain: &Domain, task: &mut Task, pipe: u8, n: u16) -> bool
 /// Stores a cell and passes it on.
 fn put_next(domain: &Domain, task: &mut Task, pipe: u8, n: u16, word: u64)
     requires pipe { pipe < PIPES }
-    requires passed { HasPassed domain.now (write_end pipe) n task.old }
+    requires passed { HasPassedCells domain.now (write_end pipe) n task.old }
     requires room { n < (writing pipe task.old).seen + PIPE_CELLS }
     requires few { n < 60_000 }
     requires cell { IsCell word }
-    ensures passed { HasPassed domain.now (write_end pipe) (n + 1) task.new }
+    ensures passed { HasPassedCells domain.now (write_end pipe) (n + 1) task.new }
     ensures others { OthersStay (write_end pipe) task.old task.new }
 {
     cell_store(domain, task, pipe, n % PIPE_CELLS, word);
@@ -65,8 +65,8 @@ fn put_next(domain: &Domain, task: &mut Task, pipe: u8, n: u16, word: u64)
 /// Whether another cell was passed on, by the writer's word.
 fn has_cell(domain: &Domain, task: &mut Task, pipe: u8, n: u16) -> bool
     requires pipe { pipe < PIPES }
-    requires passed { HasPassed domain.now (read_end pipe) n task.old }
-    ensures passed { HasPassed domain.now (read_end pipe) n task.new }
+    requires passed { HasPassedCells domain.now (read_end pipe) n task.old }
+    ensures passed { HasPassedCells domain.now (read_end pipe) n task.new }
     ensures there { result ≡ true → n < (reading pipe task.new).seen }
     ensures others { OthersStay (read_end pipe) task.old task.new }
 {
@@ -80,10 +80,10 @@ fn has_cell(domain: &Domain, task: &mut Task, pipe: u8, n: u16) -> bool
 /// Loads a cell and gives it back.
 fn get_next(domain: &Domain, task: &mut Task, pipe: u8, n: u16) -> u64
     requires pipe { pipe < PIPES }
-    requires passed { HasPassed domain.now (read_end pipe) n task.old }
+    requires passed { HasPassedCells domain.now (read_end pipe) n task.old }
     requires there { n < (reading pipe task.old).seen }
     requires few { n < 60_000 }
-    ensures passed { HasPassed domain.now (read_end pipe) (n + 1) task.new }
+    ensures passed { HasPassedCells domain.now (read_end pipe) (n + 1) task.new }
     ensures others { OthersStay (read_end pipe) task.old task.new }
 {
     let word = cell_load(domain, task, pipe, n % PIPE_CELLS);
@@ -97,7 +97,7 @@ fn get_end(domain: &Domain, task: &mut Task, pipe: u8, end: u8) -> bool
     requires pipe { pipe < PIPES }
     requires end { end < PIPE_ENDS }
     ensures ready { IsReady domain.now task.new }
-    ensures passed { result ≡ true → HasPassed domain.now (PIPE_ENDS * pipe + end) 0 task.new }
+    ensures passed { result ≡ true → HasPassedCells domain.now (PIPE_ENDS * pipe + end) 0 task.new }
     ensures others { OthersStay (PIPE_ENDS * pipe + end) task.old task.new }
 {
     claim(domain, task, pipe, end)
@@ -107,7 +107,7 @@ fn get_end(domain: &Domain, task: &mut Task, pipe: u8, end: u8) -> bool
 fn closed_word(domain: &Domain, task: &mut Task, pipe: u8, end: u8, n: u16) -> u64
     requires pipe { pipe < PIPES }
     requires end { end < PIPE_ENDS }
-    requires passed { HasPassed domain.now (PIPE_ENDS * pipe + end) n task.old }
+    requires passed { HasPassedCells domain.now (PIPE_ENDS * pipe + end) n task.old }
     ensures word { result ≡ end_word n true }
     ensures ready { IsReady domain.now task.new }
     ensures others { OthersStay (PIPE_ENDS * pipe + end) task.old task.new }
@@ -156,8 +156,8 @@ fn a_cell_is_passed(rt: HostRuntime) -> Result<(), Fail> {
 /// Looks at the reader's word until there is room for another cell.
 fn wait_room<R: Wait>(rt: &R, domain: &Domain, task: &mut Task, pipe: u8, n: u16)
     requires pipe { pipe < PIPES }
-    requires passed { HasPassed domain.now (write_end pipe) n task.old }
-    ensures passed { HasPassed domain.now (write_end pipe) n task.new }
+    requires passed { HasPassedCells domain.now (write_end pipe) n task.old }
+    ensures passed { HasPassedCells domain.now (write_end pipe) n task.new }
     ensures room { n < (writing pipe task.new).seen + PIPE_CELLS }
 {
     for _ in rt.forever() {
@@ -172,8 +172,8 @@ fn wait_room<R: Wait>(rt: &R, domain: &Domain, task: &mut Task, pipe: u8, n: u16
 /// Looks at the writer's word until another cell is there.
 fn wait_cell<R: Wait>(rt: &R, domain: &Domain, task: &mut Task, pipe: u8, n: u16)
     requires pipe { pipe < PIPES }
-    requires passed { HasPassed domain.now (read_end pipe) n task.old }
-    ensures passed { HasPassed domain.now (read_end pipe) n task.new }
+    requires passed { HasPassedCells domain.now (read_end pipe) n task.old }
+    ensures passed { HasPassedCells domain.now (read_end pipe) n task.new }
     ensures there { n < (reading pipe task.new).seen }
 {
     for _ in rt.forever() {

@@ -10,7 +10,7 @@ ghost use Rattle.wait_rule.specs.Says.{IsUp, IsFree, asks_for, noted, added};
 ghost use Rattle.wait_rule.specs.Queues.{IsTurn, IsLocked, IsAgreed, MayRise};
 ghost use Rattle.wait_rule.specs.LookCounts.{Looked};
 ghost use Rattle.wait_rule.specs.Stays.{Carries, StaysOwing, unchanged};
-ghost use Rattle.wait_rule.specs.Looking.{HasSeenEntries, HasSeenMarks, IsSelectingHold, ShowsNone};
+ghost use Rattle.wait_rule.specs.Looking.{HasSeenEntries, HasSeenMarks, IsSelectingHold, ShowsEmpty};
 
 use crate::wants::{all_so, another};
 use std::sync::Wait;
@@ -199,7 +199,7 @@ fn queue_and_leave(domain: &Domain, task: &mut Task)
     requires held { IsLocked task.old }
     requires agreed { IsAgreed task.old }
     requires at { task.old.at ≡ FIRST_PLAIN_HEAD }
-    requires none { ShowsNone task.old }
+    requires none { ShowsEmpty task.old }
     requires clear { (noted task.old).own ≡ None }
     requires asks { asks_for task.old ≡ nothing_asked }
     ensures at { task.new.at ≡ task.old.at }
@@ -269,7 +269,7 @@ fn select_own<R: Wait>(rt: &R, domain: &Domain, task: &mut Task) -> bool
     requires held { IsLocked task.old }
     requires agreed { IsAgreed task.old }
     requires at { task.old.at ≡ FIRST_PLAIN_HEAD }
-    requires none { ShowsNone task.old }
+    requires none { ShowsEmpty task.old }
     requires selecting { IsSelectingHold task.old }
     ensures of { task.new.domain ≡ domain.now }
     ensures up { IsUp task.new }

@@ -8,7 +8,7 @@ use Rattle.wait_model.specs.Fold.{view_of}
 use Rattle.wait_rule.specs.declared.journal.Journal.{Journal}
 use Rattle.wait_rule.specs.Items.{steps_of}
 use Rattle.wait_rule.specs.Known.{Known}
-use Rattle.wait_rule.specs.Says.{Debts, Excuse, IsOutBut, Owes, told_of}
+use Rattle.wait_rule.specs.Says.{Debts, Excuse, IsOutBut, OwesBut, told_of}
 use Rattle.wait_rule.specs.Queues.{index}
 use Rattle.wait_rule.specs.Stays.{StaysOwing, Change, Carries, only_looks, with_entry, queue_change, take_off_change}
 use Rattle.wait_rule.proofs.KnownLaws.StayingParts.{owes_also}
@@ -84,7 +84,7 @@ keeps_same i old new domain number told debts = keeps_told i old new domain numb
 -- of a call that changes no more than the own entry
 pub keeps_of : {f : Excuse → Excuse} (i : ℕ) (c : Change) (old new : Known) → Carries c old new → ((w : Watch) → c.publishes w ≡ false)
     → ((x : ℕ) → (x == i) ≡ false → c.but x ≡ false)
-    → ((x : Excuse) → Owes (with_entry i (f x)) old → Owes (with_entry i (f x)) new) → KeepsBut f i old new
+    → ((x : Excuse) → OwesBut (with_entry i (f x)) old → OwesBut (with_entry i (f x)) new) → KeepsBut f i old new
 keeps_of i c old new carries none but owes = record {
   domain = carries.domain;
   number = carries.number;
@@ -101,7 +101,7 @@ twice : (a b : Bool) (s : Option Entry) → IsOutBut (a || (a || b)) s → IsOut
 twice true b s o = o
 twice false b s o = o
 
-pub once : (i : ℕ) (x : Excuse) (k : Known) → Owes (with_entry i (with_entry i x)) k → Owes (with_entry i x) k
+pub once : (i : ℕ) (x : Excuse) (k : Known) → OwesBut (with_entry i (with_entry i x)) k → OwesBut (with_entry i x) k
 unfolding with_entry
 once i x k o = record {
   unmarked = o.unmarked;

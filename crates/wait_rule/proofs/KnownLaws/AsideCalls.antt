@@ -34,8 +34,8 @@ use Rattle.wait_rule.specs.Journals.{pushed}
 use Rattle.wait_rule.specs.Known.{Known}
 use Rattle.wait_rule.specs.Pipes.{
   End,
-  after_look,
-  after_publish,
+  after_end_look,
+  after_end_publish,
   end_from,
   end_of,
   end_step,
@@ -99,20 +99,20 @@ pushed_append v xs ys = ap (λ (l : List Item). record {
 pub step_mine : (k : ℕ) (s : Step) (e : End) → (end_step k s e).mine ≡ e.mine
 step_mine k (step.Load (watch.Var v o) r) e = by (v == other_end k)
   where
-    sees : (b : Bool) → (if b then after_look r e else e).mine ≡ e.mine
+    sees : (b : Bool) → (if b then after_end_look r e else e).mine ≡ e.mine
     sees true = refl
     sees false = refl
 
-    by : (b : Bool) → (if b then if_unclosed (after_look r) e else e).mine ≡ e.mine
+    by : (b : Bool) → (if b then if_unclosed (after_end_look r) e else e).mine ≡ e.mine
     by true = sees (e.mine && not e.shut)
     by false = refl
 step_mine k (step.Publish (watch.Var v o) n r) e = by (v == k)
   where
-    passes : (b : Bool) → (if b then after_publish n e else e).mine ≡ e.mine
+    passes : (b : Bool) → (if b then after_end_publish n e else e).mine ≡ e.mine
     passes true = refl
     passes false = refl
 
-    by : (b : Bool) → (if b then if_mine (after_publish n) e else e).mine ≡ e.mine
+    by : (b : Bool) → (if b then if_mine (after_end_publish n) e else e).mine ≡ e.mine
     by true = passes e.mine
     by false = refl
 step_mine k s e = refl

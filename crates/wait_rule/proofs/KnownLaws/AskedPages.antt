@@ -23,18 +23,18 @@ use Rattle.wait_rule.specs.Asked.{
   was_given,
   given_if,
   ask_step,
-  ask,
+  after_item,
   asked_from,
-  asked_of,
+  asked_by_items,
   all_asked,
   is_asking,
 }
 use Rattle.wait_rule.specs.Known.{Known}
-use Rattle.wait_rule.specs.Pages.{takes, IsHandedBy, ArePagesHanded}
+use Rattle.wait_rule.specs.Pages.{taken_entry, IsHandedBy, ArePageStates}
 use Rattle.wait_rule.specs.Says.{
   AsksNoPage,
   Debts,
-  Duty,
+  Obligation,
   Excuse,
   added,
   asks_for,
@@ -49,10 +49,10 @@ use Rattle.wait_rule.proofs.KnownLaws.MemberSteps.{put_again}
 -- A list with more items: what the task asks for, and what that is where none of them is a step.
 pub asked_append : (k : Asked) (xs ys : List Item) → asked_from k (xs ++ ys) ≡ asked_from (asked_from k xs) ys
 asked_append k [] ys = refl
-asked_append k (x ∷ xs) ys = asked_append (ask x k) xs ys
+asked_append k (x ∷ xs) ys = asked_append (after_item x k) xs ys
 
 -- one item more
-pub asked_added : (k : Known) (i : Item) → asks_for (added k i) ≡ ask i (asks_for k)
+pub asked_added : (k : Known) (i : Item) → asks_for (added k i) ≡ after_item i (asks_for k)
 asked_added k i = asked_append nothing_asked k.view.items (i ∷ [])
 
 pub asked_quiet : (k : Asked) (xs : List Item) → steps_of xs ≡ [] → asked_from k xs ≡ k
@@ -69,27 +69,27 @@ asked_quiet k (item.Tally p n w ∷ xs) none = asked_quiet k xs none
 asked_quiet k (item.Piped j a w ∷ xs) none = asked_quiet k xs none
 
 pub asked_next : (items : ℕ → List Item) (a : ℕ) (xs : List Item)
-    → all_asked (put items a (items a ++ xs)) ≡ put (all_asked items) a (asked_from (asked_of (items a)) xs)
+    → all_asked (put items a (items a ++ xs)) ≡ put (all_asked items) a (asked_from (asked_by_items (items a)) xs)
 asked_next items a xs = fun_ext (λ t. by t (put_case items a (items a ++ xs) t))
   where
     K : ℕ → Asked
-    K = put (all_asked items) a (asked_from (asked_of (items a)) xs)
+    K = put (all_asked items) a (asked_from (asked_by_items (items a)) xs)
 
     by : (t : ℕ) → ((t ≡ a) × (put items a (items a ++ xs) t ≡ items a ++ xs))
-        ⊎ ((t ≢ a) × (put items a (items a ++ xs) t ≡ items t)) → asked_of (put items a (items a ++ xs) t) ≡ K t
-    by t (inl q) = ap asked_of q.1 ∙ (asked_append nothing_asked (items a) xs
-        ∙ sym (ap K q.0 ∙ put_same (all_asked items) a (asked_from (asked_of (items a)) xs)))
-    by t (inr q) = ap asked_of q.1
-        ∙ sym (put_other (all_asked items) a (asked_from (asked_of (items a)) xs) t q.0)
+        ⊎ ((t ≢ a) × (put items a (items a ++ xs) t ≡ items t)) → asked_by_items (put items a (items a ++ xs) t) ≡ K t
+    by t (inl q) = ap asked_by_items q.1 ∙ (asked_append nothing_asked (items a) xs
+        ∙ sym (ap K q.0 ∙ put_same (all_asked items) a (asked_from (asked_by_items (items a)) xs)))
+    by t (inr q) = ap asked_by_items q.1
+        ∙ sym (put_other (all_asked items) a (asked_from (asked_by_items (items a)) xs) t q.0)
 
 pub asked_same : (items : ℕ → List Item) (a : ℕ) (xs : List Item) → steps_of xs ≡ []
     → all_asked (put items a (items a ++ xs)) ≡ all_asked items
 asked_same items a xs none = asked_next items a xs
-    ∙ put_again (all_asked items) a (asked_from (asked_of (items a)) xs) (asked_quiet (asked_of (items a)) xs none)
+    ∙ put_again (all_asked items) a (asked_from (asked_by_items (items a)) xs) (asked_quiet (asked_by_items (items a)) xs none)
 
 -- What a task has yet to store changes, but no page that it has to hand over.
 abbrev pub HandsSame : Difference → Difference → Type 0
-HandsSame old new = (new ≡ old) ⊎ ((takes old ≡ None) × (takes new ≡ None))
+HandsSame old new = (new ≡ old) ⊎ ((taken_entry old ≡ None) × (taken_entry new ≡ None))
 
 -- it stored a member bit, and so had no page to hand over
 pub named_hands : (me x : ℕ) (d : Difference) → index_named me d ≡ Some x → HandsSame d nothing
@@ -100,8 +100,8 @@ named_hands me x (page_taken y) is = none_some x is
 named_hands me x (page_told y) is = none_some x is
 
 pub pages_seen : (s : Table) (a : ℕ) (d : Difference) (differs : ℕ → Difference) (asked : ℕ → Asked)
-    → HandsSame (differs a) d → ArePagesHanded s differs asked → ArePagesHanded s (put differs a d) asked
-pages_seen s a d differs asked (inl is) r = subst (λ (f : ℕ → Difference). ArePagesHanded s f asked)
+    → HandsSame (differs a) d → ArePageStates s differs asked → ArePageStates s (put differs a d) asked
+pages_seen s a d differs asked (inl is) r = subst (λ (f : ℕ → Difference). ArePageStates s f asked)
     (sym (put_again differs a d is)) r
 pages_seen s a d differs asked (inr none) r = record {
   each = λ y. state_still s s differs D asked asked y (still y) (r.each y);
@@ -121,16 +121,16 @@ pages_seen s a d differs asked (inr none) r = record {
       given = refl;
       stored = refl;
       hands = λ c is. (
-        put_other differs a d c (λ q. none_some y (sym (ap (λ (i : ℕ). takes (differs i)) q ∙ none.0) ∙ is)),
+        put_other differs a d c (λ q. none_some y (sym (ap (λ (i : ℕ). taken_entry (differs i)) q ∙ none.0) ∙ is)),
         refl,
       );
     }
 
-    by : (c y : ℕ) → takes (D c) ≡ Some y → ((c ≡ a) × (D c ≡ d)) ⊎ ((c ≢ a) × (D c ≡ differs c))
+    by : (c y : ℕ) → taken_entry (D c) ≡ Some y → ((c ≡ a) × (D c ≡ d)) ⊎ ((c ≢ a) × (D c ≡ differs c))
         → (p : ℕ) × IsHandedBy s (D c) (asked (owner y)) y p c
-    by c y is (inl q) = none_some y (sym (ap takes q.1 ∙ none.1) ∙ is)
+    by c y is (inl q) = none_some y (sym (ap taken_entry q.1 ∙ none.1) ∙ is)
     by c y is (inr q) =
-        let i = r.hands c y (sym (ap takes q.1) ∙ is) in
+        let i = r.hands c y (sym (ap taken_entry q.1) ∙ is) in
         (i.0, hands_still s s differs D asked asked y (still y) i.0 c i.1)
 
 -- a page that is asked for by nobody is given to nobody
@@ -162,7 +162,7 @@ asks_no_page k none = asks_nothing_of (asks_for k) (by (is_asking (asks_for k)) 
     by false is = refl
 
 pub no_page_asked : (k : Known) → asks_for k ≡ nothing_asked → AsksNoPage k
-no_page_asked k none d is = subst (λ (o : Duty). (has_duty k o && not (excuses no_excuse o)) ≡ false) (sym is)
+no_page_asked k none d is = subst (λ (o : Obligation). (has_duty k o && not (excuses no_excuse o)) ≡ false) (sym is)
     (ap (λ (q : Asked). is_asking q && true) none)
 
 pub asks_none_of : (x : Excuse) (k : Known) → x.asks ≡ false → Debts x k → asks_for k ≡ nothing_asked

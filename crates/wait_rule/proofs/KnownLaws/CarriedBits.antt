@@ -11,7 +11,7 @@ use Rattle.wait_model.specs.Fold.{after}
 use Rattle.wait_model.proofs.Sameness.{same_refl}
 use Rattle.wait_rule.specs.declared.journal.Item.TheVariants as item
 use Rattle.wait_rule.specs.Known.{Known}
-use Rattle.wait_rule.specs.Says.{Excuse, IsOutBut, Owes, added, told_of}
+use Rattle.wait_rule.specs.Says.{Excuse, IsOutBut, OwesBut, added, told_of}
 use Rattle.wait_rule.specs.Queues.{index}
 use Rattle.wait_rule.specs.Stays.{with_bit, with_bits, with_wakes}
 use Rattle.wait_rule.specs.Bits.{ClearsBit, SetsBit, StaysBeside, taken_bits}
@@ -75,7 +75,7 @@ module _ (old new : Known) (w b r : ℕ) (is : new ≡ added old (item.Made (ste
         ∙ or_false ((told_of old).bits.keeps d) (clear && same d c) other;
   }
 
-  set_owes : (x : Excuse) → Owes x old → Owes (with_bits (taken_bits c clear) x) new
+  set_owes : (x : Excuse) → OwesBut x old → OwesBut (with_bits (taken_bits c clear) x) new
   unfolding with_bits
   set_owes x o = record {
     unmarked = ap (λ (v : Told). v.mark) set_told ∙ o.unmarked;
@@ -124,7 +124,7 @@ module _ (old new : Known) (w b r : ℕ) (is : new ≡ added old (item.Made (ste
         ∙ and_true ((told_of old).bits.keeps d) (same d d0) other;
   }
 
-  clear_owes : (x : Excuse) → Owes (with_bit d0 x) old → Owes (with_wakes d0 mode.Normal x) new
+  clear_owes : (x : Excuse) → OwesBut (with_bit d0 x) old → OwesBut (with_wakes d0 mode.Normal x) new
   unfolding with_bits with_wakes
   clear_owes x o = record {
     unmarked = ap (λ (v : Told). v.mark) clear_told ∙ o.unmarked;

@@ -10,7 +10,7 @@ use Rattle.wait_model.specs.Tasks.{meets}
 use Rattle.wait_model.specs.Watches.{same, mask_of}
 use Rattle.wait_rule.specs.declared.journal.Item.TheVariants as item
 use Rattle.wait_rule.specs.Known.{Known}
-use Rattle.wait_rule.specs.Says.{Excuse, Owes, added, told_of}
+use Rattle.wait_rule.specs.Says.{Excuse, OwesBut, added, told_of}
 use Rattle.wait_rule.specs.Stays.{with_wakes, Carries, unchanged, publish_change}
 use Rattle.wait_rule.proofs.KnownLaws.CarriedTasks.{or_none, owes_more, published_carried, step_carried, step_owing}
 
@@ -27,7 +27,7 @@ or_more : (a b : Bool) → a ≡ true → (a || b) ≡ true
 or_more true b is = refl
 or_more false b is = absurd (cc)
 
-pub excused_more : (c : Watch) (x : Excuse) (k : Known) → Owes x k → Owes (with_wakes c mode.Normal x) k
+pub excused_more : (c : Watch) (x : Excuse) (k : Known) → OwesBut x k → OwesBut (with_wakes c mode.Normal x) k
 unfolding with_wakes
 excused_more c x k o = owes_more x (with_wakes c mode.Normal x) k refl refl refl refl refl
     (λ d σ. or_more (x.wakes d σ) (same d c && meets (mask_of mode.Normal) σ)) o

@@ -51,8 +51,8 @@ use Rattle.wait_rule.specs.declared.journal.Item.TheVariants as item
 use Rattle.wait_rule.specs.Known.{Known}
 use Rattle.wait_rule.specs.Pipes.{
   End,
-  after_look,
-  after_publish,
+  after_end_look,
+  after_end_publish,
   end_from,
   end_step,
   if_mine,
@@ -176,11 +176,11 @@ keeps_join e f g one two = record {
   cells = two.cells ∙ one.cells;
 }
 
-looks_keep : (b : Bool) (r : ℕ) (e : End) → KeepsEnd e (if b then if_unclosed (after_look r) e else e)
+looks_keep : (b : Bool) (r : ℕ) (e : End) → KeepsEnd e (if b then if_unclosed (after_end_look r) e else e)
 looks_keep false r e = keeps_same e e refl
 looks_keep true r e = by (e.mine && not e.shut)
   where
-    by : (b : Bool) → KeepsEnd e (if b then after_look r e else e)
+    by : (b : Bool) → KeepsEnd e (if b then after_end_look r e else e)
     by true = record { mine = refl; shut = refl; count = refl; before = refl; cells = refl }
     by false = keeps_same e e refl
 
@@ -202,16 +202,16 @@ programs_keep_ends f v about old n ts new m goes = record {
       (λ r e. subst (λ (c : Watch). KeepsEnd e (end_step k (step.Load c r) e)) (sym w.1)
       (looks_keep (v == other_end k) r e))
       (λ l r e. subst (λ (c : Watch). KeepsEnd e (end_step k (step.Publish c l r) e)) (sym w.1)
-      (keeps_same e _ (ap (λ (b : Bool). if b then if_mine (after_publish l) e else e)
+      (keeps_same e _ (ap (λ (b : Bool). if b then if_mine (after_end_publish l) e else e)
       (test_off v k (λ q. ne (sym q)))))) (f.plan p seen).event s is) old n ts new m goes;
   others = λ k ne. goes_end k (λ e g. g ≡ e) (λ e g is. is) join_same f (λ p seen j s is.
       let w = about p in
       step_end k (λ e g. g ≡ e) (λ e g q. q) j f.own (f.given p)
       (λ r e. subst (λ (c : Watch). end_step k (step.Load c r) e ≡ e) (sym w.1)
-      (ap (λ (b : Bool). if b then if_unclosed (after_look r) e else e)
+      (ap (λ (b : Bool). if b then if_unclosed (after_end_look r) e else e)
       (test_off v (other_end k) (λ q. ne (sym (ap (λ (i : ℕ). i / PIPE_ENDS) q ∙ other_pipe k))))))
       (λ l r e. subst (λ (c : Watch). end_step k (step.Publish c l r) e ≡ e) (sym w.1)
-      (ap (λ (b : Bool). if b then if_mine (after_publish l) e else e)
+      (ap (λ (b : Bool). if b then if_mine (after_end_publish l) e else e)
       (test_off v k (λ q. ne (sym (ap (λ (i : ℕ). i / PIPE_ENDS) q)))))) (f.plan p seen).event s is) old n ts new m
       goes;
 }
@@ -285,7 +285,7 @@ module _ (v o : ℕ) (j : Known) (own : Option ℕ) (g : Given) (about : g.watch
   quiet_end : (d : Event) → IsQuiet d → (s : Step) → IsStepFor j own g d s → (e : End) → end_step v s e ≡ e
   quiet_end (event.Load c n) quiet (step.Load l r) is e =
       subst (λ (w : Watch). end_step v (step.Load w r) e ≡ e) (sym (is ∙ about))
-      (ap (λ (b : Bool). if b then if_unclosed (after_look r) e else e) (test_off v (other_end v) (not_own v)))
+      (ap (λ (b : Bool). if b then if_unclosed (after_end_look r) e else e) (test_off v (other_end v) (not_own v)))
     where
       not_own : (k : ℕ) → k ≢ other_end k
       not_own k = by (k % PIPE_ENDS == 0) refl

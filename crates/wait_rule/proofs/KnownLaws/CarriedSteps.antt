@@ -13,7 +13,7 @@ use Rattle.wait_model.proofs.StepLaws.UnlockSteps.{unlock_bits, unlock_hold}
 use Rattle.wait_rule.specs.declared.journal.Item.{Item}
 use Rattle.wait_rule.specs.declared.journal.Item.TheVariants as item
 use Rattle.wait_rule.specs.declared.journal.Journal.{Journal}
-use Rattle.wait_rule.specs.Asked.{Asked, given_at, is_asking, nothing_asked, took_note, waits_for, was_given}
+use Rattle.wait_rule.specs.Asked.{Asked, was_given_at, is_asking, nothing_asked, took_note, waits_for, was_given}
 use Rattle.wait_rule.specs.Bits.{NotesPage}
 use Rattle.wait_rule.specs.Items.{Book, after_awake, after_sleep, steps_of}
 use Rattle.wait_rule.specs.Known.{Known}
@@ -21,10 +21,10 @@ use Rattle.wait_rule.specs.Notes.{tell}
 use Rattle.wait_rule.specs.Queues.{at_head, index}
 use Rattle.wait_rule.specs.Says.{
   Debts,
-  Duty,
+  Obligation,
   Excuse,
   IsOutBut,
-  Owes,
+  OwesBut,
   added,
   asks_for,
   end_unclosed,
@@ -214,7 +214,7 @@ held_more false true k is = refl
 held_more false false true is = is
 held_more false false false is = refl
 
-asks_no_more : (x p : ℕ) (k : Asked) → given_at x k ≡ Some p → is_asking (took_note x k) ≡ false
+asks_no_more : (x p : ℕ) (k : Asked) → was_given_at x k ≡ Some p → is_asking (took_note x k) ≡ false
 asks_no_more x p nothing_asked is = refl
 asks_no_more x p (waits_for y q) is = absurd (cc)
 asks_no_more x p (was_given y q) is = by (y == x) is
@@ -225,7 +225,7 @@ asks_no_more x p (was_given y q) is = by (y == x) is
     by false at = absurd (cc)
 
 module _ (old new : Known) (x p : ℕ) (is : new ≡ added old (item.Made (step.Unflag x (Some p))))
-    (was : given_at x (asks_for old) ≡ Some p) where
+    (was : was_given_at x (asks_for old) ≡ Some p) where
   note_told : told_of new ≡ after (step.Unflag x (Some p)) (told_of old)
   note_told = ap told_of is ∙ told_added old (item.Made (step.Unflag x (Some p)))
 
@@ -239,14 +239,14 @@ module _ (old new : Known) (x p : ℕ) (is : new ≡ added old (item.Made (step.
         shows = d.shows none;
       })
 
-      by : (o : Duty) → (has_duty new o && not (excuses (with_bit (page p) f) o)) ≡ false
+      by : (o : Obligation) → (has_duty new o && not (excuses (with_bit (page p) f) o)) ≡ false
       by (wake_of c σ) = ap (λ (v : Told). v.duty.owes c σ && not (is_excused f c σ)) note_told ∙ d.none (wake_of c σ)
       by page_asked = ap (λ (b : Bool). b && not f.asks) (ap is_asking (ap asks_for is
           ∙ asked_added old (item.Made (step.Unflag x (Some p)))) ∙ asks_no_more x p (asks_for old) was)
       by (end_unclosed k) = ap (λ (b : Bool). b && not (f.ends k)) (ap (has_end k) is
           ∙ end_added old (item.Made (step.Unflag x (Some p))) k) ∙ d.none (end_unclosed k)
 
-  note_owes : (f : Excuse) → Owes (with_page f) old → Owes (with_bit (page p) f) new
+  note_owes : (f : Excuse) → OwesBut (with_page f) old → OwesBut (with_bit (page p) f) new
   unfolding with_page with_bits
   note_owes f o = record {
     unmarked = ap (λ (v : Told). v.mark) note_told ∙ o.unmarked;

@@ -13,7 +13,7 @@ use Rattle.wait_model.proofs.Functions.{put_at, put_same}
 use Rattle.wait_rule.specs.declared.journal.Item.TheVariants as item
 use Rattle.wait_rule.specs.Known.{Known}
 use Rattle.wait_rule.specs.Queues.{index, marked}
-use Rattle.wait_rule.specs.Says.{Debts, Duty, Excuse, IsOutBut, Owes, TriesNone, added, asks_for, end_unclosed, excuses, has_duty, is_excused, page_asked, stored_with, told_of, wake_of}
+use Rattle.wait_rule.specs.Says.{Debts, Obligation, Excuse, IsOutBut, OwesBut, TriesNone, added, asks_for, end_unclosed, excuses, has_duty, is_excused, page_asked, stored_with, told_of, wake_of}
 use Rattle.wait_rule.specs.Asked.{is_asking}
 use Rattle.wait_rule.specs.Stays.{
   Carries,
@@ -84,7 +84,7 @@ module _ (old : Known) (i : ℕ) (e : Entry) where
       leaves : x.left ≡ false → LeavesNone put
       leaves none = leaves_added old put (item.Made (step.Queue i e)) (low, tt) refl (leaves_of x old d none)
 
-      by : (o : Duty) → (has_duty put o && not (excuses (with_page x) o)) ≡ false
+      by : (o : Obligation) → (has_duty put o && not (excuses (with_page x) o)) ≡ false
       by (wake_of c σ) = ap (λ (v : Told). v.duty.owes c σ && not (is_excused x c σ))
           (told_added old (item.Made (step.Queue i e))) ∙ d.none (wake_of c σ)
       by page_asked = and_none (is_asking (asks_for put))
@@ -126,7 +126,7 @@ module _ (old new : Known) (i : ℕ) (e : Entry) (b : Beside old new)
       (λ _. free c) (λ _. none y c)
 
   put_owing : TriesNoBit e → (f g : Excuse) → g.entries ≡ f.entries → g.bits ≡ f.bits → Debts (with_entry i g) new
-      → Owes f old → Owes (with_entry i g) new
+      → OwesBut f old → OwesBut (with_entry i g) new
   unfolding with_entry
   put_owing free f g entries bits debts o = record {
     unmarked = ap (λ (v : Told). v.mark) told ∙ o.unmarked;
@@ -142,27 +142,27 @@ module _ (old new : Known) (i : ℕ) (e : Entry) (b : Beside old new)
     tries_none = put_none free o.tries_none;
   }
 
-  low_owing : is_page e.kind ≡ false → head_of e.watch < FIRST_DONE_HEAD → TriesNoBit e → (f : Excuse) → Owes f old
-      → Owes (with_entry i f) new
+  low_owing : is_page e.kind ≡ false → head_of e.watch < FIRST_DONE_HEAD → TriesNoBit e → (f : Excuse) → OwesBut f old
+      → OwesBut (with_entry i f) new
   unfolding with_entry
   low_owing unpaged low free f o = put_owing free f f refl refl
       (entries_debts f (with_entry i f) new refl refl refl refl (more f (put_debts old i e unpaged low f o.debts))) o
 
-  cell_owing : is_page e.kind ≡ false → TriesNoBit e → (f : Excuse) → Owes f old
-      → Owes (with_left_entry (with_entry i f)) new
+  cell_owing : is_page e.kind ≡ false → TriesNoBit e → (f : Excuse) → OwesBut f old
+      → OwesBut (with_left_entry (with_entry i f)) new
   unfolding with_entry with_left_entry
   cell_owing unpaged free f o = put_owing free f (with_left_entry f) refl refl
       (entries_debts (with_left_entry f) (with_entry i (with_left_entry f)) new refl refl refl refl
       (more (with_left_entry f) (queued_left f old i e unpaged o.debts))) o
 
-  page_owing : is_page e.kind ≡ true → head_of e.watch < FIRST_DONE_HEAD → (f : Excuse) → Owes f old
-      → Owes (with_page (with_entry i f)) new
+  page_owing : is_page e.kind ≡ true → head_of e.watch < FIRST_DONE_HEAD → (f : Excuse) → OwesBut f old
+      → OwesBut (with_page (with_entry i f)) new
   unfolding with_entry with_page
   page_owing paged low f o = put_owing (λ c. page_tries e c paged) f (with_page f) refl refl
       (entries_debts (with_page f) (with_entry i (with_page f)) new refl refl refl refl
       (more (with_page f) (page_debts old i e low f o.debts))) o
 
-  put_carried : (to : Excuse → Excuse) → ((f : Excuse) → Owes f old → Owes (to f) new)
+  put_carried : (to : Excuse → Excuse) → ((f : Excuse) → OwesBut f old → OwesBut (to f) new)
       → Carries (record (put_change i) { to = to }) old new
   put_carried to owing = record {
     domain = b.domain;
@@ -241,7 +241,7 @@ module _ (old new : Known) (i : ℕ) (b : Beside old new)
       ∙ put_at (λ (s : Option Entry). s ≡ (told_of old).bits.stored y) (told_of old).bits.stored i None y
       (λ here. absurd (other_is i y away here)) (λ _. refl)
 
-  off_still : (f : Excuse) → Owes (with_entry i f) old → Owes (with_entry i f) new
+  off_still : (f : Excuse) → OwesBut (with_entry i f) old → OwesBut (with_entry i f) new
   unfolding with_entry
   off_still f o = record {
     unmarked = ap (λ (v : Told). v.mark) told ∙ o.unmarked;

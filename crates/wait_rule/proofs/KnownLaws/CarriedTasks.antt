@@ -36,7 +36,7 @@ use Rattle.wait_rule.specs.declared.journal.Item.TheVariants as item
 use Rattle.wait_rule.specs.Items.{Book, after_sleep, after_awake, learn_step, steps_of}
 use Rattle.wait_rule.specs.Tickets.{Ticket}
 use Rattle.wait_rule.specs.Known.{Known}
-use Rattle.wait_rule.specs.Says.{Debts, Excuse, IsAwakeAgain, IsOutBut, Owes, added, is_excused, told_of, wake_of}
+use Rattle.wait_rule.specs.Says.{Debts, Excuse, IsAwakeAgain, IsOutBut, OwesBut, added, is_excused, told_of, wake_of}
 use Rattle.wait_rule.proofs.KnownLaws.Debts.{begins_none, publish_debts, step_debts, wakes_after, wakes_debts}
 use Rattle.wait_rule.specs.Queues.{KnewEntry, MayUnqueue, index, saw}
 use Rattle.wait_rule.specs.Stays.{
@@ -75,7 +75,7 @@ covered true false false n more is = is
 
 pub owes_wakes : (x y : Excuse) (k : Known) → y.entries ≡ x.entries → y.bits ≡ x.bits → y.asks ≡ x.asks
     → y.ends ≡ x.ends → y.left ≡ x.left
-    → ((c : Watch) (σ : ℕ) → ((told_of k).duty.owes c σ && not (is_excused y c σ)) ≡ false) → Owes x k → Owes y k
+    → ((c : Watch) (σ : ℕ) → ((told_of k).duty.owes c σ && not (is_excused y c σ)) ≡ false) → OwesBut x k → OwesBut y k
 owes_wakes x y k entries bits asks ends left wakes o = record {
   unmarked = o.unmarked;
   debts = wakes_debts x y k asks ends left wakes o.debts;
@@ -87,7 +87,7 @@ owes_wakes x y k entries bits asks ends left wakes o = record {
 
 pub owes_more : (x y : Excuse) (k : Known) → y.entries ≡ x.entries → y.bits ≡ x.bits → y.asks ≡ x.asks
     → y.ends ≡ x.ends → y.left ≡ x.left
-    → ((c : Watch) (σ : ℕ) → x.wakes c σ ≡ true → y.wakes c σ ≡ true) → Owes x k → Owes y k
+    → ((c : Watch) (σ : ℕ) → x.wakes c σ ≡ true → y.wakes c σ ≡ true) → OwesBut x k → OwesBut y k
 owes_more x y k entries bits asks ends left more o = owes_wakes x y k entries bits asks ends left
     (λ c σ. covered ((told_of k).duty.owes c σ) (x.wakes c σ) (y.wakes c σ) (not (meets (mask_of mode.Normal) σ))
     (more c σ) (o.debts.none (wake_of c σ))) o
@@ -301,7 +301,7 @@ kept_still true s is = ap not is
 kept_still false s is = refl
 
 published_owes : (c : Watch) (n r : ℕ) (x : Excuse) (old new : Known) → new ≡ added old (item.Made (step.Publish c n r))
-    → Owes x old → Owes (with_wakes c mode.Normal x) new
+    → OwesBut x old → OwesBut (with_wakes c mode.Normal x) new
 unfolding with_wakes
 published_owes c n r x old new is o =
     let told : told_of new ≡ after (step.Publish c n r) (told_of old) = ap told_of is

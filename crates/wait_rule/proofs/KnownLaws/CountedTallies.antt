@@ -16,7 +16,7 @@ use Rattle.wait_rule.specs.declared.journal.Item.TheVariants as item
 use Rattle.wait_rule.specs.declared.journal.Journal.{Journal}
 use Rattle.wait_rule.specs.declared.journal.Part.{Part}
 use Rattle.wait_rule.specs.Items.{IsNoAdd, AddsNone}
-use Rattle.wait_rule.specs.Journals.{owns, has_of, items_in, part_of, pushed, joined_with}
+use Rattle.wait_rule.specs.Journals.{owns, has_of, items_in, part_in, pushed, joined_with}
 use Rattle.wait_rule.specs.Known.{Known}
 use Rattle.wait_rule.specs.Says.{added}
 use Rattle.wait_rule.specs.Tallies.{amount_of, amounts_of}
@@ -109,7 +109,7 @@ items_append t (p ∷ ps) qs = ap (λ (xs : List Item). cond (eqb p.number t) p.
 
 joined_has : (v w : Journal) (t : ℕ) → w.lives ≡ true → has_of t (joined_with v w) ≡ has_of t v ++ has_of t w
 joined_has v w t lives = ap (λ (xs : List Item). cond (v.lives && eqb v.number t) v.items [] ++ xs)
-    (items_append t v.joined (part_of w ∷ w.joined)
+    (items_append t v.joined (part_in w ∷ w.joined)
     ∙ ap (λ (b : Bool). items_in t v.joined ++ (cond (b && eqb w.number t) w.items [] ++ items_in t w.joined))
     (sym lives))
     ∙ sym (append_assoc (cond (v.lives && eqb v.number t) v.items []) (items_in t v.joined) (has_of t w))

@@ -45,10 +45,10 @@ use Rattle.wait_rule.specs.Journals.{pushed}
 use Rattle.wait_rule.specs.Known.{Known}
 use Rattle.wait_rule.specs.LeftEntries.{HasLeftNone, Order, OrderOf, ShowsNoOwn}
 use Rattle.wait_rule.specs.Notes.{tell}
-use Rattle.wait_rule.specs.Asked.{Asked, ask, ask_step, is_asking}
+use Rattle.wait_rule.specs.Asked.{Asked, after_item, ask_step, is_asking}
 use Rattle.wait_rule.specs.Says.{
   Debts,
-  Duty,
+  Obligation,
   Excuse,
   added,
   asks_for,
@@ -68,8 +68,8 @@ use Rattle.wait_rule.specs.Says.{
 }
 use Rattle.wait_rule.specs.Pipes.{
   End,
-  after_look,
-  after_publish,
+  after_end_look,
+  after_end_publish,
   claimed,
   end_item,
   end_of,
@@ -179,7 +179,7 @@ unpaged_of : (p q : Bool) → (not p && q) ≡ true → p ≡ false
 unpaged_of false q is = refl
 unpaged_of true q is = absurd (cc)
 
-asks_none_then : (x : Item) (k : Asked) → item_begins_none x ≡ true → is_asking k ≡ false → is_asking (ask x k) ≡ false
+asks_none_then : (x : Item) (k : Asked) → item_begins_none x ≡ true → is_asking k ≡ false → is_asking (after_item x k) ≡ false
 asks_none_then (item.Made e) k is none = asks_none_step e k
     (λ x f same. unpaged_of (is_page f.kind) (queues_low f) (ap begins_none (sym same) ∙ is)) none
 asks_none_then x k is none = none
@@ -200,9 +200,9 @@ published_closed true false b none = absurd (cc)
 
 step_closed : (k : ℕ) (s : Step) (e : End) → is_unclosed e ≡ false → is_unclosed (end_step k s e) ≡ false
 step_closed k (step.Load (watch.Var v o) r) e none = either_closed (v == other_end k) _ e
-    (either_closed (is_unclosed e) (after_look r e) e none none) none
+    (either_closed (is_unclosed e) (after_end_look r e) e none none) none
 step_closed k (step.Publish (watch.Var v o) n r) e none = either_closed (v == k) _ e
-    (either_closed e.mine (after_publish n e) e (published_closed e.mine e.shut (n % 2 == 1) none) none) none
+    (either_closed e.mine (after_end_publish n e) e (published_closed e.mine e.shut (n % 2 == 1) none) none) none
 step_closed k (step.Load (watch.Plain c) r) e none = none
 step_closed k (step.Load (watch.Done c) r) e none = none
 step_closed k (step.Load (watch.Bit w b) r) e none = none
@@ -294,7 +294,7 @@ item_debts x k i is d = record { none = by; off = λ none. (leaves none).off; sh
     leaves : x.left ≡ false → LeavesNone (added k i)
     leaves = leaves_none_after x k (added k i) i (item_low i is) refl d
 
-    by : (o : Duty) → (has_duty (added k i) o && not (excuses x o)) ≡ false
+    by : (o : Obligation) → (has_duty (added k i) o && not (excuses x o)) ≡ false
     by (wake_of c σ) = no_more ((told_of k).duty.owes c σ) ((told_of (added k i)).duty.owes c σ)
         (not (is_excused x c σ))
         (λ none. ap (λ (v : Told). v.duty.owes c σ) (told_added k i) ∙ wakes_told i (told_of k) is c σ none)
@@ -306,7 +306,7 @@ item_debts x k i is d = record { none = by; off = λ none. (leaves none).off; sh
         (λ none. end_added k i e ∙ item_closed e i (end_of e k.view.items) is none) (d.none (end_unclosed e))
 
 -- An entry that is queued at a completion: the task is excused of that it leaves it there.
-same_excused : (x : Excuse) (o : Duty) → excuses (with_left_entry x) o ≡ excuses x o
+same_excused : (x : Excuse) (o : Obligation) → excuses (with_left_entry x) o ≡ excuses x o
 unfolding with_left_entry
 same_excused x (wake_of c σ) = refl
 same_excused x page_asked = refl
@@ -319,7 +319,7 @@ module _ (x : Excuse) (k : Known) (i : ℕ) (f : Entry) (unpaged : is_page f.kin
   entry_of_queue : (y : ℕ) (e : Entry) → step.Queue i f ≡ step.Queue y e → e ≡ f
   entry_of_queue y e same = cc
 
-  queued_none : (o : Duty) → (has_duty queued_now o && not (excuses x o)) ≡ false
+  queued_none : (o : Obligation) → (has_duty queued_now o && not (excuses x o)) ≡ false
   queued_none (wake_of c σ) = ap (λ (v : Told). v.duty.owes c σ && not (is_excused x c σ))
       (told_added k (item.Made (step.Queue i f))) ∙ d.none (wake_of c σ)
   queued_none page_asked = no_more (is_asking (asks_for k)) (is_asking (asks_for queued_now)) (not x.asks)
@@ -349,7 +349,7 @@ published_wakes true o false false is = refl
 
 published_none : (c : Watch) (n r : ℕ) (x : Excuse) (old new : Known) → new ≡ added old (item.Made
     (step.Publish c n r))
-    → Debts x old → (o : Duty) → (has_duty new o && not (excuses (with_wakes c mode.Normal x) o)) ≡ false
+    → Debts x old → (o : Obligation) → (has_duty new o && not (excuses (with_wakes c mode.Normal x) o)) ≡ false
 unfolding with_wakes
 published_none c n r x old new is d (wake_of b σ) = ap (λ (v : Told). v.duty.owes b σ
     && not ((x.wakes b σ || (same b c && meets (mask_of mode.Normal) σ))
@@ -378,26 +378,26 @@ publish_debts c n r x old new is d = record {
 -- A publish of the own word that closes an end: the task is excused of that end no more.
 module _ (k n r : ℕ) (odd : (n % 2 == 1) ≡ true) (x : Excuse) (old new : Known)
     (is : new ≡ added old (item.Made (step.Publish (watch.Var k 0) n r))) (d : Debts (with_end k x) old) where
-  closes : (e : End) → is_unclosed (if_mine (after_publish n) e) ≡ false
+  closes : (e : End) → is_unclosed (if_mine (after_end_publish n) e) ≡ false
   closes e = by e.mine refl
     where
       shuts : (s b : Bool) → b ≡ true → not (s || b) ≡ false
       shuts true b q = refl
       shuts false b q = ap not q
 
-      by : (m : Bool) → e.mine ≡ m → is_unclosed (if m then after_publish n e else e) ≡ false
+      by : (m : Bool) → e.mine ≡ m → is_unclosed (if m then after_end_publish n e else e) ≡ false
       by true q = ap (λ (m : Bool). m && not (e.shut || (n % 2 == 1))) q ∙ shuts e.shut (n % 2 == 1) odd
       by false q = ap (λ (m : Bool). m && not e.shut) q
 
   closed_now : (e : ℕ) → e ≡ k → has_end e new ≡ false
   closed_now e same = ap (has_end e) is ∙ (end_added old (item.Made (step.Publish (watch.Var k 0) n r)) e
-      ∙ (ap (λ (b : Bool). is_unclosed (if b then if_mine (after_publish n) (end_of e old.view.items)
+      ∙ (ap (λ (b : Bool). is_unclosed (if b then if_mine (after_end_publish n) (end_of e old.view.items)
       else end_of e old.view.items)) (test_on k e (sym same)) ∙ closes (end_of e old.view.items)))
 
-  abbrev Closes : Duty → Type 0
+  abbrev Closes : Obligation → Type 0
   Closes o = (has_duty new o && not (excuses (with_wakes (watch.Var k 0) mode.Normal x) o)) ≡ false
 
-  closed_none : (o : Duty) → Closes o
+  closed_none : (o : Obligation) → Closes o
   unfolding with_wakes with_end
   closed_none (wake_of b σ) = published_none (watch.Var k 0) n r (with_end k x) old new is d (wake_of b σ)
   closed_none page_asked = published_none (watch.Var k 0) n r (with_end k x) old new is d page_asked
@@ -418,7 +418,7 @@ module _ (k n r : ℕ) (odd : (n % 2 == 1) ≡ true) (x : Excuse) (old new : Kno
 -- A claim of an end: the task is excused of that end too where it got it.
 module _ (k w : ℕ) (x : Excuse) (old new : Known) (is : new ≡ added old (item.Piped k act.Claim w)) (d : Debts x old)
   where
-    abbrev others : Excuse → Duty → Type 0
+    abbrev others : Excuse → Obligation → Type 0
     others y o = (has_duty new o && not (excuses y o)) ≡ false
 
     claimed_wakes : (c : Watch) (σ : ℕ) → others x (wake_of c σ)
@@ -451,7 +451,7 @@ module _ (k w : ℕ) (x : Excuse) (old new : Known) (is : new ≡ added old (ite
             else end_of e old.view.items))
             (test_off k e (λ z. true≢false (sym (test_on e k (sym z)) ∙ q)))) ∙ d.none (end_unclosed e)
 
-        by : (o : Duty) → others (with_end k x) o
+        by : (o : Obligation) → others (with_end k x) o
         by (wake_of c σ) = claimed_wakes c σ
         by page_asked = claimed_page
         by (end_unclosed e) = ends e (e == k) refl
@@ -459,7 +459,7 @@ module _ (k w : ℕ) (x : Excuse) (old new : Known) (is : new ≡ added old (ite
     pub refused_debts : (w == 0) ≡ false → Debts x new
     refused_debts found = record { none = by; off = λ none. (leaves none).off; shows = λ none. (leaves none).shows }
       where
-        by : (o : Duty) → others x o
+        by : (o : Obligation) → others x o
         by (wake_of c σ) = claimed_wakes c σ
         by page_asked = claimed_page
         by (end_unclosed e) = ap (λ (h : Bool). h && not (x.ends e)) (end_is e
@@ -479,7 +479,7 @@ wakes_debts x y k asks ends left wakes d = record {
   shows = λ none. d.shows (sym left ∙ none);
 }
   where
-    by : (o : Duty) → (has_duty k o && not (excuses y o)) ≡ false
+    by : (o : Obligation) → (has_duty k o && not (excuses y o)) ≡ false
     by (wake_of c σ) = wakes c σ
     by page_asked = ap (λ (b : Bool). is_asking (asks_for k) && not b) asks ∙ d.none page_asked
     by (end_unclosed e) = ap (λ (f : ℕ → Bool). has_end e k && not (f e)) ends ∙ d.none (end_unclosed e)
@@ -493,7 +493,7 @@ entries_debts x y k same asks ends left d = record {
   shows = λ none. d.shows (sym left ∙ none);
 }
   where
-    by : (o : Duty) → (has_duty k o && not (excuses y o)) ≡ false
+    by : (o : Obligation) → (has_duty k o && not (excuses y o)) ≡ false
     by (wake_of c σ) = ap (λ (f : Watch → ℕ → Bool). (told_of k).duty.owes c σ && not (f c σ
         || not (meets (mask_of mode.Normal) σ))) same ∙ d.none (wake_of c σ)
     by page_asked = ap (λ (b : Bool). is_asking (asks_for k) && not b) asks ∙ d.none page_asked

@@ -19,7 +19,7 @@ use Rattle.wait_rule.specs.Pipes.{
   Delivers,
   End,
   IsPipe,
-  after_publish,
+  after_end_publish,
   end_act,
   end_item,
   end_of,
@@ -31,7 +31,7 @@ use Rattle.wait_rule.specs.Pipes.{
 }
 use Rattle.wait_rule.specs.PipeSays.{EndBecomes, end_at}
 use Rattle.wait_rule.specs.PipeLaws.{RuleDelivers, RuleRefuses, JoinedDeliver, JoinedRefuse}
-use Rattle.wait_rule.specs.Says.{Debts, Excuse, IsOutBut, Owes, added, told_of}
+use Rattle.wait_rule.specs.Says.{Debts, Excuse, IsOutBut, OwesBut, added, told_of}
 use Rattle.wait_rule.specs.Queues.{index}
 use Rattle.wait_rule.specs.Stays.{Carries, claim_change, close_change, unchanged, with_end, with_wakes}
 use Rattle.wait_rule.specs.LookCounts.{Looked, looks_made}
@@ -125,7 +125,7 @@ module _ (old new : Known) (k : ℕ) (d : EndAct) (w : ℕ) (is : new ≡ added 
   piped_told = ap told_of is ∙ told_added old (item.Piped k d w)
 
   -- what a task of such an item has yet to do, by its debts
-  piped_owes : (x y : Excuse) → y.entries ≡ x.entries → y.bits ≡ x.bits → Debts y new → Owes x old → Owes y new
+  piped_owes : (x y : Excuse) → y.entries ≡ x.entries → y.bits ≡ x.bits → Debts y new → OwesBut x old → OwesBut y new
   piped_owes x y entries bits debts o = record {
     unmarked = ap (λ (v : Told). v.mark) piped_told ∙ o.unmarked;
     debts = debts;
@@ -137,7 +137,7 @@ module _ (old new : Known) (k : ℕ) (d : EndAct) (w : ℕ) (is : new ≡ added 
     tries_none = λ i c. ap (λ (v : Told). is_trying_for (v.bits.stored i) c) piped_told ∙ o.tries_none i c;
   }
 
-  piped_carries : (to : Excuse → Excuse) → ((x : Excuse) → Owes x old → Owes (to x) new)
+  piped_carries : (to : Excuse → Excuse) → ((x : Excuse) → OwesBut x old → OwesBut (to x) new)
       → Carries (record unchanged { to = to }) old new
   piped_carries to owes = record {
     domain = ap (λ (k : Known). k.domain) is;
@@ -180,7 +180,7 @@ unfolding with_end
 claim_carried old new k w true is found = piped_carries old new k act.Claim w is (with_end k)
     (λ x o. claimed x o)
   where
-    claimed : (x : Excuse) → Owes x old → Owes (with_end k x) new
+    claimed : (x : Excuse) → OwesBut x old → OwesBut (with_end k x) new
     claimed x o = piped_owes old new k act.Claim w is x (with_end k x) refl refl (got_debts k w x old new is o.debts) o
 claim_carried old new k w false is found = piped_carries old new k act.Claim w is (λ x. x)
     (λ x o. piped_owes old new k act.Claim w is x x refl refl (refused_debts k w x old new is o.debts (sym found)) o)
@@ -209,8 +209,8 @@ closed_carried old new k n r odd is =
       owes = λ x o. closes x o (p.owes (with_end k x) o);
     }
   where
-    closes : (x : Excuse) → Owes (with_end k x) old → Owes (with_wakes (watch.Var k 0) mode.Normal (with_end k x)) new
-        → Owes (with_wakes (watch.Var k 0) mode.Normal x) new
+    closes : (x : Excuse) → OwesBut (with_end k x) old → OwesBut (with_wakes (watch.Var k 0) mode.Normal (with_end k x)) new
+        → OwesBut (with_wakes (watch.Var k 0) mode.Normal x) new
     closes x o q = record {
       unmarked = q.unmarked;
       debts = close_debts k n r odd x old new is o.debts;
@@ -223,13 +223,13 @@ closed_carried old new k n r odd is =
 -- a publish of the own word
 pub publish_becomes : (old new : Known) (k o n r : ℕ) → (end_at k old).mine ≡ true
     → new ≡ added old (item.Made (step.Publish (watch.Var k o) n r))
-    → EndBecomes k old new (after_publish n (end_at k old))
+    → EndBecomes k old new (after_end_publish n (end_at k old))
 publish_becomes old new k o n r mine is = record {
   own = end_added old new x is k
-      ∙ (ap (λ (b : Bool). if b then if_mine (after_publish n) (end_at k old) else end_at k old) (test_on k k refl)
-      ∙ ap (λ (b : Bool). if b then after_publish n (end_at k old) else end_at k old) mine);
+      ∙ (ap (λ (b : Bool). if b then if_mine (after_end_publish n) (end_at k old) else end_at k old) (test_on k k refl)
+      ∙ ap (λ (b : Bool). if b then after_end_publish n (end_at k old) else end_at k old) mine);
   others = λ j ne. end_added old new x is j
-      ∙ ap (λ (b : Bool). if b then if_mine (after_publish n) (end_at j old) else end_at j old)
+      ∙ ap (λ (b : Bool). if b then if_mine (after_end_publish n) (end_at j old) else end_at j old)
       (test_off k j (λ e. ne (sym e)));
 }
   where

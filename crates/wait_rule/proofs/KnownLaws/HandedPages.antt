@@ -14,17 +14,17 @@ use Rattle.wait_model.specs.Tables.{Table, next}
 use Rattle.wait_model.specs.Rows.{Allowed}
 use Rattle.wait_model.proofs.Functions.{put_case, put_at, put_same, put_other, bool_or}
 use Rattle.wait_rule.specs.Items.{Difference, nothing, page_taken, page_told, after_try, Book, learn_step}
-use Rattle.wait_rule.specs.Asked.{Asked, given_if, took_note, ask_step, waits_at, given_at}
+use Rattle.wait_rule.specs.Asked.{Asked, given_if, took_note, ask_step, waits_at, was_given_at}
 use Rattle.wait_rule.specs.Pages.{
-  takes,
+  taken_entry,
   IsPageEntry,
   IsPageless,
   IsAskedAt,
-  IsAtRest,
+  IsPageAtRest,
   IsHandedBy,
   IsHandedOver,
   IsPageState,
-  ArePagesHanded,
+  ArePageStates,
 }
 use Rattle.wait_rule.proofs.KnownLaws.PageStates.{
   none_some,
@@ -54,15 +54,15 @@ use Rattle.wait_rule.proofs.KnownLaws.PageSteps.{
 }
 
 module _ (s : Table) (a : ℕ) (b : Book) (differs : ℕ → Difference) (asked : ℕ → Asked)
-    (same : differs a ≡ b.differs) (r : ArePagesHanded s differs asked) (sound : IsSound s) where
+    (same : differs a ≡ b.differs) (r : ArePageStates s differs asked) (sound : IsSound s) where
   -- where no page is to be handed over
-  pub clear_stays : {A : Type 0} (y : ℕ) → b.differs ≡ nothing → takes b.differs ≡ Some y → A
+  pub clear_stays : {A : Type 0} (y : ℕ) → b.differs ≡ nothing → taken_entry b.differs ≡ Some y → A
   clear_stays y n is = takes_none b.differs y n is
 
   -- a task that has no lock has none to hand over
-  pub free_stays : {A : Type 0} (y : ℕ) → (s.view a).hold.head ≡ None → takes b.differs ≡ Some y → A
+  pub free_stays : {A : Type 0} (y : ℕ) → (s.view a).hold.head ≡ None → taken_entry b.differs ≡ Some y → A
   free_stays y out is =
-      let i = r.hands a y (ap takes same ∙ is) in
+      let i = r.hands a y (ap taken_entry same ∙ is) in
       none_some (head_of (page i.0)) (sym out ∙ i.1.held)
 
   -- the state of an entry word on which the task has an entry for a page, of which none is taken
@@ -81,7 +81,7 @@ module _ (s : Table) (a : ℕ) (b : Book) (differs : ℕ → Difference) (asked 
       by (inr (inr (inr i))) = none_some i.0 (sym free ∙ i.1.taken)
 
   -- the flag of a woken entry is set, over which no DONE stands
-  pub woken_pages : (x : ℕ) → s.taken x ≡ None → ArePagesHanded (next s a (step.Woken x)) (put differs a b.differs)
+  pub woken_pages : (x : ℕ) → s.taken x ≡ None → ArePageStates (next s a (step.Woken x)) (put differs a b.differs)
       (put asked a (asked a))
   woken_pages x free = quiet_pages s a (step.Woken x) b differs asked same r refl refl
       (λ y p taken done. put_at (λ (d : Bool). d ≡ true) s.done x false y
@@ -89,7 +89,7 @@ module _ (s : Table) (a : ℕ) (b : Book) (differs : ℕ → Difference) (asked 
       (λ y is. is)
 
   -- the task is told of its page
-  pub handed_pages : (x : ℕ) → b.differs ≡ page_taken x → ArePagesHanded (next s a (step.Handed x))
+  pub handed_pages : (x : ℕ) → b.differs ≡ page_taken x → ArePageStates (next s a (step.Handed x))
       (put differs a (page_told x)) (put asked a (asked a))
   handed_pages x is = one_touched s a e b differs asked same r (λ y p at. r.own a y p at) mine x far
       (inr (inr (inl (
@@ -111,7 +111,7 @@ module _ (s : Table) (a : ℕ) (b : Book) (differs : ℕ → Difference) (asked 
       K = put asked a (asked a)
 
       i : (p : ℕ) × IsHandedBy s (differs a) (asked (owner x)) x p a
-      i = r.hands a x (ap takes (same ∙ is))
+      i = r.hands a x (ap taken_entry (same ∙ is))
 
       asks : K (owner x) ≡ asked (owner x)
       asks = put_at (λ (k : Asked). k ≡ asked (owner x)) asked a (asked a) (owner x) (λ q. ap asked (sym q)) (λ _. refl)
@@ -121,24 +121,24 @@ module _ (s : Table) (a : ℕ) (b : Book) (differs : ℕ → Difference) (asked 
         taken = i.1.taken;
         stands = i.1.stands;
         asked = subst (IsAskedAt x i.0) (sym asks) i.1.asked;
-        own = λ mine. ap (given_at x) asks ∙ i.1.own mine;
+        own = λ mine. ap (was_given_at x) asks ∙ i.1.own mine;
         takes = refl;
         held = ap (λ (v : Told). v.hold.head) (put_same s.view a (s.view a)) ∙ i.1.held;
         told = λ _. put_same s.done x true;
       }
 
-      mine : (y : ℕ) → takes (page_told x) ≡ Some y → (p : ℕ) × IsHandedBy z (page_told x) (K (owner y)) y p a
+      mine : (y : ℕ) → taken_entry (page_told x) ≡ Some y → (p : ℕ) × IsHandedBy z (page_told x) (K (owner y)) y p a
       mine y at = subst (λ (j : ℕ). (p : ℕ) × IsHandedBy z (page_told x) (K (owner j)) j p a) (some_same x y at)
           (i.0, now)
 
       far : (y : ℕ) → y ≢ x → IsSameAt s z differs (put differs a (page_told x)) asked K y
       far y ne = same_at s a e b differs asked same r y refl refl
           (λ p t d. put_other s.done x true y ne ∙ d) (λ _. refl) (λ _. refl) refl
-          (λ at. absurd (ne (some_same y x (sym at ∙ ap takes is))))
+          (λ at. absurd (ne (some_same y x (sym at ∙ ap taken_entry is))))
 
   -- a page is tried for the task of an entry
   pub tried_pages : (x p w : ℕ) → Allowed s a (step.TasFor x p w) → b.differs ≡ nothing
-      → ArePagesHanded (next s a (step.TasFor x p w))
+      → ArePageStates (next s a (step.TasFor x p w))
       (put differs a (learn_step (step.TasFor x p w) b).differs)
       (put asked a (ask_step (step.TasFor x p w) (asked a)))
   tried_pages x p w may clear = by (was_clear (page p) w) refl
@@ -164,12 +164,12 @@ module _ (s : Table) (a : ℕ) (b : Book) (differs : ℕ → Difference) (asked 
       waits : waits_at x (asked (owner x)) ≡ Some p
       waits = waits_there x p stands may.2
 
-      by : (c : Bool) → was_clear (page p) w ≡ c → ArePagesHanded z D K
+      by : (c : Bool) → was_clear (page p) w ≡ c → ArePageStates z D K
       by false q = quiet_pages s a e b differs asked same r refl
           (ap (λ (t : Bool). if t then put s.taken x (Some p) else s.taken) q) (λ y j t d. d)
           (ap (λ (t : Bool). given_if t x (asked a)) q) refl
           (λ y is. clear_stays y clear is)
-          (λ y is. sym (ap (λ (t : Bool). takes (after_try x t b.differs)) q) ∙ is)
+          (λ y is. sym (ap (λ (t : Bool). taken_entry (after_try x t b.differs)) q) ∙ is)
       by true q = one_touched s a e b differs asked same r
           (λ y j at. r.own a y j (asked_given (was_clear (page p) w) x y j (asked a) at)) mine x far
           (inr (inr (inl (
@@ -183,10 +183,10 @@ module _ (s : Table) (a : ℕ) (b : Book) (differs : ℕ → Difference) (asked 
           tried : after_try x (was_clear (page p) w) b.differs ≡ page_taken x
           tried = ap (λ (t : Bool). after_try x t b.differs) q
 
-          given : owner x ≡ a → given_at x (K (owner x)) ≡ Some p
-          given mine = ap (λ (i : ℕ). given_at x (K i)) mine
-              ∙ (ap (given_at x) (put_same asked a (given_if (was_clear (page p) w) x (asked a)))
-              ∙ (ap (λ (t : Bool). given_at x (given_if t x (asked a))) q
+          given : owner x ≡ a → was_given_at x (K (owner x)) ≡ Some p
+          given mine = ap (λ (i : ℕ). was_given_at x (K i)) mine
+              ∙ (ap (was_given_at x) (put_same asked a (given_if (was_clear (page p) w) x (asked a)))
+              ∙ (ap (λ (t : Bool). was_given_at x (given_if t x (asked a))) q
               ∙ given_where_waited x p (asked a) (ap (λ (i : ℕ). waits_at x (asked i)) (sym mine) ∙ waits)))
 
           asked_now : IsAskedAt x p (K (owner x))
@@ -212,11 +212,11 @@ module _ (s : Table) (a : ℕ) (b : Book) (differs : ℕ → Difference) (asked 
             told = λ t. none_some x t;
           }
 
-          mine : (y : ℕ) → takes (after_try x (was_clear (page p) w) b.differs) ≡ Some y
+          mine : (y : ℕ) → taken_entry (after_try x (was_clear (page p) w) b.differs) ≡ Some y
               → (j : ℕ) × IsHandedBy z (after_try x (was_clear (page p) w) b.differs) (K (owner y)) y j a
           mine y at = subst (λ (i : ℕ). (j : ℕ)
               × IsHandedBy z (after_try x (was_clear (page p) w) b.differs) (K (owner i)) i j a)
-              (some_same x y (sym (ap takes tried) ∙ at))
+              (some_same x y (sym (ap taken_entry tried) ∙ at))
               (p, subst (λ (d : Difference). IsHandedBy z d (K (owner x)) x p a) (sym tried) now)
 
           far : (y : ℕ) → y ≢ x → IsSameAt s z differs D asked K y
@@ -230,7 +230,7 @@ module _ (s : Table) (a : ℕ) (b : Book) (differs : ℕ → Difference) (asked 
   -- the task clears its own flag word, where it has no entry for a page: it takes note of the page, if there is one
   pub unflag_pages : (x : ℕ) (o : Option ℕ) → owner x ≡ a
       → ((s.taken x ≡ None) × IsPageless (s.entry x)) ⊎ IsPageless ((s.view a).bits.stored x)
-      → ArePagesHanded (next s a (step.Unflag x o)) (put differs a b.differs) (put asked a (took_note x (asked a)))
+      → ArePageStates (next s a (step.Unflag x o)) (put differs a b.differs) (put asked a (took_note x (asked a)))
   unflag_pages x o mine none = one_touched s a e b differs asked same r
       (λ y p at. r.own a y p (asked_note x y p (asked a) at)) kept x far (inl (here (r.each x)))
       (λ d p ne i. no_page i.stands.entry i.stands.is i.stands.kind)
@@ -261,16 +261,16 @@ module _ (s : Table) (a : ℕ) (b : Book) (differs : ℕ → Difference) (asked 
       asks : K (owner x) ≡ took_note x (asked a)
       asks = ap K mine ∙ put_same asked a (took_note x (asked a))
 
-      rests : waits_at x (asked (owner x)) ≡ None → IsAtRest z (K (owner x)) x
+      rests : waits_at x (asked (owner x)) ≡ None → IsPageAtRest z (K (owner x)) x
       rests waits = record {
         taken = put_same s.taken x None;
         none = λ f is. elim (bool_or (is_page f.kind)) [ inl t ↦ no_page f is t | inr t ↦ t ];
         waits = ap (waits_at x) asks ∙ (waits_note x x (asked a)
             ∙ (ap (λ (i : ℕ). waits_at x (asked i)) (sym mine) ∙ waits));
-        given = ap (given_at x) asks ∙ given_note x (asked a);
+        given = ap (was_given_at x) asks ∙ given_note x (asked a);
       }
 
-      here : IsPageState s differs asked x → IsAtRest z (K (owner x)) x
+      here : IsPageState s differs asked x → IsPageAtRest z (K (owner x)) x
       here (inl i) = rests i.waits
       here (inr (inl i)) = no_page i.1.stands.entry i.1.stands.is i.1.stands.kind
       here (inr (inr (inl i))) = no_page i.2.stands.entry i.2.stands.is i.2.stands.kind
@@ -284,13 +284,13 @@ module _ (s : Table) (a : ℕ) (b : Book) (differs : ℕ → Difference) (asked 
           (λ p t d. put_other s.done x false y ne ∙ d) (λ _. waits_note x y (asked a))
           (λ _. given_note_far x y (asked a) ne) refl (λ is. (refl, refl))
 
-      kept : (y : ℕ) → takes b.differs ≡ Some y → (p : ℕ) × IsHandedBy z b.differs (K (owner y)) y p a
+      kept : (y : ℕ) → taken_entry b.differs ≡ Some y → (p : ℕ) × IsHandedBy z b.differs (K (owner y)) y p a
       kept y is = by (eqb_tells y x)
         where
           by : (((y == x) ≡ true) × (y ≡ x)) ⊎ (((y == x) ≡ false) × (y ≢ x))
               → (p : ℕ) × IsHandedBy z b.differs (K (owner y)) y p a
           by (inl q) =
-              let i = r.hands a x (ap takes same ∙ (is ∙ ap (λ (j : ℕ). Some j) q.1)) in
+              let i = r.hands a x (ap taken_entry same ∙ (is ∙ ap (λ (j : ℕ). Some j) q.1)) in
               no_page i.1.stands.entry i.1.stands.is i.1.stands.kind
           by (inr q) = mine_still s a e b differs asked same r y (far y q.1) is
 
@@ -313,10 +313,10 @@ module _ (s : Table) (a : ℕ) (b : Book) (differs : ℕ → Difference) (asked 
     done_stays : (y p : ℕ) → s.taken y ≡ Some p → s.done y ≡ true → sz.done y ≡ true
     done_stays y p t d = ap (λ (f : ℕ → Bool). f y) done ∙ d
 
-    new_is : (y : ℕ) → takes (learn_step e b).differs ≡ Some y → takes b.differs ≡ Some y
-    new_is y is = sym (ap takes still) ∙ is
+    new_is : (y : ℕ) → taken_entry (learn_step e b).differs ≡ Some y → taken_entry b.differs ≡ Some y
+    new_is y is = sym (ap taken_entry still) ∙ is
 
-    pub found_off : s.entry x ≡ None → ArePagesHanded sz SD SK
+    pub found_off : s.entry x ≡ None → ArePageStates sz SD SK
     found_off gone = one_touched s a e b differs asked same r
         (λ y p at. r.own a y p (asked_given (is_off (s.entry x)) x y p (asked a) (subst (IsAskedAt y p) asks at)))
         kept x far (here (r.each x)) (λ d p ne i. no_entry (s.entry x) i.stands.entry gone i.stands.is)
@@ -328,20 +328,20 @@ module _ (s : Table) (a : ℕ) (b : Book) (differs : ℕ → Difference) (asked 
         far y ne = same_at s a e b differs asked same r y (ap (λ (f : ℕ → Option Entry). f y) entry)
             (ap (λ (f : ℕ → Option ℕ). f y) taken) (done_stays y)
             (λ _. ap (waits_at y) asks_off ∙ waits_given_far true x y (asked a) ne)
-            (λ _. ap (given_at y) asks_off ∙ given_given_far true x y (asked a) ne)
+            (λ _. ap (was_given_at y) asks_off ∙ given_given_far true x y (asked a) ne)
             (ap (λ (f : ℕ → Option Entry). f y) stored
             ∙ (ap (λ (o : Option Entry). forgotten (s.view a) x o y) gone ∙ put_other
             (s.view a).bits.stored x None y ne))
             (λ is. (still, heads))
 
-        kept : (y : ℕ) → takes (learn_step e b).differs ≡ Some y
+        kept : (y : ℕ) → taken_entry (learn_step e b).differs ≡ Some y
             → (p : ℕ) × IsHandedBy sz (learn_step e b).differs (SK (owner y)) y p a
         kept y is = by (eqb_tells y x)
           where
             by : (((y == x) ≡ true) × (y ≡ x)) ⊎ (((y == x) ≡ false) × (y ≢ x))
                 → (p : ℕ) × IsHandedBy sz (learn_step e b).differs (SK (owner y)) y p a
             by (inl q) =
-                let i = r.hands a x (ap takes same ∙ (new_is y is ∙ ap (λ (j : ℕ). Some j) q.1)) in
+                let i = r.hands a x (ap taken_entry same ∙ (new_is y is ∙ ap (λ (j : ℕ). Some j) q.1)) in
                 no_entry (s.entry x) i.1.stands.entry gone i.1.stands.is
             by (inr q) = mine_still s a e b differs asked same r y (far y q.1) (new_is y is)
 
@@ -360,13 +360,13 @@ module _ (s : Table) (a : ℕ) (b : Book) (differs : ℕ → Difference) (asked 
         }
           where
             by_asked : ((waits_at x (asked (owner x)) ≡ Some p)
-                × IsPageEntry ((s.view (owner x)).bits.stored x) p) ⊎ (given_at x (asked (owner x)) ≡ Some p)
+                × IsPageEntry ((s.view (owner x)).bits.stored x) p) ⊎ (was_given_at x (asked (owner x)) ≡ Some p)
                 → ((owner x ≡ a) × (SK (owner x) ≡ ask_step e (asked a)))
                 ⊎ ((owner x ≢ a) × (SK (owner x) ≡ asked (owner x)))
                 → ((waits_at x (SK (owner x)) ≡ Some p)
-                × IsPageEntry ((sz.view (owner x)).bits.stored x) p) ⊎ (given_at x (SK (owner x)) ≡ Some p)
-            by_asked (inr g) m = inr (ap (given_at x) (asks_same (waits_where_given x p (asked (owner x)) g)) ∙ g)
-            by_asked (inl w) (inl m) = inr (ap (given_at x) (m.1 ∙ asks_off) ∙ given_where_waited x p (asked a)
+                × IsPageEntry ((sz.view (owner x)).bits.stored x) p) ⊎ (was_given_at x (SK (owner x)) ≡ Some p)
+            by_asked (inr g) m = inr (ap (was_given_at x) (asks_same (waits_where_given x p (asked (owner x)) g)) ∙ g)
+            by_asked (inl w) (inl m) = inr (ap (was_given_at x) (m.1 ∙ asks_off) ∙ given_where_waited x p (asked a)
                 (ap (λ (i : ℕ). waits_at x (asked i)) (sym m.0) ∙ w.0))
             by_asked (inl w) (inr m) = inl (
               ap (waits_at x) m.1 ∙ w.0,
@@ -379,16 +379,16 @@ module _ (s : Table) (a : ℕ) (b : Book) (differs : ℕ → Difference) (asked 
           taken = ap (λ (f : ℕ → Option ℕ). f x) taken ∙ i.taken;
           none = λ f is. i.none f (sym (ap (λ (g : ℕ → Option Entry). g x) entry) ∙ is);
           waits = ap (waits_at x) (asks_same i.waits) ∙ i.waits;
-          given = ap (given_at x) (asks_same i.waits) ∙ i.given;
+          given = ap (was_given_at x) (asks_same i.waits) ∙ i.given;
         })
         here (inr (inl i)) = no_entry (s.entry x) i.1.stands.entry gone i.1.stands.is
         here (inr (inr (inl i))) = no_entry (s.entry x) i.2.stands.entry gone i.2.stands.is
         here (inr (inr (inr i))) = inr (inr (inr (i.0, over i.0 i.1)))
 
-    pub looked_pages : ArePagesHanded sz SD SK
+    pub looked_pages : ArePageStates sz SD SK
     looked_pages = by (s.entry x) refl
       where
-        by : (o : Option Entry) → s.entry x ≡ o → ArePagesHanded sz SD SK
+        by : (o : Option Entry) → s.entry x ≡ o → ArePageStates sz SD SK
         by None q = found_off q
         by (Some f) q = quiet_pages s a e b differs asked same r entry taken done_stays
             (asks ∙ ap (λ (o : Option Entry). given_if (is_off o) x (asked a)) q)

@@ -46,7 +46,7 @@ use Rattle.wait_model.proofs.PermitLaws.OwnTurns.{held_is}
 use Rattle.wait_model.proofs.PermitLaws.PermitSteps.{accounted_handed, accounted_start, accounted_step}
 use Rattle.wait_model.proofs.StepLaws.UnlockSteps.{unlock_hold}
 use Rattle.wait_rule.specs.declared.journal.Item.{Item}
-use Rattle.wait_rule.specs.HandedPermits.{AllHandPermitsOn, FoundNoPermit, OwesNoPermit, RuleHandsPermitsOn, StepsHandPermitsOn, cell_at}
+use Rattle.wait_rule.specs.HandedPermits.{AllHandPermitsOn, FoundNoPermit, OwesNoPermit, RuleHandsPermitsOn, StepsHandPermitsOn, cell_of_head}
 use Rattle.wait_rule.specs.LeftEntries.{OrderOf, dealt_of}
 use Rattle.wait_rule.specs.HeldValues.{count_in, value_after, value_from}
 use Rattle.wait_rule.specs.Interleavings.{AreAllowed, AreHanded, TaskStep, table_of}
@@ -155,7 +155,7 @@ count_known d k held = counts_from d (own k.view.number) blank none_dealt None (
 module _ (s : Table) (items : ℕ → List Item) (ruled : IsRuled s items) (k : Known)
     (own_list : items k.view.number ≡ k.view.items) (slot x : ℕ) (e : Entry) (own_is : x ≡ index k.view.number slot)
     (there : head_of e.watch ≡ k.at) (held : (told_of k).hold.head ≡ Some k.at) where
-  zero_known : (d : ℕ) → k.at ≡ done_head d → count_in (cell_at k) (history_of k) ≡ Some 0
+  zero_known : (d : ℕ) → k.at ≡ done_head d → count_in (cell_of_head k) (history_of k) ≡ Some 0
       → (dealt d k.view.number (s.history k.view.number)).count ≡ Some 0
   zero_known d here is =
       ap (λ (l : List Step). (dealt d k.view.number l).count) (history_is s items ruled k own_list)

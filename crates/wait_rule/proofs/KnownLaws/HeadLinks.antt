@@ -36,7 +36,7 @@ use Rattle.wait_rule.specs.Notes.{
   Glance,
   note_step,
   notes_after_wake,
-  after_call,
+  after_noted_call,
   after_telling,
   callee,
   is_for_look,
@@ -99,11 +99,11 @@ quiet_links s a e q notes r = record {
         (subst (λ (f : ℕ → Option _). MarkAgrees h ((notes d).marks t) (f t)) (sym q.mark) (r.shown d h t held))
 
 -- a wake tells nothing of bookmarks
-pub call_own : (a : Aim) (x : Option ℕ) (met : Bool) (v : Told) (k : Notes) → (after_call a x met v k).own ≡ k.own
+pub call_own : (a : Aim) (x : Option ℕ) (met : Bool) (v : Told) (k : Notes) → (after_noted_call a x met v k).own ≡ k.own
 call_own a None met v k = refl
 call_own a (Some x) met v k = refl
 
-pub call_marks : (a : Aim) (x : Option ℕ) (met : Bool) (v : Told) (k : Notes) → (after_call a x met v k).marks ≡ k.marks
+pub call_marks : (a : Aim) (x : Option ℕ) (met : Bool) (v : Told) (k : Notes) → (after_noted_call a x met v k).marks ≡ k.marks
 call_marks a None met v k = refl
 call_marks a (Some x) met v k = refl
 
@@ -112,7 +112,7 @@ pub wake_own : (o : Option Aim) (who mask : ℕ) (met : Bool) (v : Told) (k : No
 wake_own None who mask met v k = refl
 wake_own (Some a) who mask met v k = by (mask == mask_of a.mode)
   where
-    by : (b : Bool) → (if b then after_call a (callee v k a.watch who) met v k else k).own ≡ k.own
+    by : (b : Bool) → (if b then after_noted_call a (callee v k a.watch who) met v k else k).own ≡ k.own
     by true = call_own a (callee v k a.watch who) met v k
     by false = refl
 
@@ -121,7 +121,7 @@ pub wake_marks : (o : Option Aim) (who mask : ℕ) (met : Bool) (v : Told) (k : 
 wake_marks None who mask met v k = refl
 wake_marks (Some a) who mask met v k = by (mask == mask_of a.mode)
   where
-    by : (b : Bool) → (if b then after_call a (callee v k a.watch who) met v k else k).marks ≡ k.marks
+    by : (b : Bool) → (if b then after_noted_call a (callee v k a.watch who) met v k else k).marks ≡ k.marks
     by true = call_marks a (callee v k a.watch who) met v k
     by false = refl
 
@@ -130,7 +130,7 @@ pub telling_own : (o : Option Aim) (x : ℕ) (v : Told) (k : Notes) → (after_t
 telling_own None x v k = refl
 telling_own (Some a) x v k = by (is_for_look a.watch (v.hold.book x))
   where
-    by : (b : Bool) → (if b then after_call a (Some x) true v k else k).own ≡ k.own
+    by : (b : Bool) → (if b then after_noted_call a (Some x) true v k else k).own ≡ k.own
     by true = refl
     by false = refl
 
@@ -138,7 +138,7 @@ pub telling_marks : (o : Option Aim) (x : ℕ) (v : Told) (k : Notes) → (after
 telling_marks None x v k = refl
 telling_marks (Some a) x v k = by (is_for_look a.watch (v.hold.book x))
   where
-    by : (b : Bool) → (if b then after_call a (Some x) true v k else k).marks ≡ k.marks
+    by : (b : Bool) → (if b then after_noted_call a (Some x) true v k else k).marks ≡ k.marks
     by true = refl
     by false = refl
 

@@ -7,7 +7,7 @@ use Rattle.wait_model.specs.BitKeepers.{HoldsBit}
 use Rattle.wait_rule.specs.MemberWords.{all_differences}
 use Rattle.wait_rule.specs.Asked.{all_asked}
 use Rattle.wait_rule.specs.Pages.{IsAskedAt, IsPageState}
-use Rattle.wait_rule.specs.PageLaws.{IsWhole, RuleTakesForWaiters, RuleHandsWhole, RuleLeavesNone, WorkedPages}
+use Rattle.wait_rule.specs.PageLaws.{IsHandedWhole, RuleTakesForWaiters, RuleHandsWhole, RuleLeavesNone, WorkedPages}
 use Rattle.wait_rule.proofs.KnownLaws.PageStates.{none_some}
 use Rattle.wait_rule.proofs.KnownLaws.PageSteps.{not_both}
 use Rattle.wait_rule.proofs.KnownLaws.StandingKinds.{asks_none}
@@ -39,7 +39,7 @@ takes_for_waiters s items r x p taken = record {
 pub hands_whole : RuleHandsWhole
 hands_whole s items r x p taken free = by (r.pages.each x)
   where
-    by : IsPageState s (all_differences items) (all_asked items) x → IsWhole s x
+    by : IsPageState s (all_differences items) (all_asked items) x → IsHandedWhole s x
     by (inl i) = none_some p (sym i.taken ∙ taken)
     by (inr (inl i)) = none_some p (sym i.1.taken ∙ taken)
     by (inr (inr (inl i))) =

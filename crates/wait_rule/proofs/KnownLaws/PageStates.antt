@@ -15,9 +15,9 @@ use Rattle.wait_rule.specs.Asked.{
   took_off,
   took_note,
   waits_at,
-  given_at,
+  was_given_at,
 }
-use Rattle.wait_rule.specs.Pages.{takes, tells, IsPageEntry, IsAskedAt, IsHandedBy, IsHandedOver, IsPageState}
+use Rattle.wait_rule.specs.Pages.{taken_entry, told_entry, IsPageEntry, IsAskedAt, IsHandedBy, IsHandedOver, IsPageState}
 
 pub none_some : {A : Type 0} (p : ℕ) → ◌≡◌ {A = Option ℕ} None (Some p) → A
 none_some p e = absurd (cc)
@@ -57,8 +57,8 @@ waits_given_far true x y nothing_asked ne = refl
 waits_given_far true x y (was_given u p) ne = refl
 waits_given_far false x y k ne = refl
 
-pub given_given_far : (b : Bool) (x y : ℕ) (k : Asked) → y ≢ x → given_at y (given_if b x k) ≡ given_at y k
-given_given_far true x y (waits_for u p) ne = by_test (given_at y) u x (was_given u p) (waits_for u p)
+pub given_given_far : (b : Bool) (x y : ℕ) (k : Asked) → y ≢ x → was_given_at y (given_if b x k) ≡ was_given_at y k
+given_given_far true x y (waits_for u p) ne = by_test (was_given_at y) u x (was_given u p) (waits_for u p)
     (λ e. at_other u y p (λ f. ne (sym f ∙ e)))
 given_given_far true x y nothing_asked ne = refl
 given_given_far true x y (was_given u p) ne = refl
@@ -70,13 +70,13 @@ waits_took_far x y (waits_for u p) ne = by_test (waits_at y) u x nothing_asked (
 waits_took_far x y nothing_asked ne = refl
 waits_took_far x y (was_given u p) ne = refl
 
-pub given_took : (x y : ℕ) (k : Asked) → given_at y (took_off x k) ≡ given_at y k
-given_took x y (waits_for u p) = by_test (given_at y) u x nothing_asked (waits_for u p) (λ e. refl)
+pub given_took : (x y : ℕ) (k : Asked) → was_given_at y (took_off x k) ≡ was_given_at y k
+given_took x y (waits_for u p) = by_test (was_given_at y) u x nothing_asked (waits_for u p) (λ e. refl)
 given_took x y nothing_asked = refl
 given_took x y (was_given u p) = refl
 
-pub given_note_far : (x y : ℕ) (k : Asked) → y ≢ x → given_at y (took_note x k) ≡ given_at y k
-given_note_far x y (was_given u p) ne = by_test (given_at y) u x nothing_asked (was_given u p)
+pub given_note_far : (x y : ℕ) (k : Asked) → y ≢ x → was_given_at y (took_note x k) ≡ was_given_at y k
+given_note_far x y (was_given u p) ne = by_test (was_given_at y) u x nothing_asked (was_given u p)
     (λ e. sym (at_other u y p (λ f. ne (sym f ∙ e))))
 given_note_far x y nothing_asked ne = refl
 given_note_far x y (waits_for u p) ne = refl
@@ -87,10 +87,10 @@ waits_note x y nothing_asked = refl
 waits_note x y (waits_for u p) = refl
 
 -- at x itself
-pub given_where_waited : (x p : ℕ) (k : Asked) → waits_at x k ≡ Some p → given_at x (given_if true x k) ≡ Some p
+pub given_where_waited : (x p : ℕ) (k : Asked) → waits_at x k ≡ Some p → was_given_at x (given_if true x k) ≡ Some p
 given_where_waited x p (waits_for u q) is =
     let here = found_at u x q p is in
-    ap (given_at x) (choose u x (was_given u q) (waits_for u q) here) ∙ is
+    ap (was_given_at x) (choose u x (was_given u q) (waits_for u q) here) ∙ is
 given_where_waited x p nothing_asked is = none_some p is
 given_where_waited x p (was_given u q) is = none_some p is
 
@@ -103,7 +103,7 @@ given_nowhere true x nothing_asked is = refl
 given_nowhere true x (was_given u q) is = refl
 given_nowhere false x k is = refl
 
-pub given_stays : (b : Bool) (x p : ℕ) (k : Asked) → given_at x k ≡ Some p → given_if b x k ≡ k
+pub given_stays : (b : Bool) (x p : ℕ) (k : Asked) → was_given_at x k ≡ Some p → given_if b x k ≡ k
 given_stays true x p (was_given u q) is = refl
 given_stays true x p nothing_asked is = none_some p is
 given_stays true x p (waits_for u q) is = none_some p is
@@ -125,21 +125,21 @@ took_nowhere x (waits_for u q) is = elim (eqb_tells u x) [
 took_nowhere x nothing_asked is = refl
 took_nowhere x (was_given u q) is = refl
 
-pub given_note : (x : ℕ) (k : Asked) → given_at x (took_note x k) ≡ None
+pub given_note : (x : ℕ) (k : Asked) → was_given_at x (took_note x k) ≡ None
 given_note x (was_given u q) = elim (eqb_tells u x) [
-  | inl t ↦ ap (λ (b : Bool). given_at x (if b then nothing_asked else was_given u q)) t.0
-  | inr t ↦ ap (λ (b : Bool). given_at x (if b then nothing_asked else was_given u q)) t.0 ∙ at_other u x q t.1
+  | inl t ↦ ap (λ (b : Bool). was_given_at x (if b then nothing_asked else was_given u q)) t.0
+  | inr t ↦ ap (λ (b : Bool). was_given_at x (if b then nothing_asked else was_given u q)) t.0 ∙ at_other u x q t.1
 ]
 given_note x nothing_asked = refl
 given_note x (waits_for u q) = refl
 
 -- it asks for one page at most
-pub waits_where_given : (x p : ℕ) (k : Asked) → given_at x k ≡ Some p → waits_at x k ≡ None
+pub waits_where_given : (x p : ℕ) (k : Asked) → was_given_at x k ≡ Some p → waits_at x k ≡ None
 waits_where_given x p (was_given u r) g = refl
 waits_where_given x p (waits_for u r) g = none_some p g
 waits_where_given x p nothing_asked g = refl
 
-pub given_where_waits : (x p : ℕ) (k : Asked) → waits_at x k ≡ Some p → given_at x k ≡ None
+pub given_where_waits : (x p : ℕ) (k : Asked) → waits_at x k ≡ Some p → was_given_at x k ≡ None
 given_where_waits x p (waits_for u r) w = refl
 given_where_waits x p (was_given u r) w = none_some p w
 given_where_waits x p nothing_asked w = refl
@@ -149,7 +149,7 @@ pub asked_given : (b : Bool) (x y p : ℕ) (k : Asked) → IsAskedAt y p (given_
 asked_given true x y p (waits_for u q) at = elim (eqb_tells u x) [
   | inl t ↦ elim at [
     | inl w ↦ none_some p (sym (ap (λ (b : Bool). waits_at y (if b then was_given u q else waits_for u q)) t.0) ∙ w)
-    | inr g ↦ inl (sym (ap (λ (b : Bool). given_at y (if b then was_given u q else waits_for u q)) t.0) ∙ g)
+    | inr g ↦ inl (sym (ap (λ (b : Bool). was_given_at y (if b then was_given u q else waits_for u q)) t.0) ∙ g)
   ]
   | inr t ↦ subst (IsAskedAt y p) (ap (λ (b : Bool). if b then was_given u q else waits_for u q) t.0) at
 ]
@@ -185,9 +185,9 @@ pub record IsSameAt (s z : Table) (differs after : ℕ → Difference) (asked no
   pub taken : z.taken y ≡ s.taken y
   pub done : (p : ℕ) → s.taken y ≡ Some p → s.done y ≡ true → z.done y ≡ true
   pub waits : waits_at y (now (owner y)) ≡ waits_at y (asked (owner y))
-  pub given : given_at y (now (owner y)) ≡ given_at y (asked (owner y))
+  pub given : was_given_at y (now (owner y)) ≡ was_given_at y (asked (owner y))
   pub stored : (z.view (owner y)).bits.stored y ≡ (s.view (owner y)).bits.stored y
-  pub hands : (d : ℕ) → takes (differs d) ≡ Some y
+  pub hands : (d : ℕ) → taken_entry (differs d) ≡ Some y
       → (after d ≡ differs d) × ((z.view d).hold.head ≡ (s.view d).hold.head)
 
 module _ (s z : Table) (differs after : ℕ → Difference) (asked now : ℕ → Asked) (y : ℕ)
@@ -205,9 +205,9 @@ module _ (s z : Table) (differs after : ℕ → Difference) (asked now : ℕ →
         stands = subst (λ (o : Option Entry). IsPageEntry o p) (sym same.entry) i.stands;
         asked = asked_still p i.asked;
         own = λ mine. same.given ∙ i.own mine;
-        takes = ap takes still.0 ∙ i.takes;
+        takes = ap taken_entry still.0 ∙ i.takes;
         held = still.1 ∙ i.held;
-        told = λ told. same.done p i.taken (i.told (sym (ap tells still.0) ∙ told));
+        told = λ told. same.done p i.taken (i.told (sym (ap told_entry still.0) ∙ told));
       }
 
   over_still : (p : ℕ) → IsHandedOver s (asked (owner y)) y p → IsHandedOver z (now (owner y)) y p

@@ -13,8 +13,8 @@ use Rattle.wait_model.specs.Fold.{after, after_unlock}
 use Rattle.wait_model.specs.Tables.{Table, next}
 use Rattle.wait_model.proofs.Functions.{put_case, put_at, put_same, put_other, bool_or}
 use Rattle.wait_rule.specs.Items.{Difference, nothing, Book, learn_step}
-use Rattle.wait_rule.specs.Asked.{Asked, ask_step, waits_at, given_at}
-use Rattle.wait_rule.specs.Pages.{uses_flag, takes, IsPageEntry, IsAskedAt, IsHandedBy, IsPageState, ArePagesHanded}
+use Rattle.wait_rule.specs.Asked.{Asked, ask_step, waits_at, was_given_at}
+use Rattle.wait_rule.specs.Pages.{uses_flag, taken_entry, IsPageEntry, IsAskedAt, IsHandedBy, IsPageState, ArePageStates}
 use Rattle.wait_rule.proofs.KnownLaws.PageStates.{none_some, IsSameAt, hands_still, state_still}
 
 pub some_same : (x y : ℕ) → ◌≡◌ {A = Option ℕ} (Some x) (Some y) → x ≡ y
@@ -43,12 +43,12 @@ at_same x p = elim (eqb_tells x x) [
   | inr n ↦ absurd (n.1 refl)
 ]
 
-pub takes_none : {A : Type 0} (d : Difference) (y : ℕ) → d ≡ nothing → takes d ≡ Some y → A
-takes_none d y n is = none_some y (sym (ap takes n) ∙ is)
+pub takes_none : {A : Type 0} (d : Difference) (y : ℕ) → d ≡ nothing → taken_entry d ≡ Some y → A
+takes_none d y n is = none_some y (sym (ap taken_entry n) ∙ is)
 
 -- Task a makes step e, where the table, what tasks have yet to store and what they ask for are as before but for it.
 module _ (s : Table) (a : ℕ) (e : Step) (b : Book) (differs : ℕ → Difference) (asked : ℕ → Asked)
-    (same : differs a ≡ b.differs) (r : ArePagesHanded s differs asked) where
+    (same : differs a ≡ b.differs) (r : ArePageStates s differs asked) where
   abbrev pub z : Table
   z = next s a e
 
@@ -70,16 +70,16 @@ module _ (s : Table) (a : ℕ) (e : Step) (b : Book) (differs : ℕ → Differen
 
   -- the task's page to hand over stays as it was, with its head
   abbrev pub StaysAt : ℕ → Type 0
-  StaysAt y = takes b.differs ≡ Some y → (v ≡ b.differs) × (V.hold.head ≡ (s.view a).hold.head)
+  StaysAt y = taken_entry b.differs ≡ Some y → (v ≡ b.differs) × (V.hold.head ≡ (s.view a).hold.head)
 
-  pub hands_same : (y : ℕ) → StaysAt y → (d : ℕ) → takes (differs d) ≡ Some y
+  pub hands_same : (y : ℕ) → StaysAt y → (d : ℕ) → taken_entry (differs d) ≡ Some y
       → (D d ≡ differs d) × ((z.view d).hold.head ≡ (s.view d).hold.head)
   hands_same y near d is = by (put_case differs a v d)
     where
       by : ((d ≡ a) × (D d ≡ v)) ⊎ ((d ≢ a) × (D d ≡ differs d))
           → (D d ≡ differs d) × ((z.view d).hold.head ≡ (s.view d).hold.head)
       by (inl q) =
-          let n = near (sym (ap takes (ap differs q.0 ∙ same)) ∙ is) in (
+          let n = near (sym (ap taken_entry (ap differs q.0 ∙ same)) ∙ is) in (
             q.1 ∙ (n.0 ∙ sym (ap differs q.0 ∙ same)),
             ap (λ (i : ℕ). (put s.view a V i).hold.head) q.0
                 ∙ (ap (λ (w : Told). w.hold.head) (put_same s.view a V)
@@ -91,7 +91,7 @@ module _ (s : Table) (a : ℕ) (e : Step) (b : Book) (differs : ℕ → Differen
   pub same_at : (y : ℕ) → z.entry y ≡ s.entry y → z.taken y ≡ s.taken y
       → ((p : ℕ) → s.taken y ≡ Some p → s.done y ≡ true → z.done y ≡ true)
       → (owner y ≡ a → waits_at y (ask_step e (asked a)) ≡ waits_at y (asked a))
-      → (owner y ≡ a → given_at y (ask_step e (asked a)) ≡ given_at y (asked a))
+      → (owner y ≡ a → was_given_at y (ask_step e (asked a)) ≡ was_given_at y (asked a))
       → V.bits.stored y ≡ (s.view a).bits.stored y → StaysAt y → Same y
   same_at y entry taken done waits given stored near = record {
     entry = entry;
@@ -99,8 +99,8 @@ module _ (s : Table) (a : ℕ) (e : Step) (b : Book) (differs : ℕ → Differen
     done = done;
     waits = put_at (λ (k : Asked). waits_at y k ≡ waits_at y (asked (owner y))) asked a (ask_step e (asked a)) (owner y)
         (λ q. waits q ∙ ap (λ (i : ℕ). waits_at y (asked i)) (sym q)) (λ _. refl);
-    given = put_at (λ (k : Asked). given_at y k ≡ given_at y (asked (owner y))) asked a (ask_step e (asked a)) (owner y)
-        (λ q. given q ∙ ap (λ (i : ℕ). given_at y (asked i)) (sym q)) (λ _. refl);
+    given = put_at (λ (k : Asked). was_given_at y k ≡ was_given_at y (asked (owner y))) asked a (ask_step e (asked a)) (owner y)
+        (λ q. given q ∙ ap (λ (i : ℕ). was_given_at y (asked i)) (sym q)) (λ _. refl);
     stored = put_at (λ (w : Told). w.bits.stored y ≡ (s.view (owner y)).bits.stored y) s.view a V (owner y)
         (λ q. stored ∙ ap (λ (i : ℕ). (s.view i).bits.stored y) (sym q)) (λ _. refl);
     hands = hands_same y near;
@@ -115,9 +115,9 @@ module _ (s : Table) (a : ℕ) (e : Step) (b : Book) (differs : ℕ → Differen
       by (inr q) = r.own t y p (subst (IsAskedAt y p) q.1 at)
 
   -- the page that the task has to hand over still
-  pub mine_still : (y : ℕ) → Same y → takes b.differs ≡ Some y → (p : ℕ) × IsHandedBy z v (K (owner y)) y p a
+  pub mine_still : (y : ℕ) → Same y → taken_entry b.differs ≡ Some y → (p : ℕ) × IsHandedBy z v (K (owner y)) y p a
   mine_still y still is =
-      let i = r.hands a y (ap takes same ∙ is) in (
+      let i = r.hands a y (ap taken_entry same ∙ is) in (
         i.0,
         subst (λ (d : Difference). IsHandedBy z d (K (owner y)) y i.0 a) (put_same differs a v)
             (hands_still s z differs D asked K y still i.0 a i.1),
@@ -128,25 +128,25 @@ module _ (s : Table) (a : ℕ) (e : Step) (b : Book) (differs : ℕ → Differen
 
   -- where the step touches one index at most, or none
   module _ (own : (y p : ℕ) → IsAskedAt y p (ask_step e (asked a)) → owner y ≡ a)
-      (mine : (y : ℕ) → takes v ≡ Some y → IsMine y) where
-    pub hands_next : (others : (d y : ℕ) → d ≢ a → takes (differs d) ≡ Some y → Same y) → (d y : ℕ) → takes
+      (mine : (y : ℕ) → taken_entry v ≡ Some y → IsMine y) where
+    pub hands_next : (others : (d y : ℕ) → d ≢ a → taken_entry (differs d) ≡ Some y → Same y) → (d y : ℕ) → taken_entry
         (D d) ≡ Some y
         → (p : ℕ) × IsHandedBy z (D d) (K (owner y)) y p d
     hands_next others d y is = by (put_case differs a v d)
       where
         by : ((d ≡ a) × (D d ≡ v)) ⊎ ((d ≢ a) × (D d ≡ differs d)) → (p : ℕ) × IsHandedBy z (D d) (K (owner y)) y p d
         by (inl q) =
-            let m = mine y (sym (ap takes q.1) ∙ is) in (
+            let m = mine y (sym (ap taken_entry q.1) ∙ is) in (
               m.0,
               subst (λ (i : ℕ). IsHandedBy z (D i) (K (owner y)) y m.0 i) (sym q.0)
                   (subst (λ (w : Difference). IsHandedBy z w (K (owner y)) y m.0 a) (sym (put_same differs a v)) m.1),
             )
         by (inr q) =
-            let was : takes (differs d) ≡ Some y = sym (ap takes q.1) ∙ is in
+            let was : taken_entry (differs d) ≡ Some y = sym (ap taken_entry q.1) ∙ is in
             let i = r.hands d y was in
             (i.0, hands_still s z differs D asked K y (others d y q.0 was) i.0 d i.1)
 
-    pub all_same : ((y : ℕ) → Same y) → ArePagesHanded z D K
+    pub all_same : ((y : ℕ) → Same y) → ArePageStates z D K
     all_same still = record {
       each = λ y. state_still s z differs D asked K y (still y) (r.each y);
       own = own_next own;
@@ -154,7 +154,7 @@ module _ (s : Table) (a : ℕ) (e : Step) (b : Book) (differs : ℕ → Differen
     }
 
     pub one_touched : (x : ℕ) → ((y : ℕ) → y ≢ x → Same y) → IsPageState z D K x
-        → ((d p : ℕ) → d ≢ a → IsHandedBy s (differs d) (asked (owner x)) x p d → ⊥) → ArePagesHanded z D K
+        → ((d p : ℕ) → d ≢ a → IsHandedBy s (differs d) (asked (owner x)) x p d → ⊥) → ArePageStates z D K
     one_touched x far here alone = record {
       each = λ y. each_by y (eqb_tells y x);
       own = own_next own;
@@ -165,7 +165,7 @@ module _ (s : Table) (a : ℕ) (e : Step) (b : Book) (differs : ℕ → Differen
         each_by y (inl q) = subst (IsPageState z D K) (sym q.1) here
         each_by y (inr q) = state_still s z differs D asked K y (far y q.1) (r.each y)
 
-        other_by : (d y : ℕ) → d ≢ a → takes (differs d) ≡ Some y
+        other_by : (d y : ℕ) → d ≢ a → taken_entry (differs d) ≡ Some y
             → (((y == x) ≡ true) × (y ≡ x)) ⊎ (((y == x) ≡ false) × (y ≢ x)) → Same y
         other_by d y ne is (inl q) =
             let i = r.hands d x (is ∙ ap (λ (j : ℕ). Some j) q.1) in absurd (alone d i.0 ne i.1)
@@ -175,13 +175,13 @@ module _ (s : Table) (a : ℕ) (e : Step) (b : Book) (differs : ℕ → Differen
   pub quiet_pages : z.entry ≡ s.entry → z.taken ≡ s.taken
       → ((y p : ℕ) → s.taken y ≡ Some p → s.done y ≡ true → z.done y ≡ true) → ask_step e (asked a) ≡ asked a
       → V.bits.stored ≡ (s.view a).bits.stored → ((y : ℕ) → StaysAt y)
-      → ((y : ℕ) → takes v ≡ Some y → takes b.differs ≡ Some y) → ArePagesHanded z D K
+      → ((y : ℕ) → taken_entry v ≡ Some y → taken_entry b.differs ≡ Some y) → ArePageStates z D K
   quiet_pages entry taken done asks stored near new = all_same
       (λ y p at. r.own a y p (subst (IsAskedAt y p) asks at)) (λ y is. mine_still y (still y) (new y is)) still
     where
       still : (y : ℕ) → Same y
       still y = same_at y (ap (λ (f : ℕ → Option Entry). f y) entry) (ap (λ (f : ℕ → Option ℕ). f y) taken) (done y)
-          (λ _. ap (waits_at y) asks) (λ _. ap (given_at y) asks) (ap (λ (f : ℕ → Option Entry). f y) stored) (near y)
+          (λ _. ap (waits_at y) asks) (λ _. ap (was_given_at y) asks) (ap (λ (f : ℕ → Option Entry). f y) stored) (near y)
 
   -- nobody else hands over the page of an entry whose head the task holds
   module _ (one : (x y h : ℕ) → (s.view x).hold.head ≡ Some h → (s.view y).hold.head ≡ Some h → x ≡ y)

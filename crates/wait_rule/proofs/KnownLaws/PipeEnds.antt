@@ -46,7 +46,7 @@ use Rattle.wait_rule.specs.Pipes.{
   new_end,
   with_cell,
   claimed,
-  after_publish,
+  after_end_publish,
   advanced,
   if_mine,
   end_act,
@@ -269,7 +269,7 @@ module _ (items : ℕ → List Item) (a : ℕ) (one two : Location → ℕ) (p :
         → IsPipe two (now items a (item.Made (step.Publish (watch.Var (write_end p) o) n r))) p
     publishes_w o n r m b mine is low high after there rest = writer_moves items a
         (item.Made (step.Publish (watch.Var (write_end p) o) n r)) one two p l mine
-        (ap (λ (c : Bool). if c then if_mine (after_publish n) MR else MR) (test_off (write_end p) (read_end p)
+        (ap (λ (c : Bool). if c then if_mine (after_end_publish n) MR else MR) (test_off (write_end p) (read_end p)
         (ends_apart p))) never
         (λ own. subst (λ (e : End). IsFlow two p e l.r) (sym (told own))
         (publish_w_flow one two p l.w l.r few l.flow m b
@@ -279,9 +279,9 @@ module _ (items : ℕ → List Item) (a : ℕ) (one two : Location → ℕ) (p :
       where
         told : l.w ≡ MW → end_item (write_end p) (item.Made (step.Publish (watch.Var (write_end p) o) n r)) l.w
             ≡ advanced m b l.w
-        told own = ap (λ (c : Bool). if c then if_mine (after_publish n) l.w else l.w)
+        told own = ap (λ (c : Bool). if c then if_mine (after_end_publish n) l.w else l.w)
             (test_on (write_end p) (write_end p) refl)
-            ∙ (ap (λ (c : Bool). if c then after_publish n l.w else l.w) (ap (λ (e : End). e.mine) own ∙ mine)
+            ∙ (ap (λ (c : Bool). if c then after_end_publish n l.w else l.w) (ap (λ (e : End). e.mine) own ∙ mine)
             ∙ (let c = counts one p l.w l.r l.flow in
             let high_w : m ≤ length l.w.cells = subst (λ (e : End). m ≤ length e.cells) (sym own) high in
             let low_w : l.w.count ≤ m = subst (λ (e : End). e.count ≤ m) (sym own) low in
@@ -295,7 +295,7 @@ module _ (items : ℕ → List Item) (a : ℕ) (one two : Location → ℕ) (p :
         → IsPipe two (now items a (item.Made (step.Publish (watch.Var (read_end p) o) n r))) p
     publishes_r o n r m b mine is low high after there rest = reader_moves items a
         (item.Made (step.Publish (watch.Var (read_end p) o) n r)) one two p l mine
-        (ap (λ (c : Bool). if c then if_mine (after_publish n) MW else MW) (test_off (read_end p) (write_end p)
+        (ap (λ (c : Bool). if c then if_mine (after_end_publish n) MW else MW) (test_off (read_end p) (write_end p)
         (λ z. ends_apart p (sym z)))) never
         (λ own. subst (λ (e : End). IsFlow two p l.w e) (sym (told own))
         (publish_r_flow one two p l.w l.r few l.flow m b
@@ -305,9 +305,9 @@ module _ (items : ℕ → List Item) (a : ℕ) (one two : Location → ℕ) (p :
       where
         told : l.r ≡ MR → end_item (read_end p) (item.Made (step.Publish (watch.Var (read_end p) o) n r)) l.r
             ≡ advanced m b l.r
-        told own = ap (λ (c : Bool). if c then if_mine (after_publish n) l.r else l.r)
+        told own = ap (λ (c : Bool). if c then if_mine (after_end_publish n) l.r else l.r)
             (test_on (read_end p) (read_end p) refl)
-            ∙ (ap (λ (c : Bool). if c then after_publish n l.r else l.r) (ap (λ (e : End). e.mine) own ∙ mine)
+            ∙ (ap (λ (c : Bool). if c then after_end_publish n l.r else l.r) (ap (λ (e : End). e.mine) own ∙ mine)
             ∙ (let c = counts one p l.w l.r l.flow in
             let high_r : m ≤ length l.r.cells = subst (λ (e : End). m ≤ length e.cells) (sym own) high in
             let low_r : l.r.count ≤ m = subst (λ (e : End). e.count ≤ m) (sym own) low in

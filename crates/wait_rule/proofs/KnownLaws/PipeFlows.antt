@@ -46,7 +46,7 @@ use Rattle.wait_rule.specs.Pipes.{
   read_end,
   cell_of,
   end_word,
-  count_from,
+  count_on,
   bytes_in,
   cell_bytes,
   IsCell,
@@ -54,9 +54,9 @@ use Rattle.wait_rule.specs.Pipes.{
   no_end,
   new_end,
   with_cell,
-  after_look,
+  after_end_look,
   advanced,
-  after_publish,
+  after_end_publish,
   moved_bytes,
   IsFlow,
   Delivers,
@@ -145,11 +145,11 @@ module _ (one : Location → ℕ) (p : ℕ) (w r : End) (f : IsFlow one p w r) w
   R : ℕ
   R = one (place.Var (read_end p))
 
-  pub reads_r : count_from w.seen (one (place.Var (read_end p))) ≡ r.count
-  reads_r = ap (count_from w.seen) f.end_r ∙ count_is w.seen r.count r.shut counts.w_seen counts.far
+  pub reads_r : count_on w.seen (one (place.Var (read_end p))) ≡ r.count
+  reads_r = ap (count_on w.seen) f.end_r ∙ count_is w.seen r.count r.shut counts.w_seen counts.far
 
-  pub reads_w : count_from r.seen (one (place.Var (write_end p))) ≡ w.count
-  reads_w = ap (count_from r.seen) f.end_w ∙ count_is r.seen w.count w.shut counts.r_seen counts.near
+  pub reads_w : count_on r.seen (one (place.Var (write_end p))) ≡ w.count
+  reads_w = ap (count_on r.seen) f.end_w ∙ count_is r.seen w.count w.shut counts.r_seen counts.near
 
   pub shut_r : (one (place.Var (read_end p)) % 2 == 1) ≡ r.shut
   shut_r = ap (λ (n : ℕ). n % 2 == 1) f.end_r ∙ odd_is r.count r.shut
@@ -158,7 +158,7 @@ module _ (one : Location → ℕ) (p : ℕ) (w r : End) (f : IsFlow one p w r) w
   shut_w = ap (λ (n : ℕ). n % 2 == 1) f.end_w ∙ odd_is w.count w.shut
 
   -- a look at the other end's word, by one that is not closed: had the other one seen it closed, it would be
-  pub look_w_flow : w.mine ≡ true → w.shut ≡ false → IsFlow one p (after_look (one (place.Var (read_end p))) w) r
+  pub look_w_flow : w.mine ≡ true → w.shut ≡ false → IsFlow one p (after_end_look (one (place.Var (read_end p))) w) r
   look_w_flow mine unshut = record {
     claim_w = f.claim_w;
     claim_r = f.claim_r;
@@ -183,7 +183,7 @@ module _ (one : Location → ℕ) (p : ℕ) (w r : End) (f : IsFlow one p w r) w
     one = λ e g. true≢false (sym (f.r_ended g).0 ∙ unshut);
   }
 
-  pub look_r_flow : r.mine ≡ true → r.shut ≡ false → IsFlow one p w (after_look (one (place.Var (write_end p))) r)
+  pub look_r_flow : r.mine ≡ true → r.shut ≡ false → IsFlow one p w (after_end_look (one (place.Var (write_end p))) r)
   look_r_flow mine unshut = record {
     claim_w = f.claim_w;
     claim_r = f.claim_r;
@@ -296,14 +296,14 @@ either_is true b still = sym (still refl)
 either_is false b still = refl
 
 pub publish_is : (e : End) (m : ℕ) (b : Bool) (n : ℕ) → n ≡ end_word m b → e.count ≤ m → m ≤ e.count + PIPE_CELLS
-    → (e.shut ≡ true → b ≡ true) → after_publish n e ≡ advanced m b e
+    → (e.shut ≡ true → b ≡ true) → after_end_publish n e ≡ advanced m b e
 publish_is e m b n is low high still =
-    let c : count_from e.count n ≡ m = ap (count_from e.count) is ∙ count_is e.count m b low high in
+    let c : count_on e.count n ≡ m = ap (count_on e.count) is ∙ count_is e.count m b low high in
     let o : (n % 2 == 1) ≡ b = ap (λ (k : ℕ). k % 2 == 1) is ∙ odd_is m b in
     let s : (e.shut || (n % 2 == 1)) ≡ b = ap (λ (d : Bool). e.shut || d) o ∙ either_is e.shut b still in
     λ i. advanced (c i) (s i) e
 
-pub publish_same : (e : End) (n : ℕ) → e.before ≡ e.count → n ≡ end_word e.count e.shut → after_publish n e ≡ e
+pub publish_same : (e : End) (n : ℕ) → e.before ≡ e.count → n ≡ end_word e.count e.shut → after_end_publish n e ≡ e
 publish_same e n before is = publish_is e e.count e.shut n is (omega arith) (omega arith) (λ shut. shut)
     ∙ advanced_same e before
 

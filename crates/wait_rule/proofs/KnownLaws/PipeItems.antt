@@ -43,8 +43,8 @@ use Rattle.wait_rule.specs.Pipes.{
   End,
   no_end,
   new_end,
-  after_look,
-  after_publish,
+  after_end_look,
+  after_end_publish,
   end_act,
   end_item,
   end_step,
@@ -95,9 +95,9 @@ either_mine false e f one two = two
 
 step_mine : (k : ℕ) (s : Step) (e : End) → e.mine ≡ true → (end_step k s e).mine ≡ true
 step_mine k (step.Load (watch.Var v o) r) e mine = either_mine (v == other_end k) _ e
-    (either_mine (e.mine && not e.shut) (after_look r e) e mine mine) mine
+    (either_mine (e.mine && not e.shut) (after_end_look r e) e mine mine) mine
 step_mine k (step.Publish (watch.Var v o) n r) e mine = either_mine (v == k) _ e
-    (either_mine e.mine (after_publish n e) e mine mine) mine
+    (either_mine e.mine (after_end_publish n e) e mine mine) mine
 step_mine k (step.Load (watch.Plain c) r) e mine = mine
 step_mine k (step.Load (watch.Done d) r) e mine = mine
 step_mine k (step.Load (watch.Bit w b) r) e mine = mine

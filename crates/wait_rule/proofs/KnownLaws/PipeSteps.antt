@@ -35,8 +35,8 @@ use Rattle.wait_rule.specs.Pipes.{
   read_end,
   other_end,
   End,
-  after_look,
-  after_publish,
+  after_end_look,
+  after_end_publish,
   if_mine,
   if_unclosed,
   end_act,
@@ -129,19 +129,19 @@ module _ (items : ℕ → List Item) (a : ℕ) (one two : Location → ℕ) (p :
       x = item.Made (step.Load (watch.Var v o) r)
 
       off_w : v ≢ read_end p → end_item (write_end p) x W ≡ W
-      off_w ne = tested (v == other_end (write_end p)) (if_unclosed (after_look r)) W
+      off_w ne = tested (v == other_end (write_end p)) (if_unclosed (after_end_look r)) W
           (test_off v (other_end (write_end p)) (λ e. ne (e ∙ other_w p)))
 
       off_r : v ≢ write_end p → end_item (read_end p) x R ≡ R
-      off_r ne = tested (v == other_end (read_end p)) (if_unclosed (after_look r)) R
+      off_r ne = tested (v == other_end (read_end p)) (if_unclosed (after_end_look r)) R
           (test_off v (other_end (read_end p)) (λ e. ne (e ∙ other_r p)))
 
-      on_w : (e : End) → v ≡ read_end p → end_item (write_end p) x e ≡ if_unclosed (after_look r) e
-      on_w e is = ap (λ (b : Bool). if b then if_unclosed (after_look r) e else e)
+      on_w : (e : End) → v ≡ read_end p → end_item (write_end p) x e ≡ if_unclosed (after_end_look r) e
+      on_w e is = ap (λ (b : Bool). if b then if_unclosed (after_end_look r) e else e)
           (test_on v (other_end (write_end p)) (is ∙ sym (other_w p)))
 
-      on_r : (e : End) → v ≡ write_end p → end_item (read_end p) x e ≡ if_unclosed (after_look r) e
-      on_r e is = ap (λ (b : Bool). if b then if_unclosed (after_look r) e else e)
+      on_r : (e : End) → v ≡ write_end p → end_item (read_end p) x e ≡ if_unclosed (after_end_look r) e
+      on_r e is = ap (λ (b : Bool). if b then if_unclosed (after_end_look r) e else e)
           (test_on v (other_end (read_end p)) (is ∙ sym (other_r p)))
 
       of_reader : v ≡ read_end p → (b : Bool) → (W.mine && not W.shut) ≡ b → IsPipe two (now items a x) p
@@ -150,14 +150,14 @@ module _ (items : ℕ → List Item) (a : ℕ) (one two : Location → ℕ) (p :
           let unshut = both_unshut W.mine W.shut open_w in
           writer_moves items a x one two p l mine (off_r (λ e. ends_apart p (sym e ∙ is))) never
           (λ own. subst (λ (k : End). IsFlow two p k l.r)
-          (sym (on_w l.w is ∙ ap (λ (b : Bool). if b then after_look r l.w else l.w)
+          (sym (on_w l.w is ∙ ap (λ (b : Bool). if b then after_end_look r l.w else l.w)
           (ap (λ (k : End). k.mine && not k.shut) own ∙ open_w)))
-          (subst (λ (n : ℕ). IsFlow two p (after_look n l.w) l.r)
+          (subst (λ (n : ℕ). IsFlow two p (after_end_look n l.w) l.r)
           (sym (reads (ap (λ (n : ℕ). n / PIPE_ENDS) is ∙ omega arith) ∙ ap (λ (n : ℕ). one (place.Var n)) is))
-          (flow_words one two p (after_look (one (place.Var (read_end p))) l.w) l.r same
+          (flow_words one two p (after_end_look (one (place.Var (read_end p))) l.w) l.r same
           (look_w_flow one p l.w l.r l.flow (ap (λ (k : End). k.mine) own ∙ mine)
           (ap (λ (k : End). k.shut) own ∙ unshut)))))
-      of_reader is false none = pipe_stays items a x one two p l same (on_w W is ∙ unlooked (after_look r) W none)
+      of_reader is false none = pipe_stays items a x one two p l same (on_w W is ∙ unlooked (after_end_look r) W none)
           (off_r (λ e. ends_apart p (sym e ∙ is))) never never
 
       of_writer : v ≡ write_end p → (b : Bool) → (R.mine && not R.shut) ≡ b → IsPipe two (now items a x) p
@@ -166,49 +166,49 @@ module _ (items : ℕ → List Item) (a : ℕ) (one two : Location → ℕ) (p :
           let unshut = both_unshut R.mine R.shut open_r in
           reader_moves items a x one two p l mine (off_w (λ e. ends_apart p (sym is ∙ e))) never
           (λ own. subst (λ (k : End). IsFlow two p l.w k)
-          (sym (on_r l.r is ∙ ap (λ (b : Bool). if b then after_look r l.r else l.r)
+          (sym (on_r l.r is ∙ ap (λ (b : Bool). if b then after_end_look r l.r else l.r)
           (ap (λ (k : End). k.mine && not k.shut) own ∙ open_r)))
-          (subst (λ (n : ℕ). IsFlow two p l.w (after_look n l.r))
+          (subst (λ (n : ℕ). IsFlow two p l.w (after_end_look n l.r))
           (sym (reads (ap (λ (n : ℕ). n / PIPE_ENDS) is ∙ omega arith) ∙ ap (λ (n : ℕ). one (place.Var n)) is))
-          (flow_words one two p l.w (after_look (one (place.Var (write_end p))) l.r) same
+          (flow_words one two p l.w (after_end_look (one (place.Var (write_end p))) l.r) same
           (look_r_flow one p l.w l.r l.flow (ap (λ (k : End). k.mine) own ∙ mine)
           (ap (λ (k : End). k.shut) own ∙ unshut)))))
       of_writer is false none = pipe_stays items a x one two p l same
-          (off_w (λ e. ends_apart p (sym is ∙ e))) (on_r R is ∙ unlooked (after_look r) R none) never never
+          (off_w (λ e. ends_apart p (sym is ∙ e))) (on_r R is ∙ unlooked (after_end_look r) R none) never never
 
   -- a store of what was there
   store_pipe : (v o n r : ℕ) → (v / PIPE_ENDS ≡ p → n ≡ one (place.Var v))
       → IsPipe two (now items a (item.Made (step.Publish (watch.Var v o) n r))) p
   store_pipe v o n r stores = pipe_stays items a x one two p l same
       (dite (ℕ_discrete v (write_end p))
-      (λ (e : v ≡ write_end p). ap (λ (b : Bool). if b then if_mine (after_publish n) W else W)
+      (λ (e : v ≡ write_end p). ap (λ (b : Bool). if b then if_mine (after_end_publish n) W else W)
       (test_on v (write_end p) e) ∙ by_w e W.mine refl)
-      (λ (ne : v ≢ write_end p). tested (v == write_end p) (if_mine (after_publish n)) W (test_off v (write_end p) ne)))
+      (λ (ne : v ≢ write_end p). tested (v == write_end p) (if_mine (after_end_publish n)) W (test_off v (write_end p) ne)))
       (dite (ℕ_discrete v (read_end p))
-      (λ (e : v ≡ read_end p). ap (λ (b : Bool). if b then if_mine (after_publish n) R else R)
+      (λ (e : v ≡ read_end p). ap (λ (b : Bool). if b then if_mine (after_end_publish n) R else R)
       (test_on v (read_end p) e) ∙ by_r e R.mine refl)
-      (λ (ne : v ≢ read_end p). tested (v == read_end p) (if_mine (after_publish n)) R (test_off v (read_end p) ne)))
+      (λ (ne : v ≢ read_end p). tested (v == read_end p) (if_mine (after_end_publish n)) R (test_off v (read_end p) ne)))
       never never
     where
       x : Item
       x = item.Made (step.Publish (watch.Var v o) n r)
 
-      by_w : v ≡ write_end p → (b : Bool) → W.mine ≡ b → if_mine (after_publish n) W ≡ W
-      by_w is false none = unmoved (after_publish n) W none
+      by_w : v ≡ write_end p → (b : Bool) → W.mine ≡ b → if_mine (after_end_publish n) W ≡ W
+      by_w is false none = unmoved (after_end_publish n) W none
       by_w is true mine =
           let own = owner items a x (write_end p) l.writer l.w l.writes mine in
-          ap (λ (b : Bool). if b then after_publish n W else W) mine
-          ∙ subst (λ (e : End). after_publish n e ≡ e) (sym own.1)
+          ap (λ (b : Bool). if b then after_end_publish n W else W) mine
+          ∙ subst (λ (e : End). after_end_publish n e ≡ e) (sym own.1)
           (publish_same l.w n l.flow.w_before
           (stores (ap (λ (k : ℕ). k / PIPE_ENDS) is ∙ omega arith) ∙ (ap (λ (k : ℕ). one (place.Var k)) is
           ∙ l.flow.end_w)))
 
-      by_r : v ≡ read_end p → (b : Bool) → R.mine ≡ b → if_mine (after_publish n) R ≡ R
-      by_r is false none = unmoved (after_publish n) R none
+      by_r : v ≡ read_end p → (b : Bool) → R.mine ≡ b → if_mine (after_end_publish n) R ≡ R
+      by_r is false none = unmoved (after_end_publish n) R none
       by_r is true mine =
           let own = owner items a x (read_end p) l.reader l.r l.reads mine in
-          ap (λ (b : Bool). if b then after_publish n R else R) mine
-          ∙ subst (λ (e : End). after_publish n e ≡ e) (sym own.1)
+          ap (λ (b : Bool). if b then after_end_publish n R else R) mine
+          ∙ subst (λ (e : End). after_end_publish n e ≡ e) (sym own.1)
           (publish_same l.r n l.flow.r_before
           (stores (ap (λ (k : ℕ). k / PIPE_ENDS) is ∙ omega arith) ∙ (ap (λ (k : ℕ). one (place.Var k)) is
           ∙ l.flow.end_r)))
@@ -291,9 +291,9 @@ pub publish_dumb : (k o n r p q : ℕ) → k / PIPE_ENDS ≡ p → p ≢ q
     → IsDumb q (item.Made (step.Publish (watch.Var k o) n r))
 publish_dumb k o n r p q is ne = (
   (
-    λ e. ap (λ (b : Bool). if b then if_mine (after_publish n) e else e) (test_off k (write_end q)
+    λ e. ap (λ (b : Bool). if b then if_mine (after_end_publish n) e else e) (test_off k (write_end q)
         (λ z. ne (sym is ∙ (ap (λ (i : ℕ). i / PIPE_ENDS) z ∙ write_in q)))),
-    λ e. ap (λ (b : Bool). if b then if_mine (after_publish n) e else e) (test_off k (read_end q)
+    λ e. ap (λ (b : Bool). if b then if_mine (after_end_publish n) e else e) (test_off k (read_end q)
         (λ z. ne (sym is ∙ (ap (λ (i : ℕ). i / PIPE_ENDS) z ∙ read_in q)))),
   ),
   (refl, refl),

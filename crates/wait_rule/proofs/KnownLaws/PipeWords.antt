@@ -6,7 +6,7 @@ use Rattle.wait_model.specs.declared.layout.TheConstants.{PIPE_ENDS, PIPE_CELLS}
 use Rattle.wait_model.specs.Words.{flag}
 use Rattle.wait_model.specs.Locations as place
 use Rattle.wait_model.specs.Locations.{Location}
-use Rattle.wait_rule.specs.Pipes.{write_end, read_end, cell_of, word_counts, end_word, count_from}
+use Rattle.wait_rule.specs.Pipes.{write_end, read_end, cell_of, word_counts, end_word, count_on}
 
 pub test_on : (a b : ℕ) → a ≡ b → (a == b) ≡ true
 test_on a b is = grind (arith, nat_tests)
@@ -52,7 +52,7 @@ unfolding number
 vars_apart a b ne e = ne (ap number e)
 
 -- counts and words
-pub count_is : (seen n : ℕ) (b : Bool) → seen ≤ n → n ≤ seen + PIPE_CELLS → count_from seen (end_word n b) ≡ n
+pub count_is : (seen n : ℕ) (b : Bool) → seen ≤ n → n ≤ seen + PIPE_CELLS → count_on seen (end_word n b) ≡ n
 count_is seen n true low high = omega arith
 count_is seen n false low high = omega arith
 

@@ -13,19 +13,19 @@ use Rattle.wait_model.specs.Tables.{Table, next}
 use Rattle.wait_model.specs.Rows.{Allowed}
 use Rattle.wait_model.proofs.Functions.{put_case, put_same, put_other, bool_or}
 use Rattle.wait_rule.specs.Items.{Difference, nothing, Book, learn_step}
-use Rattle.wait_rule.specs.Asked.{Asked, waits_for, given_if, took_off, ask_step, waits_at, given_at}
+use Rattle.wait_rule.specs.Asked.{Asked, waits_for, given_if, took_off, ask_step, waits_at, was_given_at}
 use Rattle.wait_rule.specs.Pages.{
   uses_flag,
-  takes,
-  tells,
+  taken_entry,
+  told_entry,
   IsPageEntry,
   IsAskedAt,
-  IsAtRest,
+  IsPageAtRest,
   IsWaitingFor,
   IsHandedBy,
   IsHandedOver,
   IsPageState,
-  ArePagesHanded,
+  ArePageStates,
 }
 use Rattle.wait_rule.proofs.KnownLaws.PageStates.{
   none_some,
@@ -64,10 +64,10 @@ use Rattle.wait_rule.proofs.KnownLaws.HandedPages.{
 }
 
 module _ (s : Table) (a : ℕ) (b : Book) (differs : ℕ → Difference) (asked : ℕ → Asked)
-    (same : differs a ≡ b.differs) (r : ArePagesHanded s differs asked) (sound : IsSound s) where
+    (same : differs a ≡ b.differs) (r : ArePageStates s differs asked) (sound : IsSound s) where
   -- an entry is queued: one for a page by a task that asks for none
   queue_pages : (x : ℕ) (f : Entry) → Allowed s a (step.Queue x f) → b.differs ≡ nothing → MayAsk s a f
-      → ArePagesHanded (next s a (step.Queue x f)) (put differs a (learn_step (step.Queue x f) b).differs)
+      → ArePageStates (next s a (step.Queue x f)) (put differs a (learn_step (step.Queue x f) b).differs)
       (put asked a (ask_step (step.Queue x f) (asked a)))
   queue_pages x f may clear asks = by (is_page f.kind) refl
     where
@@ -90,23 +90,23 @@ module _ (s : Table) (a : ℕ) (b : Book) (differs : ℕ → Difference) (asked 
       gone p i = no_entry (s.entry x) i.entry may.2 i.is
 
       -- a task that asks for no page waits by no other entry
-      none_at : (y : ℕ) → AsksNone s a → owner y ≡ a → (waits_at y (asked a) ≡ None) × (given_at y (asked a) ≡ None)
+      none_at : (y : ℕ) → AsksNone s a → owner y ≡ a → (waits_at y (asked a) ≡ None) × (was_given_at y (asked a) ≡ None)
       none_at y n mine = by_state (r.each y)
         where
           at_own : {A : Type 0} (P : A → Type 0) (g : Asked → A) → P (g (asked (owner y))) → P (g (asked a))
           at_own P g = subst (λ (i : ℕ). P (g (asked i))) mine
 
-          by_state : IsPageState s differs asked y → (waits_at y (asked a) ≡ None) × (given_at y (asked a) ≡ None)
+          by_state : IsPageState s differs asked y → (waits_at y (asked a) ≡ None) × (was_given_at y (asked a) ≡ None)
           by_state (inl i) = (
             ap (λ (j : ℕ). waits_at y (asked j)) (sym mine) ∙ i.waits,
-            ap (λ (j : ℕ). given_at y (asked j)) (sym mine) ∙ i.given,
+            ap (λ (j : ℕ). was_given_at y (asked j)) (sym mine) ∙ i.given,
           )
           by_state (inr (inl i)) = not_both (is_page i.1.stands.entry.kind) i.1.stands.kind
               (n.none y i.1.stands.entry mine i.1.stands.is)
           by_state (inr (inr (inl i))) = none_some i.0 (sym (n.taken y mine) ∙ i.2.taken)
           by_state (inr (inr (inr i))) = none_some i.0 (sym (n.taken y mine) ∙ i.1.taken)
 
-      mine : (y : ℕ) → takes (learn_step e b).differs ≡ Some y
+      mine : (y : ℕ) → taken_entry (learn_step e b).differs ≡ Some y
           → (p : ℕ) × IsHandedBy z (learn_step e b).differs (K (owner y)) y p a
       mine y at = none_some y at
 
@@ -117,13 +117,13 @@ module _ (s : Table) (a : ℕ) (b : Book) (differs : ℕ → Difference) (asked 
       asks_now = ap K may.0 ∙ put_same asked a now
 
       far_with : ((y : ℕ) → y ≢ x → owner y ≡ a → waits_at y now ≡ waits_at y (asked a))
-          → ((y : ℕ) → y ≢ x → owner y ≡ a → given_at y now ≡ given_at y (asked a)) → (y : ℕ) → y ≢ x
+          → ((y : ℕ) → y ≢ x → owner y ≡ a → was_given_at y now ≡ was_given_at y (asked a)) → (y : ℕ) → y ≢ x
           → IsSameAt s z differs D asked K y
       far_with waits given y ne = same_at s a e b differs asked same r y (put_other s.entry x (Some f) y ne) refl
           (λ p t d. d) (waits y ne) (given y ne) (put_other (s.view a).bits.stored x (Some f) y ne)
           (λ is. clear_stays s a b differs asked same r sound y clear is)
 
-      by : (c : Bool) → is_page f.kind ≡ c → ArePagesHanded z D K
+      by : (c : Bool) → is_page f.kind ≡ c → ArePageStates z D K
       by true q = one_touched s a e b differs asked same r own mine x (far_with waits_far given_far)
           (inr (inl (word_of f.watch, here))) alone
         where
@@ -143,8 +143,8 @@ module _ (s : Table) (a : ℕ) (b : Book) (differs : ℕ → Difference) (asked 
           waits_far y ne its = ap (waits_at y) waits_now ∙ (at_other x y (word_of f.watch) (λ i. ne (sym i))
               ∙ sym (none_at y n its).0)
 
-          given_far : (y : ℕ) → y ≢ x → owner y ≡ a → given_at y now ≡ given_at y (asked a)
-          given_far y ne its = ap (given_at y) waits_now ∙ sym (none_at y n its).1
+          given_far : (y : ℕ) → y ≢ x → owner y ≡ a → was_given_at y now ≡ was_given_at y (asked a)
+          given_far y ne its = ap (was_given_at y) waits_now ∙ sym (none_at y n its).1
 
           here : IsWaitingFor z (K (owner x)) x (word_of f.watch)
           here = record {
@@ -153,7 +153,7 @@ module _ (s : Table) (a : ℕ) (b : Book) (differs : ℕ → Difference) (asked 
             waits = ap (waits_at x) (asks_now ∙ waits_now) ∙ at_same x (word_of f.watch);
           }
       by false q = one_touched s a e b differs asked same r (λ y p at. r.own a y p (subst (IsAskedAt y p) kept at)) mine
-          x (far_with (λ y ne its. ap (waits_at y) kept) (λ y ne its. ap (given_at y) kept)) (here (r.each x)) alone
+          x (far_with (λ y ne its. ap (waits_at y) kept) (λ y ne its. ap (was_given_at y) kept)) (here (r.each x)) alone
         where
           kept : now ≡ asked a
           kept = ap (λ (t : Bool). if t then waits_for x (word_of f.watch) else asked a) q
@@ -178,7 +178,7 @@ module _ (s : Table) (a : ℕ) (b : Book) (differs : ℕ → Difference) (asked 
             asked = elim i.asked [
               | inl w ↦ no_entry ((s.view a).bits.stored x) w.1.entry (sound.seen a (head_of f.watch) x may.3 may.5)
                   (ap (λ (j : ℕ). (s.view j).bits.stored x) (sym may.0) ∙ w.1.is)
-              | inr g ↦ inr (ap (given_at x) asks_same ∙ g)
+              | inr g ↦ inr (ap (was_given_at x) asks_same ∙ g)
             ];
           }
 
@@ -187,7 +187,7 @@ module _ (s : Table) (a : ℕ) (b : Book) (differs : ℕ → Difference) (asked 
             taken = i.taken;
             none = λ g is. subst (λ (c : Entry). is_page c.kind ≡ false) (entry_now g is) q;
             waits = ap (waits_at x) asks_same ∙ i.waits;
-            given = ap (given_at x) asks_same ∙ i.given;
+            given = ap (was_given_at x) asks_same ∙ i.given;
           })
           here (inr (inl i)) = gone i.0 i.1.stands
           here (inr (inr (inl i))) = gone i.0 i.2.stands
@@ -195,7 +195,7 @@ module _ (s : Table) (a : ℕ) (b : Book) (differs : ℕ → Difference) (asked 
 
   -- an entry is taken off: one for a page by its own task, or once its task was told that the page was taken for it
   unqueue_pages : (x : ℕ) → Allowed s a (step.Unqueue x) → IsOrderly s a (step.Unqueue x) b
-      → ArePagesHanded (next s a (step.Unqueue x)) (put differs a (learn_step (step.Unqueue x) b).differs)
+      → ArePageStates (next s a (step.Unqueue x)) (put differs a (learn_step (step.Unqueue x) b).differs)
       (put asked a (took_off x (asked a)))
   unqueue_pages x may clear = one_touched s a e b differs asked same r
       (λ y p at. r.own a y p (asked_took x y p (asked a) at)) (λ y at. none_some y at) x far (here (r.each x))
@@ -216,10 +216,10 @@ module _ (s : Table) (a : ℕ) (b : Book) (differs : ℕ → Difference) (asked 
       gone : {A : Type 0} (f : Entry) → z.entry x ≡ Some f → A
       gone f is = no_entry (z.entry x) f (put_same s.entry x None) is
 
-      near : (y : ℕ) → y ≢ x → {A : Type 0} → takes b.differs ≡ Some y → A
+      near : (y : ℕ) → y ≢ x → {A : Type 0} → taken_entry b.differs ≡ Some y → A
       near y ne is = elim clear.0 [
         | inl n ↦ clear_stays s a b differs asked same r sound y n.0 is
-        | inr t ↦ absurd (ne (some_same y x (sym is ∙ ap takes t)))
+        | inr t ↦ absurd (ne (some_same y x (sym is ∙ ap taken_entry t)))
       ]
 
       far : (y : ℕ) → y ≢ x → IsSameAt s z differs D asked K y
@@ -233,10 +233,10 @@ module _ (s : Table) (a : ℕ) (b : Book) (differs : ℕ → Difference) (asked 
       asks : Asks
       asks = put_case asked a (took_off x (asked a)) (owner x)
 
-      given_same : (k : Asks) → given_at x (K (owner x)) ≡ given_at x (asked (owner x))
-      given_same (inl m) = ap (given_at x) m.1
-          ∙ (given_took x x (asked a) ∙ ap (λ (j : ℕ). given_at x (asked j)) (sym m.0))
-      given_same (inr m) = ap (given_at x) m.1
+      given_same : (k : Asks) → was_given_at x (K (owner x)) ≡ was_given_at x (asked (owner x))
+      given_same (inl m) = ap (was_given_at x) m.1
+          ∙ (given_took x x (asked a) ∙ ap (λ (j : ℕ). was_given_at x (asked j)) (sym m.0))
+      given_same (inr m) = ap (was_given_at x) m.1
 
       waits_none : (k : Asks) → waits_at x (asked (owner x)) ≡ None → waits_at x (K (owner x)) ≡ None
       waits_none (inl m) was = ap (waits_at x) m.1 ∙ waits_took x (asked a)
@@ -249,7 +249,7 @@ module _ (s : Table) (a : ℕ) (b : Book) (differs : ℕ → Difference) (asked 
       view_same ne = put_other s.view a (after e (s.view a)) (owner x) ne
 
       -- its task took off an entry for a page that nobody had taken
-      left : (p : ℕ) → IsWaitingFor s (asked (owner x)) x p → IsAtRest z (K (owner x)) x
+      left : (p : ℕ) → IsWaitingFor s (asked (owner x)) x p → IsPageAtRest z (K (owner x)) x
       left p i = record {
         taken = i.taken;
         none = λ f is. gone f is;
@@ -261,7 +261,7 @@ module _ (s : Table) (a : ℕ) (b : Book) (differs : ℕ → Difference) (asked 
           own = elim clear.0 [
             | inl n ↦ n.1 i.stands.entry i.stands.is i.stands.kind
             | inr t ↦
-                let h = r.hands a x (ap takes (same ∙ t)) in
+                let h = r.hands a x (ap taken_entry (same ∙ t)) in
                 none_some h.0 (sym i.taken ∙ h.1.taken)
           ]
 
@@ -277,15 +277,15 @@ module _ (s : Table) (a : ℕ) (b : Book) (differs : ℕ → Difference) (asked 
           mine : d ≡ a
           mine = by_task s a e b differs asked same r sound.one x may.0 may.1 may.2 d p (differs d) i
 
-          told : tells (differs d) ≡ Some x
+          told : told_entry (differs d) ≡ Some x
           told = elim clear.0 [
-            | inl n ↦ clear_stays s a b differs asked same r sound x n.0 (sym (ap takes (ap differs mine ∙ same))
+            | inl n ↦ clear_stays s a b differs asked same r sound x n.0 (sym (ap taken_entry (ap differs mine ∙ same))
                 ∙ i.takes)
-            | inr t ↦ ap tells (ap differs mine ∙ (same ∙ t))
+            | inr t ↦ ap told_entry (ap differs mine ∙ (same ∙ t))
           ]
 
           by_asks : Asks → IsAskedAt x p (asked (owner x)) → ((waits_at x (K (owner x)) ≡ Some p)
-              × IsPageEntry ((z.view (owner x)).bits.stored x) p) ⊎ (given_at x (K (owner x)) ≡ Some p)
+              × IsPageEntry ((z.view (owner x)).bits.stored x) p) ⊎ (was_given_at x (K (owner x)) ≡ Some p)
           by_asks (inl m) at = inr (given_same (inl m) ∙ i.own (m.0 ∙ sym mine))
           by_asks (inr m) (inr g) = inr (given_same (inr m) ∙ g)
           by_asks (inr m) (inl w) = inl (
@@ -315,9 +315,9 @@ module _ (s : Table) (a : ℕ) (b : Book) (differs : ℕ → Difference) (asked 
               (unflagged may.0.kind (i.off may.0 may.1))
 
           by_asks : Asks → ((waits_at x (asked (owner x)) ≡ Some p)
-              × IsPageEntry ((s.view (owner x)).bits.stored x) p) ⊎ (given_at x (asked (owner x)) ≡ Some p)
+              × IsPageEntry ((s.view (owner x)).bits.stored x) p) ⊎ (was_given_at x (asked (owner x)) ≡ Some p)
               → ((waits_at x (K (owner x)) ≡ Some p)
-              × IsPageEntry ((z.view (owner x)).bits.stored x) p) ⊎ (given_at x (K (owner x)) ≡ Some p)
+              × IsPageEntry ((z.view (owner x)).bits.stored x) p) ⊎ (was_given_at x (K (owner x)) ≡ Some p)
           by_asks k (inl w) = other w.1
           by_asks k (inr g) = inr (given_same k ∙ g)
 
@@ -333,7 +333,7 @@ module _ (s : Table) (a : ℕ) (b : Book) (differs : ℕ → Difference) (asked 
       here (inr (inr (inr i))) = inr (inr (inr (i.0, over i.0 i.1)))
 
   pub pages_next : (e : Step) → Allowed s a e → IsOrderly s a e b
-      → ArePagesHanded (next s a e) (put differs a (learn_step e b).differs) (put asked a (ask_step e (asked a)))
+      → ArePageStates (next s a e) (put differs a (learn_step e b).differs) (put asked a (ask_step e (asked a)))
   pages_next (step.Queue x f) may o = queue_pages x f may o.0 o.1
   pages_next (step.Unqueue x) may o = unqueue_pages x may o
   pages_next (step.TasFor x p w) may o = tried_pages s a b differs asked same r sound x p w may o
@@ -358,6 +358,6 @@ module _ (s : Table) (a : ℕ) (b : Book) (differs : ℕ → Difference) (asked 
       (λ y p t d. d) refl refl (λ y is. clear_stays s a b differs asked same r sound y o.0 is) (λ y is. none_some y is)
   pages_next (step.Sleep w) may o = quiet_pages s a (step.Sleep w) b differs asked same r refl refl
       (λ y p t d. d) refl refl (λ y is. (asleep_differs (sleep_of (task_of w)) b, refl))
-      (λ y is. sym (ap takes (asleep_differs (sleep_of (task_of w)) b)) ∙ is)
+      (λ y is. sym (ap taken_entry (asleep_differs (sleep_of (task_of w)) b)) ∙ is)
   pages_next e may o = quiet_pages s a e b differs asked same r refl refl (λ y p t d. d) refl refl
       (λ y is. (refl, refl)) (λ y is. is)

@@ -36,7 +36,7 @@ use Rattle.wait_model.specs.Words.{entry_of}
 use Rattle.wait_model.proofs.Functions.{put_at, put_case, put_other, put_same}
 use Rattle.wait_model.proofs.StepLaws.UnlockSteps.{unlock_bits}
 use Rattle.wait_rule.specs.Items.{Book}
-use Rattle.wait_rule.specs.Quiet.{AreQuiet, is_quiet, quiet_after, quiet_from}
+use Rattle.wait_rule.specs.Quiet.{AreQuiet, is_quiet_at, quiet_after, quiet_from}
 use Rattle.wait_rule.proofs.KnownLaws.MemberSteps.{IsOrderly}
 
 -- one history after another
@@ -46,7 +46,7 @@ quiet_append x v b [] fs = refl
 quiet_append x v b (e ∷ es) fs = quiet_append x (after e v) (quiet_after x v e b) es fs
 
 pub quiet_more : (x : ℕ) (es fs : List Step)
-    → is_quiet x (es ++ fs) ≡ quiet_from x (view_of es) (is_quiet x es) fs
+    → is_quiet_at x (es ++ fs) ≡ quiet_from x (view_of es) (is_quiet_at x es) fs
 quiet_more x es fs = quiet_append x blank true es fs
 
 -- no entry of kind Woken is stored
@@ -130,7 +130,7 @@ module _ (x : ℕ) where
   from_unheard [] v b inv = inv
   from_unheard (e ∷ es) v b inv = from_unheard es (after e v) (quiet_after x v e b) (step_unheard e v b inv)
 
-  pub unheard : (es : List Step) → is_quiet x es ≡ true → NoneWoken ((view_of es).bits.stored x)
+  pub unheard : (es : List Step) → is_quiet_at x es ≡ true → NoneWoken ((view_of es).bits.stored x)
   unheard es = from_unheard es blank true (λ _. none_woken)
 
   -- where a step has made the task quiet it was so before, but for one that clears the flag
@@ -144,17 +144,17 @@ module _ (x : ℕ) where
       by true q = and_right (is_woken e.kind) b q
       by false q = q
 
-  was_quiet : (s : Table) (a : ℕ) (e : Step) → Begins e → is_quiet x ((next s a e).history (owner x)) ≡ true
-      → is_quiet x (s.history (owner x)) ≡ true
-  was_quiet s a e begins = put_at (λ (h : List Step). is_quiet x h ≡ true → is_quiet x (s.history (owner x)) ≡ true)
+  was_quiet : (s : Table) (a : ℕ) (e : Step) → Begins e → is_quiet_at x ((next s a e).history (owner x)) ≡ true
+      → is_quiet_at x (s.history (owner x)) ≡ true
+  was_quiet s a e begins = put_at (λ (h : List Step). is_quiet_at x h ≡ true → is_quiet_at x (s.history (owner x)) ≡ true)
       s.history a (s.history a ++ e ∷ []) (owner x)
-      (λ here quiet. ap (λ (t : ℕ). is_quiet x (s.history t)) here
-      ∙ begins (view_of (s.history a)) (is_quiet x (s.history a)) (sym (quiet_more x (s.history a) (e ∷ [])) ∙ quiet))
+      (λ here quiet. ap (λ (t : ℕ). is_quiet_at x (s.history t)) here
+      ∙ begins (view_of (s.history a)) (is_quiet_at x (s.history a)) (sym (quiet_more x (s.history a) (e ∷ [])) ∙ quiet))
       (λ _ quiet. quiet)
 
   woken_quiet : (s : Table) (a y : ℕ) (b : Book) → Allowed s a (step.Woken y) → IsOrderly s a (step.Woken y) b
       → BitFacts s → ((t : ℕ) → s.view t ≡ view_of (s.history t)) → AreQuiet s
-      → is_quiet x (s.history (owner x)) ≡ true → put s.flag y true x ≡ true → put s.done y false x ≡ true
+      → is_quiet_at x (s.history (owner x)) ≡ true → put s.flag y true x ≡ true → put s.done y false x ≡ true
   woken_quiet s a y b al orderly facts told r quiet = by (put_case s.flag y true x)
     where
       never : x ≡ y → put s.done y false x ≡ true
@@ -180,7 +180,7 @@ module _ (x : ℕ) where
       by (inr q) flag = put_other s.done y true x q.0 ∙ r (sym q.1 ∙ flag)
 
   unflag_quiet : (s : Table) (a y : ℕ) (o : Option ℕ) → AreQuiet s
-      → is_quiet x ((next s a (step.Unflag y o)).history (owner x)) ≡ true → put s.flag y false x ≡ true
+      → is_quiet_at x ((next s a (step.Unflag y o)).history (owner x)) ≡ true → put s.flag y false x ≡ true
       → put s.done y false x ≡ true
   unflag_quiet s a y o r quiet = by (put_case s.flag y false x)
     where

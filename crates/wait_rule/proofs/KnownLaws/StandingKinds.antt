@@ -10,7 +10,7 @@ use Rattle.wait_model.specs.Watches.{is_page, owner, page, word_of}
 use Rattle.wait_model.specs.Words.{Suited}
 use Rattle.wait_model.specs.Tables.{Table}
 use Rattle.wait_rule.specs.declared.journal.Item.{Item}
-use Rattle.wait_rule.specs.Asked.{nothing_asked, waits_at, given_at, all_asked}
+use Rattle.wait_rule.specs.Asked.{nothing_asked, waits_at, was_given_at, all_asked}
 use Rattle.wait_rule.specs.MemberWords.{all_differences}
 use Rattle.wait_rule.specs.Members.{IsStanding}
 use Rattle.wait_rule.specs.Pages.{uses_flag, IsAskedAt, IsPageState}
@@ -44,7 +44,7 @@ module _ (s : Table) (items : ℕ → List Item) (r : IsRuled s items) where
   not_asked : {A : Type 0} (a x p : ℕ) → all_asked items a ≡ nothing_asked → owner x ≡ a
       → IsAskedAt x p (all_asked items (owner x)) → A
   not_asked a x p none mine (inl w) = none_some p (sym (ap (waits_at x) (ap (all_asked items) mine ∙ none)) ∙ w)
-  not_asked a x p none mine (inr g) = none_some p (sym (ap (given_at x) (ap (all_asked items) mine ∙ none)) ∙ g)
+  not_asked a x p none mine (inr g) = none_some p (sym (ap (was_given_at x) (ap (all_asked items) mine ∙ none)) ∙ g)
 
   -- no page is taken for such a task, and no entry of its own for a page stands
   pub asks_none : (a : ℕ) → all_asked items a ≡ nothing_asked → AsksNone s a

@@ -10,7 +10,7 @@ use Rattle.wait_model.specs.Fold.{is_off, after_look}
 use Rattle.wait_model.proofs.Functions.{put_at, put_same}
 use Rattle.wait_rule.specs.Known.{Known}
 use Rattle.wait_rule.specs.LeftEntries.{HasLeftNone, ShowsNoOwn}
-use Rattle.wait_rule.specs.Says.{Debts, Excuse, IsOutBut, Owes, TriesNone, told_of}
+use Rattle.wait_rule.specs.Says.{Debts, Excuse, IsOutBut, OwesBut, TriesNone, told_of}
 use Rattle.wait_rule.specs.Queues.{KnewEntry, index}
 use Rattle.wait_rule.specs.Stays.{Stays, StaysOwing, no_entries, with_entry, with_left_entry}
 use Rattle.wait_rule.proofs.KnownLaws.Debts.{entries_debts, left_debts, off_debts}
@@ -159,7 +159,7 @@ out_also : (i y : ℕ) (b : Bool) (s : Option Entry) → IsOutBut b s → (t : B
 out_also i y b s is true = tt
 out_also i y b s is false = is
 
-pub owes_also : (i : ℕ) (x : Excuse) (k : Known) → Owes x k → Owes (with_entry i x) k
+pub owes_also : (i : ℕ) (x : Excuse) (k : Known) → OwesBut x k → OwesBut (with_entry i x) k
 unfolding with_entry
 owes_also i x k o = record {
   unmarked = o.unmarked;
@@ -175,7 +175,7 @@ out_more : (x : Excuse) (k : Known) (y : ℕ) (b : Bool) → (told_of k).bits.st
 out_more x k y true is = tt
 out_more x k y false is = is
 
-pub owes_out : (i : ℕ) (x : Excuse) (k : Known) → (told_of k).bits.stored i ≡ None → Owes (with_entry i x) k → Owes x k
+pub owes_out : (i : ℕ) (x : Excuse) (k : Known) → (told_of k).bits.stored i ≡ None → OwesBut (with_entry i x) k → OwesBut x k
 unfolding with_entry
 owes_out i x k none o = record {
   unmarked = o.unmarked;
@@ -192,7 +192,7 @@ owes_out i x k none o = record {
     by y false same is = is
 
 -- that it may have left its entry at a completion, and then that it has not
-pub owes_left : (x : Excuse) (k : Known) → Owes x k → Owes (with_left_entry x) k
+pub owes_left : (x : Excuse) (k : Known) → OwesBut x k → OwesBut (with_left_entry x) k
 unfolding with_left_entry
 owes_left x k o = record {
   unmarked = o.unmarked;
@@ -204,7 +204,7 @@ owes_left x k o = record {
 }
 
 pub owes_off : (x : Excuse) (k : Known) → (x.left ≡ false → HasLeftNone k) → (x.left ≡ false → ShowsNoOwn k)
-    → Owes (with_left_entry x) k → Owes x k
+    → OwesBut (with_left_entry x) k → OwesBut x k
 unfolding with_left_entry
 owes_off x k off shows o = record {
   unmarked = o.unmarked;

@@ -47,7 +47,7 @@ use Rattle.wait_rule.specs.Tickets.{
   served,
   taken,
   given,
-  is_of,
+  is_ticket_of,
   is_served,
   is_given,
   ShowsNumber,
@@ -106,8 +106,8 @@ to_test h = grind (arith, nat_tests)
 pub test_off : (g h : ℕ) → h ≢ g → (g == h) ≡ false
 test_off g h ne = grind (arith, nat_tests)
 
-pub none_out : {A : Type 0} (h : ℕ) (t : Ticket) → t ≡ no_ticket → is_of h t ≡ true → A
-none_out h t none is = absurd (let z : false ≡ true = sym (ap (is_of h) none) ∙ is in cc)
+pub none_out : {A : Type 0} (h : ℕ) (t : Ticket) → t ≡ no_ticket → is_ticket_of h t ≡ true → A
+none_out h t none is = absurd (let z : false ≡ true = sym (ap (is_ticket_of h) none) ∙ is in cc)
 
 -- the locks that were given back, after a step, and those whose serve is still to come, with another ticket of a task
 pub unlocked_next : (s : Table) (a : ℕ) (e : Step) (h : ℕ) → a < TASKS
@@ -155,7 +155,7 @@ flag_set : (b : Bool) → flag b ≡ 1 → b ≡ true
 flag_set true is = refl
 flag_set false is = absurd (omega arith)
 
-given_is : (h : ℕ) (t : Ticket) → is_given h t ≡ true → (is_of h t ≡ true) × (is_served t ≡ true)
+given_is : (h : ℕ) (t : Ticket) → is_given h t ≡ true → (is_ticket_of h t ≡ true) × (is_served t ≡ true)
 given_is h no_ticket is = absurd (cc)
 given_is h (drawn g n) is = absurd (cc)
 given_is h (served g n) is = absurd (cc)
@@ -173,13 +173,13 @@ one_unserved s tickets beside r h = one_at_most TASKS (λ t. flag (is_given h (t
 
 -- a task's ticket changes to another one of the same head, or heads are held by others
 module _ (s z : Table) (tickets : ℕ → Ticket) (beside : place.Location → ℕ) (r : AreTickets s tickets beside) (a : ℕ)
-    (x : Ticket) (same : (h : ℕ) → is_of h x ≡ is_of h (tickets a)) (shows : ShowsNumber x (r.number a))
-    (turn : (h : ℕ) → is_of h x ≡ true → is_served x ≡ true → r.number a ≡ r.serves h)
+    (x : Ticket) (same : (h : ℕ) → is_ticket_of h x ≡ is_ticket_of h (tickets a)) (shows : ShowsNumber x (r.number a))
+    (turn : (h : ℕ) → is_ticket_of h x ≡ true → is_served x ≡ true → r.number a ≡ r.serves h)
     (held : (b h : ℕ) → (z.view b).hold.head ≡ Some h → put tickets a x b ≡ taken h)
     (unlocks : (h : ℕ) → unlocked_at h z.history ≡ r.serves h + unserved h (put tickets a x)) where
-  still_out : (b h : ℕ) → is_of h (put tickets a x b) ≡ is_of h (tickets b)
-  still_out b h = put_at (λ (t : Ticket). is_of h t ≡ is_of h (tickets b)) tickets a x b
-      (λ e. same h ∙ ap (λ (i : ℕ). is_of h (tickets i)) (sym e)) (λ _. refl)
+  still_out : (b h : ℕ) → is_ticket_of h (put tickets a x b) ≡ is_ticket_of h (tickets b)
+  still_out b h = put_at (λ (t : Ticket). is_ticket_of h t ≡ is_ticket_of h (tickets b)) tickets a x b
+      (λ e. same h ∙ ap (λ (i : ℕ). is_ticket_of h (tickets i)) (sym e)) (λ _. refl)
 
   below : (h n : ℕ) → out_below (put tickets a x) h n ≡ out_below tickets h n
   below h zero = refl
@@ -198,7 +198,7 @@ module _ (s z : Table) (tickets : ℕ → Ticket) (beside : place.Location → �
     count = λ h. r.count h ∙ ap (λ (n : ℕ). r.serves h + n) (sym (below h TASKS));
     shown = λ b. put_at (λ (t : Ticket). ShowsNumber t (r.number b)) tickets a x b
         (λ e. subst (λ (i : ℕ). ShowsNumber x (r.number i)) (sym e) shows) (λ _. r.shown b);
-    turn = λ b h. put_at (λ (t : Ticket). is_of h t ≡ true → is_served t ≡ true → r.number b ≡ r.serves h) tickets a x b
+    turn = λ b h. put_at (λ (t : Ticket). is_ticket_of h t ≡ true → is_served t ≡ true → r.number b ≡ r.serves h) tickets a x b
         (λ e out is. ap r.number e ∙ turn h out is) (λ _. r.turn b h);
     held = held;
     unlocks = unlocks;
@@ -263,7 +263,7 @@ pub tickets_after : (s : Table) (a : ℕ) (e : Step) (b : Book) (tickets : ℕ �
     → AreTickets (next s a e) (put tickets a (learn_step e b).ticket) beside
 tickets_after s a (step.Lock g aim w) b tickets beside few may turn is r =
     let now : tickets a ≡ served g turn.0 = is ∙ turn.1 in
-    let same : (h : ℕ) → is_of h (tickets a) ≡ (g == h) = λ h. ap (is_of h) now in
+    let same : (h : ℕ) → is_ticket_of h (tickets a) ≡ (g == h) = λ h. ap (is_ticket_of h) now in
     same_line s (next s a (step.Lock g aim w)) tickets beside r a (taken g) (λ h. sym (same h)) tt
     (λ h out _. r.turn a h (same h ∙ out) (ap is_served now))
     (λ d h. both_at (λ (v : Told) (t : Ticket). v.hold.head ≡ Some h → t ≡ taken h) s.view tickets a
@@ -274,7 +274,7 @@ tickets_after s a (step.Lock g aim w) b tickets beside few may turn is r =
     (sym (ap (λ (t : Ticket). flag (is_given h t) + 0) now))))
 tickets_after s a (step.Unlock g sp) b tickets beside few may clear is r =
     let now : tickets a ≡ taken g = r.held a g may.0 in
-    let same : (h : ℕ) → is_of h (tickets a) ≡ (g == h) = λ h. ap (is_of h) now in
+    let same : (h : ℕ) → is_ticket_of h (tickets a) ≡ (g == h) = λ h. ap (is_ticket_of h) now in
     same_line s (next s a (step.Unlock g sp)) tickets beside r a (given g) (λ h. sym (same h)) tt
     (λ h out _. r.turn a h (same h ∙ out) (ap is_served now))
     (λ d h. both_at (λ (v : Told) (t : Ticket). v.hold.head ≡ Some h → t ≡ taken h) s.view tickets a
@@ -294,8 +294,8 @@ tickets_after s a e b tickets beside few may orderly is r = still_step s a e b t
 -- a ticket that was read as served, and has had no hold, finds its head free, and its task holds no other
 module _ (s : Table) (notes : ℕ → Notes) (linked : AreLinked s notes) (tickets : ℕ → Ticket)
     (beside : place.Location → ℕ) (r : AreTickets s tickets beside) (a h n : ℕ) (is : tickets a ≡ served h n) where
-  own_out : is_of h (tickets a) ≡ true
-  own_out = ap (is_of h) is ∙ to_test h
+  own_out : is_ticket_of h (tickets a) ≡ true
+  own_out = ap (is_ticket_of h) is ∙ to_test h
 
   pub free_head : s.holder h ≡ false
   free_head = by (s.holder h) refl
@@ -305,7 +305,7 @@ module _ (s : Table) (notes : ℕ → Notes) (linked : AreLinked s notes) (ticke
       by true q =
           let d = linked.holder h q in
           let there : tickets d.0 ≡ taken h = r.held d.0 h d.1 in
-          let out : is_of h (tickets d.0) ≡ true = ap (is_of h) there ∙ to_test h in
+          let out : is_ticket_of h (tickets d.0) ≡ true = ap (is_ticket_of h) there ∙ to_test h in
           let one : a ≡ d.0 = r.once a d.0 h own_out out (r.turn a h own_out (ap is_served is)
           ∙ sym (r.turn d.0 h out (ap is_served there))) in
           let both : served h n ≡ taken h = sym is ∙ (ap tickets one ∙ there) in

@@ -15,7 +15,7 @@ use Rattle.wait_model.specs.Watches.{owner}
 use Rattle.wait_model.specs.Words.{flag_of}
 use Rattle.wait_model.proofs.Functions.{put_at, put_case, put_same}
 use Rattle.wait_rule.specs.Items.{Book}
-use Rattle.wait_rule.specs.Quiet.{AreQuiet, AreTold, is_quiet, is_told, quiet_after, quiet_from, told_after, told_from}
+use Rattle.wait_rule.specs.Quiet.{AreQuiet, AreTold, is_quiet_at, is_told, quiet_after, quiet_from, told_after, told_from}
 use Rattle.wait_rule.proofs.KnownLaws.MemberSteps.{IsOrderly}
 use Rattle.wait_rule.proofs.KnownLaws.PageStates.{none_some}
 
@@ -26,7 +26,7 @@ told_append x v q b [] fs = refl
 told_append x v q b (e ∷ es) fs = told_append x (after e v) (quiet_after x v e q) (told_after x e q b) es fs
 
 pub told_more : (x : ℕ) (es fs : List Step)
-    → is_told x (es ++ fs) ≡ told_from x (view_of es) (is_quiet x es) (is_told x es) fs
+    → is_told x (es ++ fs) ≡ told_from x (view_of es) (is_quiet_at x es) (is_told x es) fs
 told_more x es fs = told_append x blank true false es fs
 
 or_either : (a b : Bool) → (a || b) ≡ true → (a ≡ true) ⊎ (b ≡ true)
@@ -40,10 +40,10 @@ and_both false b is = absurd (cc)
 module _ (x : ℕ) (s : Table) (a : ℕ) (r : AreTold s) where
   -- what is told after a step, by whose it is
   by_step : (e : Step) → is_told x ((next s a e).history (owner x)) ≡ true
-      → ((owner x ≡ a) × (told_after x e (is_quiet x (s.history a)) (is_told x (s.history a)) ≡ true))
+      → ((owner x ≡ a) × (told_after x e (is_quiet_at x (s.history a)) (is_told x (s.history a)) ≡ true))
       ⊎ (is_told x (s.history (owner x)) ≡ true)
   by_step e = put_at (λ (h : List Step). is_told x h ≡ true
-      → ((owner x ≡ a) × (told_after x e (is_quiet x (s.history a)) (is_told x (s.history a)) ≡ true))
+      → ((owner x ≡ a) × (told_after x e (is_quiet_at x (s.history a)) (is_told x (s.history a)) ≡ true))
       ⊎ (is_told x (s.history (owner x)) ≡ true)) s.history a (s.history a ++ e ∷ []) (owner x)
       (λ here told. inl (here, sym (told_more x (s.history a) (e ∷ [])) ∙ told)) (λ _ told. inr told)
 
@@ -51,7 +51,7 @@ module _ (x : ℕ) (s : Table) (a : ℕ) (r : AreTold s) where
   mine here told = r x (ap (λ (t : ℕ). is_told x (s.history t)) here ∙ told)
 
   -- a step that tells nothing
-  still : (e : Step) → told_after x e (is_quiet x (s.history a)) (is_told x (s.history a)) ≡ is_told x (s.history a)
+  still : (e : Step) → told_after x e (is_quiet_at x (s.history a)) (is_told x (s.history a)) ≡ is_told x (s.history a)
       → is_told x ((next s a e).history (owner x)) ≡ true → s.done x ≡ true
   still e same told = elim (by_step e told) [
     | inl q ↦ mine q.0 (sym same ∙ q.1)
@@ -63,23 +63,23 @@ module _ (x : ℕ) (s : Table) (a : ℕ) (r : AreTold s) where
   flag_told y w found quiet told = by (by_step (step.Flag y w) told)
     where
       here : owner x ≡ a → (((y == x) ≡ true) × (y ≡ x)) ⊎ (((y == x) ≡ false) × (y ≢ x))
-          → (if y == x then (is_quiet x (s.history a) && flag_of w) || is_told x (s.history a)
+          → (if y == x then (is_quiet_at x (s.history a) && flag_of w) || is_told x (s.history a)
           else is_told x (s.history a)) ≡ true → s.done x ≡ true
       here own (inl q) is =
-          let one : ((is_quiet x (s.history a) && flag_of w) || is_told x (s.history a)) ≡ true =
-          ap (λ (t : Bool). if t then (is_quiet x (s.history a) && flag_of w) || is_told x (s.history a)
+          let one : ((is_quiet_at x (s.history a) && flag_of w) || is_told x (s.history a)) ≡ true =
+          ap (λ (t : Bool). if t then (is_quiet_at x (s.history a) && flag_of w) || is_told x (s.history a)
           else is_told x (s.history a)) (sym q.0) ∙ is in
-          elim (or_either (is_quiet x (s.history a) && flag_of w) (is_told x (s.history a)) one) [
+          elim (or_either (is_quiet_at x (s.history a) && flag_of w) (is_told x (s.history a)) one) [
             | inl both ↦
-                let b = and_both (is_quiet x (s.history a)) (flag_of w) both in
-                quiet x (ap (λ (t : ℕ). is_quiet x (s.history t)) own ∙ b.0)
+                let b = and_both (is_quiet_at x (s.history a)) (flag_of w) both in
+                quiet x (ap (λ (t : ℕ). is_quiet_at x (s.history t)) own ∙ b.0)
                 (ap s.flag (sym q.1) ∙ (sym found ∙ b.1))
             | inr before ↦ mine own before
           ]
-      here own (inr q) is = mine own (ap (λ (t : Bool). if t then (is_quiet x (s.history a) && flag_of w)
+      here own (inr q) is = mine own (ap (λ (t : Bool). if t then (is_quiet_at x (s.history a) && flag_of w)
           || is_told x (s.history a) else is_told x (s.history a)) (sym q.0) ∙ is)
 
-      by : ((owner x ≡ a) × (told_after x (step.Flag y w) (is_quiet x (s.history a)) (is_told x (s.history a)) ≡ true))
+      by : ((owner x ≡ a) × (told_after x (step.Flag y w) (is_quiet_at x (s.history a)) (is_told x (s.history a)) ≡ true))
           ⊎ (is_told x (s.history (owner x)) ≡ true) → s.done x ≡ true
       by (inl q) = here q.0 (eqb_tells y x) q.1
       by (inr q) = r x q
@@ -94,7 +94,7 @@ module _ (x : ℕ) (s : Table) (a : ℕ) (r : AreTold s) where
           ≡ s.history a ++ step.Unflag y o ∷ [] =
           ap (put s.history a (s.history a ++ step.Unflag y o ∷ [])) (ap owner same ∙ own)
           ∙ put_same s.history a (s.history a ++ step.Unflag y o ∷ []) in
-          let none : told_after x (step.Unflag y o) (is_quiet x (s.history a)) (is_told x (s.history a)) ≡ true =
+          let none : told_after x (step.Unflag y o) (is_quiet_at x (s.history a)) (is_told x (s.history a)) ≡ true =
           sym (told_more x (s.history a) (step.Unflag y o ∷ [])) ∙ (ap (is_told x) (sym at) ∙ t) in
           no (eqb_tells y x) none
         where
@@ -106,7 +106,7 @@ module _ (x : ℕ) (s : Table) (a : ℕ) (r : AreTold s) where
           no (inr q) is = absurd (q.1 (sym same))
 
       other : x ≢ y → ((owner x ≡ a)
-          × (told_after x (step.Unflag y o) (is_quiet x (s.history a)) (is_told x (s.history a)) ≡ true))
+          × (told_after x (step.Unflag y o) (is_quiet_at x (s.history a)) (is_told x (s.history a)) ≡ true))
           ⊎ (is_told x (s.history (owner x)) ≡ true) → s.done x ≡ true
       other ne (inl q) = on (eqb_tells y x) q.1
         where
@@ -118,7 +118,7 @@ module _ (x : ℕ) (s : Table) (a : ℕ) (r : AreTold s) where
 
       by : ((x ≡ y) × (put s.done y false x ≡ false)) ⊎ ((x ≢ y) × (put s.done y false x ≡ s.done x))
           → ((owner x ≡ a)
-          × (told_after x (step.Unflag y o) (is_quiet x (s.history a)) (is_told x (s.history a)) ≡ true))
+          × (told_after x (step.Unflag y o) (is_quiet_at x (s.history a)) (is_told x (s.history a)) ≡ true))
           ⊎ (is_told x (s.history (owner x)) ≡ true) → put s.done y false x ≡ true
       by (inl q) t = cleared q.0 told
       by (inr q) t = q.1 ∙ other q.0 t

@@ -19,10 +19,10 @@ use Rattle.wait_model.proofs.Functions.{put_same, put_other}
 use Rattle.wait_rule.specs.declared.journal.Item.{Item}
 use Rattle.wait_rule.specs.Items.{nothing, page_taken, page_told, after_try, Book, with_difference, Fits}
 use Rattle.wait_rule.specs.MemberWords.{all_differences}
-use Rattle.wait_rule.specs.Asked.{given_at, all_asked, nothing_asked}
-use Rattle.wait_rule.specs.Pages.{uses_flag, takes, IsPageEntry, IsPageless, IsHandedBy, IsPageState}
+use Rattle.wait_rule.specs.Asked.{was_given_at, all_asked, nothing_asked}
+use Rattle.wait_rule.specs.Pages.{uses_flag, taken_entry, IsPageEntry, IsPageless, IsHandedBy, IsPageState}
 use Rattle.wait_rule.specs.Members.{IsOwnKind}
-use Rattle.wait_rule.specs.Quiet.{is_quiet, is_told}
+use Rattle.wait_rule.specs.Quiet.{is_quiet_at, is_told}
 use Rattle.wait_rule.specs.Rule.{IsLawfulTable, IsRuled}
 use Rattle.wait_rule.proofs.KnownLaws.HeadLinks.{quiet_links, telling_own, telling_marks}
 use Rattle.wait_rule.proofs.KnownLaws.MemberPlaces.{still_places}
@@ -126,7 +126,7 @@ module _ (s : Table) (items : ℕ → List Item) (ruled : IsRuled s items) (a : 
             let me : d ≡ a = ruled.whole.kept.facts.one_holder d a (head_of e.watch)
             (i.held ∙ ap (λ (c : Watch). Some (head_of c)) (sym i.stands.watch ∙ ap (λ (f : Entry). f.watch) one)) holds
             in
-            takes_none b.differs x clear (sym (ap takes (ap (all_differences items) me ∙ same)) ∙ i.takes)
+            takes_none b.differs x clear (sym (ap taken_entry (ap (all_differences items) me ∙ same)) ∙ i.takes)
 
         by : IsPageState s (all_differences items) (all_asked items) x → s.taken x ≡ None
         by (inl i) = i.taken
@@ -192,7 +192,7 @@ module _ (s : Table) (items : ℕ → List Item) (ruled : IsRuled s items) (a : 
   }
     where
       i : (p : ℕ) × IsHandedBy s (all_differences items a) (all_asked items (owner x)) x p a
-      i = ruled.pages.hands a x (ap takes (same ∙ is))
+      i = ruled.pages.hands a x (ap taken_entry (same ∙ is))
 
   -- an entry whose task was told of its page is one that other tasks take off
   pub told_fair : b.differs ≡ page_told x → (h : ℕ) (e : Entry) → (s.view a).hold.head ≡ Some h
@@ -208,13 +208,13 @@ module _ (s : Table) (items : ℕ → List Item) (ruled : IsRuled s items) (a : 
           ((ruled.whole.kept.facts.views a).hold.agrees h x held)
 
       i : (p : ℕ) × IsHandedBy s (all_differences items a) (all_asked items (owner x)) x p a
-      i = ruled.pages.hands a x (ap takes (same ∙ is))
+      i = ruled.pages.hands a x (ap taken_entry (same ∙ is))
 
       one : i.1.stands.entry ≡ e
       one = let both : Some i.1.stands.entry ≡ Some e = sym i.1.stands.is ∙ there.0 in cc
 
   -- the task's own entry, of which it knows that it is none for a page that stands
-  module _ (p : ℕ) (mine : owner x ≡ a) (given : given_at x (all_asked items a) ≡ Some p)
+  module _ (p : ℕ) (mine : owner x ≡ a) (given : was_given_at x (all_asked items a) ≡ Some p)
       (pageless : IsPageless ((s.view a).bits.stored x)) where
     not_stored : {A : Type 0} (q : ℕ) → IsPageEntry ((s.view (owner x)).bits.stored x) q → A
     not_stored q i = not_both (is_page i.entry.kind) i.kind
@@ -228,8 +228,8 @@ module _ (s : Table) (items : ℕ → List Item) (ruled : IsRuled s items) (a : 
       watch = i.watch;
     })
 
-    is_given : given_at x (all_asked items (owner x)) ≡ Some p
-    is_given = ap (λ (j : ℕ). given_at x (all_asked items j)) mine ∙ given
+    is_given : was_given_at x (all_asked items (owner x)) ≡ Some p
+    is_given = ap (λ (j : ℕ). was_given_at x (all_asked items j)) mine ∙ given
 
     -- such a page was handed over
     handed : (s.taken x ≡ Some p) × (s.done x ≡ true)
@@ -253,7 +253,7 @@ module _ (s : Table) (items : ℕ → List Item) (ruled : IsRuled s items) (a : 
 -- A task that asks for no page was told of none, and finds no flag where it is quiet.
 pub shows_none : (s : Table) (items : ℕ → List Item) → IsRuled s items → (a x : ℕ) → owner x ≡ a
     → all_asked items a ≡ nothing_asked
-    → (is_told x (s.history a) ≡ false) × (is_quiet x (s.history a) ≡ true → done_word (s.flag x) (s.done x) ≡ 0)
+    → (is_told x (s.history a) ≡ false) × (is_quiet_at x (s.history a) ≡ true → done_word (s.flag x) (s.done x) ≡ 0)
 shows_none s items ruled a x mine none = (
   told (is_told x (s.history a)) refl,
   λ quiet. by quiet (s.flag x) (s.done x) refl refl,
@@ -269,9 +269,9 @@ shows_none s items ruled a x mine none = (
     told false is = refl
     told true is = never (ruled.heard x (ap (λ (t : ℕ). is_told x (s.history t)) mine ∙ is))
 
-    by : is_quiet x (s.history a) ≡ true → (f d : Bool) → s.flag x ≡ f → s.done x ≡ d → done_word f d ≡ 0
+    by : is_quiet_at x (s.history a) ≡ true → (f d : Bool) → s.flag x ≡ f → s.done x ≡ d → done_word f d ≡ 0
     by quiet false d is done = refl
     by quiet true true is done = never done
     by quiet true false is done =
-        let yes : s.done x ≡ true = ruled.quiet x (ap (λ (t : ℕ). is_quiet x (s.history t)) mine ∙ quiet) is in
+        let yes : s.done x ≡ true = ruled.quiet x (ap (λ (t : ℕ). is_quiet_at x (s.history t)) mine ∙ quiet) is in
         let both : true ≡ false = sym yes ∙ done in absurd (cc)

@@ -20,7 +20,7 @@ use Rattle.wait_rule.specs.Known.{known}
 use Rattle.wait_rule.specs.Rule.{IsRuled, Law, Holds}
 use Rattle.wait_rule.specs.Counts.{FindsCount, MayStoreCount, IsCountFor}
 use Rattle.wait_rule.specs.Plays.{Sat, seat_with}
-use Rattle.wait_rule.specs.CountPlays.{cell_at, count_loaded_play, count_stored_play}
+use Rattle.wait_rule.specs.CountPlays.{cell_of_place, count_loaded_play, count_stored_play}
 use Rattle.wait_rule.proofs.TableSteps.KeptSteps.{IsOwn, steps}
 use Rattle.wait_rule.proofs.TableSteps.QueueMoves.{head_seen}
 use Rattle.wait_rule.proofs.StepKinds.CountKinds.{count_loads, count_stores}
@@ -42,7 +42,7 @@ stored_for o found n (inr (inr k)) same = subst (IsStored n) (sym (same k.0 k.1)
 
 module _ (slots id : ℕ) (me : Sat) (lives : me.0.lives ≡ true) (d p : ℕ) (small : d < COMPLETIONS)
     (at : p ≡ CONDITION_AT + FIRST_DONE + d) where
-  count_there : d ≡ cell_at p
+  count_there : d ≡ cell_of_place p
   count_there = omega arith
 
   pub count_load_moves : ((h : ℕ) → (book_of me.0.items).head ≡ Some h → (book_of me.0.items).differs ≡ nothing)

@@ -16,7 +16,7 @@ use Rattle.wait_model.specs.Locations as place
 use Rattle.wait_rule.specs.declared.journal.Item.{Item}
 use Rattle.wait_rule.specs.declared.journal.Item.TheVariants as item
 use Rattle.wait_rule.specs.Items.{book_of}
-use Rattle.wait_rule.specs.Asked.{nothing_asked, asked_of}
+use Rattle.wait_rule.specs.Asked.{nothing_asked, asked_by_items}
 use Rattle.wait_rule.specs.Known.{known}
 use Rattle.wait_rule.specs.Pages.{IsPageless}
 use Rattle.wait_rule.specs.Rule.{Holds, IsRuled, Law}
@@ -49,11 +49,11 @@ module _ (slots id : ℕ) (me : Sat) (lives : me.0.lives ≡ true) (x p : ℕ) (
   -- No page is taken for a task that asks for none, or that has an entry of kind Woken stored there: such an entry
   -- stands until the task takes it off itself.
   nothing_taken : (z : Table) (items : ℕ → List Item) → IsRuled z items → IsOwn z items me → (d : TableId)
-      → (asked_of me.0.items ≡ nothing_asked)
+      → (asked_by_items me.0.items ≡ nothing_asked)
       ⊎ ((e : Entry) × ((told_of (known d me.0 0)).bits.stored x ≡ Some e) × (e.kind ≡ kind.Woken))
       → (z.taken x ≡ None) × IsPageless (z.entry x)
   nothing_taken z items ruled own d (inl nothing) =
-      let n = asks_none z items ruled me.0.number (ap asked_of own.list ∙ nothing) in
+      let n = asks_none z items ruled me.0.number (ap asked_by_items own.list ∙ nothing) in
       (n.taken x mine, λ e stands. n.none x e mine stands)
   nothing_taken z items ruled own d (inr w) = (woken_untaken z items ruled x w.0 stands w.2, pageless)
     where
@@ -67,7 +67,7 @@ module _ (slots id : ℕ) (me : Sat) (lives : me.0.lives ≡ true) (x p : ℕ) (
           let one : e ≡ w.0 = cc in
           ap (λ (f : Entry). is_page f.kind) one ∙ ap is_page w.2
 
-  pub unflag_moves : (word : ℕ) (d : TableId) → word ≡ flag_word false → (asked_of me.0.items ≡ nothing_asked)
+  pub unflag_moves : (word : ℕ) (d : TableId) → word ≡ flag_word false → (asked_by_items me.0.items ≡ nothing_asked)
       ⊎ ((e : Entry) × ((told_of (known d me.0 0)).bits.stored x ≡ Some e) × (e.kind ≡ kind.Woken))
       → Allows (Holds Law) slots id me p (λ _. word) (λ _. flag_cleared_play (move slots p word 0 none) me word)
   unflag_moves word d is may s r long at_id few =

@@ -60,7 +60,7 @@ use Rattle.wait_rule.specs.Journals.{
   items_in,
   has_of,
   list_of,
-  part_of,
+  part_in,
   seen_as,
   left_with,
   handed_over,
@@ -213,7 +213,7 @@ nobody_none t = dite (ℕ_discrete (one_within 0 0 t) 0) (λ (z : one_within 0 0
 
 -- the parts that a join hands over
 abbrev parts_of : Journal → List Part
-parts_of w = part_of w ∷ w.joined
+parts_of w = part_in w ∷ w.joined
 
 -- what a task has that joined another
 module _ (v w : Journal) (w_lives : w.lives ≡ true) (t : ℕ) where

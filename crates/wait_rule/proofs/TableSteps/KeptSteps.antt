@@ -56,7 +56,7 @@ use Rattle.wait_rule.specs.Rule.{
   Holds,
 }
 use Rattle.wait_rule.specs.Asked.{all_asked}
-use Rattle.wait_rule.specs.Pages.{ArePagesHanded}
+use Rattle.wait_rule.specs.Pages.{ArePageStates}
 use Rattle.wait_rule.specs.Plays.{Sat, seat_with, seat_tried}
 use Rattle.wait_rule.proofs.TableSteps.ItemLists.{steps_append, book_append}
 use Rattle.wait_rule.proofs.KnownLaws.Moments.{interleaved_next}
@@ -138,14 +138,14 @@ links_next s items a e r links = subst (AreLinked (next s a e))
     (links (all_notes items) r.linked)
 
 pages_after : (s : Table) (items : ℕ → List Item) (a : ℕ) (l : Location) (n : ℕ) (e : Step) → IsRuled s items
-    → KeepsLaw s a l n e (book_of (items a)) → ArePagesHanded (next s a e)
+    → KeepsLaw s a l n e (book_of (items a)) → ArePageStates (next s a e)
     (all_differences (put items a (items a ++ item.Made e ∷ [])))
     (all_asked (put items a (items a ++ item.Made e ∷ [])))
 pages_after s items a l n e r k =
-    subst (λ (d : ℕ → Difference). ArePagesHanded (next s a e) d
+    subst (λ (d : ℕ → Difference). ArePageStates (next s a e) d
     (all_asked (put items a (items a ++ item.Made e ∷ []))))
     (sym (differences_next items a (item.Made e ∷ [])))
-    (subst (ArePagesHanded (next s a e) (put (all_differences items) a (learn_step e (book_of (items a))).differs))
+    (subst (ArePageStates (next s a e) (put (all_differences items) a (learn_step e (book_of (items a))).differs))
     (sym (asked_next items a (item.Made e ∷ [])))
     (pages_next s a (book_of (items a)) (all_differences items) (all_asked items) refl r.pages sound e k.allowed
     k.orderly))
@@ -302,9 +302,9 @@ module _ (c : Scene) (law : Law c) (a : ℕ) (xs : List Item) (none : steps_of x
     placed = law.ruled.placed;
     own = law.ruled.own;
     counts = law.ruled.counts;
-    pages = subst (λ (d : ℕ → Difference). ArePagesHanded law.table d (all_asked grown_items))
+    pages = subst (λ (d : ℕ → Difference). ArePageStates law.table d (all_asked grown_items))
         (sym (differences_next c.items a xs))
-        (subst (ArePagesHanded law.table (put (all_differences c.items) a (book_from (book_of (c.items a)) xs).differs))
+        (subst (ArePageStates law.table (put (all_differences c.items) a (book_from (book_of (c.items a)) xs).differs))
         (sym (asked_same c.items a xs none))
         (pages_seen law.table a (book_from (book_of (c.items a)) xs).differs (all_differences c.items)
         (all_asked c.items) hands law.ruled.pages));

@@ -64,7 +64,7 @@ use Rattle.wait_model.proofs.Functions.{put_at}
 use Rattle.wait_rule.specs.declared.journal.Item.{Item}
 use Rattle.wait_rule.specs.declared.journal.Item.TheVariants as item
 use Rattle.wait_rule.specs.Items.{nothing, page_told, book_of, first_book, Fits}
-use Rattle.wait_rule.specs.Asked.{nothing_asked, asked_of}
+use Rattle.wait_rule.specs.Asked.{nothing_asked, asked_by_items}
 use Rattle.wait_rule.specs.Pages.{uses_flag}
 use Rattle.wait_rule.specs.Notes.{Notes, Glance, away, there, glance_at, notes_of}
 use Rattle.wait_rule.specs.Members.{IsStanding, IsStandingMark, IsOwnKind, IsEntryWord, IsMarkWord, MarkAgrees}
@@ -183,7 +183,7 @@ module _ (slots id : ℕ) (me : Sat) (lives : me.0.lives ≡ true) (x p : ℕ) (
       → IsStanding x e → (book_of me.0.items).head ≡ Some (head_of e.watch)
       → (told_of (known d me.0 0)).hold.book x ≡ off → IsWholeBook (known d me.0 at_last)
       → IsPlaceFor (known d me.0 at_last) e.priority e.place → (book_of me.0.items).differs ≡ nothing
-      → (uses_flag e.kind ≡ true → asked_of me.0.items ≡ nothing_asked)
+      → (uses_flag e.kind ≡ true → asked_by_items me.0.items ≡ nothing_asked)
       → Allows (Holds Law) slots id me p (λ _. word) (λ _. queued_play (move slots p word 0 none) me word)
   queue_moves e word at_last slot d is mine own_is here found standing held shows whole front clear asks s r long
       at_id few =
@@ -199,7 +199,7 @@ module _ (slots id : ℕ) (me : Sat) (lives : me.0.lives ≡ true) (x p : ℕ) (
             (ap (notes_of me.0.number) own.list) x e whole refl front) clear
             (queue_on s items ruled (known d me.0 at_last) own.list slot x e own_is here
             (sym (head_told me.0.items) ∙ (held ∙ ap (λ (h : ℕ). Some h) here)) found)
-            (λ uses. ap asked_of own.list ∙ asks uses)),
+            (λ uses. ap asked_by_items own.list ∙ asks uses)),
         tt,
       )) s r long at_id few in (
         a.0,

@@ -26,13 +26,13 @@ use Rattle.wait_rule.specs.declared.journal.Item.{Item}
 use Rattle.wait_rule.specs.declared.journal.Item.TheVariants as item
 use Rattle.wait_rule.specs.Items.{nothing, page_taken, page_told, book_of, steps_of}
 use Rattle.wait_rule.specs.Known.{known}
-use Rattle.wait_rule.specs.Asked.{asked_of, given_at}
+use Rattle.wait_rule.specs.Asked.{asked_by_items, was_given_at}
 use Rattle.wait_rule.specs.Pages.{IsPageless}
-use Rattle.wait_rule.specs.Quiet.{is_quiet, is_told}
+use Rattle.wait_rule.specs.Quiet.{is_quiet_at, is_told}
 use Rattle.wait_rule.specs.PageCalls.{
   IsFlagWord,
   ShowsGiven,
-  ShowsNone,
+  ShowsNoFlag,
   tried_for_play,
   told_play,
   flag_word_play,
@@ -103,20 +103,20 @@ module _ (slots id : ℕ) (me : Sat) (lives : me.0.lives ≡ true) where
       flag_word_moves s r long at_id few =
           let a = steps slots id me lives (place.Flag x) small p at refl (λ n. n) (λ w. step.Flag x w)
           (λ n. IsFlagWord n × ((d : TableId) → ShowsGiven (known d me.0 0) x n)
-          × ((d : TableId) → ShowsNone (known d me.0 0) x n))
+          × ((d : TableId) → ShowsNoFlag (known d me.0 0) x n))
           (λ z items ruled own fits. (
             flag_loads z items ruled x me.0.number (book_of me.0.items) fits mine,
             (
               is_flag_word (z.flag x) (z.done x),
               λ d q given pageless. shows_given z items ruled me.0.number (book_of me.0.items) fits
                   (differs_own z items own) x q mine
-                  (ap (λ (xs : List Item). given_at x (asked_of xs)) own.list ∙ given)
+                  (ap (λ (xs : List Item). was_given_at x (asked_by_items xs)) own.list ∙ given)
                   (subst (λ (v : Told). IsPageless (v.bits.stored x)) (sym own.told) pageless),
               λ d none.
-                  let shows = shows_none z items ruled me.0.number x mine (ap asked_of own.list ∙ none) in
+                  let shows = shows_none z items ruled me.0.number x mine (ap asked_by_items own.list ∙ none) in
                   let list = ruled.histories me.0.number ∙ ap steps_of own.list in (
                     ap (is_told x) (sym list) ∙ shows.0,
-                    λ quiet. shows.1 (ap (is_quiet x) list ∙ quiet),
+                    λ quiet. shows.1 (ap (is_quiet_at x) list ∙ quiet),
                   ),
             ),
           )) s r long at_id few in (
@@ -130,13 +130,13 @@ module _ (slots id : ℕ) (me : Sat) (lives : me.0.lives ≡ true) where
                 a.4.1.0,
                 λ d. subst (λ (k : ℕ). ShowsGiven (known d me.0 0) k (slice_index s.words p)) flag_there
                     (a.4.1.1 d),
-                λ d. subst (λ (k : ℕ). ShowsNone (known d me.0 0) k (slice_index s.words p)) flag_there (a.4.1.2 d),
+                λ d. subst (λ (k : ℕ). ShowsNoFlag (known d me.0 0) k (slice_index s.words p)) flag_there (a.4.1.2 d),
               ),
             ),
           )
 
       pub note_moves : (q named word : ℕ) (d : TableId) → q ≡ named → word ≡ flag_word false
-          → given_at x (asked_of me.0.items) ≡ Some q → IsPageless ((told_of (known d me.0 0)).bits.stored x)
+          → was_given_at x (asked_by_items me.0.items) ≡ Some q → IsPageless ((told_of (known d me.0 0)).bits.stored x)
           → Allows (Holds Law) slots id me p (λ _. word) (λ _. noted_play named (move slots p word 0 none) me word)
       note_moves q named word d same is given pageless s r long at_id few =
           let a = steps slots id me lives (place.Flag x) small p at refl (λ _. word) (λ w. step.Unflag x (Some q))
@@ -145,7 +145,7 @@ module _ (slots id : ℕ) (me : Sat) (lives : me.0.lives ≡ true) where
             subst (λ (n : ℕ). KeepsLaw z me.0.number (place.Flag x) n (step.Unflag x (Some q)) (book_of me.0.items))
                 (sym is)
                 (notes_page z items ruled me.0.number (book_of me.0.items) fits (differs_own z items own) x q mine
-                (ap (λ (xs : List Item). given_at x (asked_of xs)) own.list ∙ given)
+                (ap (λ (xs : List Item). was_given_at x (asked_by_items xs)) own.list ∙ given)
                 (subst (λ (v : Told). IsPageless (v.bits.stored x)) (sym own.told) pageless)),
             tt,
           )) s r long at_id few in

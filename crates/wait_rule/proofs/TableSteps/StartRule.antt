@@ -49,11 +49,11 @@ use Rattle.wait_model.proofs.BitLaws.BitKeepers.{bits_start_kept}
 use Rattle.wait_model.proofs.AccountLaws.DoneCounts.{counts_start_balanced}
 use Rattle.wait_rule.specs.declared.journal.Item.{Item}
 use Rattle.wait_rule.specs.Items.{steps_of, book_of, Fits}
-use Rattle.wait_rule.specs.Asked.{nothing_asked, asked_of, waits_at, given_at, all_asked}
-use Rattle.wait_rule.specs.Pages.{takes}
+use Rattle.wait_rule.specs.Asked.{nothing_asked, asked_by_items, waits_at, was_given_at, all_asked}
+use Rattle.wait_rule.specs.Pages.{taken_entry}
 use Rattle.wait_rule.specs.Notes.{notes_of}
 use Rattle.wait_rule.specs.Journals.{fresh, seen_as}
-use Rattle.wait_rule.specs.Tickets.{Ticket, no_ticket, is_of, is_given, ShowsNumber, out_below}
+use Rattle.wait_rule.specs.Tickets.{Ticket, no_ticket, is_ticket_of, is_given, ShowsNumber, out_below}
 use Rattle.wait_rule.specs.TicketWords.{all_tickets, unlocks_at, unlocked_at, unserved, AreTickets}
 use Rattle.wait_rule.specs.Tallies.{amounts_of, tally_of, AreTallies}
 use Rattle.wait_rule.specs.Pipes.{ArePipes, End, end_of, no_end, read_end, was_refused, write_end}
@@ -102,14 +102,14 @@ start_ruled items none = record {
       taken = refl;
       none = λ e is. absurd (cc);
       waits = ap (waits_at x) (unasked (owner x));
-      given = ap (given_at x) (unasked (owner x));
+      given = ap (was_given_at x) (unasked (owner x));
     });
     own = λ t x p at. elim at [
       | inl w ↦ absurd (let z : ◌≡◌ {A = Option ℕ} None (Some p) = sym (ap (waits_at x) (unasked t)) ∙ w in cc)
-      | inr g ↦ absurd (let z : ◌≡◌ {A = Option ℕ} None (Some p) = sym (ap (given_at x) (unasked t)) ∙ g in cc)
+      | inr g ↦ absurd (let z : ◌≡◌ {A = Option ℕ} None (Some p) = sym (ap (was_given_at x) (unasked t)) ∙ g in cc)
     ];
     hands = λ a x is. absurd (let z : ◌≡◌ {A = Option ℕ} None (Some x) =
-        sym (ap (λ (xs : List Item). takes (book_of xs).differs) (none a)) ∙ is in cc);
+        sym (ap (λ (xs : List Item). taken_entry (book_of xs).differs) (none a)) ∙ is in cc);
   };
   quiet = λ x is flag. absurd (cc);
   heard = λ x is. absurd (cc);
@@ -117,7 +117,7 @@ start_ruled items none = record {
 }
   where
     unasked : (t : ℕ) → all_asked items t ≡ nothing_asked
-    unasked t = ap asked_of (none t)
+    unasked t = ap asked_by_items (none t)
 
 -- no entry stands, and all member words and tickets are 0
 start_shows : (ws : List ℕ) → Shows ws start → ShowsWith ws start (λ l. 0)
@@ -149,7 +149,7 @@ start_members differs = record {
 none_out : (tickets : ℕ → Ticket) → ((t : ℕ) → tickets t ≡ no_ticket) → (h n : ℕ) → out_below tickets h n ≡ 0
 none_out tickets none h zero = refl
 none_out tickets none h (suc n) =
-    let here : flag (is_of h (tickets n)) ≡ 0 = ap (λ (t : Ticket). flag (is_of h t)) (none n) in
+    let here : flag (is_ticket_of h (tickets n)) ≡ 0 = ap (λ (t : Ticket). flag (is_ticket_of h t)) (none n) in
     let rest = none_out tickets none h n in
     omega arith
 
@@ -176,8 +176,8 @@ start_tickets tickets none = record {
       omega arith;
 }
   where
-    not_out : {A : Type 0} (a h : ℕ) → is_of h (tickets a) ≡ true → A
-    not_out a h out = absurd (let z : false ≡ true = sym (ap (is_of h) (none a)) ∙ out in cc)
+    not_out : {A : Type 0} (a h : ℕ) → is_ticket_of h (tickets a) ≡ true → A
+    not_out a h out = absurd (let z : false ≡ true = sym (ap (is_ticket_of h) (none a)) ∙ out in cc)
 
 start_tallies : (items : ℕ → List Item) → ((t : ℕ) → items t ≡ []) → AreTallies items (λ l. 0)
 start_tallies items none p =

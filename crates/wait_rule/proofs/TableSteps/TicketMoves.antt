@@ -48,7 +48,7 @@ use Rattle.wait_rule.specs.Tickets.{
   taken,
   given,
   after_serving,
-  is_of,
+  is_ticket_of,
   is_served,
   is_given,
   ShowsNumber,
@@ -157,7 +157,7 @@ one_out false = omega arith
 most_out : (tickets : ℕ → Ticket) (h n : ℕ) → out_below tickets h n ≤ n
 most_out tickets h zero = omega arith
 most_out tickets h (suc n) =
-    let one = one_out (is_of h (tickets n)) in
+    let one = one_out (is_ticket_of h (tickets n)) in
     let rest = most_out tickets h n in
     omega arith
 
@@ -165,33 +165,33 @@ out_far : (tickets : ℕ → Ticket) (h a n : ℕ) (x : Ticket) → n ≤ a
     → out_below (put tickets a x) h n ≡ out_below tickets h n
 out_far tickets h a zero x far = refl
 out_far tickets h a (suc n) x far =
-    let same : flag (is_of h (put tickets a x n)) ≡ flag (is_of h (tickets n)) =
-    ap (λ (t : Ticket). flag (is_of h t)) (put_other tickets a x n (λ e. absurd (omega (arith, far, e)))) in
+    let same : flag (is_ticket_of h (put tickets a x n)) ≡ flag (is_ticket_of h (tickets n)) =
+    ap (λ (t : Ticket). flag (is_ticket_of h t)) (put_other tickets a x n (λ e. absurd (omega (arith, far, e)))) in
     let rest = out_far tickets h a n x (omega arith) in
     (λ i. same i + rest i)
 
 out_put : (tickets : ℕ → Ticket) (h a n : ℕ) (x : Ticket) → a < n
-    → out_below (put tickets a x) h n + flag (is_of h (tickets a)) ≡ out_below tickets h n + flag (is_of h x)
+    → out_below (put tickets a x) h n + flag (is_ticket_of h (tickets a)) ≡ out_below tickets h n + flag (is_ticket_of h x)
 out_put tickets h a zero x small = absurd (omega arith)
 out_put tickets h a (suc n) x small = by (eqb_tells n a) (out_put tickets h a n x)
   where
     by : (((n == a) ≡ true) × (n ≡ a)) ⊎ (((n == a) ≡ false) × (n ≢ a))
-        → (a < n → out_below (put tickets a x) h n + flag (is_of h (tickets a))
-        ≡ out_below tickets h n + flag (is_of h x))
-        → out_below (put tickets a x) h (suc n) + flag (is_of h (tickets a))
-        ≡ out_below tickets h (suc n) + flag (is_of h x)
+        → (a < n → out_below (put tickets a x) h n + flag (is_ticket_of h (tickets a))
+        ≡ out_below tickets h n + flag (is_ticket_of h x))
+        → out_below (put tickets a x) h (suc n) + flag (is_ticket_of h (tickets a))
+        ≡ out_below tickets h (suc n) + flag (is_ticket_of h x)
     by (inl q) less =
-        let here : flag (is_of h (put tickets a x n)) ≡ flag (is_of h x) =
-        ap (λ (t : Ticket). flag (is_of h t)) (ap (put tickets a x) q.1 ∙ put_same tickets a x) in
-        let was : flag (is_of h (tickets n)) ≡ flag (is_of h (tickets a)) =
-        ap (λ (i : ℕ). flag (is_of h (tickets i))) q.1 in
+        let here : flag (is_ticket_of h (put tickets a x n)) ≡ flag (is_ticket_of h x) =
+        ap (λ (t : Ticket). flag (is_ticket_of h t)) (ap (put tickets a x) q.1 ∙ put_same tickets a x) in
+        let was : flag (is_ticket_of h (tickets n)) ≡ flag (is_ticket_of h (tickets a)) =
+        ap (λ (i : ℕ). flag (is_ticket_of h (tickets i))) q.1 in
         let equal = q.1 in
         let rest : out_below (put tickets a x) h n ≡ out_below tickets h n = out_far tickets h a n x (omega arith) in
         omega arith
     by (inr q) less =
         let ne = q.1 in
-        let here : flag (is_of h (put tickets a x n)) ≡ flag (is_of h (tickets n)) =
-        ap (λ (t : Ticket). flag (is_of h t)) (put_other tickets a x n ne) in
+        let here : flag (is_ticket_of h (put tickets a x n)) ≡ flag (is_ticket_of h (tickets n)) =
+        ap (λ (t : Ticket). flag (is_ticket_of h t)) (put_other tickets a x n ne) in
         let rest = less (omega arith) in
         omega arith
 
@@ -211,8 +211,8 @@ one_less d t s o p x sum top one out = omega arith
 none_less : (d t s o p x : ℕ) → d ≡ s + o → t ≡ s → x ≡ 0 → p + x ≡ o + 0 → d ≡ t + p
 none_less d t s o p x sum top one out = omega arith
 
-apart_out : {A : Type 0} (h : ℕ) (t u : Ticket) → is_of h t ≡ true → is_of h u ≡ false → t ≡ u → A
-apart_out h t u one two e = absurd (let z : true ≡ false = sym one ∙ (ap (is_of h) e ∙ two) in cc)
+apart_out : {A : Type 0} (h : ℕ) (t u : Ticket) → is_ticket_of h t ≡ true → is_ticket_of h u ≡ false → t ≡ u → A
+apart_out h t u one two e = absurd (let z : true ≡ false = sym one ∙ (ap (is_ticket_of h) e ∙ two) in cc)
 
 -- a draw of task a, which has none out
 module _ (s : Table) (tickets : ℕ → Ticket) (beside : Location → ℕ) (r : AreTickets s tickets beside) (a h : ℕ)
@@ -243,8 +243,8 @@ module _ (s : Table) (tickets : ℕ → Ticket) (beside : Location → ℕ) (r :
   drawn_next g = next_at beside h W g ∙ both_at (λ (w d : ℕ). w ≡ d % 2 ^ 64) (λ q. beside (place.Next q)) r.draws h W
       (r.draws h + 1) g (λ _. next_number N (r.draws h) (r.next h)) (λ _. r.next g)
 
-  drawn_within : (b g : ℕ) → is_of g (T b) ≡ true → (r.serves g ≤ K b) × (K b < D g)
-  drawn_within b g = both_at (λ (t : Ticket) (k : ℕ). is_of g t ≡ true → (r.serves g ≤ k) ×
+  drawn_within : (b g : ℕ) → is_ticket_of g (T b) ≡ true → (r.serves g ≤ K b) × (K b < D g)
+  drawn_within b g = both_at (λ (t : Ticket) (k : ℕ). is_ticket_of g t ≡ true → (r.serves g ≤ k) ×
       (k < D g)) tickets r.number a
       (drawn h N) (r.draws h) b
       (λ _ out.
@@ -258,30 +258,30 @@ module _ (s : Table) (tickets : ℕ → Ticket) (beside : Location → ℕ) (r :
       let m = more g in
       (low, omega arith))
 
-  kept_out : (b g : ℕ) → is_of g (tickets b) ≡ true → b ≢ a
-  kept_out b g out e = none_out g (tickets a) free (sym (ap (λ (i : ℕ). is_of g (tickets i)) e) ∙ out)
+  kept_out : (b g : ℕ) → is_ticket_of g (tickets b) ≡ true → b ≢ a
+  kept_out b g out e = none_out g (tickets a) free (sym (ap (λ (i : ℕ). is_ticket_of g (tickets i)) e) ∙ out)
 
-  old_one : (g n : ℕ) → r.serves g ≤ n → n < r.draws g → (b : ℕ) × ((is_of g (T b) ≡ true) × (K b ≡ n))
+  old_one : (g n : ℕ) → r.serves g ≤ n → n < r.draws g → (b : ℕ) × ((is_ticket_of g (T b) ≡ true) × (K b ≡ n))
   old_one g n low high =
       let o = r.each g n low high in
       let ne = kept_out o.0 g o.1.0 in (
         o.0,
         (
-          ap (is_of g) (put_other tickets a (drawn h N) o.0 ne) ∙ o.1.0,
+          ap (is_ticket_of g) (put_other tickets a (drawn h N) o.0 ne) ∙ o.1.0,
           put_other r.number a (r.draws h) o.0 ne ∙ o.1.1,
         ),
       )
 
-  drawn_each : (g n : ℕ) → r.serves g ≤ n → n < D g → (b : ℕ) × ((is_of g (T b) ≡ true) × (K b ≡ n))
+  drawn_each : (g n : ℕ) → r.serves g ≤ n → n < D g → (b : ℕ) × ((is_ticket_of g (T b) ≡ true) × (K b ≡ n))
   drawn_each g n low high = by (put_case r.draws h (r.draws h + 1) g) (eqb_tells n (r.draws h))
     where
       by : ((g ≡ h) × (D g ≡ r.draws h + 1)) ⊎ ((g ≢ h) × (D g ≡ r.draws g))
           → (((n == r.draws h) ≡ true) × (n ≡ r.draws h)) ⊎ (((n == r.draws h) ≡ false) × (n ≢ r.draws h))
-          → (b : ℕ) × ((is_of g (T b) ≡ true) × (K b ≡ n))
+          → (b : ℕ) × ((is_ticket_of g (T b) ≡ true) × (K b ≡ n))
       by (inl q) (inl e) = (
         a,
         (
-          ap (is_of g) (put_same tickets a (drawn h N)) ∙ (ap (λ (i : ℕ). h == i) q.0 ∙ to_test h),
+          ap (is_ticket_of g) (put_same tickets a (drawn h N)) ∙ (ap (λ (i : ℕ). h == i) q.0 ∙ to_test h),
           put_same r.number a (r.draws h) ∙ sym e.1,
         ),
       )
@@ -292,10 +292,10 @@ module _ (s : Table) (tickets : ℕ → Ticket) (beside : Location → ℕ) (r :
           old_one g n low (omega arith)
       by (inr q) e = let top = q.1 in old_one g n low (omega arith)
 
-  drawn_once : (b c g : ℕ) → is_of g (T b) ≡ true → is_of g (T c) ≡ true → K b ≡ K c → b ≡ c
+  drawn_once : (b c g : ℕ) → is_ticket_of g (T b) ≡ true → is_ticket_of g (T c) ≡ true → K b ≡ K c → b ≡ c
   drawn_once b c g one two is = by (put_case tickets a (drawn h N) b) (put_case tickets a (drawn h N) c)
     where
-      fresh_one : (d : ℕ) → d ≢ a → is_of g (tickets d) ≡ true → h ≡ g → r.number d ≡ r.draws h → ⊥
+      fresh_one : (d : ℕ) → d ≢ a → is_ticket_of g (tickets d) ≡ true → h ≡ g → r.number d ≡ r.draws h → ⊥
       fresh_one d ne out head same =
           let w = (r.within d g out).1 in
           let e : r.draws g ≡ r.draws h = ap r.draws (sym head) in
@@ -304,33 +304,33 @@ module _ (s : Table) (tickets : ℕ → Ticket) (beside : Location → ℕ) (r :
       by : ((b ≡ a) × (T b ≡ drawn h N)) ⊎ ((b ≢ a) × (T b ≡ tickets b))
           → ((c ≡ a) × (T c ≡ drawn h N)) ⊎ ((c ≢ a) × (T c ≡ tickets c)) → b ≡ c
       by (inl p) (inl q) = p.0 ∙ sym q.0
-      by (inl p) (inr q) = absurd (fresh_one c q.0 (sym (ap (is_of g) q.1) ∙ two)
-          (from_test h g (sym (ap (is_of g) p.1) ∙ one))
+      by (inl p) (inr q) = absurd (fresh_one c q.0 (sym (ap (is_ticket_of g) q.1) ∙ two)
+          (from_test h g (sym (ap (is_ticket_of g) p.1) ∙ one))
           (sym (put_other r.number a (r.draws h) c q.0) ∙ (sym is
           ∙ (ap K p.0 ∙ put_same r.number a (r.draws h)))))
-      by (inr p) (inl q) = absurd (fresh_one b p.0 (sym (ap (is_of g) p.1) ∙ one)
-          (from_test h g (sym (ap (is_of g) q.1) ∙ two))
+      by (inr p) (inl q) = absurd (fresh_one b p.0 (sym (ap (is_ticket_of g) p.1) ∙ one)
+          (from_test h g (sym (ap (is_ticket_of g) q.1) ∙ two))
           (sym (put_other r.number a (r.draws h) b p.0) ∙ (is
           ∙ (ap K q.0 ∙ put_same r.number a (r.draws h)))))
-      by (inr p) (inr q) = r.once b c g (sym (ap (is_of g) p.1) ∙ one) (sym (ap (is_of g) q.1) ∙ two)
+      by (inr p) (inr q) = r.once b c g (sym (ap (is_ticket_of g) p.1) ∙ one) (sym (ap (is_ticket_of g) q.1) ∙ two)
           (sym (put_other r.number a (r.draws h) b p.0) ∙ (is ∙ put_other r.number a (r.draws h) c q.0))
 
   drawn_count : (g : ℕ) → D g ≡ r.serves g + out_below T g TASKS
   drawn_count g = by (put_case r.draws h (r.draws h + 1) g)
     where
-      none_before : flag (is_of g (tickets a)) ≡ 0
-      none_before = ap (λ (t : Ticket). flag (is_of g t)) free
+      none_before : flag (is_ticket_of g (tickets a)) ≡ 0
+      none_before = ap (λ (t : Ticket). flag (is_ticket_of g t)) free
 
-      out : out_below T g TASKS + flag (is_of g (tickets a)) ≡ out_below tickets g TASKS + flag (h == g)
+      out : out_below T g TASKS + flag (is_ticket_of g (tickets a)) ≡ out_below tickets g TASKS + flag (h == g)
       out = out_put tickets g a TASKS (drawn h N) small
 
       by : ((g ≡ h) × (D g ≡ r.draws h + 1)) ⊎ ((g ≢ h) × (D g ≡ r.draws g))
           → D g ≡ r.serves g + out_below T g TASKS
       by (inl q) = one_more (D g) (r.draws g) (r.serves g) (out_below tickets g TASKS) (out_below T g TASKS)
-          (flag (is_of g (tickets a))) (flag (h == g)) (q.1 ∙ ap (λ (i : ℕ). r.draws i + 1) (sym q.0)) (r.count g)
+          (flag (is_ticket_of g (tickets a))) (flag (h == g)) (q.1 ∙ ap (λ (i : ℕ). r.draws i + 1) (sym q.0)) (r.count g)
           none_before (ap flag (ap (λ (i : ℕ). h == i) q.0 ∙ to_test h)) out
       by (inr q) = none_more (D g) (r.draws g) (r.serves g) (out_below tickets g TASKS) (out_below T g TASKS)
-          (flag (is_of g (tickets a))) (flag (h == g)) q.1 (r.count g) none_before (ap flag (test_off h g q.0)) out
+          (flag (is_ticket_of g (tickets a))) (flag (h == g)) q.1 (r.count g) none_before (ap flag (test_off h g q.0)) out
 
   pub draw_tickets : AreTickets s (put tickets a (drawn h (beside (place.Next h))))
       (with_next beside h ((beside (place.Next h) + 1) % 2 ^ 64))
@@ -346,7 +346,7 @@ module _ (s : Table) (tickets : ℕ → Ticket) (beside : Location → ℕ) (r :
     count = drawn_count;
     shown = λ b. both_at (λ (t : Ticket) (k : ℕ). ShowsNumber t k) tickets r.number a (drawn h N) (r.draws h) b
         (λ _. r.next h) (λ _. r.shown b);
-    turn = λ b g. both_at (λ (t : Ticket) (k : ℕ). is_of g t ≡ true → is_served t ≡ true → k ≡ r.serves g) tickets
+    turn = λ b g. both_at (λ (t : Ticket) (k : ℕ). is_ticket_of g t ≡ true → is_served t ≡ true → k ≡ r.serves g) tickets
         r.number a (drawn h N) (r.draws h) b (λ _ out is. absurd (let z : false ≡ true = is in cc)) (λ _. r.turn b g);
     held = λ b g is. put_at (λ (t : Ticket). t ≡ taken g) tickets a (drawn h N) b
         (λ e. let both : no_ticket ≡ taken g = sym free ∙ (ap tickets (sym e) ∙ r.held b g is) in absurd (cc))
@@ -368,18 +368,18 @@ module _ (s : Table) (tickets : ℕ → Ticket) (beside : Location → ℕ) (r :
   abbrev S : ℕ → ℕ
   S = put r.serves h (r.serves h + 1)
 
-  own_out : is_of h (tickets a) ≡ true
-  own_out = ap (is_of h) is ∙ to_test h
+  own_out : is_ticket_of h (tickets a) ≡ true
+  own_out = ap (is_ticket_of h) is ∙ to_test h
 
   own_turn : r.number a ≡ r.serves h
   own_turn = r.turn a h own_out (ap is_served is)
 
   -- who has one out has had it before, and is another
-  before : (b g : ℕ) → is_of g (U b) ≡ true → (b ≢ a) × (is_of g (tickets b) ≡ true)
-  before b g = put_at (λ (t : Ticket). is_of g t ≡ true → (b ≢ a) × (is_of g (tickets b) ≡ true)) tickets a no_ticket b
+  before : (b g : ℕ) → is_ticket_of g (U b) ≡ true → (b ≢ a) × (is_ticket_of g (tickets b) ≡ true)
+  before b g = put_at (λ (t : Ticket). is_ticket_of g t ≡ true → (b ≢ a) × (is_ticket_of g (tickets b) ≡ true)) tickets a no_ticket b
       (λ _ out. absurd (let z : false ≡ true = out in cc)) (λ ne out. (ne, out))
 
-  far : (b : ℕ) → b ≢ a → is_of h (tickets b) ≡ true → r.number b ≢ r.serves h
+  far : (b : ℕ) → b ≢ a → is_ticket_of h (tickets b) ≡ true → r.number b ≢ r.serves h
   far b ne out same = ne (r.once b a h out own_out (same ∙ sym own_turn))
 
   served_serving : (g : ℕ) → with_serving beside h V (place.Serving g) ≡ S g % 2 ^ 64
@@ -387,7 +387,7 @@ module _ (s : Table) (tickets : ℕ → Ticket) (beside : Location → ℕ) (r :
       r.serves h V (r.serves h + 1) g (λ _. next_number (beside (place.Serving h)) (r.serves h) (r.serving h))
       (λ _. r.serving g)
 
-  served_within : (b g : ℕ) → is_of g (U b) ≡ true → (S g ≤ r.number b) × (r.number b < r.draws g)
+  served_within : (b g : ℕ) → is_ticket_of g (U b) ≡ true → (S g ≤ r.number b) × (r.number b < r.draws g)
   served_within b g out =
       let o = before b g out in
       let w = r.within b g o.1 in
@@ -395,24 +395,24 @@ module _ (s : Table) (tickets : ℕ → Ticket) (beside : Location → ℕ) (r :
       let high = w.1 in (
         put_at (λ (n : ℕ). n ≤ r.number b) r.serves h (r.serves h + 1) g
             (λ e.
-            let ne = far b o.0 (subst (λ (i : ℕ). is_of i (tickets b) ≡ true) e o.1) in
+            let ne = far b o.0 (subst (λ (i : ℕ). is_ticket_of i (tickets b) ≡ true) e o.1) in
             let head : r.serves g ≡ r.serves h = ap r.serves e in
             omega arith)
             (λ _. low),
         high,
       )
 
-  served_each : (g n : ℕ) → S g ≤ n → n < r.draws g → (b : ℕ) × ((is_of g (U b) ≡ true) × (r.number b ≡ n))
+  served_each : (g n : ℕ) → S g ≤ n → n < r.draws g → (b : ℕ) × ((is_ticket_of g (U b) ≡ true) × (r.number b ≡ n))
   served_each g n low high = by (put_case r.serves h (r.serves h + 1) g)
     where
-      other : r.serves g ≤ n → ((b : ℕ) → is_of g (tickets b) ≡ true → r.number b ≡ n → b ≢ a)
-          → (b : ℕ) × ((is_of g (U b) ≡ true) × (r.number b ≡ n))
+      other : r.serves g ≤ n → ((b : ℕ) → is_ticket_of g (tickets b) ≡ true → r.number b ≡ n → b ≢ a)
+          → (b : ℕ) × ((is_ticket_of g (U b) ≡ true) × (r.number b ≡ n))
       other from apart =
           let o = r.each g n from high in
-          (o.0, (ap (is_of g) (put_other tickets a no_ticket o.0 (apart o.0 o.1.0 o.1.1)) ∙ o.1.0, o.1.1))
+          (o.0, (ap (is_ticket_of g) (put_other tickets a no_ticket o.0 (apart o.0 o.1.0 o.1.1)) ∙ o.1.0, o.1.1))
 
       by : ((g ≡ h) × (S g ≡ r.serves h + 1)) ⊎ ((g ≢ h) × (S g ≡ r.serves g))
-          → (b : ℕ) × ((is_of g (U b) ≡ true) × (r.number b ≡ n))
+          → (b : ℕ) × ((is_ticket_of g (U b) ≡ true) × (r.number b ≡ n))
       by (inl q) =
           let top = q.1 in
           let head : r.serves g ≡ r.serves h = ap r.serves q.0 in
@@ -427,24 +427,24 @@ module _ (s : Table) (tickets : ℕ → Ticket) (beside : Location → ℕ) (r :
   served_count : (g : ℕ) → r.draws g ≡ S g + out_below U g TASKS
   served_count g = by (put_case r.serves h (r.serves h + 1) g)
     where
-      o : out_below U g TASKS + flag (is_of g (tickets a)) ≡ out_below tickets g TASKS + 0
+      o : out_below U g TASKS + flag (is_ticket_of g (tickets a)) ≡ out_below tickets g TASKS + 0
       o = out_put tickets g a TASKS no_ticket small
 
       by : ((g ≡ h) × (S g ≡ r.serves h + 1)) ⊎ ((g ≢ h) × (S g ≡ r.serves g))
           → r.draws g ≡ S g + out_below U g TASKS
       by (inl q) = one_less (r.draws g) (S g) (r.serves g) (out_below tickets g TASKS) (out_below U g TASKS)
-          (flag (is_of g (tickets a))) (r.count g) (q.1 ∙ ap (λ (i : ℕ). r.serves i + 1) (sym q.0))
-          (ap flag (ap (is_of g) is ∙ (ap (λ (i : ℕ). h == i) q.0 ∙ to_test h))) o
+          (flag (is_ticket_of g (tickets a))) (r.count g) (q.1 ∙ ap (λ (i : ℕ). r.serves i + 1) (sym q.0))
+          (ap flag (ap (is_ticket_of g) is ∙ (ap (λ (i : ℕ). h == i) q.0 ∙ to_test h))) o
       by (inr q) = none_less (r.draws g) (S g) (r.serves g) (out_below tickets g TASKS) (out_below U g TASKS)
-          (flag (is_of g (tickets a))) (r.count g) q.1 (ap flag (ap (is_of g) is ∙ test_off h g q.0)) o
+          (flag (is_ticket_of g (tickets a))) (r.count g) q.1 (ap flag (ap (is_ticket_of g) is ∙ test_off h g q.0)) o
 
-  served_turn : (b g : ℕ) → is_of g (U b) ≡ true → is_served (U b) ≡ true → r.number b ≡ S g
+  served_turn : (b g : ℕ) → is_ticket_of g (U b) ≡ true → is_served (U b) ≡ true → r.number b ≡ S g
   served_turn b g out sure =
       let o = before b g out in
       let now : U b ≡ tickets b = put_other tickets a no_ticket b o.0 in
       let t : r.number b ≡ r.serves g = r.turn b g o.1 (sym (ap is_served now) ∙ sure) in
       put_at (λ (n : ℕ). r.number b ≡ n) r.serves h (r.serves h + 1) g
-      (λ e. absurd (far b o.0 (subst (λ (i : ℕ). is_of i (tickets b) ≡ true) e o.1) (t ∙ ap r.serves e)))
+      (λ e. absurd (far b o.0 (subst (λ (i : ℕ). is_ticket_of i (tickets b) ≡ true) e o.1) (t ∙ ap r.serves e)))
       (λ _. t)
 
   -- the serve that was still to come was made
@@ -514,22 +514,22 @@ module _ (s : Table) (tickets : ℕ → Ticket) (beside : Location → ℕ) (r :
       (λ e. same g ∙ ap (λ (j : ℕ). flag (is_given g (tickets j))) (sym e)) (λ _. refl))))
 
   kept_line : (x : Ticket) → tickets a ≡ x → AreTickets s (put tickets a x) beside
-  kept_line x now = same_line s s tickets beside r a x (λ g. ap (is_of g) (sym now))
+  kept_line x now = same_line s s tickets beside r a x (λ g. ap (is_ticket_of g) (sym now))
       (subst (λ (t : Ticket). ShowsNumber t (r.number a)) now (r.shown a))
-      (λ g out sure. r.turn a g (ap (is_of g) now ∙ out) (ap is_served now ∙ sure))
+      (λ g out sure. r.turn a g (ap (is_ticket_of g) now ∙ out) (ap is_served now ∙ sure))
       (kept_held x (λ g e. sym now ∙ e))
       (kept_unlocks x (λ g. ap (λ (t : Ticket). flag (is_given g t)) (sym now)))
 
   served_line : (g n : ℕ) → tickets a ≡ drawn g n → g ≡ h → n ≡ M → AreTickets s (put tickets a (served g n)) beside
-  served_line g n now head number = same_line s s tickets beside r a (served g n) (λ i. ap (is_of i) (sym now)) shows
-      (λ i out _. own i (ap (is_of i) now ∙ out) (from_test g i out)) (kept_held (served g n) (λ i e.
+  served_line g n now head number = same_line s s tickets beside r a (served g n) (λ i. ap (is_ticket_of i) (sym now)) shows
+      (λ i out _. own i (ap (is_ticket_of i) now ∙ out) (from_test g i out)) (kept_held (served g n) (λ i e.
       let both : drawn g n ≡ taken i = sym now ∙ e in absurd (cc)))
       (kept_unlocks (served g n) (λ i. ap (λ (t : Ticket). flag (is_given i t)) (sym now)))
     where
       shows : n ≡ r.number a % 2 ^ 64
       shows = subst (λ (t : Ticket). ShowsNumber t (r.number a)) now (r.shown a)
 
-      own : (i : ℕ) → is_of i (tickets a) ≡ true → g ≡ i → r.number a ≡ r.serves i
+      own : (i : ℕ) → is_ticket_of i (tickets a) ≡ true → g ≡ i → r.number a ≡ r.serves i
       own i out e =
           let w = r.within a i out in
           let c = r.count i in

@@ -23,11 +23,11 @@ use Rattle.wait_model.proofs.Functions.{put_same}
 use Rattle.wait_model.proofs.WordLaws.DecodedWords.{entry_read}
 use Rattle.wait_rule.specs.declared.journal.Item.{Item}
 use Rattle.wait_rule.specs.declared.journal.Item.TheVariants as item
-use Rattle.wait_rule.specs.Asked.{Asked, nothing_asked, ask, given_if, given_at, waits_at}
+use Rattle.wait_rule.specs.Asked.{Asked, nothing_asked, after_item, given_if, was_given_at, waits_at}
 use Rattle.wait_rule.specs.Bits.{StaysBeside}
 use Rattle.wait_rule.specs.Items.{Book}
 use Rattle.wait_rule.specs.Known.{Known}
-use Rattle.wait_rule.specs.Looking.{HasSeenEntries, HasSeenMarks, ShowsNone, StaysIdle, page_entry}
+use Rattle.wait_rule.specs.Looking.{HasSeenEntries, HasSeenMarks, ShowsEmpty, StaysIdle, page_entry}
 use Rattle.wait_rule.specs.Says.{IsUp, added, asks_for, noted, stored_with, told_of}
 use Rattle.wait_rule.specs.Queues.{IsIdle, IsTailPlace, MayQueue, ShowsEntry, at_head, index, saw}
 use Rattle.wait_rule.proofs.KnownLaws.AfterSteps.{told_added}
@@ -63,7 +63,7 @@ unfolding head_of
 page_head_low w h is = let low = hashed_low (w * WORD_BITS + 0) in omega (arith, low, is)
 
 -- the empty queue lets it be queued at the tail
-pub may_queue_page : (k : Known) (w : ℕ) → w < PAGES → asks_for k ≡ nothing_asked → ShowsNone k
+pub may_queue_page : (k : Known) (w : ℕ) → w < PAGES → asks_for k ≡ nothing_asked → ShowsEmpty k
     → k.at ≡ head_of (page w) → k.view.number < TASKS → MayQueue k 0 (page_entry w)
 may_queue_page k w page asks s at few = record {
   head = sym at;
@@ -90,7 +90,7 @@ may_queue_page k w page asks s at few = record {
     tail = (None, (λ p z. none_by k s z.member p z.counts z.stands), refl)
 
 -- what a list tells of the page that is asked for, over a step that asks for none
-pub waits_on : (k q : Known) (i : Item) (x w : ℕ) → q ≡ added k i → ((a : Asked) → ask i a ≡ a)
+pub waits_on : (k q : Known) (i : Item) (x w : ℕ) → q ≡ added k i → ((a : Asked) → after_item i a ≡ a)
     → waits_at x (asks_for k) ≡ Some w → waits_at x (asks_for q) ≡ Some w
 waits_on k q i x w is same waits = ap (waits_at x) (ap asks_for is ∙ (asked_added k i ∙ same (asks_for k))) ∙ waits
 
@@ -108,8 +108,8 @@ none_shown (Some e) is = absurd (cc)
 -- its entry was found off: a walk took the page for it
 pub given_found : (k m f : Known) (x w v y g : ℕ) → k.book.head ≡ None
     → m ≡ added k (item.Made (saw k.book.head x v)) → is_shown (entry_of v) ≡ false
-    → f ≡ added m (item.Made (step.Flag y g)) → waits_at x (asks_for k) ≡ Some w → given_at x (asks_for f) ≡ Some w
-given_found k m f x w v y g out is off flag waits = ap (given_at x) (ap asks_for flag
+    → f ≡ added m (item.Made (step.Flag y g)) → waits_at x (asks_for k) ≡ Some w → was_given_at x (asks_for f) ≡ Some w
+given_found k m f x w v y g out is off flag waits = ap (was_given_at x) (ap asks_for flag
     ∙ (asked_added m (item.Made (step.Flag y g)) ∙ (ap asks_for is
     ∙ (ap (λ (o : Option ℕ). asks_for (added k (item.Made (saw o x v)))) out
     ∙ (asked_added k (item.Made (step.Peek x v))

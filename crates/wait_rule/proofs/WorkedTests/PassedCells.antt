@@ -9,8 +9,8 @@ use Rattle.wait_model.specs.declared.watches.Watch.TheVariants as watch
 use Rattle.wait_model.specs.declared.steps.Step.TheVariants as step
 use Rattle.wait_rule.specs.declared.journal.Item.TheVariants as item
 use Rattle.wait_rule.specs.Known.{Known}
-use Rattle.wait_rule.specs.Passing.{HasPassed, OthersStay}
-use Rattle.wait_rule.specs.Pipes.{End, after_look, count_from, if_unclosed, other_end, word_counts}
+use Rattle.wait_rule.specs.Passing.{HasPassedCells, OthersStay}
+use Rattle.wait_rule.specs.Pipes.{End, after_end_look, count_on, if_unclosed, other_end, word_counts}
 use Rattle.wait_rule.specs.PipeSays.{IsOpen, IsSoundRead, IsSoundWrite, end_at}
 use Rattle.wait_rule.specs.Says.{added}
 use Rattle.wait_rule.specs.Stays.{Carries, unchanged}
@@ -35,19 +35,19 @@ one_other a b = by (a % PIPE_ENDS == 0) (b % PIPE_ENDS == 0) refl refl
         let q : b % PIPE_ENDS ≡ 0 = grind (arith, nat_tests) in omega (arith, p)
 
 module _ (domain : TableId) (e v n r : ℕ) (old new : Known) (other : v ≡ other_end e)
-    (is : new ≡ added old (item.Made (step.Load (watch.Var v 0) r))) (h : HasPassed domain e n old) where
-  looks_own : end_at e new ≡ after_look r (end_at e old)
+    (is : new ≡ added old (item.Made (step.Load (watch.Var v 0) r))) (h : HasPassedCells domain e n old) where
+  looks_own : end_at e new ≡ after_end_look r (end_at e old)
   looks_own = end_added old new (item.Made (step.Load (watch.Var v 0) r)) is e
-      ∙ (ap (λ (b : Bool). if b then if_unclosed (after_look r) (end_at e old) else end_at e old)
+      ∙ (ap (λ (b : Bool). if b then if_unclosed (after_end_look r) (end_at e old) else end_at e old)
       (test_on v (other_end e) other)
-      ∙ (λ i. if h.still.mine i && not (h.still.unshut i) then after_look r (end_at e old) else end_at e old))
+      ∙ (λ i. if h.still.mine i && not (h.still.unshut i) then after_end_look r (end_at e old) else end_at e old))
 
   pub looks_others : OthersStay e old new
   looks_others j ne = end_added old new (item.Made (step.Load (watch.Var v 0) r)) is j
-      ∙ ap (λ (b : Bool). if b then if_unclosed (after_look r) (end_at j old) else end_at j old)
+      ∙ ap (λ (b : Bool). if b then if_unclosed (after_end_look r) (end_at j old) else end_at j old)
       (test_off v (other_end j) (λ q. ne (one_other j e (sym q ∙ other))))
 
-  pub looks_passed : Carries unchanged old new → HasPassed domain e n new
+  pub looks_passed : Carries unchanged old new → HasPassedCells domain e n new
   looks_passed c = record {
     ready = record {
       of = c.domain ∙ h.ready.of;
@@ -66,7 +66,7 @@ module _ (domain : TableId) (e v n r : ℕ) (old new : Known) (other : v ≡ oth
   pub sees_room : IsSoundWrite (end_at e old) → (n % word_counts + word_counts - r / 2 % word_counts) % word_counts
       < PIPE_CELLS → n < (end_at e new).seen + PIPE_CELLS
   sees_room sound near =
-      let seen : (end_at e new).seen ≡ count_from (end_at e old).seen r = ap (λ (x : End). x.seen) looks_own in
+      let seen : (end_at e new).seen ≡ count_on (end_at e old).seen r = ap (λ (x : End). x.seen) looks_own in
       let a = h.cells in
       let b = h.count in
       let low = sound.seen in
@@ -75,7 +75,7 @@ module _ (domain : TableId) (e v n r : ℕ) (old new : Known) (other : v ≡ oth
 
   pub sees_cell : IsSoundRead (end_at e old) → r / 2 % word_counts ≢ n % word_counts → n < (end_at e new).seen
   sees_cell sound apart =
-      let seen : (end_at e new).seen ≡ count_from (end_at e old).seen r = ap (λ (x : End). x.seen) looks_own in
+      let seen : (end_at e new).seen ≡ count_on (end_at e old).seen r = ap (λ (x : End). x.seen) looks_own in
       let a = h.cells in
       let low = sound.there in
       omega (arith, apart)

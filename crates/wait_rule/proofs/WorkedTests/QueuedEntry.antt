@@ -19,7 +19,7 @@ use Rattle.wait_rule.specs.Asked.{nothing_asked}
 use Rattle.wait_rule.specs.Pages.{uses_flag}
 use Rattle.wait_rule.specs.Says.{added, asks_for, told_of, noted}
 use Rattle.wait_rule.specs.Queues.{index, place_by, MayFlag, MayQueue, MayMark, MayUnmark}
-use Rattle.wait_rule.specs.Looking.{ShowsNone}
+use Rattle.wait_rule.specs.Looking.{ShowsEmpty}
 use Rattle.wait_rule.proofs.KnownLaws.AfterSteps.{told_added, noted_added}
 use Rattle.wait_rule.proofs.KnownLaws.PageSteps.{not_both}
 use Rattle.wait_rule.proofs.KnownLaws.StandingKinds.{plain_not_page}
@@ -58,7 +58,7 @@ pub not_unknown : (g : Glance) → g ≡ away → g ≢ unknown
 not_unknown g q r = let z : away ≡ unknown = sym q ∙ r in cc
 
 -- nothing stands anywhere
-pub none_by : (k : Known) → ShowsNone k → (m p : ℕ) → m < MEMBERS → place_by k m ≡ Some p → ⊥
+pub none_by : (k : Known) → ShowsEmpty k → (m p : ℕ) → m < MEMBERS → place_by k m ≡ Some p → ⊥
 none_by k s m p small = by (nat_lt m ENTRIES) refl
   where
     by : (b : Bool) → nat_lt m ENTRIES ≡ b
@@ -71,7 +71,7 @@ none_by k s m p small = by (nat_lt m ENTRIES) refl
 
 -- the empty queue lets it be queued
 pub may_queue_lone : (exclusive : Bool) (form : Kind) → IsLawfulEntry (lone exclusive form) → is_simple form ≡ false
-    → (k : Known) → (uses_flag form ≡ true → asks_for k ≡ nothing_asked) → ShowsNone k → k.at ≡ FIRST_PLAIN_HEAD
+    → (k : Known) → (uses_flag form ≡ true → asks_for k ≡ nothing_asked) → ShowsEmpty k → k.at ≡ FIRST_PLAIN_HEAD
     → k.view.number < TASKS → MayQueue k 0 (lone exclusive form)
 may_queue_lone exclusive form lawful plain k asks s at few = record {
   head = head_plain 0 ∙ sym at;
@@ -94,7 +94,7 @@ may_queue_lone exclusive form lawful plain k asks s at few = record {
   asks = asks;
 }
 
-pub may_queue : (k : Known) → asks_for k ≡ nothing_asked → ShowsNone k → k.at ≡ FIRST_PLAIN_HEAD
+pub may_queue : (k : Known) → asks_for k ≡ nothing_asked → ShowsEmpty k → k.at ≡ FIRST_PLAIN_HEAD
     → k.view.number < TASKS → MayQueue k 0 first
 may_queue k asks = may_queue_lone false kind.Woken first_lawful refl k (λ uses. asks)
 

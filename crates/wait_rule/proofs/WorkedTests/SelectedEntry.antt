@@ -18,7 +18,7 @@ use Rattle.wait_rule.specs.Notes.{
   Notes,
   note_step,
   notes_after_wake,
-  after_call,
+  after_noted_call,
   callee,
   first_due,
   is_due,
@@ -31,7 +31,7 @@ use Rattle.wait_rule.specs.Notes.{
 use Rattle.wait_rule.specs.Known.{Known}
 use Rattle.wait_rule.specs.Says.{added, told_of, noted}
 use Rattle.wait_rule.specs.Queues.{index, MayQueue, MayRise}
-use Rattle.wait_rule.specs.Looking.{ShowsNone, IsSelectingHold, for_one}
+use Rattle.wait_rule.specs.Looking.{ShowsEmpty, IsSelectingHold, for_one}
 use Rattle.wait_rule.proofs.KnownLaws.AfterSteps.{told_added, noted_added}
 use Rattle.wait_rule.proofs.KnownLaws.MemberBits.{bit_told, bit_noted}
 use Rattle.wait_rule.proofs.WorkedTests.QueuedEntry.{lone, shown_lone, may_queue_lone}
@@ -45,7 +45,7 @@ chosen_lawful = record { place = omega arith; suited = (omega arith, inl refl, �
 pub shown_chosen : (w : ℕ) (e : Entry) → w ≡ entry_word (Some chosen) → entry_of w ≡ Some e → e ≡ chosen
 shown_chosen = shown_lone true kind.Default chosen_lawful
 
-pub may_queue_chosen : (k : Known) → ShowsNone k → k.at ≡ FIRST_PLAIN_HEAD → k.view.number < TASKS → MayQueue k 0 chosen
+pub may_queue_chosen : (k : Known) → ShowsEmpty k → k.at ≡ FIRST_PLAIN_HEAD → k.view.number < TASKS → MayQueue k 0 chosen
 may_queue_chosen k = may_queue_lone true kind.Default chosen_lawful refl k (λ uses. absurd (cc))
 
 or_true : (b : Bool) → (b || true) ≡ true
@@ -71,14 +71,14 @@ module _ (v : Told) (k : Notes) (who found : ℕ) (aim : k.walk ≡ Some for_one
   selects : (met_task NORMAL found && is_exclusive_look (v.hold.book (SLOTS * who))) ≡ true
   selects = λ i. met i && is_exclusive_look (shows i)
 
-  used_last : (after_call for_one (Some (SLOTS * who)) (met_task NORMAL found) v k).used ≡ true
+  used_last : (after_noted_call for_one (Some (SLOTS * who)) (met_task NORMAL found) v k).used ≡ true
   used_last = ap (λ (b : Bool). k.used || (b && true)) selects ∙ or_true k.used
 
   pub used_up : (me : ℕ) → (note_step me (step.Wake who 3 found) v k).used ≡ true
   used_up me = ap (λ (o : Option Aim). (notes_after_wake o who NORMAL (met_task NORMAL found) v k).used) aim
-      ∙ (ap (λ (o : Option ℕ). (after_call for_one o (met_task NORMAL found) v k).used) calls ∙ used_last)
+      ∙ (ap (λ (o : Option ℕ). (after_noted_call for_one o (met_task NORMAL found) v k).used) calls ∙ used_last)
 
-module _ (k p q s w : Known) (few : k.view.number < TASKS) (none : ShowsNone k) (selecting : IsSelectingHold k)
+module _ (k p q s w : Known) (few : k.view.number < TASKS) (none : ShowsEmpty k) (selecting : IsSelectingHold k)
     (queued : p ≡ added k (item.Made (step.Queue (index k.view.number 0) chosen))) (bit : q ≡ added p item.Member)
     (stored : s ≡ added q (item.Made (step.State 2))) (n found : ℕ) (me : n ≡ k.view.number)
     (woke : w ≡ added s (item.Made (step.Wake n 3 found))) where

@@ -1,6 +1,6 @@
 use Rattle.std.proofs.Common.{◌∙◌, ap, subst, ℕ, ◌∷◌, ◌++◌}
 use Rattle.wait_model.specs.Totals.{total}
-use Rattle.wait_rule.specs.Journals.{part_of}
+use Rattle.wait_rule.specs.Journals.{part_in}
 use Rattle.wait_rule.specs.Known.{Known}
 use Rattle.head_tests.specs.Meeting.{wakes_task, HaveMet}
 use Rattle.wait_rule.specs.Says.{history_of}
@@ -14,9 +14,9 @@ returns g c =
     let met : HaveMet c.number-who.result c.join.new.self = (
       ap (λ (k : Known). total (wakes_task c.number-who.result) (history_of k)) joined ∙ one.1,
       (
-        part_of c.join-one.result.1.view,
+        part_in c.join-one.result.1.view,
         ap (λ (k : Known). k.view.joined) joined
-            ∙ (λ i. one.2 i ++ part_of c.join-one.result.1.view ∷ two.4 i),
+            ∙ (λ i. one.2 i ++ part_in c.join-one.result.1.view ∷ two.4 i),
         two.3,
         two.2,
       ),

@@ -5,7 +5,7 @@ use Rattle.wait_model.specs.declared.steps.Step.TheVariants as step
 use Rattle.wait_model.specs.declared.watches.Watch.TheVariants as watch
 use Rattle.wait_model.proofs.WordLaws.CondWords.{cond_position}
 use Rattle.wait_rule.specs.declared.journal.Item.TheVariants as item
-use Rattle.wait_rule.specs.CountPlays.{cell_at}
+use Rattle.wait_rule.specs.CountPlays.{cell_of_place}
 use Rattle.wait_rule.specs.Counts.{FindsCount}
 use Rattle.wait_rule.specs.Known.{Known, known}
 use Rattle.wait_rule.specs.Queues.{IsAgreedHold}
@@ -37,7 +37,7 @@ pub returns-clause-step : goal.returns-clause-step
 returns-clause-step c =
     let few = c.requires.cell in
     let at = c.cond_at-at.ensures ∙ cond_position (FIRST_DONE + c.args.cell) (omega arith) in
-    let there : cell_at c.cond_at-at.result ≡ c.args.cell = omega arith in
+    let there : cell_of_place c.cond_at-at.result ≡ c.args.cell = omega arith in
     known_after c.task.inside.seat.table_id c.load.new.seat.table_id c.task.inside.seat.me c.load.new.seat.me
     c.args.task.now (item.Made (step.Load (watch.Done c.args.cell) c.load.result)) c.load.ensures.0
     (c.load.ensures.2.0
@@ -48,7 +48,7 @@ pub returns-clause-finds : goal.returns-clause-finds
 returns-clause-finds c =
     let few = c.requires.cell in
     let at = c.cond_at-at.ensures ∙ cond_position (FIRST_DONE + c.args.cell) (omega arith) in
-    let there : cell_at c.cond_at-at.result ≡ c.args.cell = omega arith in
+    let there : cell_of_place c.cond_at-at.result ≡ c.args.cell = omega arith in
     subst (λ (k : Known). FindsCount k c.args.cell c.load.result) c.task.view_is
     (subst (λ (d : ℕ). FindsCount (known c.task.inside.seat.table_id c.task.inside.seat.me.0 0) d c.load.result)
     there (c.load.ensures.2.1 c.task.inside.seat.table_id))

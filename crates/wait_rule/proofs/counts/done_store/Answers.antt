@@ -5,7 +5,7 @@ use Rattle.wait_model.specs.declared.watches.Watch.TheVariants as watch
 use Rattle.wait_model.specs.Runs.{set_step}
 use Rattle.wait_model.proofs.WordLaws.CondWords.{cond_position}
 use Rattle.wait_rule.specs.declared.journal.Item.TheVariants as item
-use Rattle.wait_rule.specs.CountPlays.{cell_at}
+use Rattle.wait_rule.specs.CountPlays.{cell_of_place}
 use Rattle.wait_rule.specs.Counts.{FindsCount, MayStoreCount}
 use Rattle.wait_rule.specs.Known.{Known, known}
 use Rattle.wait_rule.specs.Plays.{seat_with}
@@ -33,7 +33,7 @@ pub returns : goal.returns
 returns c =
     let few = c.requires.cell in
     let at = c.cond_at-at.ensures ∙ cond_position (FIRST_DONE + c.args.cell) (omega arith) in
-    let there : cell_at c.cond_at-at.result ≡ c.args.cell = omega arith in
+    let there : cell_of_place c.cond_at-at.result ≡ c.args.cell = omega arith in
     let is = known_after c.task.inside.seat.table_id c.store.new.seat.table_id c.task.inside.seat.me
     c.store.new.seat.me c.args.task.now (item.Made (set_step (watch.Done c.args.cell) c.args.done c.store.ensures.2.0))
     c.store.ensures.0

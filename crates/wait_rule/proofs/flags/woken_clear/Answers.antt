@@ -7,7 +7,7 @@ use Rattle.wait_model.specs.declared.steps.Step.TheVariants as step
 use Rattle.wait_rule.specs.declared.journal.Item.TheVariants as item
 use Rattle.wait_rule.specs.Asked.{nothing_asked}
 use Rattle.wait_rule.specs.Known.{Known, known}
-use Rattle.wait_rule.specs.Queues.{index, MayClear}
+use Rattle.wait_rule.specs.Queues.{index, MayClearFlag}
 use Rattle.wait_rule.specs.Says.{asks_for, told_of}
 use Rattle.wait_rule.specs.Plays.{seat_with}
 use Rattle.wait_rule.proofs.TableSteps.MemberMoves.{index_at, own_index}
@@ -24,8 +24,8 @@ store-requires c =
     let size = c.domain.invariant in
     let slot = c.requires.slot in
     let at = c.flag_at-at.ensures in
-    let may : MayClear (known t.seat.table_id t.seat.me.0 t.head) c.args.slot =
-    subst (λ (k : Known). MayClear k c.args.slot) (sym c.task.view_is) c.requires.may in (
+    let may : MayClearFlag (known t.seat.table_id t.seat.me.0 t.head) c.args.slot =
+    subst (λ (k : Known). MayClearFlag k c.args.slot) (sym c.task.view_is) c.requires.may in (
       ap (λ (k : Known). k.domain) c.task.view_is ∙ (c.requires.of ∙ sym c.domain.view_is),
       omega arith,
       unflag_moves _ t.seat.id t.seat.me i.1 (index t.number c.args.slot) _ (omega arith) at

@@ -5,7 +5,7 @@ use Rattle.wait_model.specs.declared.steps.Step.TheVariants as step
 use Rattle.wait_rule.specs.declared.journal.Item.TheVariants as item
 use Rattle.wait_rule.specs.Known.{Known, known}
 use Rattle.wait_rule.specs.Queues.{index}
-use Rattle.wait_rule.specs.PageCalls.{ShowsGiven, ShowsNone}
+use Rattle.wait_rule.specs.PageCalls.{ShowsGiven, ShowsNoFlag}
 use Rattle.wait_rule.specs.Plays.{seat_with}
 use Rattle.wait_rule.proofs.TableSteps.MemberMoves.{index_at, own_index}
 use Rattle.wait_rule.proofs.TableSteps.PageMoves.{flag_word_moves}
@@ -57,8 +57,8 @@ returns-clause-none c =
     let spot = index_at FLAG_AT c.flag_at-at.result t.number c.args.slot c.flag_at-at.ensures
     ∙ ap (λ (u : ℕ). index u c.args.slot) (sym c.task.invariant.2 ∙ ap (λ (k : Known). k.view.number) c.task.view_is)
     in
-    subst (λ (k : Known). ShowsNone k (index c.args.task.now.view.number c.args.slot) c.load.result) c.task.view_is
-    (subst (λ (x : ℕ). ShowsNone (known t.seat.table_id t.seat.me.0 t.head) x c.load.result) spot
+    subst (λ (k : Known). ShowsNoFlag k (index c.args.task.now.view.number c.args.slot) c.load.result) c.task.view_is
+    (subst (λ (x : ℕ). ShowsNoFlag (known t.seat.table_id t.seat.me.0 t.head) x c.load.result) spot
     (c.load.ensures.2.1.2 t.seat.table_id))
 
 pub returns-clause-carries : goal.returns-clause-carries

@@ -3,7 +3,7 @@ use Rattle.std.specs.Prelude.{ℕ, ◌≡◌, Some}
 use Rattle.wait_model.specs.declared.layout.TheConstants.{FLAG_AT}
 use Rattle.wait_model.specs.declared.steps.Step.TheVariants as step
 use Rattle.wait_rule.specs.declared.journal.Item.TheVariants as item
-use Rattle.wait_rule.specs.Asked.{given_at}
+use Rattle.wait_rule.specs.Asked.{was_given_at}
 use Rattle.wait_rule.specs.Known.{Known, known}
 use Rattle.wait_rule.specs.Queues.{index}
 use Rattle.wait_rule.specs.PageCalls.{QueuesNoPage}
@@ -25,10 +25,10 @@ store-requires g c =
     let same : t.seat.me.0.number ≡ t.number = i.2 in
     let spot : index c.args.task.now.view.number c.args.slot ≡ index t.number c.args.slot =
     ap (λ (u : ℕ). index u c.args.slot) (sym (ap (λ (k : Known). k.view.number) c.task.view_is) ∙ same) in
-    let given : given_at (index t.number c.args.slot) (asks_for (known t.seat.table_id t.seat.me.0 t.head))
+    let given : was_given_at (index t.number c.args.slot) (asks_for (known t.seat.table_id t.seat.me.0 t.head))
     ≡ Some c.args.word =
-    subst (λ (k : Known). given_at (index t.number c.args.slot) (asks_for k) ≡ Some c.args.word) (sym c.task.view_is)
-    (subst (λ (x : ℕ). given_at x (asks_for c.args.task.now) ≡ Some c.args.word) spot c.requires.given) in
+    subst (λ (k : Known). was_given_at (index t.number c.args.slot) (asks_for k) ≡ Some c.args.word) (sym c.task.view_is)
+    (subst (λ (x : ℕ). was_given_at x (asks_for c.args.task.now) ≡ Some c.args.word) spot c.requires.given) in
     let off : QueuesNoPage (known t.seat.table_id t.seat.me.0 t.head) (index t.number c.args.slot) =
     subst (λ (k : Known). QueuesNoPage k (index t.number c.args.slot)) (sym c.task.view_is)
     (subst (QueuesNoPage c.args.task.now) spot c.requires.off) in (

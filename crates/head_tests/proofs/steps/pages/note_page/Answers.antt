@@ -2,7 +2,7 @@ use Rattle.std.proofs.Common.{◌∙◌, ◌≡◌, ℕ, ap, sym, Some}
 use Rattle.wait_model.specs.declared.steps.Step.TheVariants as step
 use Rattle.wait_model.specs.Views.{View as Told}
 use Rattle.wait_rule.specs.declared.journal.Item.TheVariants as item
-use Rattle.wait_rule.specs.Asked.{given_at}
+use Rattle.wait_rule.specs.Asked.{was_given_at}
 use Rattle.wait_rule.specs.Known.{Known}
 use Rattle.wait_rule.specs.Queues.{index, saw}
 use Rattle.wait_rule.specs.Says.{added, asks_for, told_of}
@@ -18,7 +18,7 @@ page_note-requires-clause-given c =
     let x = index k.view.number 0 in
     let seen : c.entry_load.new.task ≡ added k (item.Made (saw k.book.head x v)) = c.entry_load.ensures.step
     ∙ ap (λ (n : ℕ). added k (item.Made (saw k.book.head (index n 0) v))) c.number-me.ensures.number in
-    ap (λ (n : ℕ). given_at (index n 0) (asks_for f)) (c.flag_load-found.ensures.carries.number
+    ap (λ (n : ℕ). was_given_at (index n 0) (asks_for f)) (c.flag_load-found.ensures.carries.number
     ∙ c.entry_load.ensures.carries.number)
     ∙ given_found k c.entry_load.new.task f x c.args.word v _ _ c.requires.idle.free.head seen
     (sym c.queued.ensures ∙ c.if-queued.false) c.flag_load-found.ensures.step c.requires.waits

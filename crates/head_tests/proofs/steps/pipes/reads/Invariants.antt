@@ -1,7 +1,7 @@
 use Rattle.std.proofs.Common.{◌≤◌}
-use Rattle.wait_rule.specs.Passing.{HasPassed}
+use Rattle.wait_rule.specs.Passing.{HasPassedCells}
 use Rattle.wait_rule.specs.Pipes.{read_end}
 use Rattle.head_tests.proofs.steps.pipes.reads.Given as goal
 
 abbrev pub invariant-loop-n : goal.invariant-loop-n
-invariant-loop-n g l = HasPassed l.domain (read_end l.pipe) l.n l.task × (l.right ≤ l.n)
+invariant-loop-n g l = HasPassedCells l.domain (read_end l.pipe) l.n l.task × (l.right ≤ l.n)

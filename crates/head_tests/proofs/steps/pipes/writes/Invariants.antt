@@ -1,6 +1,6 @@
-use Rattle.wait_rule.specs.Passing.{HasPassed}
+use Rattle.wait_rule.specs.Passing.{HasPassedCells}
 use Rattle.wait_rule.specs.Pipes.{write_end}
 use Rattle.head_tests.proofs.steps.pipes.writes.Given as goal
 
 abbrev pub invariant-loop-n : goal.invariant-loop-n
-invariant-loop-n g l = HasPassed l.domain (write_end l.pipe) l.n l.task
+invariant-loop-n g l = HasPassedCells l.domain (write_end l.pipe) l.n l.task

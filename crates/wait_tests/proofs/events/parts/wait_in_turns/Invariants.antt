@@ -1,7 +1,7 @@
 use Rattle.std.proofs.Common.{◌≡◌}
 use Rattle.wait_class.specs.Posts.{own_of}
 use Rattle.wait_event.specs.Prepares.{MayFinish, MayPrepare}
-use Rattle.wait_rule.specs.Says.{Owes, no_excuse}
+use Rattle.wait_rule.specs.Says.{OwesBut, no_excuse}
 use Rattle.wait_rule.specs.Stays.{with_entry}
 use Rattle.wait_tests.proofs.events.parts.wait_in_turns.Given as goal
 
@@ -10,5 +10,5 @@ invariant-loop g l = record {
   of : l.task.domain ≡ l.fn.domain;
   again : MayPrepare l.task l.fn.watch l.fn.kind l.fn.state;
   may : MayFinish l.task;
-  owes : Owes (with_entry (own_of l.task) no_excuse) l.task;
+  owes : OwesBut (with_entry (own_of l.task) no_excuse) l.task;
 }

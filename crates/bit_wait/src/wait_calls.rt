@@ -98,13 +98,13 @@ pub fn wait_on_bit<R: Wait>(
 {
     let mut call = begin_bit(task, word, bit, state);
     let outcome = run(rt, domain, task, &mut call, Stage::Test(BitTest::First));
-    rest(domain, task, is_worn(outcome));
+    rest(domain, task, is_bit_worn(outcome));
     end_of(call.of.wait, outcome)
 }
 
 /// Whether a wait ended since no place was left for its entry.
 #[inline(always)]
-pub fn is_worn(outcome: BitOutcome) -> bool
+pub fn is_bit_worn(outcome: BitOutcome) -> bool
     ensures { result ≡ is_bit_worn outcome }
 {
     matches!(outcome, BitOutcome::Worn)
@@ -183,6 +183,6 @@ pub fn end_bit(
         → Advances bit_table start task.old f wait.now (stage.Test test.First) (turn.Done outcome)
         → EndsBitWait start task.new word bit state result }
 {
-    rest(domain, task, is_worn(outcome));
+    rest(domain, task, is_bit_worn(outcome));
     end_of(wait.of.wait, outcome)
 }

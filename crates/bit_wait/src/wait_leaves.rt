@@ -13,7 +13,7 @@ ghost use Rattle.wait_leave.specs.OnTheWay.{IsOnWay, OnTheWay};
 ghost use Rattle.bit_wait.specs.BitLeaves.{EndsBitWaitUntil, LeavesBitWait, bit_exits, bit_until_in};
 ghost use Rattle.bit_wait.specs.BitTables.{bit_table};
 
-use crate::wait_calls::{BitEnd, begin_bit, end_of, is_worn};
+use crate::wait_calls::{BitEnd, begin_bit, end_of, is_bit_worn};
 use crate::waits::{BitOutcome, BitRun, BitStage, BitTest, WaitBit};
 use std::sync::Wait;
 use wait_class::frame_stages::{Framed, Stage};
@@ -89,7 +89,7 @@ pub fn leave_bit<R: Wait>(
         → IsClean task.new }
 {
     let outcome = leave(rt, domain, task, call, stage);
-    rest(domain, task, is_worn(outcome));
+    rest(domain, task, is_bit_worn(outcome));
     until_of(call.of.wait, outcome)
 }
 
@@ -130,7 +130,7 @@ pub fn end_bit_until(
         → OnTheWay (Unit {0}) bit_table bit_exits start f s task.old wait.now (turn.Done outcome)
         → LeavesBitWait (Unit {0}) start task.new f s result }
 {
-    rest(domain, task, is_worn(outcome));
+    rest(domain, task, is_bit_worn(outcome));
     until_of(wait.of.wait, outcome)
 }
 
@@ -170,6 +170,6 @@ pub fn wait_on_bit_until<R: Wait, Q: Fn() -> bool>(
         Stage::Test(BitTest::First),
         asks,
     );
-    rest(domain, task, is_worn(outcome));
+    rest(domain, task, is_bit_worn(outcome));
     until_of(call.of.wait, outcome)
 }

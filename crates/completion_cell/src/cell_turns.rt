@@ -135,7 +135,7 @@ fn draw_turn(domain: &Domain, task: &mut Task, run: &mut CellRun, stage: CellSta
 }
 
 /// Whether the call loads the count before it locks, and is over where that is 0.
-fn peeks(call: CellCall) -> bool
+fn peeks_first(call: CellCall) -> bool
     ensures { result ≡ peeks_first call }
 {
     match call {
@@ -160,7 +160,7 @@ fn begin(domain: &Domain, task: &mut Task, run: &mut CellRun) -> bool
 {
     task.told();
     let head = head_of(Watch::Done { cell: run.cell });
-    if !peeks(run.call) {
+    if !peeks_first(run.call) {
         run.ticket = draw_lock(domain, task, head);
         return true;
     }

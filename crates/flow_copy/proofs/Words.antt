@@ -48,6 +48,7 @@ use Rattle.copy_plan.specs.Plans.{due_in}
 use Rattle.copy_plan.specs.Stops.{stop_of}
 use Rattle.copy_turns.specs.Raises.{sent_to}
 use Rattle.copy_turns.specs.Transfers.{Again, GetsPiece, Heard, SendsEach}
+use Rattle.copy_turns.specs.Watched.{IsPiece}
 use Rattle.copy_turns.specs.Work.{TookOwn}
 use Rattle.copy_turns.proofs.ReaderTurns.{prepend_none, prepend_twice}
 use Rattle.copy_ends.specs.Copied.{worker_numbers}
@@ -61,7 +62,6 @@ use Rattle.flow_copy.specs.Workers.{
   FollowsPrograms,
   FromSource,
   GetsAnd,
-  IsPiece,
   HandsBytes,
   ReaderGoes,
   ReaderTurn,

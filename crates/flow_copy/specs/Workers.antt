@@ -52,6 +52,7 @@ use Rattle.copy_plan.specs.Plans.{due_in}
 use Rattle.copy_plan.specs.Stops.{stop_of}
 use Rattle.copy_turns.specs.Raises.{sent_to}
 use Rattle.copy_turns.specs.Transfers.{GetsPiece, PutsWhole, SendsEach}
+use Rattle.copy_turns.specs.Watched.{IsPiece}
 use Rattle.copy_turns.specs.Work.{TookOwn}
 use Rattle.copy_ends.specs.Copied.{WaitsTimes, worker_numbers}
 use Rattle.flow_copy.specs.PageWaits.{PageWaits}
@@ -77,10 +78,6 @@ pub data HandsBytes (k : ℕ) (old new : Known) (bytes : List ℕ) : Result (Uni
 abbrev pub stops_by : Result (Unit {0}) Halt → Option Stop
 stops_by (Ok u) = None
 stops_by (Err h) = Some (stop_of h)
-
--- what a source gives at a time
-abbrev pub IsPiece : List ℕ → Type 0
-IsPiece bytes = (0 < length bytes) × (length bytes ≤ PIECE)
 
 -- A turn begins with a take of the own signals, and is over where a fatal one was among them. That of a reader whose
 -- source gave `read` bytes before: the source is at its end, or fails, or gives a piece; then the signals are sent that

@@ -15,7 +15,7 @@ use Rattle.wait_model.specs.declared.steps.Step.TheVariants as step
 use Rattle.wait_model.specs.declared.watches.Watch.{Watch}
 use Rattle.wait_model.specs.Fold.{is_off}
 use Rattle.wait_model.specs.PointFacts.{IsHome, absent}
-use Rattle.wait_model.specs.Points.{was_given_at as given_for}
+use Rattle.wait_model.specs.Points.{given_at as given_for}
 use Rattle.wait_model.specs.Programs.{ends_with, go, interrupted}
 use Rattle.wait_model.specs.Tasks.{looks_in}
 use Rattle.wait_model.specs.Watches.{page}

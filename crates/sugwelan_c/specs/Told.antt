@@ -8,8 +8,7 @@ use Rattle.wait_event.specs.declared.wait_events.WaitEnd.TheVariants as wait_end
 use Rattle.wait_model.specs.declared.queues.End.{End}
 use Rattle.wait_model.specs.declared.queues.End.TheVariants as end
 use Rattle.wait_model.specs.declared.queues.Walked.{Walked}
-use Rattle.wait_model.specs.declared.tasks.Taken.{Taken}
-use Rattle.wait_model.specs.declared.tasks.Taken.TheVariants as taken
+use Rattle.wait_model.specs.Sentences.{taken_number}
 use Rattle.wait_model.specs.declared.layout.TheConstants.{HEADS}
 use Rattle.wq_head.specs.Scanned.{unmade}
 use Rattle.wq_checked.specs.declared.calls.Answer.{Answer}
@@ -71,12 +70,6 @@ code_of (reply.Value v) = DONE
 abbrev pub truth : Bool → ℕ
 truth true = 1
 truth false = 0
-
--- the signals that a task took
-abbrev pub taken_number : Taken → ℕ
-taken_number taken.Nothing = 0
-taken_number taken.Plain = 1
-taken_number taken.Fatal = 2
 
 abbrev pub reply_value : Reply → ℕ
 reply_value (reply.On (progress.Done (answer.Changed (Ok v)))) = v

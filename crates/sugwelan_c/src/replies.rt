@@ -3,7 +3,8 @@
 ghost use Rattle.std.specs.Prelude.{◌≡◌};
 ghost use Rattle.wq_head.specs.Roused.{tasks_in};
 ghost use Rattle.sugwelan_c.specs.Told.{Lists, TellsReply, answer_code, bit_code, code_of, end_number, progress_code};
-ghost use Rattle.sugwelan_c.specs.Told.{head_number, lock_of, refusal_code, roused_in_reply, taken_number, truth, reply_value, wait_code, walk_of};
+ghost use Rattle.wait_model.specs.Sentences.{taken_number};
+ghost use Rattle.sugwelan_c.specs.Told.{head_number, lock_of, refusal_code, reply_value, roused_in_reply, truth, wait_code, walk_of};
 
 use bit_wait::BitEnd;
 use wait_event::wait_events::WaitEnd;
@@ -170,7 +171,7 @@ fn taken_number(taken: Taken) -> u64
 /// its last look at the condition, the variable, the word of the bit or the count found; of a call about a completion,
 /// whether it was done; of a try, whether it took the bit; of a kick, whether the task was in the state of a sleep; the
 /// value, or the signals, that a call at once answers.
-fn value_of(reply: Reply) -> u64
+fn reply_value(reply: Reply) -> u64
     ensures { result ≡ reply_value reply }
 {
     match reply {
@@ -261,7 +262,7 @@ fn tell_with(reply: Reply, passed: Option<u16>, tasks: &[u8], told: &mut Told)
     told.served = lock.served;
     told.passed = head_number(passed);
     let walk = walk_of(reply);
-    told.value = value_of(reply);
+    told.value = reply_value(reply);
     told.woken = walk.woken;
     told.selected = walk.selected;
     told.holds = walk.holds;

@@ -122,7 +122,7 @@ fn go_further(
 }
 
 /// Whether a call asks to leave.
-fn leaves(want: Option<Wanted>) -> bool
+fn is_leave(want: Option<Wanted>) -> bool
     ensures { result ≡ is_leave want }
 {
     match want {
@@ -139,7 +139,7 @@ pub fn serve(task: &mut CheckedTask, call: &Call, told: &mut Told) -> i32
     let mut rousing = Rousing::new();
     let mut passed = None;
     let first = reply_to(task, want, &mut rousing, &mut passed);
-    let reply = go_further(task, leaves(want), first, &mut rousing, &mut passed);
+    let reply = go_further(task, is_leave(want), first, &mut rousing, &mut passed);
     tell(reply, passed, &rousing, told);
     // The caller rouses those that `told` names.
     rousing.hand_on();

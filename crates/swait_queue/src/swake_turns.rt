@@ -137,7 +137,7 @@ fn hold(
 {
     let head = head_of(Watch::Plain { cond: run.cond });
     let selected = select_tries(domain, task, head, most_of(run.all), rousing)?;
-    passing.put(give_back(domain, task, is_spent(run.all, selected)));
+    passing.put(give_back(domain, task, is_swake_spent(run.all, selected)));
     Ok(selected)
 }
 
@@ -149,7 +149,7 @@ fn most_of(all: bool) -> u32
 }
 
 /// Whether as many were selected as were asked for.
-fn is_spent(all: bool, selected: u32) -> bool
+fn is_swake_spent(all: bool, selected: u32) -> bool
     ensures { result ≡ is_swake_spent all selected }
 {
     selected != 0 && selected == most_of(all)

@@ -36,13 +36,13 @@ use Rattle.wait_event.proofs.Plans.{runs_program}
 use Rattle.completion_cell.specs.declared.awaits.AwaitCall.{AwaitCall}
 use Rattle.completion_cell.specs.declared.awaits.AwaitStage.{AwaitStage}
 use Rattle.completion_cell.specs.declared.awaits.AwaitStage.TheVariants as await_stage
-use Rattle.completion_cell.specs.Awaits.{await_call, await_table, is_await_slept, wait_point_at as await_point}
+use Rattle.completion_cell.specs.Awaits.{await_call, await_table, is_await_slept, await_point_at}
 use Rattle.bit_wait.specs.BitTables.{bit_table, wait_bit_call as bit_call}
 use Rattle.bit_wait.specs.LockTables.{lock_bit_call as lock_call, lock_table}
 use Rattle.page_lock.specs.declared.waits.LockPage.{LockPage}
 use Rattle.page_lock.specs.declared.waits.PageStage.{PageStage}
 use Rattle.page_lock.specs.declared.waits.PageStage.TheVariants as page_stage
-use Rattle.page_lock.specs.PageTables.{is_behind_sleep, page_call, page_table, wait_point_at as page_point}
+use Rattle.page_lock.specs.PageTables.{is_behind_sleep, page_call, page_table, page_point_at}
 use Rattle.waiter_laws.specs.Stretches.{
   AwaitersAreKept,
   BitLockersAreKept,
@@ -130,7 +130,7 @@ pub waiters_are_kept : WaitersAreKept
 waiters_are_kept old new r q z = kept_by (call_for r.of.watch r.of.how) old new (waiter_slept old new r q z)
 
 -- a wait for a completion
-await_place : (s : AwaitStage) → is_await_slept s ≡ true → await_point s ≡ at.Await (awaiting.Lock true)
+await_place : (s : AwaitStage) → is_await_slept s ≡ true → await_point_at s ≡ at.Await (awaiting.Lock true)
 await_place await_stage.Again is = refl
 await_place s is = absurd (cc)
 
@@ -155,7 +155,7 @@ awaiters_are_kept old new r q z = kept_by (await_call r.of) old new
     (slept_by_count r.of.cell r.of.state old.view.number new (await_here old new r q z).1 (await_here old new r q z).0)
 
 -- a wait for a page
-page_place : (s : PageStage) → is_behind_sleep s ≡ true → page_point s ≡ at.Page paging.State
+page_place : (s : PageStage) → is_behind_sleep s ≡ true → page_point_at s ≡ at.Page paging.State
 page_place page_stage.State is = refl
 page_place s is = absurd (cc)
 

@@ -15,13 +15,13 @@ use Rattle.wait_leave.proofs.Ways.{way_plan}
 use Rattle.wait_class.proofs.Wholes.{rests}
 use Rattle.bit_wait.specs.LockLeaves.{failed_in, lock_exits, takes_until, until_in}
 use Rattle.bit_wait.specs.LockStays.{TakesBit}
-use Rattle.bit_wait.specs.LockTables.{lock_frame, lock_table}
+use Rattle.bit_wait.specs.LockTables.{LockTurn, lock_frame, lock_table}
 use Rattle.bit_wait.specs.declared.lock_runs.LockBit.{LockBit}
 use Rattle.bit_wait.specs.declared.lock_runs.LockOutcome.{LockOutcome}
 use Rattle.bit_wait.specs.declared.lock_runs.LockOutcome.TheVariants as outcome
 use Rattle.bit_wait.proofs.LockLeaving.{left_asked, left_idle, left_lock, left_takes, left_up, lock_may_leave}
 use Rattle.bit_wait.proofs.LockLaws.{lock_lawful}
-use Rattle.wq_checked.specs.Stages.{HasComeBy, LockRun, LockTurn, StandsBy, StretchesOn, lock_first}
+use Rattle.wq_checked.specs.Stages.{HasComeBy, LockRun, StandsBy, StretchesOn, lock_first}
 use Rattle.wq_checked.proofs.LowWays.{way_off}
 use Rattle.wq_checked.proofs.WayTurns.{come_lands, come_on, come_stayed, for_all}
 use Rattle.wq_checked.specs.Kept.{IsReadyWith, but_kept, keeps_in}

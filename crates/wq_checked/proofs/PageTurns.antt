@@ -10,14 +10,14 @@ use Rattle.wait_class.specs.Tables.{Plan}
 use Rattle.wait_leave.proofs.Ways.{way_plan}
 use Rattle.page_lock.specs.PageLeaves.{page_exits, page_failed, page_until, takes_page_until}
 use Rattle.page_lock.specs.PageStays.{TakesPage}
-use Rattle.page_lock.specs.PageTables.{page_table}
+use Rattle.page_lock.specs.PageTables.{PageTurn, page_table}
 use Rattle.page_lock.specs.declared.waits.LockPage.{LockPage}
 use Rattle.page_lock.specs.declared.waits.PageOutcome.{PageOutcome}
 use Rattle.page_lock.specs.declared.waits.PageOutcome.TheVariants as outcome
 use Rattle.page_lock.specs.declared.waits.PageStage.TheVariants as stage
 use Rattle.page_lock.proofs.PageLaws.{page_lawful}
 use Rattle.page_lock.proofs.PageLeaving.{leaves_page, left_asked, left_idle, left_takes, left_up, page_may_leave}
-use Rattle.wq_checked.specs.Stages.{HasComeBy, PageRun, PageTurn, StandsBy, StretchesOn}
+use Rattle.wq_checked.specs.Stages.{HasComeBy, PageRun, StandsBy, StretchesOn}
 use Rattle.wq_checked.proofs.LowWays.{way_off}
 use Rattle.wq_checked.proofs.WayTurns.{come_lands, come_on, for_all}
 use Rattle.wq_checked.specs.Kept.{IsReadyWith, but_kept, keeps_in}

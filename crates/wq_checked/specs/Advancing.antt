@@ -34,13 +34,15 @@ use Rattle.wq_head.specs.declared.wakes.WakeRun.{WakeRun}
 use Rattle.wq_head.specs.declared.wakes.WakeStage.TheVariants as wake_stage
 use Rattle.wq_head.specs.declared.wakes.WakeTurn.{WakeTurn}
 use Rattle.wq_head.specs.declared.wakes.WakeTurn.TheVariants as wake_turn
+use Rattle.bit_wait.specs.LockTables.{LockTurn}
+use Rattle.page_lock.specs.PageTables.{PageTurn}
 use Rattle.wq_checked.specs.Begins.{BeginsAs}
 use Rattle.wq_checked.specs.Kept.{but_kept, keeps_in}
 use Rattle.wq_checked.specs.declared.calls.Call.{Call}
 use Rattle.wq_checked.specs.declared.kept_bits.KeptBits.{KeptBits}
 use Rattle.wq_checked.specs.Calls.{await_answer, bit_answer, event_answer, turn_told}
 use Rattle.wq_checked.specs.Locks.{refusal_told}
-use Rattle.wq_checked.specs.Stages.{AwaitRun, BitRun, BitTurn, LockRun, LockTurn, PageRun, PageTurn, WaitRun, WaitTurn}
+use Rattle.wq_checked.specs.Stages.{AwaitRun, BitRun, BitTurn, LockRun, PageRun, WaitRun, WaitTurn}
 use Rattle.wq_checked.specs.declared.calls.Answer.TheVariants as answer
 use Rattle.wq_checked.specs.declared.calls.Progress.{Progress}
 use Rattle.wq_checked.specs.declared.calls.Progress.TheVariants as progress

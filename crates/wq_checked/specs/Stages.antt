@@ -18,12 +18,9 @@ use Rattle.bit_wait.specs.declared.waits.BitTest.{BitTest}
 use Rattle.bit_wait.specs.declared.waits.BitTest.TheVariants as bit_test
 use Rattle.bit_wait.specs.declared.waits.WaitBit.{WaitBit}
 use Rattle.bit_wait.specs.declared.lock_runs.LockBit.{LockBit}
-use Rattle.bit_wait.specs.declared.lock_runs.LockOutcome.{LockOutcome}
 use Rattle.bit_wait.specs.declared.lock_runs.LockTest.{LockTest}
 use Rattle.bit_wait.specs.declared.lock_runs.LockTest.TheVariants as lock_test
 use Rattle.page_lock.specs.declared.waits.LockPage.{LockPage}
-use Rattle.page_lock.specs.declared.waits.PageOutcome.{PageOutcome}
-use Rattle.page_lock.specs.declared.waits.PageStage.{PageStage}
 use Rattle.wait_leave.specs.Leaves.{Exits}
 use Rattle.wait_leave.specs.OnTheWay.{OnTheWay}
 
@@ -46,17 +43,11 @@ bit_first = frame_stage.Test bit_test.First
 abbrev pub LockRun : Type 0
 LockRun = Run (Framed LockBit)
 
-abbrev pub LockTurn : Type 0
-LockTurn = Turn (Stage LockTest) LockOutcome
-
 abbrev pub lock_first : Stage LockTest
 lock_first = frame_stage.Test lock_test.First
 
 abbrev pub PageRun : Type 0
 PageRun = Run LockPage
-
-abbrev pub PageTurn : Type 0
-PageTurn = Turn PageStage PageOutcome
 
 abbrev pub AwaitRun : Type 0
 AwaitRun = Run AwaitCall

@@ -6,7 +6,7 @@ ghost use Rattle.wait_model.specs.declared.watches.Watch.TheVariants as watch;
 ghost use Rattle.wait_rule.specs.Bits.{KeepsBitOf};
 ghost use Rattle.wait_rule.specs.Says.{IsClean};
 ghost use Rattle.bit_wait.specs.Holders.{IsHolder};
-ghost use Rattle.wait_tests.specs.BitTasks.{IsAtRest};
+ghost use Rattle.wq_head.specs.Readied.{IsUpAndIdle};
 
 use crate::wants::{all_so, another};
 use bit_wait::clears::clear_and_wake_bit;
@@ -22,11 +22,11 @@ use wait_rule::{Domain, Task};
 /// Takes a bit: true where it was clear.
 pub(crate) fn take(domain: &Domain, task: &mut Task, word: u8, bit: u8) -> bool
     requires of { task.old.domain ≡ domain.now }
-    requires rest { IsAtRest task.old }
+    requires rest { IsUpAndIdle task.old }
     requires word { word < BIT_WORDS }
     requires bit { bit < WORD_BITS }
     ensures of { task.new.domain ≡ domain.now }
-    ensures rest { IsAtRest task.new }
+    ensures rest { IsUpAndIdle task.new }
     ensures keeps { result ≡ true → KeepsBitOf task.new (watch.Bit word bit) }
 {
     test_and_set(domain, task, word, bit)
@@ -35,12 +35,12 @@ pub(crate) fn take(domain: &Domain, task: &mut Task, word: u8, bit: u8) -> bool
 /// Gives a bit back.
 pub(crate) fn give(domain: &Domain, task: &mut Task, word: u8, bit: u8)
     requires of { task.old.domain ≡ domain.now }
-    requires rest { IsAtRest task.old }
+    requires rest { IsUpAndIdle task.old }
     requires word { word < BIT_WORDS }
     requires bit { bit < WORD_BITS }
     requires keeps { KeepsBitOf task.old (watch.Bit word bit) }
     ensures of { task.new.domain ≡ domain.now }
-    ensures rest { IsAtRest task.new }
+    ensures rest { IsUpAndIdle task.new }
 {
     bit_clear(domain, task, word, bit);
 }

@@ -3,7 +3,8 @@
 ghost use Rattle.std.specs.Prelude.{◌≡◌};
 ghost use Rattle.wait_model.specs.declared.watches.Watch.TheVariants as watch;
 ghost use Rattle.wait_rule.specs.Bits.{KeepsBitOf};
-ghost use Rattle.wait_tests.specs.BitTasks.{IsAtRest, IsReadyForBit};
+ghost use Rattle.wq_head.specs.Readied.{IsUpAndIdle};
+ghost use Rattle.wait_tests.specs.BitTasks.{IsReadyForBit};
 
 use crate::bits::alone::{give, take};
 use crate::bits::rousing::rouse_and_go;
@@ -27,7 +28,7 @@ const BEFORE: u32 = 12;
 /// Plays one order: whether the wait has ended with the bit taken, so that nobody else can take it.
 fn play<R: Wait>(rt: &R, domain: &Domain, holder: &mut Task, waiter: &mut Task, seed: u32) -> bool
     requires of { (holder.old.domain ≡ domain.now) × (waiter.old.domain ≡ domain.now) }
-    requires holder { IsAtRest holder.old }
+    requires holder { IsUpAndIdle holder.old }
     requires keeps { KeepsBitOf holder.old (watch.Bit 0 0) }
     requires waiter { IsReadyForBit waiter.old }
 {

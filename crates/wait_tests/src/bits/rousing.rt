@@ -2,7 +2,7 @@
 
 ghost use Rattle.std.specs.Prelude.{◌≡◌};
 ghost use Rattle.wait_class.specs.Tables.{Lands};
-ghost use Rattle.wait_tests.specs.BitTasks.{IsAtRest};
+ghost use Rattle.wq_head.specs.Readied.{IsUpAndIdle};
 
 use crate::turns::{go_on, next_number};
 use std::sync::Wait;
@@ -17,9 +17,9 @@ const TURNS: u32 = 200;
 /// Wakes the waiter's task, as a walk would.
 fn rouse<R: Wait>(rt: &R, domain: &Domain, waker: &mut Task, who: u8)
     requires of { waker.old.domain ≡ domain.now }
-    requires rest { IsAtRest waker.old }
+    requires rest { IsUpAndIdle waker.old }
     ensures of { waker.new.domain ≡ domain.now }
-    ensures rest { IsAtRest waker.new }
+    ensures rest { IsUpAndIdle waker.new }
 {
     wake_task(rt, domain, waker, who, Mode::Normal);
 }
@@ -35,10 +35,10 @@ pub(crate) fn rouse_and_go<R: Wait, C: Machine>(
     seed: u32,
 ) -> Turn<C::Stage, C::Outcome>
     requires of { (waker.old.domain ≡ domain.now) × (waiter.old.domain ≡ domain.now) }
-    requires rest { IsAtRest waker.old }
+    requires rest { IsUpAndIdle waker.old }
     requires waiting { Lands C.table waiter.old run.old last }
     ensures of { waker.new.domain ≡ domain.now }
-    ensures rest { IsAtRest waker.new }
+    ensures rest { IsUpAndIdle waker.new }
 {
     let who = waiter.number();
     let mut at = last;

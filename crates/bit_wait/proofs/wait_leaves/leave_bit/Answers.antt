@@ -16,27 +16,27 @@ returns-clause-leaves g c = subst (LeavesBitWait (Unit {0}) c.args.task.now c.re
     (sym c.until_of.ensures)
     (left_wait (Unit {0}) c.args.task.now c.leave-outcome.new.task c.rest.new.task c.args.call.now
     c.leave-outcome.new.call c.args.stage c.leave-outcome.result c.leave-outcome.ensures.way
-    (subst (HasRested c.leave-outcome.new.task c.rest.new.task) c.is_worn.ensures c.rest.ensures))
+    (subst (HasRested c.leave-outcome.new.task c.rest.new.task) c.is_bit_worn.ensures c.rest.ensures))
 
 pub returns-clause-up : goal.returns-clause-up
 returns-clause-up g c = left_up (Unit {0}) c.args.task.now c.leave-outcome.new.task c.rest.new.task c.args.call.now
     c.leave-outcome.new.call c.args.stage c.leave-outcome.result c.leave-outcome.ensures.way
-    (subst (HasRested c.leave-outcome.new.task c.rest.new.task) c.is_worn.ensures c.rest.ensures)
+    (subst (HasRested c.leave-outcome.new.task c.rest.new.task) c.is_bit_worn.ensures c.rest.ensures)
 
 pub returns-clause-out : goal.returns-clause-out
 returns-clause-out g c = left_out (Unit {0}) c.args.task.now c.leave-outcome.new.task c.rest.new.task c.args.call.now
     c.leave-outcome.new.call c.args.stage c.leave-outcome.result c.leave-outcome.ensures.way
-    (subst (HasRested c.leave-outcome.new.task c.rest.new.task) c.is_worn.ensures c.rest.ensures)
+    (subst (HasRested c.leave-outcome.new.task c.rest.new.task) c.is_bit_worn.ensures c.rest.ensures)
 
 pub returns-clause-idle : goal.returns-clause-idle
 returns-clause-idle g c = left_idle (Unit {0}) c.args.task.now c.leave-outcome.new.task c.rest.new.task c.args.call.now
     c.leave-outcome.new.call c.args.stage c.leave-outcome.result c.leave-outcome.ensures.way
-    (subst (HasRested c.leave-outcome.new.task c.rest.new.task) c.is_worn.ensures c.rest.ensures)
+    (subst (HasRested c.leave-outcome.new.task c.rest.new.task) c.is_bit_worn.ensures c.rest.ensures)
 
 pub returns-clause-keeps : goal.returns-clause-keeps
 returns-clause-keeps g c = left_kept (Unit {0}) c.args.task.now c.leave-outcome.new.task c.rest.new.task c.args.call.now
     c.leave-outcome.new.call c.args.stage c.leave-outcome.result c.leave-outcome.ensures.way
-    (subst (HasRested c.leave-outcome.new.task c.rest.new.task) c.is_worn.ensures c.rest.ensures)
+    (subst (HasRested c.leave-outcome.new.task c.rest.new.task) c.is_bit_worn.ensures c.rest.ensures)
 
 pub returns-clause-clean : goal.returns-clause-clean
 returns-clause-clean g c p i = left_clean (Unit {0}) p c.leave-outcome.new.task c.rest.new.task
@@ -44,7 +44,7 @@ returns-clause-clean g c p i = left_clean (Unit {0}) p c.leave-outcome.new.task 
     (on_way_then (Unit {0}) bit_table bit_exits bit_may_leave (framed_lawful bit_frame bit_lawful) p c.args.task.now
     c.leave-outcome.new.task c.args.call.now c.leave-outcome.new.call c.args.stage (turn.Done c.leave-outcome.result) i
     c.leave-outcome.ensures.way)
-    (subst (HasRested c.leave-outcome.new.task c.rest.new.task) c.is_worn.ensures c.rest.ensures)
+    (subst (HasRested c.leave-outcome.new.task c.rest.new.task) c.is_bit_worn.ensures c.rest.ensures)
 
 pub rest-requires-clause-of : goal.rest-requires-clause-of
 rest-requires-clause-of g c = left_domain (Unit {0}) c.args.task.now c.leave-outcome.new.task c.args.call.now

@@ -12,33 +12,33 @@ returns-clause-waited g c = subst (EndsBitWaitUntil (g.Q.Fn.post c.args.asks tt 
     c.args.word c.args.bit c.args.state) (sym c.until_of.ensures)
     (ends_until (g.Q.Fn.post c.args.asks tt true) c.args.task.now c.run_asked-outcome.new.task c.rest.new.task
     c.begin_bit-call.result c.run_asked-outcome.new.call c.run_asked-outcome.result c.run_asked-outcome.ensures
-    (subst (HasRested c.run_asked-outcome.new.task c.rest.new.task) c.is_worn.ensures c.rest.ensures)
+    (subst (HasRested c.run_asked-outcome.new.task c.rest.new.task) c.is_bit_worn.ensures c.rest.ensures)
     c.args.word c.args.bit c.args.state c.begin_bit-call.ensures.fresh)
 
 pub returns-clause-up : goal.returns-clause-up
 returns-clause-up g c = left_up (g.Q.Fn.post c.args.asks tt true) c.args.task.now c.run_asked-outcome.new.task c.rest.new.task
     c.begin_bit-call.result c.run_asked-outcome.new.call (stage.Test test.First) c.run_asked-outcome.result
     c.run_asked-outcome.ensures
-    (subst (HasRested c.run_asked-outcome.new.task c.rest.new.task) c.is_worn.ensures c.rest.ensures)
+    (subst (HasRested c.run_asked-outcome.new.task c.rest.new.task) c.is_bit_worn.ensures c.rest.ensures)
 
 pub returns-clause-out : goal.returns-clause-out
 returns-clause-out g c = left_out (g.Q.Fn.post c.args.asks tt true) c.args.task.now c.run_asked-outcome.new.task c.rest.new.task
     c.begin_bit-call.result c.run_asked-outcome.new.call (stage.Test test.First) c.run_asked-outcome.result
     c.run_asked-outcome.ensures
-    (subst (HasRested c.run_asked-outcome.new.task c.rest.new.task) c.is_worn.ensures c.rest.ensures)
+    (subst (HasRested c.run_asked-outcome.new.task c.rest.new.task) c.is_bit_worn.ensures c.rest.ensures)
 
 pub returns-clause-idle : goal.returns-clause-idle
 returns-clause-idle g c = left_idle (g.Q.Fn.post c.args.asks tt true) c.args.task.now c.run_asked-outcome.new.task c.rest.new.task
     c.begin_bit-call.result c.run_asked-outcome.new.call (stage.Test test.First) c.run_asked-outcome.result
     c.run_asked-outcome.ensures
-    (subst (HasRested c.run_asked-outcome.new.task c.rest.new.task) c.is_worn.ensures c.rest.ensures)
+    (subst (HasRested c.run_asked-outcome.new.task c.rest.new.task) c.is_bit_worn.ensures c.rest.ensures)
     c.requires.idle.unmarked
 
 pub returns-clause-carries : goal.returns-clause-carries
 returns-clause-carries g c = left_carried (g.Q.Fn.post c.args.asks tt true) c.args.task.now c.run_asked-outcome.new.task c.rest.new.task
     c.begin_bit-call.result c.run_asked-outcome.new.call (stage.Test test.First) c.run_asked-outcome.result
     c.run_asked-outcome.ensures
-    (subst (HasRested c.run_asked-outcome.new.task c.rest.new.task) c.is_worn.ensures c.rest.ensures)
+    (subst (HasRested c.run_asked-outcome.new.task c.rest.new.task) c.is_bit_worn.ensures c.rest.ensures)
     c.requires.up c.requires.idle (c.begin_bit-call.ensures.told.head ∙ c.requires.idle.free.head)
 
 pub rest-requires-clause-of : goal.rest-requires-clause-of

@@ -1,2 +1,3 @@
 -- What contracts cite.
+pub mod SafeSleep
 pub mod TakenOff

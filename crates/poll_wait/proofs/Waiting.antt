@@ -37,7 +37,7 @@ use Rattle.wait_rule.proofs.KnownLaws.Moments.{kept_of, views_of}
 use Rattle.wait_rule.proofs.TableSteps.ItemLists.{steps_append}
 use Rattle.wait_rule.proofs.TableSteps.MemberMoves.{own_index}
 use Rattle.wait_event.specs.Prepares.{IsPart}
-use Rattle.waiter_laws.specs.Asleep.{SleepsSafely}
+use Rattle.order_laws.specs.SafeSleep.{SleepsSafely}
 use Rattle.poll_wait.specs.declared.turns.Poll.{Poll}
 use Rattle.poll_wait.specs.declared.turns.Ready.{Ready}
 use Rattle.poll_wait.specs.Polls.{AsksIf, IsPoll, SleepsTurn, loaded}

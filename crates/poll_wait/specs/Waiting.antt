@@ -13,7 +13,7 @@ use Rattle.wait_rule.specs.Queues.{index}
 use Rattle.wait_rule.specs.Rule.{IsRuled}
 use Rattle.wait_rule.specs.Says.{added, history_of}
 use Rattle.wait_rule.specs.Transitions.{OnlyLooks}
-use Rattle.waiter_laws.specs.Asleep.{SleepsSafely}
+use Rattle.order_laws.specs.SafeSleep.{SleepsSafely}
 use Rattle.poll_wait.specs.declared.turns.Poll.{Poll}
 use Rattle.poll_wait.specs.Polls.{IsPoll, SleepsTurn}
 

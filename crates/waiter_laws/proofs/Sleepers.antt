@@ -58,7 +58,8 @@ use Rattle.wait_rule.specs.Transitions.{
 }
 use Rattle.wait_rule.proofs.KnownLaws.Moments.{kept_of, views_of}
 use Rattle.wait_rule.proofs.TableSteps.MemberMoves.{own_index}
-use Rattle.waiter_laws.specs.Asleep.{EndsAsleep, IsKept, SleepsSafely, SleepersAreKept, sleep_point}
+use Rattle.order_laws.specs.SafeSleep.{SleepsSafely}
+use Rattle.waiter_laws.specs.Asleep.{EndsAsleep, IsKept, SleepersAreKept, sleep_point}
 use Rattle.waiter_laws.proofs.PointRuns.{HasOwn, Here, IsLed, IsOwnEntry, all, looked, step_told}
 use Rattle.waiter_laws.proofs.TestedWaits.{HasFailed, TestedAt, is_tested, starts, tested_led}
 use Rattle.waiter_laws.proofs.AwaitedCounts.{AwaitedAt, HasZeroFailed, awaited_led}

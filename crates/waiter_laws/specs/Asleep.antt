@@ -1,7 +1,7 @@
 -- To be believed.
 -- Whoever a call that waits has put asleep is a waiter of the law on lost wakes: it sleeps on the watch of its
 -- call, and where that is set its wakeup is not lost.
-use Rattle.std.specs.Prelude.{ℕ, ◌≡◌, ◌≢◌, ◌⊎◌, true, false, None, Some, List}
+use Rattle.std.specs.Prelude.{ℕ, ◌≡◌, ◌≢◌, true, false, None, Some, List}
 use Rattle.wait_model.specs.declared.calls.Call.{Call}
 use Rattle.wait_model.specs.declared.calls.Call.TheVariants as calls
 use Rattle.wait_model.specs.declared.points.BitPoint.TheVariants as biting
@@ -12,9 +12,8 @@ use Rattle.wait_model.specs.declared.points.Point.TheVariants as at
 use Rattle.wait_model.specs.declared.watches.Entry.{Entry}
 use Rattle.wait_model.specs.declared.watches.Watch.{Watch}
 use Rattle.wait_model.specs.Calls.{call_watch, program_start}
-use Rattle.wait_model.specs.Tables.{Table, met}
+use Rattle.wait_model.specs.Tables.{Table}
 use Rattle.wait_model.specs.Waiters.{is_wait}
-use Rattle.wait_model.specs.Wakes.{IsCovered, IsTried, Sleeps, UsedUp}
 use Rattle.wait_rule.specs.declared.journal.Item.{Item}
 use Rattle.wait_rule.specs.Interleavings.{AreAllowed, TaskStep, table_of}
 use Rattle.wait_rule.specs.Known.{Known}
@@ -29,6 +28,7 @@ use Rattle.wait_rule.specs.Transitions.{
   after_transition,
   call_program,
 }
+use Rattle.order_laws.specs.SafeSleep.{SleepsSafely}
 
 -- where a call that waits sleeps
 abbrev pub sleep_point : Call → Point
@@ -49,12 +49,6 @@ pub record EndsAsleep (call : Call) (old new : Known) : Type 0 where
   pub sleep : Transition
   pub sleeps : IsTransition (call_program old.view.number 0 call) (sleep_point call) came sleep
   pub looked : OnlyLooks (after_transition sleep) new
-
--- The owner of entry x sleeps on the watch, and where that is set it is covered by a task that owes the wake; or walks
--- used up their count since; or some task is trying the bit.
-pub record SleepsSafely (s : Table) (x : ℕ) (e : Entry) (c : Watch) : Type 0 where
-  pub sleeps : Sleeps s x e c
-  pub woken : met s.words c ≡ true → IsCovered s x e ⊎ (UsedUp s x e c sleeps ⊎ IsTried s c)
 
 -- How such a task is kept, so long as its entry stands and it was not woken: in each table that meets the rule,
 -- with the task's list, and after each step of each order of allowed steps in which it made what its history says.

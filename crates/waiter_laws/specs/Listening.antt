@@ -26,7 +26,7 @@ use Rattle.wait_event.specs.declared.woken_waits.WokenStage.TheVariants as stage
 use Rattle.wait_event.specs.declared.woken_waits.WokenTurn.{WokenTurn}
 use Rattle.wait_event.specs.declared.woken_waits.WokenTurn.TheVariants as turn
 use Rattle.wait_event.specs.WokenWaits.{Hears}
-use Rattle.waiter_laws.specs.Asleep.{SleepsSafely}
+use Rattle.order_laws.specs.SafeSleep.{SleepsSafely}
 
 -- Since it queued entry x and cleared its flag the task loaded the watch, and the test failed. The caller of a wait for
 -- a flag does that before the call.

@@ -11,8 +11,9 @@ use Rattle.wait_rule.specs.Interleavings.{AreAllowed, TaskStep, table_of}
 use Rattle.wait_rule.specs.Known.{Known}
 use Rattle.wait_rule.specs.Queues.{index}
 use Rattle.wait_rule.specs.Says.{history_of}
+use Rattle.order_laws.specs.SafeSleep.{SleepsSafely}
 use Rattle.order_laws.specs.TakenOff.{AllTakeOffWoken}
-use Rattle.waiter_laws.specs.Asleep.{EndsAsleep, SleepsSafely}
+use Rattle.waiter_laws.specs.Asleep.{EndsAsleep}
 
 -- After each step of each such order of allowed steps the entry of a task stands that a call has put asleep and
 -- that was not woken; so the task is safe. A wait for a page, which stores its state in no hold, is left out.

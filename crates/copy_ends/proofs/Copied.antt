@@ -1,11 +1,10 @@
 -- The whole copy, from what each of its four tasks did and the laws of the lists that were joined.
 use Rattle.std.proofs.Common.{refl, sym, ap, ◌∙◌, subst, arith, inl, inr}
-use Rattle.std.proofs.lemmas.Bool.{false≢true}
 use Rattle.std.specs.Prelude.{ℕ, ◌≡◌, ◌+◌, ◌*◌, ◌<◌, ◌⊎◌, ◌++◌, true, false, List, [], ◌∷◌, length}
 use Rattle.std.specs.Prelude.{Option, Some, IfSome}
 use Rattle.std.specs.Io.KnownBytes.{append_known}
 use Rattle.atomic_table.specs.Seated.{TableId}
-use Rattle.wait_model.specs.declared.layout.TheConstants.{CLAIMS, PIPES, TASKS}
+use Rattle.wait_model.specs.declared.layout.TheConstants.{CLAIMS, TASKS}
 use Rattle.wait_model.specs.SignalCounts.{takes_fatal}
 use Rattle.wait_model.specs.Totals.{total}
 use Rattle.wait_rule.specs.declared.journal.Item.{Item}

@@ -1,5 +1,5 @@
 -- Where no fatal signal was raised no task took one.
-use Rattle.std.proofs.Common.{refl, ap, arith}
+use Rattle.std.proofs.Common.{ap, arith}
 use Rattle.std.specs.Prelude.{ℕ, suc, ◌≡◌, ◌+◌, ◌<◌, ◌≤◌, ◌==◌, ◌&&◌, Bool, true, false, List, [], ◌∷◌, ◌++◌, length}
 use Rattle.wait_model.specs.declared.layout.TheConstants.{TASKS}
 use Rattle.wait_model.specs.declared.steps.Step.{Step}

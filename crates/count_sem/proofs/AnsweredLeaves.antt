@@ -1,6 +1,6 @@
 -- What a `down` takes that its task may leave, by its answer.
 use Rattle.std.proofs.Common.{refl, sym, ◌∙◌, ap, subst, inl, inr}
-use Rattle.std.specs.Prelude.{ℕ, zero, ◌≡◌, Bool, true, false, Some, None, Option, Result, Ok, Err, List, [], ◌∷◌, ◌++◌}
+use Rattle.std.specs.Prelude.{ℕ, ◌≡◌, Bool, true, false, Some, Result, Ok, Err, List, [], ◌∷◌, ◌++◌}
 use Rattle.wait_model.specs.declared.calls.Answer.{Answer}
 use Rattle.wait_model.specs.declared.calls.Answer.TheVariants as answer
 use Rattle.wait_model.specs.declared.points.AwaitPoint.TheVariants as awaiting
@@ -25,7 +25,6 @@ use Rattle.wait_class.specs.Tables.{Advances, next_in}
 use Rattle.wait_class.specs.Wholes.{HasRested}
 use Rattle.wait_leave.specs.declared.exits.Exit.{Exit}
 use Rattle.wait_leave.specs.declared.exits.Until.{Until}
-use Rattle.wait_leave.specs.declared.exits.Until.TheVariants as until
 use Rattle.wait_leave.specs.Leaves.{GoesOut, asked_run}
 use Rattle.wait_leave.specs.OnTheWay.{OnTheWay, left_at, straight}
 use Rattle.count_sem.specs.declared.down_calls.SemEnd.{SemEnd}
@@ -37,16 +36,16 @@ use Rattle.count_sem.specs.declared.downs.DownStage.{DownStage}
 use Rattle.count_sem.specs.declared.downs.DownStage.TheVariants as stage
 use Rattle.count_sem.specs.DownEnds.{down_end_in}
 use Rattle.count_sem.specs.DownLeaves.{ClosesDown, LeavesDown, down_exit, down_exits, end_until, stopped_until}
-use Rattle.count_sem.specs.Downs.{down_answer, down_table}
+use Rattle.count_sem.specs.Downs.{down_table}
 use Rattle.count_sem.specs.SemAnswers.{LeftDownsAreCounted, UntilCounts}
 use Rattle.count_sem.specs.SemPermits.{FindsNoEnd, permits_given, permits_taken}
 use Rattle.count_sem.specs.SemPrograms.{down_program, joined, pass_point}
 use Rattle.count_sem.proofs.AnsweredDowns.{counts_by, order_before, run_counts}
-use Rattle.count_sem.proofs.AnsweredUps.{Has, has_still}
+use Rattle.count_sem.proofs.AnsweredUps.{has_still}
 use Rattle.count_sem.proofs.DownEndings.{part_runs}
-use Rattle.count_sem.proofs.DownHolds.{IsAsleep, IsCalm, asleep_on, stores_calm}
+use Rattle.count_sem.proofs.DownHolds.{IsCalm, asleep_on, stores_calm}
 use Rattle.count_sem.proofs.DownPermits.{DownPlace}
-use Rattle.count_sem.proofs.LoadedEnds.{HasLoadedEnd, loaded_on}
+use Rattle.count_sem.proofs.LoadedEnds.{loaded_on}
 
 abbrev DownExit : Type 0
 DownExit = Exit DownStage DownOutcome

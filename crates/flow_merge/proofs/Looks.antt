@@ -13,7 +13,7 @@ use Rattle.wait_rule.specs.Aside.{Grows}
 use Rattle.wait_rule.specs.Ends.{WasWorn}
 use Rattle.wait_rule.specs.Known.{Known}
 use Rattle.wait_rule.specs.Pipes.{End, bytes_in, moved_bytes, read_end, write_end}
-use Rattle.wait_rule.specs.PipeSays.{KeepsEnd, end_at, reading, writing}
+use Rattle.wait_rule.specs.PipeSays.{KeepsEnd, reading, writing}
 use Rattle.wait_rule.specs.Queues.{IsIdle, index}
 use Rattle.wait_rule.specs.Says.{IsUp, added}
 use Rattle.wait_rule.specs.Stays.{Carries}

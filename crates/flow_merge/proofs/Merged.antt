@@ -1,6 +1,6 @@
 -- The whole merge, from what each of its five tasks did and the laws of the lists that were joined.
 use Rattle.std.proofs.Common.{refl, sym, ap, ◌∙◌, subst, arith, inl, inr, append_assoc, append-nil, length-append}
-use Rattle.std.specs.Prelude.{ℕ, ◌≡◌, ◌+◌, ◌*◌, ◌<◌, ◌%◌, ◌^◌, ◌++◌, true, false, List, [], ◌∷◌, length, Option, Result, IfSome}
+use Rattle.std.specs.Prelude.{ℕ, ◌≡◌, ◌+◌, ◌*◌, ◌<◌, ◌%◌, ◌^◌, ◌++◌, true, false, List, [], ◌∷◌, length, Result}
 use Rattle.std.specs.Io.KnownBytes.{append_known}
 use Rattle.atomic_table.specs.Seated.{TableId}
 use Rattle.bit_wait.specs.declared.wait_calls.BitEnd.{BitEnd}
@@ -12,7 +12,7 @@ use Rattle.wait_rule.specs.declared.journal.Journal.{Journal}
 use Rattle.wait_rule.specs.Items.{steps_of}
 use Rattle.wait_rule.specs.Journals.{has_of}
 use Rattle.wait_rule.specs.Known.{Known}
-use Rattle.wait_rule.specs.Pipes.{Delivers, End, bytes_in as cell_bytes, end_of, moved_bytes, read_end, was_refused, write_end}
+use Rattle.wait_rule.specs.Pipes.{Delivers, End, end_of, moved_bytes, read_end, was_refused, write_end}
 use Rattle.wait_rule.specs.PipeSays.{end_at, reading, writing}
 use Rattle.wait_rule.specs.Says.{IsShown, history_of, newcomer}
 use Rattle.wait_rule.specs.TableLaws.{HasAll}
@@ -23,7 +23,7 @@ use Rattle.copy_plan.specs.declared.TheConstants.{COUNTED_PAGE}
 use Rattle.copy_plan.specs.declared.stop.ReaderEnd.{ReaderEnd}
 use Rattle.copy_plan.specs.declared.stop.Stop.{Stop}
 use Rattle.copy_plan.specs.declared.stop.Stop.TheVariants as stop
-use Rattle.copy_plan.specs.Plans.{due_at, fatal_of, up_to}
+use Rattle.copy_plan.specs.Plans.{due_at}
 use Rattle.copy_plan.proofs.DueTimes.{due_at_kills}
 use Rattle.copy_plan.proofs.StopKinds.{IsNamedNone, named_none}
 use Rattle.copy_turns.specs.Raises.{kills_in}
@@ -40,7 +40,6 @@ use Rattle.flow_merge.specs.declared.TheConstants.{LEFT_PIPE, MERGED_PIPE, RIGHT
 use Rattle.flow_merge.specs.declared.sides.Side.{Side}
 use Rattle.flow_merge.specs.declared.sides.Side.TheVariants as sides
 use Rattle.flow_merge.specs.Merged.{
-  MergeFinished,
   Drawn,
   CrewEnds,
   SinkFilled,
@@ -51,11 +50,10 @@ use Rattle.flow_merge.specs.Merged.{
   IsUnhurt,
   MergesAll,
   NoneHurt,
-  ReadsFront,
   no_targets,
 }
 use Rattle.flow_merge.specs.Mergers.{HasEnds, IsMergerStop, LacksEnd, MergerWorked}
-use Rattle.flow_merge.specs.Passed.{Passed, Piece, bytes_if, merged_bytes, bytes_of, read_of, sent_of, side_pipe}
+use Rattle.flow_merge.specs.Passed.{Piece, bytes_if, merged_bytes, bytes_of, read_of, sent_of, side_pipe}
 use Rattle.flow_merge.proofs.Turns.{reads_whole, sends_whole}
 
 -- the five lists, each under the number of its task

@@ -1,13 +1,13 @@
 -- The whole work of a merger.
 use Rattle.std.proofs.Common.{refl, sym, ◌∙◌, ap, subst, inl, inr, zero-add, arith}
 use Rattle.std.proofs.lemmas.Bool.{false≢true}
-use Rattle.std.specs.Prelude.{ℕ, ◌≡◌, ◌≢◌, ◌==◌, ◌%◌, ◌^◌, ◌++◌, ◌&&◌, ◌⊎◌, Bool, true, false, if◌then◌else◌, [], length, Some}
+use Rattle.std.specs.Prelude.{ℕ, ◌≡◌, ◌≢◌, ◌==◌, ◌%◌, ◌^◌, ◌++◌, ◌&&◌, Bool, true, false, if◌then◌else◌, [], Some}
 use Rattle.wait_rule.specs.declared.journal.EndAct.TheVariants as act
 use Rattle.wait_rule.specs.declared.journal.Item.TheVariants as item
 use Rattle.wait_rule.specs.Aside.{Grows, signals_of}
 use Rattle.wait_rule.specs.Known.{Known}
 use Rattle.wait_rule.specs.Pipes.{End, closed, moved_bytes, new_end, read_end, write_end}
-use Rattle.wait_rule.specs.PipeSays.{EndBecomes, end_at, reading, writing}
+use Rattle.wait_rule.specs.PipeSays.{EndBecomes, end_at, reading}
 use Rattle.wait_rule.specs.Says.{Excuse, OwesBut, OwesNothing, added, no_excuse}
 use Rattle.wait_rule.specs.Stays.{Carries, claim_change}
 use Rattle.wait_rule.specs.Tallies.{amounts_of}
@@ -26,7 +26,7 @@ use Rattle.flow_merge.specs.declared.sides.Side.{Side}
 use Rattle.flow_merge.specs.declared.sides.Side.TheVariants as sides
 use Rattle.flow_merge.specs.Mergers.{HasEnds, IsMergerStop, LacksEnd, MergerDid, MergerWorked, Merging}
 use Rattle.flow_merge.specs.MergerSteps.{Claimed, HoldsOpen, MergesIf, OpensEnds, RestStays, Shut, ShutsEnds, with_if}
-use Rattle.flow_merge.specs.Passed.{Passed, merged_bytes, read_of, sent_of, side_pipe}
+use Rattle.flow_merge.specs.Passed.{read_of, sent_of, side_pipe}
 use Rattle.flow_merge.proofs.Turns.{merger_before, passed_none}
 
 abbrev left : ℕ

@@ -1,14 +1,14 @@
 -- The turns of a merger.
 use Rattle.std.proofs.Common.{refl, sym, ◌∙◌, ap, subst, append_assoc, append-nil, arith, length-append}
-use Rattle.std.specs.Prelude.{ℕ, ◌≡◌, ◌≢◌, ◌+◌, ◌%◌, ◌^◌, ◌<◌, List, [], ◌∷◌, ◌++◌, length, Option, None, Some}
+use Rattle.std.specs.Prelude.{ℕ, ◌≡◌, ◌+◌, ◌^◌, ◌<◌, List, [], ◌∷◌, ◌++◌, length, Option, None, Some}
 use Rattle.wait_rule.specs.Aside.{Grows}
 use Rattle.wait_rule.specs.Known.{Known}
-use Rattle.wait_rule.specs.Pipes.{End, moved_bytes, read_end, write_end}
+use Rattle.wait_rule.specs.Pipes.{moved_bytes, read_end}
 use Rattle.wait_rule.specs.PipeSays.{reading, writing}
 use Rattle.wait_pipe.specs.Pieces.{IsSettled}
 use Rattle.copy_plan.specs.declared.stop.Stop.{Stop}
 use Rattle.copy_plan.specs.declared.stop.Stop.TheVariants as stop
-use Rattle.copy_turns.specs.Turns.{IfStopped, IfWhole, IsRelayStop, Relaying}
+use Rattle.copy_turns.specs.Turns.{IfStopped, IfWhole, Relaying}
 use Rattle.copy_turns.specs.Work.{IsAtWork}
 use Rattle.copy_turns.proofs.PartLaws.{
   counted_none,

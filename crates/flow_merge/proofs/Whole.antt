@@ -42,7 +42,6 @@ use Rattle.flow_merge.specs.Merged.{
   Merged,
   MergesAll,
   NoneHurt,
-  NotesLate,
   no_targets,
   stops_of,
 }

@@ -4,7 +4,7 @@ use Rattle.std.specs.Prelude.{ℕ, ◌≡◌, ◌≢◌, ◌/◌, Bool, true, fa
 use Rattle.wait_model.specs.declared.layout.TheConstants.{PIPE_ENDS}
 use Rattle.wait_rule.specs.Aside.{Grows}
 use Rattle.wait_rule.specs.Known.{Known}
-use Rattle.wait_rule.specs.Pipes.{End, closed, new_end, read_end, was_refused, write_end}
+use Rattle.wait_rule.specs.Pipes.{closed, new_end, read_end, was_refused, write_end}
 use Rattle.wait_rule.specs.PipeSays.{EndBecomes, IsOpen, end_at}
 use Rattle.wait_rule.specs.Says.{Excuse, OwesBut}
 use Rattle.wait_rule.specs.Stays.{with_end}

@@ -1,7 +1,7 @@
 -- To be believed.
 -- The program of a merger: what it makes, from its first step to its last, is whole calls one behind the other.
 use Rattle.std.specs.Prelude.{ℕ, ◌≡◌, ◌==◌, ◌&&◌, if◌then◌else◌, Bool, true, false}
-use Rattle.std.specs.Prelude.{Option, None, Some, Result, Ok, Err, List}
+use Rattle.std.specs.Prelude.{Option, None, Some, Result, Err, List}
 use Rattle.wait_model.specs.declared.tasks.SleepState.TheVariants as state
 use Rattle.wait_model.specs.declared.watches.Watch.TheVariants as watch
 use Rattle.wait_rule.specs.Known.{Known}

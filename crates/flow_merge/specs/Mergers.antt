@@ -1,6 +1,6 @@
 -- To be believed.
 -- What turns of a merger come to, and what it did from its first step to its last.
-use Rattle.std.specs.Prelude.{ℕ, ◌≡◌, ◌≢◌, ◌+◌, ◌%◌, ◌^◌, ◌⊎◌, ◌++◌, true, List, [], length, Option}
+use Rattle.std.specs.Prelude.{ℕ, ◌≡◌, ◌≢◌, ◌+◌, ◌%◌, ◌^◌, ◌⊎◌, ◌++◌, true, [], length, Option}
 use Rattle.wait_rule.specs.Ends.{WasWorn}
 use Rattle.wait_rule.specs.Known.{Known}
 use Rattle.wait_rule.specs.Pipes.{moved_bytes, read_end, write_end}

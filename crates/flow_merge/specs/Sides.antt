@@ -1,6 +1,5 @@
 -- To be believed.
 -- What a merger knows after it looked at its sides, or waited for them.
-use Rattle.std.specs.Prelude.{ℕ, ◌≡◌}
 use Rattle.wait_rule.specs.Ends.{WasWorn}
 use Rattle.wait_rule.specs.Known.{Known}
 use Rattle.wait_rule.specs.PipeSays.{KeepsEnd, reading, writing}

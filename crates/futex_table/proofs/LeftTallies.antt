@@ -1,6 +1,6 @@
 -- Waits that their task leaves are about no tally.
 use Rattle.std.proofs.Common.{refl, subst, sym}
-use Rattle.std.specs.Prelude.{ℕ, ◌≡◌, Bool, true, false, Result, [], ◌∷◌}
+use Rattle.std.specs.Prelude.{ℕ, Bool, true, false, Result}
 use Rattle.wait_model.specs.declared.steps.Step.TheVariants as step
 use Rattle.wait_model.specs.declared.tasks.SleepState.{SleepState}
 use Rattle.wait_rule.specs.declared.journal.Item.TheVariants as item

@@ -1,6 +1,6 @@
 -- What calls leave of what is known of a tally.
-use Rattle.std.proofs.Common.{◌∙◌, ap, refl, sym, subst, arith}
-use Rattle.std.specs.Prelude.{ℕ, ◌+◌, ◌-◌, ◌≡◌, ◌≢◌, ◌≤◌, ◌==◌, true, IfOk, Result, Ok, Err, Some, List, ◌++◌}
+use Rattle.std.proofs.Common.{ap, sym, subst, arith}
+use Rattle.std.specs.Prelude.{ℕ, ◌+◌, ◌-◌, ◌≡◌, ◌≤◌, ◌==◌, true, IfOk, Result, Ok, Err, List, ◌++◌}
 use Rattle.wait_model.specs.declared.layout.TheConstants.{TASKS}
 use Rattle.wait_model.specs.declared.steps.Step.TheVariants as step
 use Rattle.wait_model.specs.declared.watches.Watch.TheVariants as watch
@@ -11,7 +11,7 @@ use Rattle.wait_rule.specs.declared.journal.Item.TheVariants as item
 use Rattle.wait_rule.specs.declared.journal.Journal.{Journal}
 use Rattle.wait_rule.specs.Aside.{Grows}
 use Rattle.wait_rule.specs.Items.{steps_of}
-use Rattle.wait_rule.specs.Journals.{fresh, handed_over, joined_with, left_with, pushed}
+use Rattle.wait_rule.specs.Journals.{joined_with, left_with}
 use Rattle.wait_rule.specs.Known.{Known}
 use Rattle.wait_rule.specs.Says.{IsShown, added, history_of, newcomer, seen_with}
 use Rattle.futex_table.specs.GuardedTallies.{UsesTally, tally_adds}

@@ -10,12 +10,9 @@ use Rattle.wait_model.specs.Words.{flag}
 use Rattle.wait_model.proofs.HistoryLaws.StepTotals.{sum_grown, sum_same, sum_zero}
 use Rattle.wait_rule.specs.declared.journal.Item.{Item}
 use Rattle.wait_rule.specs.declared.journal.Journal.{Journal}
-use Rattle.wait_rule.specs.declared.journal.Part.{Part}
-use Rattle.wait_rule.specs.Aside.{Grows}
 use Rattle.wait_rule.specs.Items.{steps_of}
 use Rattle.wait_rule.specs.Journals.{fresh, handed_over, has_of, items_in, joined_with, left_with, one_within, owns, part_in, pushed, times_in}
-use Rattle.wait_rule.specs.Known.{Known}
-use Rattle.wait_rule.specs.Says.{IsShown, history_of, newcomer, seen_with}
+use Rattle.wait_rule.specs.Says.{IsShown}
 use Rattle.wait_rule.specs.TableLaws.{HasAll, histories_in}
 use Rattle.wait_rule.proofs.TableSteps.ForksAndJoins.{alone, items_in-append, times_in-append}
 use Rattle.wait_rule.proofs.TableSteps.ItemLists.{steps_append}

@@ -28,19 +28,28 @@ use Rattle.wait_rule.specs.Tallies.{amounts_of}
 use Rattle.wait_rule.proofs.KnownLaws.CalledPermits.{left_on}
 use Rattle.wait_rule.proofs.KnownLaws.Transitions.{grown_more, looks_of, only_none}
 use Rattle.wait_event.specs.Prepares.{HasFinished, Prepares}
-use Rattle.wq_head.specs.declared.adds.Worn.{Worn}
 use Rattle.poll_wait.specs.declared.turns.Loads.{Loads}
 use Rattle.poll_wait.specs.declared.turns.Poll.{Poll}
 use Rattle.poll_wait.specs.declared.turns.PollEnd.{PollEnd}
-use Rattle.poll_wait.specs.declared.turns.PollEnd.TheVariants as poll_end
 use Rattle.poll_wait.specs.declared.turns.Ready.{Ready}
-use Rattle.poll_wait.specs.Polls.{AsksIf, AsksSignal, EndsLast, EndsPoll, EndsQueueing, FindsNoPlace, PollGoesOn, IsPoll, LeavesBoth, QueuesBoth, SleepsTurn, SleepsTurns, StaysBesidePoll, front_in, loaded, ready_of}
-use Rattle.poll_wait.specs.Seconds.{HasLeftSecond, JoinsSecond}
+use Rattle.poll_wait.specs.Polls.{
+  AsksIf,
+  AsksSignal,
+  IsPoll,
+  LeavesBoth,
+  QueuesBoth,
+  SleepsTurn,
+  SleepsTurns,
+  StaysBesidePoll,
+  front_in,
+  loaded,
+}
+use Rattle.poll_wait.specs.Seconds.{HasLeftSecond}
 use Rattle.poll_wait.proofs.Beside.{Beside, beside_join, looks_beside, near_steps, step_beside}
 use Rattle.poll_wait.proofs.Near.{goes_near}
 use Rattle.poll_wait.proofs.Polled.{polled_low}
 use Rattle.poll_wait.proofs.Sides.{joins_beside, stays_beside}
-use Rattle.poll_wait.proofs.Programs.{OnFinish, OnPrepare, finish_near, join_near, leave_near, prepare_near}
+use Rattle.poll_wait.proofs.Programs.{OnFinish, OnPrepare, finish_near, leave_near, prepare_near}
 use Rattle.poll_turns.specs.declared.stages.PollUntil.{PollUntil}
 use Rattle.poll_turns.specs.declared.stages.PollUntil.TheVariants as until
 use Rattle.poll_turns.specs.PollTurns.{EndsPollUntil, HasBegunTurn, LeavesPart, LeavesReady, found_no_signal, found_unset, made_nothing, queued_both, queued_first}

@@ -7,7 +7,7 @@ use Rattle.wait_model.specs.declared.tasks.Sleep.TheVariants as sleep
 use Rattle.wait_model.specs.Tasks.{IsLawfulWord, sleep_of, task_of}
 use Rattle.wait_rule.specs.declared.journal.Item.{Item}
 use Rattle.wait_rule.specs.declared.journal.Item.TheVariants as item
-use Rattle.wait_rule.specs.Items.{Book, after_awake, after_sleep, learn, risen}
+use Rattle.wait_rule.specs.Items.{Book, after_sleep, risen}
 use Rattle.wait_rule.specs.Known.{Known}
 use Rattle.wait_rule.specs.Says.{HasLooked, HasSlept, IsUp, added, grown}
 use Rattle.wait_rule.specs.Stays.{Carries, state_change}

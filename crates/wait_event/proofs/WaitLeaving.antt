@@ -19,8 +19,7 @@ use Rattle.wait_class.specs.declared.stages.Doing.TheVariants as doing
 use Rattle.wait_class.specs.declared.stages.Run.{Run}
 use Rattle.wait_class.specs.declared.stages.Turn.{Turn}
 use Rattle.wait_class.specs.declared.stages.Turn.TheVariants as turn
-use Rattle.wait_class.specs.Laws.{HomeGoes, StateGoes}
-use Rattle.wait_class.specs.Tables.{IsEnded, Plan, post_of}
+use Rattle.wait_class.specs.Tables.{IsEnded, Plan}
 use Rattle.wait_leave.specs.declared.exits.Exit.{Exit}
 use Rattle.wait_leave.specs.ExitLaws.{AreLawfulExits, AwakeOn, ExitLaw}
 use Rattle.wait_leave.specs.Leaves.{GoesOut, stays_awake}
@@ -41,17 +40,7 @@ use Rattle.wait_event.specs.WaitLeaves.{
   wait_until_in,
   way_queues,
 }
-use Rattle.wait_event.specs.Waits.{
-  IsFreshWait,
-  IsRunningWait,
-  IsUnset,
-  LeftSo,
-  SameCall,
-  WaitTrailEnd,
-  last_load,
-  has_queued_in,
-  wait_table,
-}
+use Rattle.wait_event.specs.Waits.{IsFreshWait, IsUnset, LeftSo, SameCall, WaitTrailEnd, last_load, wait_table}
 use Rattle.wait_event.specs.declared.waits.WaitCall.{WaitCall}
 use Rattle.wait_event.specs.declared.waits.WaitOutcome.{WaitOutcome}
 use Rattle.wait_event.specs.declared.waits.WaitOutcome.TheVariants as outcome

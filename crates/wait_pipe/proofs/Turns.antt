@@ -24,7 +24,6 @@ use Rattle.std.specs.Prelude.{
   Err,
   MatchResult,
 }
-use Rattle.wait_model.specs.declared.layout.TheConstants.{PIPE_CELLS}
 use Rattle.wait_rule.specs.Known.{Known}
 use Rattle.wait_rule.specs.Pipes.{read_end, word_counts, write_end}
 use Rattle.wait_rule.specs.PipeSays.{end_at, reading, writing}
@@ -39,7 +38,6 @@ use Rattle.wait_pipe.specs.Pieces.{
   IsPipeCause,
   IsReadCause,
   IsSettled,
-  Moved,
   Put,
   PutNone,
   RestsBehindPiece,

@@ -10,7 +10,6 @@ use Rattle.wait_model.specs.declared.points.PagePoint.TheVariants as paging
 use Rattle.wait_model.specs.declared.points.Point.{Point}
 use Rattle.wait_model.specs.declared.points.Point.TheVariants as at
 use Rattle.wait_model.specs.declared.watches.Entry.{Entry}
-use Rattle.wait_model.specs.declared.watches.Watch.{Watch}
 use Rattle.wait_model.specs.Calls.{call_watch, program_start}
 use Rattle.wait_model.specs.Tables.{Table}
 use Rattle.wait_model.specs.Waiters.{is_wait}

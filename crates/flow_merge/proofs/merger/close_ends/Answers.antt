@@ -1,4 +1,3 @@
-use Rattle.std.proofs.Common.{subst, sym, arith, ◌∙◌}
 use Rattle.flow_merge.proofs.merger.close_ends.Goals as goal
 
 pub returns : goal.returns

@@ -1,5 +1,5 @@
-use Rattle.std.proofs.Common.{subst, sym, ◌∙◌}
-use Rattle.std.specs.Prelude.{ℕ, ◌≡◌, ◌≢◌, ◌<◌, Option}
+use Rattle.std.proofs.Common.{subst, sym}
+use Rattle.std.specs.Prelude.{ℕ, ◌≢◌, ◌<◌, Option}
 use Rattle.wait_model.specs.declared.layout.TheConstants.{PIPES}
 use Rattle.wait_rule.specs.Pipes.{read_end}
 use Rattle.wait_rule.specs.PipeSays.{reading}

@@ -1,6 +1,5 @@
-use Rattle.std.proofs.Common.{rules, ◌≡◌}
 use Rattle.wait_model.specs.declared.watches.Watch.TheVariants as watch
-use Rattle.wait_rule.specs.Says.{IsClean, no_excuse}
+use Rattle.wait_rule.specs.Says.{no_excuse}
 use Rattle.wait_rule.proofs.KnownLaws.CarriedCounts.{excused_more}
 use Rattle.futex_tests.proofs.calls.wake_one.Goals as goal
 

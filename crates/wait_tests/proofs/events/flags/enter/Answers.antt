@@ -1,4 +1,4 @@
-use Rattle.std.proofs.Common.{◌∙◌, refl}
+use Rattle.std.proofs.Common.{refl}
 use Rattle.wait_tests.proofs.Hearers.{entered, worn_clean}
 use Rattle.wait_tests.proofs.events.flags.enter.Goals as goal
 

@@ -1,5 +1,4 @@
-use Rattle.std.proofs.Common.{◌≡◌, ◌<◌, All}
-use Rattle.wait_model.specs.declared.layout.TheConstants.{TASKS}
+use Rattle.std.proofs.Common.{◌≡◌}
 use Rattle.wait_rule.specs.Says.{IsClean}
 use Rattle.wait_tests.proofs.leaves.pool.post_all.Given as goal
 

@@ -3,36 +3,35 @@ use Rattle.std.proofs.Common.{refl, sym, ◌∙◌, ap, subst, inl, inr, arith}
 use Rattle.std.proofs.lemmas.Bool.{eqb-true}
 use Rattle.std.specs.Prelude.{ℕ, ◌≡◌, ◌≢◌, ◌<◌, ◌==◌, if◌then◌else◌, Bool, true, false, List, length, take, Option, None, Some, Result, Ok, Err, IfSome}
 use Rattle.wait_model.specs.declared.layout.TheConstants.{PIPES}
-use Rattle.wait_model.specs.Programs.{zero_answer}
-use Rattle.wait_model.specs.declared.points.FinishPoint.TheVariants as finishing
-use Rattle.wait_model.specs.declared.points.Next.TheVariants as next
 use Rattle.wait_model.specs.declared.points.Point.TheVariants as at
-use Rattle.wait_model.specs.declared.steps.Step.TheVariants as step
-use Rattle.wait_rule.specs.declared.journal.Item.TheVariants as item
-use Rattle.wait_rule.specs.Aside.{Grows}
 use Rattle.wait_rule.specs.Ends.{WasWorn}
 use Rattle.wait_rule.specs.Known.{Known}
 use Rattle.wait_rule.specs.Pipes.{End, bytes_in, moved_bytes, read_end, write_end}
 use Rattle.wait_rule.specs.PipeSays.{KeepsEnd, reading, writing}
 use Rattle.wait_rule.specs.Queues.{IsIdle, index}
-use Rattle.wait_rule.specs.Says.{IsUp, added}
+use Rattle.wait_rule.specs.Says.{IsUp}
 use Rattle.wait_rule.specs.Stays.{Carries}
 use Rattle.wait_class.specs.Posts.{IsOut}
 use Rattle.wait_pipe.specs.Pieces.{IsAtEnd, IsSettled}
 use Rattle.wait_pipe.specs.declared.peeks.PipeState.{PipeState}
 use Rattle.wait_pipe.specs.PipeStates.{OnlyLooked, TellsOfPipe}
-use Rattle.wait_event.specs.Prepares.{HasFinished}
 use Rattle.wq_head.specs.declared.adds.Worn.{Worn}
-use Rattle.poll_wait.specs.declared.turns.Loads.{Loads}
 use Rattle.poll_wait.specs.declared.turns.Poll.{Poll}
 use Rattle.poll_wait.specs.declared.turns.PollEnd.{PollEnd}
 use Rattle.poll_wait.specs.declared.turns.PollEnd.TheVariants as poll_end
 use Rattle.poll_wait.specs.declared.turns.Ready.{Ready}
-use Rattle.poll_wait.specs.Polls.{EndsPoll, EndsWorn, FindsNoPlace, PollGoesOn, LeavesBoth, StaysBesidePoll, loaded, poll_change, ready_of}
-use Rattle.poll_wait.specs.Seconds.{HasLeftSecond, IsSecondOut}
-use Rattle.poll_wait.proofs.Beside.{Beside, beside_join, looks_beside, near_steps, step_beside}
-use Rattle.poll_wait.proofs.Near.{goes_near}
-use Rattle.poll_wait.proofs.Programs.{OnFinish, finish_near, leave_near}
+use Rattle.poll_wait.specs.Polls.{
+  EndsPoll,
+  EndsWorn,
+  FindsNoPlace,
+  PollGoesOn,
+  StaysBesidePoll,
+  loaded,
+  poll_change,
+  ready_of,
+}
+use Rattle.poll_wait.specs.Seconds.{IsSecondOut}
+use Rattle.poll_wait.proofs.Sides.{rest_beside}
 use Rattle.copy_plan.specs.declared.TheConstants.{ENDED_CELL}
 use Rattle.copy_plan.specs.declared.stop.Stop.{Stop}
 use Rattle.copy_plan.specs.declared.stop.Stop.TheVariants as stop
@@ -232,25 +231,6 @@ found_ended mid new l r f is one two looked ended =
     )
 
 -- The note of a head that had no place left stays in the task's list up to the end of the call.
-finish_grows : (old new : Known) → HasFinished old new → Beside old new
-finish_grows old new x = goes_near _ OnFinish (finish_near old.view.number x.watch) Beside beside_join looks_beside
-    (near_steps _) x.runs.transitions old (next.Go (at.Finish finishing.State false)) new (next.Ends zero_answer) tt
-    x.runs.goes
-
-leave_grows : (old new : Known) → HasLeftSecond old new → Beside old new
-leave_grows old new x = goes_near _ OnFinish (leave_near old.view.number x.watch) Beside beside_join looks_beside
-    (near_steps _) x.runs.transitions old (next.Go (at.Finish finishing.Look false)) new (next.Ends zero_answer) tt
-    x.runs.goes
-
-behind_grows : (p : Poll) (l : Loads) (queued new : Known) → LeavesBoth (loaded p l queued) new → Grows queued new
-behind_grows p l queued new x =
-    let one = added queued (item.Made (step.Load p.first l.first)) in
-    let both = loaded p l queued in
-    let b = beside_join queued one new (step_beside queued (step.Load p.first l.first) tt)
-    (beside_join one both new (step_beside one (step.Load p.second l.second) tt)
-    (beside_join both x.between new (finish_grows both x.between x.first) (leave_grows x.between new x.second))) in
-    b.aside.grows
-
 no_place_noted : (p : Poll) (old new : Known) (e : Worn) → FindsNoPlace p old new e
     → WasWorn new.view.number new.view.items e.head e.place
 no_place_noted p old new e (inl x) = x.3
@@ -258,7 +238,7 @@ no_place_noted p old new e (inr x) = x.second.3
 
 worn_last : (p : Poll) (a b : Known) (h pl : ℕ) → EndsWorn p a b (record { head = h; place = pl })
     → WasWorn b.view.number b.view.items h pl
-worn_last p a b h pl x = worn_later x.queued b h pl (behind_grows p x.loads x.queued b x.leaves)
+worn_last p a b h pl x = worn_later x.queued b h pl (rest_beside p x.queued b x.loads x.leaves).aside.grows
     (no_place_noted p a x.queued (record { head = h; place = pl }) x.queues)
 
 pub poll_worn : (a b : Known) (p : Poll) (result : Result Ready PollEnd) (how : Option Stop) → how ≡ poll_stop result

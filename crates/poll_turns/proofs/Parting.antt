@@ -1,160 +1,33 @@
 -- What a poll that may be left leaves alone, part by part.
-use Rattle.std.proofs.Common.{◌∙◌, ap, sym, refl, subst, inl, inr}
-use Rattle.std.specs.Prelude.{◌≡◌, ◌<◌, Bool, true, false, Option, Some, None, Result, Ok, Err, List, [], ◌∷◌}
-use Rattle.wait_model.specs.declared.layout.TheConstants.{FIRST_DONE_HEAD}
-use Rattle.wait_model.specs.declared.calls.Answer.{Answer}
-use Rattle.wait_model.specs.declared.points.FinishPoint.TheVariants as finishing
-use Rattle.wait_model.specs.declared.points.Next.TheVariants as next
-use Rattle.wait_model.specs.declared.points.Point.TheVariants as at
-use Rattle.wait_model.specs.declared.points.PreparePoint.TheVariants as preparing
-use Rattle.wait_model.specs.declared.steps.Step.TheVariants as step
-use Rattle.wait_model.specs.declared.tasks.How.{How}
-use Rattle.wait_model.specs.declared.tasks.Sleep.{Sleep}
-use Rattle.wait_model.specs.declared.tasks.SleepState.{SleepState}
-use Rattle.wait_model.specs.declared.watches.Kind.{Kind}
-use Rattle.wait_model.specs.declared.watches.Watch.{Watch}
+use Rattle.std.proofs.Common.{inl, inr}
+use Rattle.std.specs.Prelude.{◌≡◌, false, Option, Some, None, Result, Ok, Err}
 use Rattle.wait_model.specs.Programs.{zero_answer}
-use Rattle.wait_model.specs.Tasks.{looks_in}
-use Rattle.wait_model.specs.Watches.{head_of, kind_for}
-use Rattle.wait_rule.specs.declared.journal.Item.TheVariants as item
-use Rattle.wait_rule.specs.declared.journal.Journal.{Journal}
-use Rattle.wait_rule.specs.Aside.{signals_of}
-use Rattle.wait_rule.specs.Items.{book_from, steps_of}
+use Rattle.wait_model.specs.Watches.{kind_for}
 use Rattle.wait_rule.specs.Known.{Known}
-use Rattle.wait_rule.specs.Pipes.{end_of}
-use Rattle.wait_rule.specs.PipeSays.{KeepsEnd}
-use Rattle.wait_rule.specs.Says.{HasSlept, added, grown, told_of}
-use Rattle.wait_rule.specs.Tallies.{amounts_of}
+use Rattle.wait_rule.specs.Says.{told_of}
 use Rattle.wait_rule.proofs.KnownLaws.CalledPermits.{left_on}
-use Rattle.wait_rule.proofs.KnownLaws.Transitions.{grown_more, looks_of, only_none}
-use Rattle.wait_event.specs.Prepares.{HasFinished, Prepares}
 use Rattle.poll_wait.specs.declared.turns.Loads.{Loads}
 use Rattle.poll_wait.specs.declared.turns.Poll.{Poll}
 use Rattle.poll_wait.specs.declared.turns.PollEnd.{PollEnd}
 use Rattle.poll_wait.specs.declared.turns.Ready.{Ready}
-use Rattle.poll_wait.specs.Polls.{
-  AsksIf,
-  AsksSignal,
-  IsPoll,
-  LeavesBoth,
-  QueuesBoth,
-  SleepsTurn,
-  SleepsTurns,
-  StaysBesidePoll,
-  front_in,
-  loaded,
-}
-use Rattle.poll_wait.specs.Seconds.{HasLeftSecond}
-use Rattle.poll_wait.proofs.Beside.{Beside, beside_join, looks_beside, near_steps, step_beside}
-use Rattle.poll_wait.proofs.Near.{goes_near}
-use Rattle.poll_wait.proofs.Polled.{polled_low}
-use Rattle.poll_wait.proofs.Sides.{joins_beside, stays_beside}
-use Rattle.poll_wait.proofs.Programs.{OnFinish, OnPrepare, finish_near, leave_near, prepare_near}
+use Rattle.poll_wait.specs.Polls.{IsPoll, StaysBesidePoll, front_in, loaded}
+use Rattle.poll_wait.proofs.Beside.{Beside, beside_join}
+use Rattle.poll_wait.proofs.Sides.{asks_beside, leaves_beside, loads_beside, low_first, none_beside, prepares_beside, queues_beside, stays_beside, turns_beside}
 use Rattle.poll_turns.specs.declared.stages.PollUntil.{PollUntil}
 use Rattle.poll_turns.specs.declared.stages.PollUntil.TheVariants as until
 use Rattle.poll_turns.specs.PollTurns.{EndsPollUntil, HasBegunTurn, LeavesPart, LeavesReady, found_no_signal, found_unset, made_nothing, queued_both, queued_first}
 
 -- the parts
-prepares_beside : (old new : Known) (w : Watch) (k : Kind) (how : How) (a : Answer) → head_of w < FIRST_DONE_HEAD
-    → Prepares old new w k how false a → Beside old new
-prepares_beside old new w k how a low x = goes_near _ OnPrepare (prepare_near old.view.number w low k how) Beside
-    beside_join looks_beside (near_steps _) x.runs.transitions old (next.Go (at.Prepare preparing.Lock)) new (next.Ends a)
-    tt x.runs.goes
-
-finish_beside : (old new : Known) → HasFinished old new → Beside old new
-finish_beside old new x = goes_near _ OnFinish (finish_near old.view.number x.watch) Beside beside_join looks_beside
-    (near_steps _) x.runs.transitions old (next.Go (at.Finish finishing.State false)) new (next.Ends zero_answer) tt
-    x.runs.goes
-
-leave_beside : (old new : Known) → HasLeftSecond old new → Beside old new
-leave_beside old new x = goes_near _ OnFinish (leave_near old.view.number x.watch) Beside beside_join looks_beside
-    (near_steps _) x.runs.transitions old (next.Go (at.Finish finishing.Look false)) new (next.Ends zero_answer) tt
-    x.runs.goes
-
-leaves_beside : (old new : Known) → LeavesBoth old new → Beside old new
-leaves_beside old new x = beside_join old x.between new (finish_beside old x.between x.first)
-    (leave_beside x.between new x.second)
-
-loads_beside : (p : Poll) (l : Loads) (k : Known) → Beside k (loaded p l k)
-loads_beside p l k =
-    let j = added k (item.Made (step.Load p.first l.first)) in
-    beside_join k j (loaded p l k) (step_beside k (step.Load p.first l.first) tt)
-    (step_beside j (step.Load p.second l.second) tt)
-
-none_beside : (k : Known) → Beside k k
-none_beside k = looks_beside k k (only_none k)
-
-asks_beside : (σ : SleepState) (old new : Known) (hit : Bool) → AsksSignal σ old new hit → Beside old new
-asks_beside σ old new hit = by (looks_in σ)
-  where
-    by : (b : Bool) → AsksIf b σ old new hit → Beside old new
-    by false x = subst (Beside old) (sym x.0) (none_beside old)
-    by true x = subst (Beside old) (sym x.1) (step_beside old (step.Look x.0) tt)
-
--- what is known of the own word is no part of it
-view_beside : (a b c : Known) → c.view ≡ b.view → Beside a b → Beside a c
-view_beside a b c same x = record {
-  aside = record {
-    grows = record { items = x.aside.grows.items; view = same ∙ x.aside.grows.view };
-    sums = λ p. ap (λ (v : Journal). amounts_of p v.items) same ∙ x.aside.sums p;
-    signals = ap (λ (v : Journal). signals_of v.items) same ∙ x.aside.signals;
-    claims = λ k. ap (λ (v : Journal). (end_of k v.items).mine) same ∙ x.aside.claims k;
-  };
-  ends = λ k. subst (λ (v : Journal). KeepsEnd (end_of k a.view.items) (end_of k v.items)) (sym same) (x.ends k);
-  steps = x.steps;
-  history = ap (λ (v : Journal). steps_of v.items) same ∙ x.history;
-  low = x.low;
-}
-
-slept_beside : (old new : Known) (answer : Sleep) → HasSlept old new answer → Beside old new
-slept_beside old new answer x =
-    let slept = added old (item.Made (step.Sleep x.found)) in
-    let behind = grown slept x.looks (book_from slept.book x.looks) in
-    view_beside old behind new
-    (ap (λ (k : Known). k.view) x.is
-    ∙ sym (ap (λ (k : Known). k.view) (grown_more old (item.Made (step.Sleep x.found) ∷ []) x.looks slept.book
-    (book_from slept.book x.looks))))
-    (beside_join old slept behind (step_beside old (step.Sleep x.found) tt)
-    (looks_beside slept behind (record {
-      items = x.looks;
-      looks = looks_of x.looks x.no_steps x.no_adds;
-      is = refl;
-    })))
-
 module _ (p : Poll) (is : IsPoll p) where
-  low_first : head_of p.first < FIRST_DONE_HEAD
-  low_first = polled_low p.first is.first
-
-  low_second : head_of p.second < FIRST_DONE_HEAD
-  low_second = polled_low p.second is.second
-
-  queues_beside : (old new : Known) → QueuesBoth p old new → Beside old new
-  queues_beside old new x = beside_join old x.between new
-      (prepares_beside old x.between p.first (kind_for p.first) (front_in p.state) zero_answer low_first x.first.0)
-      (joins_beside x.between new p.second zero_answer low_second x.second.0)
-
-  turn_beside : (old new : Known) → SleepsTurn p old new → Beside old new
-  turn_beside old new x =
-      let seen = loaded p x.loads x.queued in
-      beside_join old x.queued new (queues_beside old x.queued x.queues)
-      (beside_join x.queued seen new (loads_beside p x.loads x.queued)
-      (beside_join seen x.asked new (asks_beside p.state seen x.asked false x.asks)
-      (slept_beside x.asked new x.answer x.sleeps)))
-
-  turns_beside : (turns : List Known) (old new : Known) → SleepsTurns p old turns new → Beside old new
-  turns_beside [] old new same = subst (Beside old) (sym same) (none_beside old)
-  turns_beside (mid ∷ more) old new x = beside_join old mid new (turn_beside old mid x.0)
-      (turns_beside more mid new x.1)
-
   -- what a turn had made where it was left
   part_beside : (last now : Known) → HasBegunTurn p last now → Beside last now
   part_beside last _ made_nothing = none_beside last
   part_beside last _ (queued_first now x) = prepares_beside last now p.first (kind_for p.first) (front_in p.state) zero_answer
-      low_first x.0
-  part_beside last _ (queued_both now x) = queues_beside last now x
-  part_beside last _ (found_unset queued l x none) = beside_join last queued (loaded p l queued) (queues_beside last queued x)
+      (low_first p is) x.0
+  part_beside last _ (queued_both now x) = queues_beside p is last now x
+  part_beside last _ (found_unset queued l x none) = beside_join last queued (loaded p l queued) (queues_beside p is last queued x)
       (loads_beside p l queued)
-  part_beside last _ (found_no_signal queued l now x none asks) = beside_join last queued now (queues_beside last queued x)
+  part_beside last _ (found_no_signal queued l now x none asks) = beside_join last queued now (queues_beside p is last queued x)
       (beside_join queued (loaded p l queued) now (loads_beside p l queued)
       (asks_beside p.state (loaded p l queued) now false asks))
 
@@ -162,7 +35,7 @@ module _ (p : Poll) (is : IsPoll p) where
   leaves_part old new l o x =
       let seen = loaded p x.began old in
       beside_join old seen new (loads_beside p x.began old)
-      (beside_join seen x.last new (turns_beside x.turns seen x.last x.sleeps)
+      (beside_join seen x.last new (turns_beside p is x.turns seen x.last x.sleeps)
       (beside_join x.last x.there new (part_beside x.last x.there x.part)
       (beside_join x.there (loaded p l x.there) new (loads_beside p l x.there)
       (leaves_beside (loaded p l x.there) new x.leaves))))

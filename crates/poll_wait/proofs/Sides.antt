@@ -42,7 +42,7 @@ use Rattle.poll_wait.proofs.Polled.{polled_low}
 use Rattle.poll_wait.proofs.Programs.{OnFinish, OnPrepare, finish_near, join_near, leave_near, prepare_near}
 
 -- the parts
-prepares_beside : (old new : Known) (w : Watch) (k : Kind) (how : How) (a : Answer) → head_of w < FIRST_DONE_HEAD
+pub prepares_beside : (old new : Known) (w : Watch) (k : Kind) (how : How) (a : Answer) → head_of w < FIRST_DONE_HEAD
     → Prepares old new w k how false a → Beside old new
 prepares_beside old new w k how a low x = goes_near _ OnPrepare (prepare_near old.view.number w low k how) Beside
     beside_join looks_beside (near_steps _) x.runs.transitions old (next.Go (at.Prepare preparing.Lock)) new (next.Ends a)
@@ -53,30 +53,35 @@ pub joins_beside : (old new : Known) (w : Watch) (a : Answer) → head_of w < FI
 joins_beside old new w a low x = goes_near _ OnPrepare (join_near old.view.number w low) Beside beside_join looks_beside
     (near_steps _) x.transitions old (next.Go (at.Prepare preparing.Lock)) new (next.Ends a) tt x.goes
 
-finish_beside : (old new : Known) → HasFinished old new → Beside old new
+pub finish_beside : (old new : Known) → HasFinished old new → Beside old new
 finish_beside old new x = goes_near _ OnFinish (finish_near old.view.number x.watch) Beside beside_join looks_beside
     (near_steps _) x.runs.transitions old (next.Go (at.Finish finishing.State false)) new (next.Ends zero_answer) tt
     x.runs.goes
 
-leave_beside : (old new : Known) → HasLeftSecond old new → Beside old new
+pub leave_beside : (old new : Known) → HasLeftSecond old new → Beside old new
 leave_beside old new x = goes_near _ OnFinish (leave_near old.view.number x.watch) Beside beside_join looks_beside
     (near_steps _) x.runs.transitions old (next.Go (at.Finish finishing.Look false)) new (next.Ends zero_answer) tt
     x.runs.goes
 
-leaves_beside : (old new : Known) → LeavesBoth old new → Beside old new
+pub leaves_beside : (old new : Known) → LeavesBoth old new → Beside old new
 leaves_beside old new x = beside_join old x.between new (finish_beside old x.between x.first)
     (leave_beside x.between new x.second)
 
-loads_beside : (p : Poll) (l : Loads) (k : Known) → Beside k (loaded p l k)
+pub loads_beside : (p : Poll) (l : Loads) (k : Known) → Beside k (loaded p l k)
 loads_beside p l k =
     let j = added k (item.Made (step.Load p.first l.first)) in
     beside_join k j (loaded p l k) (step_beside k (step.Load p.first l.first) tt)
     (step_beside j (step.Load p.second l.second) tt)
 
-none_beside : (k : Known) → Beside k k
+-- loads behind a queueing, and then both are taken off
+pub rest_beside : (p : Poll) (queued new : Known) (l : Loads) → LeavesBoth (loaded p l queued) new → Beside queued new
+rest_beside p queued new l x = beside_join queued (loaded p l queued) new (loads_beside p l queued)
+    (leaves_beside (loaded p l queued) new x)
+
+pub none_beside : (k : Known) → Beside k k
 none_beside k = looks_beside k k (only_none k)
 
-asks_beside : (σ : SleepState) (old new : Known) (hit : Bool) → AsksSignal σ old new hit → Beside old new
+pub asks_beside : (σ : SleepState) (old new : Known) (hit : Bool) → AsksSignal σ old new hit → Beside old new
 asks_beside σ old new hit = by (looks_in σ)
   where
     by : (b : Bool) → AsksIf b σ old new hit → Beside old new
@@ -114,13 +119,13 @@ slept_beside old new answer x =
     })))
 
 module _ (p : Poll) (is : IsPoll p) where
-  low_first : head_of p.first < FIRST_DONE_HEAD
+  pub low_first : head_of p.first < FIRST_DONE_HEAD
   low_first = polled_low p.first is.first
 
   low_second : head_of p.second < FIRST_DONE_HEAD
   low_second = polled_low p.second is.second
 
-  queues_beside : (old new : Known) → QueuesBoth p old new → Beside old new
+  pub queues_beside : (old new : Known) → QueuesBoth p old new → Beside old new
   queues_beside old new x = beside_join old x.between new
       (prepares_beside old x.between p.first (kind_for p.first) (front_in p.state) zero_answer low_first x.first.0)
       (joins_beside x.between new p.second zero_answer low_second x.second.0)
@@ -143,19 +148,14 @@ module _ (p : Poll) (is : IsPoll p) where
       (beside_join seen x.asked new (asks_beside p.state seen x.asked false x.asks)
       (slept_beside x.asked new x.answer x.sleeps)))
 
-  turns_beside : (turns : List Known) (old new : Known) → SleepsTurns p old turns new → Beside old new
+  pub turns_beside : (turns : List Known) (old new : Known) → SleepsTurns p old turns new → Beside old new
   turns_beside [] old new same = subst (Beside old) (sym same) (none_beside old)
   turns_beside (mid ∷ more) old new x = beside_join old mid new (turn_beside old mid x.0)
       (turns_beside more mid new x.1)
 
-  -- loads behind a queueing, and then both are taken off
-  rest_beside : (queued new : Known) (l : Loads) → LeavesBoth (loaded p l queued) new → Beside queued new
-  rest_beside queued new l x = beside_join queued (loaded p l queued) new (loads_beside p l queued)
-      (leaves_beside (loaded p l queued) new x)
-
   last_beside : (old new : Known) (r : Result Ready PollEnd) → EndsLast p old new r → Beside old new
   last_beside old new (Ok r) x = beside_join old x.queued new (queueing_beside old x.queued x.outcome x.queues)
-      (rest_beside x.queued new x.loads x.leaves)
+      (rest_beside p x.queued new x.loads x.leaves)
   last_beside old new (Err (poll_end.Signal first second)) x =
       let l : Loads = record { first = first; second = second } in
       let seen = loaded p l x.queued in
@@ -164,7 +164,7 @@ module _ (p : Poll) (is : IsPoll p) where
       (beside_join seen x.asked new (asks_beside p.state seen x.asked true x.asks) (leaves_beside x.asked new x.leaves)))
   last_beside old new (Err (poll_end.Worn head place)) x = beside_join old x.queued new
       (none_found old x.queued (record { head = head; place = place }) x.queues)
-      (rest_beside x.queued new x.loads x.leaves)
+      (rest_beside p x.queued new x.loads x.leaves)
 
   goes_beside : (o : Option Ready) (old new : Known) (r : Result Ready PollEnd) → PollGoesOn p o old new r → Beside old new
   goes_beside (Some q) old new r x = subst (Beside old) (sym x.0) (none_beside old)

@@ -31,7 +31,7 @@ give_back-requires-clause-rise c =
     let i = c.requires.holds.1 in
     may_rise c.select_tries.new.task c.args.run.all c.in_ok-selected.selected
     (λ some. c.in_ok-selected.ensures.rises some (i.took.simple (high c.args.run i.simple)))
-    c.is_spent.result c.is_spent.ensures
+    c.is_swake_spent.result c.is_swake_spent.ensures
 
 -- the head is none of a completion
 pub give_back-requires-clause-permits : goal.give_back-requires-clause-permits
@@ -46,13 +46,13 @@ returns-clause-over c start i =
     is_over start c.args.task.now last c.give_back.new.task c.args.run c.in_ok-selected.selected i
     (subst (λ (n : ℕ). HasSelected c.args.task.now last n c.in_ok-selected.selected) c.most_of.ensures
     c.in_ok-selected.ensures.selected) c.select_tries.ensures.hold c.select_tries.ensures.keeps
-    (c.give_back.ensures.given ∙ ap (unlocked_with last last.at) c.is_spent.ensures)
+    (c.give_back.ensures.given ∙ ap (unlocked_with last last.at) c.is_swake_spent.ensures)
 
 pub returns-clause-rouses : goal.returns-clause-rouses
 returns-clause-rouses c =
     let last = c.select_tries.new.task in
     rousing_on c.args.task.now last c.give_back.new.task c.select_tries.new.rousing
-    (subst (RousesNone last) (sym c.give_back.ensures.given) (none_unlocked last last.at c.is_spent.result))
+    (subst (RousesNone last) (sym c.give_back.ensures.given) (none_unlocked last last.at c.is_swake_spent.result))
     c.select_tries.ensures.rouses
 
 -- where the tries of a wake failed

@@ -12,15 +12,15 @@ pub draw_lock-run-requires-2-clause-head : goal.draw_lock-run-requires-2-clause-
 draw_lock-run-requires-2-clause-head c =
     fits c.args.run.now.cell c.head_of-head.result c.requires.there c.head_of-head.ensures
 
-pub returns-then-not-peeks-clause-rouses : goal.returns-then-not-peeks-clause-rouses
-returns-then-not-peeks-clause-rouses c = awaits_none c.args.task.now c.draw_lock-run.new.task c.head_of-head.result
+pub returns-then-not-peeks_first-clause-rouses : goal.returns-then-not-peeks_first-clause-rouses
+returns-then-not-peeks_first-clause-rouses c = awaits_none c.args.task.now c.draw_lock-run.new.task c.head_of-head.result
     c.draw_lock-run.result c.draw_lock-run.ensures.awaits
 
 -- the count was 0
 pub returns-then-done_load-eq0-clause-drawn : goal.returns-then-done_load-eq0-clause-drawn
 returns-then-done_load-eq0-clause-drawn c =
     let l = c.done_load in
-    peeked_none c.args.run.now.call c.args.run.now.cell l.result c.args.task.now l.new.task c.if-not-peeks.ensures
+    peeked_none c.args.run.now.call c.args.run.now.cell l.result c.args.task.now l.new.task c.if-not-peeks_first.ensures
     c.requires.up c.requires.free c.told.ensures l.ensures.step l.ensures.carries c.if-done_load-eq0.true
 
 pub returns-then-done_load-eq0-clause-rouses : goal.returns-then-done_load-eq0-clause-rouses

@@ -340,7 +340,7 @@ await_table = record {
   end_post = await_end_post;
   Tells = AwaitTells;
   Trail = AwaitTrail;
-  AwaitTrailEnd = AwaitTrailEnd;
+  TrailEnd = AwaitTrailEnd;
   Keeps = λ i c g h old new. CellKeeps i old new;
 }
 

@@ -335,8 +335,8 @@ wait_table = record {
   answer_of = answer_to_wait;
   has_taken = λ o. false;
   end_post = wait_end_post;
-  TellsWait = TellsWait;
+  Tells = TellsWait;
   Trail = WaitTrailAt;
-  WaitTrailEnd = WaitTrailEnd;
+  TrailEnd = WaitTrailEnd;
   Keeps = KeepsAll;
 }

@@ -47,9 +47,9 @@ fn go_on(
     rousing: &mut Rousing,
     passed: &mut Option<u16>,
 ) -> Reply
-    ensures replies { Replies (Some (goes_by is_leave)) task.old task.new result }
-    ensures names { Names (Some (goes_by is_leave)) task.old task.new result rousing.new }
-    ensures gives { GivesLock (Some (goes_by is_leave)) task.old result passed.old passed.new }
+    ensures replies { Replies (Some (goes_by leaves)) task.old task.new result }
+    ensures names { Names (Some (goes_by leaves)) task.old task.new result rousing.new }
+    ensures gives { GivesLock (Some (goes_by leaves)) task.old result passed.old passed.new }
 {
     if leaves {
         leave(task, rousing, passed)
@@ -108,7 +108,7 @@ fn go_further(
     rousing: &mut Rousing,
     passed: &mut Option<u16>,
 ) -> Reply
-    ensures { Further (goes_by is_leave) task.old first (tasks_in rousing.old) passed.old
+    ensures { Further (goes_by leaves) task.old first (tasks_in rousing.old) passed.old
         task.new result (tasks_in rousing.new) passed.new }
 {
     let mut reply = first;

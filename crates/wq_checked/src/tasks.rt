@@ -46,13 +46,13 @@ impl Model for CheckedTask {
     ghost use Rattle.std.specs.Prelude.{◌≡◌};
     ghost use Rattle.std.specs.Arc.{arc_value};
     ghost use Rattle.wq_checked.specs.Checked.{Checked};
-    ghost use Rattle.wq_checked.specs.Calls.{IsSound};
+    ghost use Rattle.wq_checked.specs.Calls.{IsRunningSound};
 
     ghost Value = { Checked };
 
     ghost view = { λ t. record { task = t.task; kept = t.kept; running = t.running } };
 
-    ghost invariant = { λ t. (t.task.domain ≡ arc_value t.domain) × IsSound t.running t.kept t.task };
+    ghost invariant = { λ t. (t.task.domain ≡ arc_value t.domain) × IsRunningSound t.running t.kept t.task };
 }
 
 /// Why no call may begin now: None where one may.

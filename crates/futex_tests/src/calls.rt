@@ -1,11 +1,14 @@
-//! The calls that the tests by threads make, each by a task that owes nothing, before it and after it. The mutex of the
-//! tests is futex 6, their condition variable futex 7, and futex 5 one that tasks sleep on.
+//! The calls that the tests make, each by a task that owes nothing, before it and after it. The mutex of the tests is
+//! futex 6, their condition variable futex 7, and futex 5 one that tasks sleep on.
 
 ghost use Rattle.std.specs.Prelude.{◌≡◌, true};
 ghost use Rattle.wait_rule.specs.Says.{IsClean};
 ghost use Rattle.futex_table.specs.Holding.{HoldsMutex};
 
-use futex_table::{cond_broadcast, cond_wait, futex_wake, mutex_lock, mutex_open, mutex_unlock};
+use futex_table::{
+    cond_broadcast, cond_signal, cond_wait, futex_wake, mutex_lock, mutex_open, mutex_try,
+    mutex_unlock,
+};
 use std::sync::Wait;
 use std::thread;
 use wait_model::tasks::SleepState;
@@ -44,6 +47,17 @@ pub(crate) fn lock<R: Wait>(rt: &R, domain: &Domain, task: &mut Task) -> bool
     }
 }
 
+/// Takes the mutex if nobody has it: whether it has it.
+pub(crate) fn try_lock(domain: &Domain, task: &mut Task) -> bool
+    requires of { task.old.domain ≡ domain.now }
+    requires clean { IsClean task.old }
+    ensures of { task.new.domain ≡ domain.now }
+    ensures clean { IsClean task.new }
+    ensures holds { result ≡ true → HoldsMutex task.new 6 }
+{
+    mutex_try(domain, task, LOCK)
+}
+
 /// Gives it back.
 pub(crate) fn unlock<R: Wait>(rt: &R, domain: &Domain, task: &mut Task)
     requires of { task.old.domain ≡ domain.now }
@@ -69,6 +83,18 @@ pub(crate) fn wait<R: Wait>(rt: &R, domain: &Domain, task: &mut Task) -> bool
         Ok(()) => true,
         Err(_end) => false,
     }
+}
+
+/// Wakes one who waits for the condition variable: how many it woke.
+pub(crate) fn signal<R: Wait>(rt: &R, domain: &Domain, task: &mut Task) -> u32
+    requires of { task.old.domain ≡ domain.now }
+    requires clean { IsClean task.old }
+    requires holds { HoldsMutex task.old 6 }
+    ensures of { task.new.domain ≡ domain.now }
+    ensures clean { IsClean task.new }
+    ensures holds { HoldsMutex task.new 6 }
+{
+    cond_signal(rt, domain, task, COND, LOCK)
 }
 
 /// Wakes all who wait for the condition variable.

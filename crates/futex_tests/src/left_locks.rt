@@ -146,7 +146,7 @@ fn count_often<R: Wait>(
 }
 
 /// Whether a wait has the mutex behind it.
-fn has_mutex(end: Until<Result<(), CondEnd>>) -> bool
+pub(crate) fn has_mutex(end: Until<Result<(), CondEnd>>) -> bool
     ensures { result ≡ is_held_until end }
 {
     match end {

@@ -8,6 +8,8 @@ mod alone;
 #[cfg(test)]
 mod calls;
 #[cfg(test)]
+mod cond_turns;
+#[cfg(test)]
 mod left;
 #[cfg(test)]
 mod left_locks;
@@ -19,5 +21,7 @@ mod monitors;
 mod races;
 #[cfg(test)]
 mod tallies;
+#[cfg(test)]
+mod turns;
 #[cfg(test)]
 mod wants;

@@ -12,14 +12,14 @@ ghost use Rattle.futex_table.specs.LockLeaves.{is_locked_until};
 ghost use Rattle.futex_table.specs.LockStretches.{IsLockUnderWay};
 
 use crate::calls::open;
+use crate::turns::{is_free_lock, next_number, open_and_take};
 use crate::wants::{all_so, another};
 use futex_table::futexes::futex_wake;
 use futex_table::lock_stretches::{
-    LockStage, MutexTurn, begin_mutex_lock, end_mutex_lock_until, stretch_mutex_lock,
-    stretch_mutex_lock_out, woke_mutex_lock,
+    MutexTurn, begin_mutex_lock, end_mutex_lock_until, stretch_mutex_lock, stretch_mutex_lock_out,
+    woke_mutex_lock,
 };
 use futex_table::mutexes::{mutex_try, mutex_unlock};
-use futex_table::waits::FutexStage;
 use std::sync::Wait;
 use std::test::Fail;
 use wait_class::stages::Turn;
@@ -61,14 +61,10 @@ fn is_inside(at: MutexTurn) -> bool {
 /// Whether a lock has drawn no ticket there, so that another task of the thread can wait for the lock of the head.
 fn is_free(at: MutexTurn) -> bool {
     match at {
-        Turn::Again(LockStage::Wait(_, stage)) => is_free_at(stage),
-        Turn::Locked(LockStage::Wait(_, stage)) => is_free_at(stage),
+        Turn::Again(stage) => is_free_lock(stage),
+        Turn::Locked(stage) => is_free_lock(stage),
         _ => true,
     }
-}
-
-fn is_free_at(stage: FutexStage) -> bool {
-    !matches!(stage, FutexStage::Turn | FutexStage::OffTurn)
 }
 
 /// One stretch of a lock, or a look whether it was woken.
@@ -147,13 +143,6 @@ fn take_turn<R: Wait>(
         }
         _ => go_on(domain, task, at),
     }
-}
-
-/// The next number of a small generator, by which the order of the turns is drawn.
-fn next_number(seed: u32) -> u32 {
-    let mixed = seed ^ seed.wrapping_shl(13);
-    let mixed = mixed ^ mixed.wrapping_shr(17);
-    mixed ^ mixed.wrapping_shl(5)
 }
 
 /// What a turn from here to there does to the sections: one more is in its own, or one came out.
@@ -362,11 +351,7 @@ fn lock_is_left_at_each_moment(rt: HostRuntime) -> Result<(), Fail> {
         for gives in [false, true] {
             let (domain, mut task) = Domain::new(rt.alloc())?;
             let mut other = another(&rt, &domain, &mut task);
-            open(&rt, &domain, &mut other);
-            let has = mutex_try(&domain, &mut other, LOCK);
-            if !has {
-                panic!(rt; "the mutex is open")
-            }
+            open_and_take(&rt, &domain, &mut other);
             let mut waker = another(&rt, &domain, &mut task);
             let so = leave_after(
                 &rt, &domain, &mut task, &mut other, &mut waker, stretches, gives,

@@ -38,16 +38,16 @@ impl Part for Adds<'_> {
 
 /// Where it stands with the number: the own turn, that of the other, or the end.
 #[derive(Clone, Copy)]
-enum Whose {
+pub(crate) enum Whose {
     Own,
     Other,
     Nobody,
 }
 
-/// Adds 1 to the number on the own turn.
-fn add_if_own(number: &AtomicU64, own: u64) -> Whose {
+/// Adds 1 to the number on the own turn, where it is not the last.
+pub(crate) fn add_if_own(number: &AtomicU64, own: u64, last: u64) -> Whose {
     let now = number.load(Ordering::SeqCst);
-    if now >= LAST {
+    if now >= last {
         return Whose::Nobody;
     }
     if now % 2 == own {
@@ -72,7 +72,7 @@ fn add_in_turn<R: Wait>(
     ensures clean { IsClean task.new }
 {
     for _ in rt.forever() {
-        match add_if_own(number, own) {
+        match add_if_own(number, own, LAST) {
             Whose::Own => broadcast(rt, domain, task),
             Whose::Other => {
                 if !wait(rt, domain, task) {

@@ -8,7 +8,9 @@
 # turn with the other; the middle round counts.
 # RUNS: how many runs (5). BUSY: how many loops keep processors busy meanwhile (0). WITH: a command that starts the
 # programs, as `chrt -f 50`, by which other work gives way to them. MOST: where it is given, the status is 1 if the
-# middle ratio of `hand_parked` is greater.
+# middle ratio of `hand_parked` is greater. OTHER: where it is given, the threads of both programs are placed alike, as
+# `bench/trips.sh` does it (it needs taskset too): the first one on processor ONE (0), and the others on this one; then
+# the numbers that are handed on are written alone.
 set -eu
 cd "$(dirname "$0")/.."
 . bench/busy.sh
@@ -19,13 +21,23 @@ end() {
 }
 trap end EXIT
 rustc --edition 2021 -O -o "$made/plain" bench/futexes.rs
+[ -z "${OTHER:-}" ] || rustc -O --edition 2024 --crate-type cdylib -o "$made/pin.so" bench/pin.rs
+
+# Starts a program, with its threads placed where that is asked for.
+start() {
+    if [ -z "${OTHER:-}" ]; then
+        ${WITH:-} "$@"
+    else
+        ${WITH:-} taskset -c "${ONE:-0}" env PIN="$OTHER" LD_PRELOAD="$made/pin.so" "$@" | grep '^hand'
+    fi
+}
 
 # The middle round of each name and program, in nanoseconds: NAME WHO MIDDLE. The Condvar's counts for both kinds.
 rounds() {
     for _ in 1 2 3; do
-        ${WITH:-} "$made/plain" | awk '$1 == "hand" { for (i = 1; i <= 2; i++)
+        start "$made/plain" | awk '$1 == "hand" { for (i = 1; i <= 2; i++)
             print "plain", i == 1 ? "hand_parked" : "hand_looked", $2, $3; next } { print "plain", $0 }'
-        ${WITH:-} crates/bench_threads/out/bench_threads futexes | sed 's/^/domain /'
+        start crates/bench_threads/out/bench_threads futexes | sed 's/^/domain /'
     done | awk 'NF == 4 { print $2, $1, $4 / $3 }' | sort -k 1,1 -k 2,2 -k 3,3g | awk '
         function flush() { if (name != "") print name, who, all[int((n + 1) / 2)] }
         $1 != name || $2 != who { flush(); name = $1; who = $2; n = 0 }

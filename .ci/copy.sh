@@ -207,8 +207,8 @@ start_copy() {
     rm -f pipe
     mkfifo pipe
     printf 'before\n' | tee before >old
-    # of a job in the background SIGINT is ignored, unless it is set back
-    env --default-signal=INT ./waitq copy pipe old >"$work/out" 2>"$work/said" &
+    # of a job in the background SIGINT is ignored, and under nohup SIGHUP, unless they are set back
+    env --default-signal ./waitq copy pipe old >"$work/out" 2>"$work/said" &
     copy=$!
     exec 8<>pipe
     head -c 50000 sample >&8

@@ -303,8 +303,8 @@ start_merge() {
     rm -f pipe
     mkfifo pipe
     printf 'before\n' | tee before >old
-    # of a job in the background SIGINT is ignored, unless it is set back
-    env --default-signal=INT ./waitq merge pipe b old >"$work/out" 2>"$work/said" &
+    # of a job in the background SIGINT is ignored, and under nohup SIGHUP, unless they are set back
+    env --default-signal ./waitq merge pipe b old >"$work/out" 2>"$work/said" &
     merge=$!
     exec 8<>pipe
     head -c 50000 sample >&8

@@ -1,6 +1,6 @@
 -- For proofs alone.
 -- What a selection under way knows and keeps, for the functions of a selection.
-use Rattle.std.specs.Prelude.{ℕ, ◌≡◌, ◌≢◌, ◌<◌, ◌≤◌, true, Some, None}
+use Rattle.std.specs.Prelude.{ℕ, ◌≡◌, ◌≢◌, ◌<◌, ◌≤◌, ◌⊎◌, true, Some, None}
 use Rattle.wait_model.specs.declared.layout.TheConstants.{FIRST_SIMPLE_HEAD, ENTRIES, MEMBERS}
 use Rattle.wait_model.specs.Queues.{rank}
 use Rattle.wait_rule.specs.Known.{Known}
@@ -32,3 +32,8 @@ pub record HasSelectedFirst (old new : Known) (member : ℕ) : Type 0 where
   pub is_off : place_by new member ≡ None
   pub others : (m p : ℕ) → m < MEMBERS → m ≢ member → place_by old m ≡ Some p → place_by new m ≡ Some p
   pub stood : (m p : ℕ) → m < MEMBERS → place_by new m ≡ Some p → place_by old m ≡ Some p
+
+-- the only member was selected, or it is a bookmark and stands as before
+abbrev pub HasSelectedSole : Known → Known → ℕ → ℕ → Type 0
+HasSelectedSole old new member n = ((ENTRIES ≤ member) × (n ≡ 0) × (new ≡ old))
+    ⊎ ((member < ENTRIES) × (n ≡ 1) × HasSelectedFirst old new member)

@@ -1,7 +1,7 @@
 //! How a hold finds the members of its head: by the words by which the head knows them, one set bit after another.
 
 ghost use Rattle.std.specs.Prelude.{◌≡◌, ◌+◌, ◌<◌, ◌≤◌, ◌*◌, ◌/◌, ℕ, true, false};
-ghost use Rattle.wait_model.specs.declared.layout.TheConstants.{MEMBERS, WORD_BITS};
+ghost use Rattle.wait_model.specs.declared.layout.TheConstants.{MEMBERS, MEMBER_WORDS, WORD_BITS};
 ghost use Rattle.wait_model.specs.Words.{bit_at};
 ghost use Rattle.wait_rule.specs.Says.{IsUp};
 ghost use Rattle.wq_head.specs.Holds.{IsHolding};
@@ -26,6 +26,17 @@ impl Looking {
         ensures { result ≡ record { word = 0; next = 0 } }
     {
         Looking { word: 0, next: 0 }
+    }
+
+    /// One that begins behind so many words.
+    pub(crate) fn behind(words: u16) -> Looking
+        requires { words ≤ MEMBER_WORDS }
+        ensures { result ≡ record { word = 0; next = WORD_BITS * words } }
+    {
+        Looking {
+            word: 0,
+            next: WORD_BITS * words,
+        }
     }
 }
 

@@ -2,6 +2,7 @@
 
 ghost use Rattle.std.specs.Prelude.{◌≡◌, ◌<◌, ◌≤◌, [], IfErr, IfOk, MatchResult, length, true};
 ghost use Rattle.wait_model.specs.declared.layout.TheConstants.{FIRST_SIMPLE_HEAD, MEMBERS};
+ghost use Rattle.wait_rule.specs.Known.{Known};
 ghost use Rattle.wait_rule.specs.Queues.{MayRise};
 ghost use Rattle.wait_rule.specs.Says.{IsUp};
 ghost use Rattle.wait_rule.specs.Stays.{Carries, only_looks};
@@ -9,10 +10,11 @@ ghost use Rattle.wait_rule.specs.Tried.{IsStarved};
 ghost use Rattle.wq_head.specs.Holds.{IsHolding};
 ghost use Rattle.wq_head.specs.Roused.{HasRoused, IsRousing, tasks_in};
 ghost use Rattle.wq_head.specs.Selects.{HasSelected, IsSimpleHold, KeepsHold};
-ghost use Rattle.wq_head.specs.Selecting.{HasSelectedFirst, IsFirstEntry};
+ghost use Rattle.wq_head.specs.Selecting.{HasSelectedFirst, HasSelectedSole, IsFirstEntry};
 
+use crate::found_queues::{FoundQueue, find_queue};
 use crate::lists::Members;
-use crate::looks::{has_members, members};
+use crate::looks::{ShownMember, members};
 use crate::rousing::{Rousing, wake_later};
 use std::hint::spin_loop;
 use std::sync::Wait;
@@ -86,9 +88,10 @@ pub fn select_tries(
     ensures rouses { IsRousing task.old task.new rousing.new }
     ensures starved { IfErr result (λ failed. IsStarved failed) }
 {
-    // A list is filled with zeros before it is used, which costs more than a hold that finds nobody.
-    if !has_members(domain, task, head) {
-        return Ok(0);
+    match find_queue(domain, task, head) {
+        FoundQueue::Empty => return Ok(0),
+        FoundQueue::Sole(stand) => return take_sole(domain, task, stand, rousing),
+        FoundQueue::Several => {}
     }
     let mut list = Members::new();
     members(domain, task, head, &mut list);
@@ -104,6 +107,28 @@ pub fn select_tries(
         }
     }
     Ok(selected)
+}
+
+/// Selects the only member of a head, where it is an entry, and answers how many it selected: one or none.
+fn take_sole(
+    domain: &Domain,
+    task: &mut Task,
+    stand: ShownMember,
+    rousing: &mut Rousing,
+) -> Result<u32, FailedTries>
+    requires of { task.old.domain ≡ domain.now }
+    requires up { IsUp task.old }
+    requires first { stand.member < ENTRIES → IsFirstEntry task.old stand.member }
+    requires room { length (tasks_in rousing.old) < MEMBERS }
+    ensures taken { MatchResult result (λ n. HasSelectedSole task.old task.new stand.member n)
+        (λ failed. IsStarved failed × KeepsHold task.old task.new) }
+    ensures rouses { (start : Known) → IsRousing start task.old rousing.old → IsRousing start task.new rousing.new }
+{
+    if stand.member < ENTRIES {
+        take_first(domain, task, stand.member, rousing)?;
+        return Ok(1);
+    }
+    Ok(0)
 }
 
 /// Wakes the task of the first entry with NORMAL, and takes the entry off, whatever the wake found. The thread is left

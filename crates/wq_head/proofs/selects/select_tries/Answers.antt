@@ -1,19 +1,28 @@
 use Rattle.std.proofs.Common.{◌∙◌, ◌≡◌, ◌+◌, ◌<◌, ◌≤◌, ℕ, ap, sym, subst, inl, inr, length, List, arith}
-use Rattle.std.proofs.Common.{slice_index_or, Bool, false, MatchBool}
+use Rattle.std.proofs.Common.{slice_index_or, refl, true, Result, Ok, Err, IfOk, IfErr, MatchResult}
 use Rattle.std.proofs.lemmas.List.{length-map}
-use Rattle.wait_model.specs.declared.layout.TheConstants.{FIRST_SIMPLE_HEAD}
+use Rattle.wait_model.specs.declared.layout.TheConstants.{ENTRIES, FIRST_SIMPLE_HEAD}
 use Rattle.wait_model.specs.declared.queues.Member.{Member}
 use Rattle.wait_rule.specs.Known.{Known}
 use Rattle.wait_rule.specs.Shown.{shown_queue}
 use Rattle.wq_head.specs.declared.rousing.Rousing.{Rousing}
 use Rattle.wq_head.specs.Members.{member_of}
 use Rattle.wq_head.specs.Lists.{members_in, stand_in}
-use Rattle.wq_head.specs.Looks.{HasMember, IsEmpty}
+use Rattle.wait_rule.specs.declared.tries.FailedTries.{FailedTries}
+use Rattle.wait_rule.specs.Queues.{MayRise}
+use Rattle.wait_rule.specs.Tried.{IsStarved}
+use Rattle.wq_head.specs.declared.found_queues.FoundQueue.TheVariants as found
+use Rattle.wq_head.specs.declared.looks.ShownMember.{ShownMember}
+use Rattle.wq_head.specs.FoundQueues.{IsFoundQueue}
+use Rattle.wq_head.specs.Holds.{IsHolding}
+use Rattle.wq_head.specs.Looks.{Looks}
+use Rattle.wq_head.specs.Selecting.{HasSelectedSole, IsFirstEntry}
+use Rattle.wq_head.specs.Selects.{EndsSelection, HasSelected, IsSimpleHold, KeepsHold, ShowsNoEntry}
+use Rattle.wq_head.proofs.FirstAndLast.{below_or}
 use Rattle.wq_head.specs.Roused.{IsRousing, tasks_in}
 use Rattle.wq_head.proofs.KeptHolds.{hold_carried, hold_holds, hold_on, hold_simple}
 use Rattle.wq_head.proofs.OneMoreLook.{looks_on}
 use Rattle.wq_head.proofs.RousedTasks.{none_looked, rousing_none, rousing_on}
-use Rattle.wq_head.proofs.ShownQueue.{queue_empty}
 use Rattle.wq_head.proofs.SelectingHold.{
   InSelection,
   selection_starts,
@@ -32,26 +41,122 @@ use Rattle.wq_head.proofs.selects.select_tries.Goals.{
 }
 
 -- where nobody is queued
-pub returns-then-not-has_members : goal.returns-then-not-has_members
-returns-then-not-has_members c =
-    let m = c.has_members.ensures in
+pub returns-in-Empty : goal.returns-in-Empty
+returns-in-Empty c =
     let old = c.args.task.now in
-    let new = c.has_members.new.task in
-    let none : c.has_members.result ≡ false = c.if-not-has_members.true in
-    let empty = subst (λ (b : Bool). MatchBool b (HasMember new) (IsEmpty new)) none m.tells in
+    let new = c.find_queue.new.task in
+    let looks = c.find_queue.ensures.looks in
+    let found = subst (IsFoundQueue new) c.in-Empty.is c.find_queue.ensures.finds in
+    let end : length (shown_queue new) ≤ 0 = let none : length (shown_queue new) ≡ 0 = ap length found.2 in omega
+    (arith, none) in
     let start = selection_starts old new c.requires.held
-    (subst (λ (h : ℕ). FIRST_SIMPLE_HEAD ≤ h) c.requires.head c.requires.simple) m.looks m.whole (m.stands none) in
+    (subst (λ (h : ℕ). FIRST_SIMPLE_HEAD ≤ h) c.requires.head c.requires.simple) looks found.0 found.1 in
     record {
       selected = selection_is old new new 0 0 start c.args.most
-          (inr (none_left old new new 0 0 start (queue_empty new empty), λ some. omega arith));
-      held = m.held;
+          (inr (none_left old new new 0 0 start end, λ some. omega arith));
+      held = hold_holds old new start.keeps c.requires.held;
       hold = start.keeps;
       keeps = hold_simple old new start.keeps;
       rises = λ some. absurd (omega arith);
-      carries = m.carries;
-      rouses = rousing_on old old new c.args.rousing.now (none_looked old new m.looks)
+      carries = hold_carried old new start.keeps;
+      rouses = rousing_on old old new c.args.rousing.now (none_looked old new looks)
           (rousing_none old c.args.rousing.now c.requires.none);
       starved = tt;
+    }
+
+-- where one member is alone
+module _ (old mid : Known) (s : ShownMember) (held : IsHolding old) (simple : FIRST_SIMPLE_HEAD ≤ old.at)
+    (looks : Looks old mid) (sole : IsFoundQueue mid (found.Sole s)) where
+  before : InSelection old mid mid 0 0
+  before = selection_starts old mid held simple looks sole.0 sole.1
+
+  one : length (shown_queue mid) ≡ 1
+  one = ap length sole.2
+
+  inside : 0 < length (shown_queue mid)
+  inside = omega (arith, one)
+
+  end : length (shown_queue mid) ≤ 1
+  end = omega (arith, one)
+
+  here : member_of s ≡ slice_index_or (shown_queue mid) 0 (member_of s)
+  here = subst (λ (q : List Member). member_of s ≡ slice_index_or q 0 (member_of s)) (sym sole.2) refl
+
+  sole_first : s.member < ENTRIES → IsFirstEntry mid s.member
+  sole_first low = first_here old mid mid 0 0 before s inside here low
+
+  module _ (new : Known) where
+    abbrev Ends : Result ℕ FailedTries → Type 0
+    Ends r = MatchResult r (λ (n : ℕ). HasSelectedSole mid new s.member n)
+        (λ (failed : FailedTries). IsStarved failed × KeepsHold mid new)
+
+    sole_keeps : (r : Result ℕ FailedTries) → Ends r → KeepsHold old new
+    sole_keeps (Ok n) t = elim t [
+      | inl mark ↦ subst (KeepsHold old) (sym mark.2) before.keeps
+      | inr entry ↦ hold_on old mid new before.keeps entry.2.keeps
+    ]
+    sole_keeps (Err failed) t = hold_on old mid new before.keeps t.1
+
+    went : (n : ℕ) → HasSelectedSole mid new s.member n → InSelection old new mid 1 n
+    went n (inl mark) = subst (λ (k : Known). InSelection old k mid 1 n) (sym mark.2)
+        (subst (InSelection old mid mid 1) (sym mark.1) (passes_mark old mid mid 0 0 before s inside here mark.0))
+    went n (inr entry) = subst (InSelection old new mid 1) (sym entry.1)
+        (takes_entry old mid mid 0 0 before s inside here entry.0 new entry.2)
+
+    ends_by : (most n : ℕ) → n ≤ 1 → ShowsNoEntry new → EndsSelection new most n
+    ends_by most n few none = elim (below_or n most) [
+      | inl under ↦ inr (none, λ some. under)
+      | inr over ↦ elim (below_or 0 most) [
+        | inl some ↦ inl ((λ zero_asked. omega (arith, zero_asked, some)), omega (arith, few, over, some))
+        | inr all ↦ inr (none, λ some. absurd (some (omega (arith, all))))
+      ]
+    ]
+
+    sole_selects : (most : ℕ) (r : Result ℕ FailedTries) → Ends r → IfOk r (λ (n : ℕ). HasSelected old new most n)
+    sole_selects most (Ok n) t = selection_is old new mid 1 n (went n t) most
+        (ends_by most n (went n t).few (none_left old new mid 1 n (went n t) end))
+    sole_selects most (Err failed) t = tt
+
+    sole_rises : (r : Result ℕ FailedTries) → Ends r
+        → IfOk r (λ (n : ℕ). 0 < n → IsSimpleHold old → MayRise new true)
+    sole_rises (Ok n) t = λ some was. selection_rises old new mid 1 n (went n t) some
+        (hold_simple old new (went n t).keeps was)
+    sole_rises (Err failed) t = tt
+
+    sole_starves : (r : Result ℕ FailedTries) → Ends r → IfErr r (λ (failed : FailedTries). IsStarved failed)
+    sole_starves (Ok n) t = tt
+    sole_starves (Err failed) t = t.0
+
+pub take_sole-requires-clause-first : goal.take_sole-requires-clause-first
+take_sole-requires-clause-first c low = sole_first c.args.task.now c.find_queue.new.task c.in-Sole.stand c.requires.held
+    (subst (λ (h : ℕ). FIRST_SIMPLE_HEAD ≤ h) c.requires.head c.requires.simple) c.in-Sole.ensures.looks
+    c.in-Sole.ensures.finds low
+
+pub take_sole-requires-clause-room : goal.take_sole-requires-clause-room
+take_sole-requires-clause-room c = let none = ap length c.requires.none in omega (arith, none)
+
+pub returns-in-Sole : goal.returns-in-Sole
+returns-in-Sole c =
+    let old = c.args.task.now in
+    let mid = c.find_queue.new.task in
+    let new = c.take_sole.new.task in
+    let s = c.in-Sole.stand in
+    let simple = subst (λ (h : ℕ). FIRST_SIMPLE_HEAD ≤ h) c.requires.head c.requires.simple in
+    let looks = c.in-Sole.ensures.looks in
+    let sole = c.in-Sole.ensures.finds in
+    let r = c.take_sole.result in
+    let t = c.take_sole.ensures.taken in
+    let keeps = sole_keeps old mid s c.requires.held simple looks sole new r t in
+    record {
+      selected = sole_selects old mid s c.requires.held simple looks sole new c.args.most r t;
+      held = hold_holds old new keeps c.requires.held;
+      hold = keeps;
+      keeps = hold_simple old new keeps;
+      rises = sole_rises old mid s c.requires.held simple looks sole new r t;
+      carries = hold_carried old new keeps;
+      rouses = c.take_sole.ensures.rouses old (rousing_on old old mid c.args.rousing.now (none_looked old mid looks)
+          (rousing_none old c.args.rousing.now c.requires.none));
+      starved = sole_starves old mid s c.requires.held simple looks sole new r t;
     }
 
 pub loop-i-init : goal.loop-i-init
@@ -59,7 +164,7 @@ loop-i-init c =
     let l = c.members.ensures in
     let old = c.args.task.now in
     let new = c.members.new.task in
-    let looks = looks_on old c.has_members.new.task new c.has_members.ensures.looks l.looks in (
+    let looks = looks_on old c.find_queue.new.task new c.find_queue.ensures.looks l.looks in (
       new,
       l.queue,
       selection_starts old new c.requires.held

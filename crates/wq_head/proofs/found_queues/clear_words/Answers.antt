@@ -1,0 +1,44 @@
+use Rattle.std.proofs.Common.{ℕ, ◌≡◌, ◌*◌, subst, refl, false, arith}
+use Rattle.wait_model.specs.declared.layout.TheConstants.{MEMBER_WORDS, WORD_BITS}
+use Rattle.wq_head.specs.Looking.{AreNone}
+use Rattle.wq_head.proofs.BitLooks.{clear_on, saw_word}
+use Rattle.wq_head.proofs.FoundMembers.{found_none_yet, found_none}
+use Rattle.wq_head.proofs.OneMoreLook.{holding_on, looks_on}
+use Rattle.wq_head.proofs.found_queues.clear_words.Goals as goal
+
+pub loop-i-init : goal.loop-i-init
+loop-i-init c = found_none_yet c.args.task.now
+
+pub loop-i-preserved : goal.loop-i-preserved
+loop-i-preserved c =
+    let l = c.held_member_load-word.ensures in
+    let old = c.args.task.now in
+    let now = c.loop-i.task in
+    let new = c.held_member_load-word.new.task in
+    let w = c.held_member_load-word.result in
+    let held = holding_on old now c.loop-i.invariant.looks c.requires.held in
+    let looks = saw_word now.at c.loop-i.i w now new held refl l.saw in
+    found_none old now new c.loop-i.i w false c.loop-i.invariant looks l.looks
+    (λ k small. c.next_bit.ensures.clear k (omega arith) (omega (arith, small, c.if-next_bit-lt-WORD_BITS.false)))
+
+pub returns-then-next_bit-lt-WORD_BITS : goal.returns-then-next_bit-lt-WORD_BITS
+returns-then-next_bit-lt-WORD_BITS c =
+    let l = c.held_member_load-word.ensures in
+    let old = c.args.task.now in
+    let now = c.loop-i.task in
+    let new = c.held_member_load-word.new.task in
+    let w = c.held_member_load-word.result in
+    let held = holding_on old now c.loop-i.invariant.looks c.requires.held in
+    let looks = saw_word now.at c.loop-i.i w now new held refl l.saw in record {
+      looks = looks_on old now new c.loop-i.invariant.looks looks.looks;
+      within = omega (arith, c.loop-i-test.true, c.loop-i.auto.i-end);
+      none = λ m over under. clear_on now new looks.looks m (c.loop-i.invariant.told m over under);
+    }
+
+pub returns : goal.returns
+returns c =
+    let all : c.loop-i.i ≡ MEMBER_WORDS = omega (arith, c.loop-i.auto.i-end, c.loop-i-test.false) in record {
+      looks = c.loop-i.invariant.looks;
+      within = omega arith;
+      none = subst (λ (n : ℕ). AreNone c.loop-i.task 0 (WORD_BITS * n)) all c.loop-i.invariant.told;
+    }

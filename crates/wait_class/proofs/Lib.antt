@@ -18,6 +18,7 @@ pub mod Framing
 pub mod Histories
 pub mod CallPlans
 pub mod Ways
+pub mod Holds
 pub mod Wholes
 pub mod UnderWay
 pub mod Stays

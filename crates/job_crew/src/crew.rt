@@ -3,9 +3,10 @@
 //! A job is begun only once all have their threads: each thread first waits for one word, which says whether all are
 //! there. The word is said once, so all hear the same.
 
-ghost use Rattle.std.specs.Prelude.{◌≡◌, ◌+◌, ◌<◌, true, false, Ok, Err, None, Some, IfErr, IfOk, IfSome};
+ghost use Rattle.std.specs.Prelude.{◌≡◌, ◌+◌, ◌<◌, true, false, Ok, Err, None, Some, IfErr, IfOk, IfSome, IsSome};
+ghost use Rattle.std.specs.Option.{ForSome};
 ghost use Rattle.std.specs.Result.{ForErr, ForOk};
-ghost use Rattle.job_crew.specs.Crews.{Comes, DidSome};
+ghost use Rattle.job_crew.specs.Crews.{Both, Comes, DidSome};
 
 use std::marker::Brand;
 use std::snapshot::Snapshot;
@@ -45,14 +46,13 @@ impl<J: Job> Job for Option<J> {
     }
 }
 
-/// The word that all wait for. It says that the jobs are to be begun only where the sum of the ledger is one, which who
-/// says it has written there once all threads were there.
+/// The word that all wait for. It has the sum of the ledger where the jobs are to be begun, which is one: who says the
+/// word has written that there once all threads were there.
 #[derive(Drop)]
 struct Word<L: Ledger> {
-    begins: bool,
-    sum: Total<L>,
-    ghost one_part: { sum.parts ≡ 1 },
-    ghost all_there: { begins ≡ true → sum.amount ≡ 1 },
+    sum: Option<Total<L>>,
+    ghost one_part: { ForSome sum (λ sum. sum.parts ≡ 1) },
+    ghost all_there: { ForSome sum (λ sum. sum.amount ≡ 1) },
 }
 
 /// The word that a job heard, and what it made; or the job itself, where the word was that none begins.
@@ -60,8 +60,8 @@ struct Word<L: Ledger> {
 struct Reply<'a, L: Ledger, D, J> {
     word: OnceToken<'a, Word<L>>,
     outcome: Result<D, J>,
-    ghost done: { ForOk outcome (λ _. word.value.begins ≡ true) },
-    ghost back: { ForErr outcome (λ _. word.value.begins ≡ false) },
+    ghost done: { ForOk outcome (λ _. IsSome word.value.sum) },
+    ghost back: { ForErr outcome (λ _. word.value.sum ≡ None) },
 }
 
 /// What a thread is asked: to wait for the word in this lock, and then to do this job, or to hand it back.
@@ -75,11 +75,11 @@ impl<'a, L: Ledger, J: Job> Promise<Reply<'a, L, J::Done, J>> for Asked<'a, L, J
     ghost kept_by = { λ p r. (r.word.of ≡ p.lock.now.id) × Comes J J.Done J.did p.job.value r.outcome };
 }
 
-/// What a thread was asked for: its hand, or what it was to do, where none could be had or none was wanted; and whether
-/// all that was wanted is there.
-struct Begun<T, P: Promise<T>, F: FnOnce() -> T> {
-    hand: Result<PromisedHandle<T, P>, F>,
-    asked: Snapshot<P>,
+/// What a thread was asked for: its hand, or its job where none could be had or none was wanted; and whether all that
+/// was wanted is there.
+struct Place<'a, L: Ledger, J: Job> {
+    hand: Result<PromisedHandle<Reply<'a, L, J::Done, J>, Asked<'a, L, J>>, J>,
+    asked: Asked<'a, L, J>,
     there: bool,
 }
 
@@ -115,7 +115,7 @@ fn stand_by<'a, R: Wait, L: Ledger, J: Job>(
     ensures comes { Comes J J.Done J.did job result.outcome }
 {
     let word = hear(rt, lock);
-    if lock.value(&word).begins {
+    if lock.value(&word).sum.is_some() {
         let outcome = Ok(job.run());
         Reply { word, outcome }
     } else {
@@ -138,7 +138,7 @@ fn say<'a, R: Wait, L: Ledger>(
     }
 }
 
-/// Closes the book with the sum of one where all are there, and says so.
+/// The word that the jobs are to be begun, where all are there.
 fn close<L: Ledger>(book: Book<L>, share: &mut Share<L>, all: bool) -> Word<L>
     requires total { book.total ≡ 0 }
     requires parts { (L.parts ≡ 1) × (share.old.parts ≡ 1) }
@@ -147,104 +147,55 @@ fn close<L: Ledger>(book: Book<L>, share: &mut Share<L>, all: bool) -> Word<L>
     ensures amount { share.new.amount ≡ 1 → all ≡ true }
 {
     let mut book = book;
-    if all {
-        book.add(share, 1);
+    if !all {
+        return Word { sum: None };
     }
+    book.add(share, 1);
     Word {
-        begins: all,
-        sum: book.close(),
+        sum: Some(book.close()),
     }
 }
 
 /// Whether the jobs are begun: only where all are there.
 fn begins<L: Ledger>(word: &Word<L>, share: &mut Share<L>) -> bool
     requires parts { share.old.parts ≡ 1 }
-    ensures word { result ≡ word.now.begins }
+    ensures word { result ≡ false → word.now.sum ≡ None }
     ensures there { result ≡ true → share.old.amount ≡ 1 }
+    ensures same { (share.new.parts ≡ share.old.parts) × (share.new.amount ≡ share.old.amount) }
 {
-    word.sum.audit(share);
-    word.begins
-}
-
-/// Asks for a thread, if one is wanted.
-fn begin<'s, E, T: Send + Drop + 's, P: Promise<T> + Drop, F: FnOnce() -> T + Send + 's>(
-    scope: &Scope<'s, E>,
-    wanted: bool,
-    promise: P,
-    does: F,
-) -> Begun<T, P, F>
-    requires callable { F.pre does }
-    requires keeps { (r : T) → F.post does r → P.kept_by promise r }
-    ensures same { IfOk result.hand (λ handle. handle.promise ≡ result.asked.value) }
-    ensures asked { result.asked.value ≡ promise }
-    ensures callable { IfErr result.hand F.pre }
-    ensures keeps { IfErr result.hand (λ does. (r : T) → F.post does r → P.kept_by result.asked.value r) }
-{
-    let asked = Snapshot::of(&promise);
-    if !wanted {
-        return Begun {
-            hand: Err(does),
-            asked,
-            there: true,
-        };
-    }
-    match scope.spawn_with(promise, does) {
-        Ok(handle) => Begun {
-            hand: Ok(handle),
-            asked,
-            there: true,
-        },
-        Err(refused) => Begun {
-            hand: Err(refused.value),
-            asked,
-            there: false,
-        },
+    match &word.sum {
+        Some(sum) => {
+            sum.audit(share);
+            true
+        }
+        None => false,
     }
 }
 
-/// Waits for the end of a thread; where there is none, what it was to do is done here: that is to hand its job back, or
-/// to do nothing.
-fn settle<R: Threads, T, P: Promise<T>, F: FnOnce() -> T>(rt: &R, begun: Begun<T, P, F>) -> T
-    requires same { IfOk begun.hand (λ handle. handle.promise ≡ begun.asked.value) }
-    requires callable { IfErr begun.hand F.pre }
-    requires keeps { IfErr begun.hand (λ does. (r : T) → F.post does r → P.kept_by begun.asked.value r) }
-    ensures kept { P.kept_by begun.asked.value result }
+/// Says that none of the jobs is begun. Nobody has said that they are, since the ledger holds nothing yet.
+fn call_off<'a, R: Wait, L: Ledger>(
+    rt: &R,
+    lock: &'a OnceLock<Word<L>>,
+    share: &mut Share<L>,
+) -> OnceToken<'a, Word<L>>
+    requires share { (share.old.parts ≡ 1) × (share.old.amount ≡ 0) }
+    ensures lock { result.of ≡ lock.now.id }
+    ensures word { result.value.sum ≡ None }
+    ensures same { (share.new.parts ≡ 1) × (share.new.amount ≡ 0) }
 {
-    let Begun {
-        hand,
-        asked: _,
-        there: _,
-    } = begun;
-    match hand {
-        Ok(handle) => handle.join(rt),
-        Err(does) => does(),
-    }
-}
-
-/// What a job made, where the word was to begin.
-fn made<'a, L: Ledger, J: Job>(
-    word: &OnceToken<'a, Word<L>>,
-    reply: Reply<'a, L, J::Done, J>,
-) -> J::Done
-    requires same { reply.word.of ≡ word.now.of }
-    requires begun { word.now.value.begins ≡ true }
-    ensures { reply.entry.outcome ≡ Ok result }
-{
-    let Reply {
-        word: heard,
-        outcome,
-    } = reply;
-    heard.agrees(word);
-    match outcome {
-        Ok(done) => done,
-        Err(_) => unreachable!(),
-    }
+    let said = say(rt, lock, Word { sum: None });
+    let begins = begins(lock.value(&said), share);
+    prove!(!begins);
+    said
 }
 
 /// The job itself, where the word was that none begins.
-fn back<'a, L: Ledger, J: Job>(word: &OnceToken<'a, Word<L>>, reply: Reply<'a, L, J::Done, J>) -> J
+fn back<'a, L: Ledger, D: Drop, J: Drop>(
+    word: &OnceToken<'a, Word<L>>,
+    reply: Reply<'a, L, D, J>,
+) -> J
     requires same { reply.word.of ≡ word.now.of }
-    requires begun { word.now.value.begins ≡ false }
+    requires begun { word.now.value.sum ≡ None }
     ensures { reply.entry.outcome ≡ Err result }
 {
     let Reply {
@@ -255,6 +206,110 @@ fn back<'a, L: Ledger, J: Job>(word: &OnceToken<'a, Word<L>>, reply: Reply<'a, L
     match outcome {
         Ok(_) => unreachable!(),
         Err(job) => job,
+    }
+}
+
+/// Asks for a thread for a job, if one is wanted. Where none can be had, none of the jobs is begun.
+fn seat<'s, Env, L: Ledger + Send + Sync + 's, R: Wait + Sync + 's, J: Job + 's>(
+    scope: &Scope<'s, Env>,
+    rt: &'s R,
+    lock: &'s OnceLock<Word<L>>,
+    share: &mut Share<L>,
+    wanted: bool,
+    job: J,
+) -> Place<'s, L, J>
+    requires asks { J.asks job }
+    requires share { (share.old.parts ≡ 1) × (share.old.amount ≡ 0) }
+    ensures job { result.asked.job.value ≡ job }
+    ensures lock { result.asked.lock.now.id ≡ lock.now.id }
+    ensures there { IfOk result.hand
+        (λ handle. (handle.promise.job.value ≡ job) × (handle.promise.lock.now.id ≡ lock.now.id)) }
+    ensures here { IfErr result.hand (λ back. back ≡ job) }
+    ensures same { (share.new.parts ≡ 1) × (share.new.amount ≡ 0) }
+{
+    let asked = ask(lock, &job);
+    if !wanted {
+        return Place {
+            hand: Err(job),
+            asked,
+            there: true,
+        };
+    }
+    let spawned = scope.spawn_with(
+        ask(lock, &job),
+        move ||
+            requires { J.asks job }
+        { stand_by(rt, lock, job) },
+    );
+    match spawned {
+        Ok(handle) => Place {
+            hand: Ok(handle),
+            asked,
+            there: true,
+        },
+        Err(refused) => {
+            let said = call_off(rt, lock, share);
+            let does = refused.value;
+            Place {
+                hand: Err(back(&said, does())),
+                asked,
+                there: false,
+            }
+        }
+    }
+}
+
+/// Waits for the end of a thread. A job for which there is none is done here, if the jobs are begun.
+fn settle<'a, R: Threads + Wait, L: Ledger, J: Job>(
+    rt: &R,
+    place: Place<'a, L, J>,
+) -> Reply<'a, L, J::Done, J>
+    requires asks { J.asks place.asked.job.value }
+    requires there { IfOk place.hand (λ handle. (handle.promise.job.value ≡ place.asked.job.value)
+        × (handle.promise.lock.now.id ≡ place.asked.lock.now.id)) }
+    requires here { IfErr place.hand (λ back. back ≡ place.asked.job.value) }
+    ensures word { result.word.of ≡ place.entry.asked.lock.now.id }
+    ensures comes { Comes J J.Done J.did place.entry.asked.job.value result.outcome }
+{
+    let Place {
+        hand,
+        asked,
+        there: _,
+    } = place;
+    match hand {
+        Ok(handle) => handle.join(rt),
+        Err(job) => stand_by(rt, asked.lock, job),
+    }
+}
+
+/// What a job and those beside it made, or all of them as they were: all have heard the same word.
+fn together<'a, L: Ledger, D: Drop, J: Drop, M: Drop, T: Drop>(
+    one: Reply<'a, L, D, J>,
+    others: Reply<'a, L, M, T>,
+) -> Reply<'a, L, (D, M), (J, T)>
+    requires same { one.word.of ≡ others.word.of }
+    ensures word { result.word.of ≡ others.entry.word.of }
+    ensures done { IfOk result.outcome
+        (λ made. (one.entry.outcome ≡ Ok made.0) × (others.entry.outcome ≡ Ok made.1)) }
+    ensures back { IfErr result.outcome
+        (λ back. (one.entry.outcome ≡ Err back.0) × (others.entry.outcome ≡ Err back.1)) }
+{
+    let Reply {
+        word: heard,
+        outcome: own,
+    } = one;
+    let Reply { word, outcome } = others;
+    heard.agrees(&word);
+    match (own, outcome) {
+        (Ok(done), Ok(made)) => {
+            let outcome = Ok((done, made));
+            Reply { word, outcome }
+        }
+        (Err(job), Err(others)) => {
+            let outcome = Err((job, others));
+            Reply { word, outcome }
+        }
+        _ => unreachable!(),
     }
 }
 
@@ -269,7 +324,7 @@ fn decide<'a, R: Wait, L: Ledger>(
     requires book { book.total ≡ 0 }
     requires share { (L.parts ≡ 1) × ((share.parts ≡ 1) × (share.amount ≡ 0)) }
     ensures lock { result.0.of ≡ lock.now.id }
-    ensures word { result.1 ≡ result.0.value.begins }
+    ensures word { result.1 ≡ false → result.0.value.sum ≡ None }
     ensures there { result.1 ≡ true → all ≡ true }
 {
     let mut share = share;
@@ -278,47 +333,8 @@ fn decide<'a, R: Wait, L: Ledger>(
     (said, begins)
 }
 
-/// What all five made, where the word was to begin; else the jobs themselves.
-fn gathered<'a, L: Ledger, A: Job, B: Job, C: Job, D: Job, E: Job>(
-    said: &(OnceToken<'a, Word<L>>, bool),
-    first: Reply<'a, L, A::Done, A>,
-    second: Reply<'a, L, B::Done, B>,
-    third: Reply<'a, L, C::Done, C>,
-    fourth: Reply<'a, L, D::Done, D>,
-    last: Reply<'a, L, E::Done, E>,
-) -> Result<(A::Done, B::Done, C::Done, D::Done, E::Done), (A, B, C, D, E)>
-    requires word { said.now.1 ≡ said.now.0.value.begins }
-    requires first { first.word.of ≡ said.now.0.of }
-    requires second { second.word.of ≡ said.now.0.of }
-    requires third { third.word.of ≡ said.now.0.of }
-    requires fourth { fourth.word.of ≡ said.now.0.of }
-    requires last { last.word.of ≡ said.now.0.of }
-    ensures done { IfOk result (λ done. (first.entry.outcome ≡ Ok done.0)
-        × ((second.entry.outcome ≡ Ok done.1) × ((third.entry.outcome ≡ Ok done.2)
-        × ((fourth.entry.outcome ≡ Ok done.3) × (last.entry.outcome ≡ Ok done.4))))) }
-    ensures back { IfErr result (λ back. (first.entry.outcome ≡ Err back.0)
-        × ((second.entry.outcome ≡ Err back.1) × ((third.entry.outcome ≡ Err back.2)
-        × ((fourth.entry.outcome ≡ Err back.3) × (last.entry.outcome ≡ Err back.4))))) }
-{
-    let (word, begins) = said;
-    if *begins {
-        Ok((
-            made(word, first),
-            made(word, second),
-            made(word, third),
-            made(word, fourth),
-            made(word, last),
-        ))
-    } else {
-        Err((
-            back(word, first),
-            back(word, second),
-            back(word, third),
-            back(word, fourth),
-            back(word, last),
-        ))
-    }
-}
+/// Five, each beside those that follow.
+type Five<A, B, C, D, E> = (A, (B, (C, (D, E))));
 
 /// Starts a thread for each of the first three, and for the fourth if it is there, says the word, and waits for all.
 fn begin_in<
@@ -337,56 +353,27 @@ fn begin_in<
     lock: &'s OnceLock<Word<L>>,
     book: Book<L>,
     share: Share<L>,
-    jobs: (A, B, C, Option<D>, E),
-) -> Result<(A::Done, B::Done, C::Done, Option<D::Done>, E::Done), (A, B, C, Option<D>, E)>
+    jobs: Five<A, B, C, Option<D>, E>,
+) -> Result<Five<A::Done, B::Done, C::Done, Option<D::Done>, E::Done>, Five<A, B, C, Option<D>, E>>
     requires book { book.total ≡ 0 }
     requires share { (L.parts ≡ 1) × ((share.parts ≡ 1) × (share.amount ≡ 0)) }
-    requires asks { A.asks jobs.0 × (B.asks jobs.1 × (C.asks jobs.2 × (IfSome jobs.3 D.asks × E.asks jobs.4))) }
-    ensures did { IfOk result (λ done. A.did jobs.0 done.0 × (B.did jobs.1 done.1 × (C.did jobs.2 done.2
-        × (DidSome D D.Done D.did jobs.3 done.3 × E.did jobs.4 done.4)))) }
-    ensures same { IfErr result (λ back. back ≡ jobs) }
+    requires asks { A.asks jobs.0 × (B.asks jobs.1.0 × (C.asks jobs.1.1.0
+        × (IfSome jobs.1.1.1.0 D.asks × E.asks jobs.1.1.1.1))) }
+    ensures comes { Comes _ _ (Both A.did (Both B.did (Both C.did (Both (DidSome D D.Done D.did) E.did)))) jobs result }
 {
-    let (one, two, three, four, five) = jobs;
-    let first = begin(
-        scope,
-        true,
-        ask(lock, &one),
-        move ||
-            requires { A.asks one }
-        { stand_by(rt, lock, one) },
-    );
-    let second = begin(
-        scope,
-        true,
-        ask(lock, &two),
-        move ||
-            requires { B.asks two }
-        { stand_by(rt, lock, two) },
-    );
-    let third = begin(
-        scope,
-        true,
-        ask(lock, &three),
-        move ||
-            requires { C.asks three }
-        { stand_by(rt, lock, three) },
-    );
-    let fourth = begin(
-        scope,
-        four.is_some(),
-        ask(lock, &four),
-        move ||
-            requires { IfSome four D.asks }
-        { stand_by(rt, lock, four) },
-    );
+    let (one, (two, (three, (four, five)))) = jobs;
+    let mut share = share;
+    let first = seat(scope, rt, lock, &mut share, true, one);
+    let second = seat(scope, rt, lock, &mut share, true, two);
+    let third = seat(scope, rt, lock, &mut share, true, three);
+    let fourth = seat(scope, rt, lock, &mut share, four.is_some(), four);
     let all = first.there && second.there && third.there && fourth.there;
-    let said = decide(rt, lock, book, share, all);
+    decide(rt, lock, book, share, all);
     let last = stand_by(rt, lock, five);
-    let first = settle(rt, first);
-    let second = settle(rt, second);
-    let third = settle(rt, third);
-    let fourth = settle(rt, fourth);
-    gathered(&said, first, second, third, fourth, last)
+    let last = together(settle(rt, fourth), last);
+    let last = together(settle(rt, third), last);
+    let last = together(settle(rt, second), last);
+    together(settle(rt, first), last).outcome
 }
 
 /// The same, from a scope of its own.
@@ -403,29 +390,26 @@ fn begin_all<
     lock: &OnceLock<Word<L>>,
     book: Book<L>,
     share: Share<L>,
-    jobs: (A, B, C, Option<D>, E),
-) -> Result<(A::Done, B::Done, C::Done, Option<D::Done>, E::Done), (A, B, C, Option<D>, E)>
+    jobs: Five<A, B, C, Option<D>, E>,
+) -> Result<Five<A::Done, B::Done, C::Done, Option<D::Done>, E::Done>, Five<A, B, C, Option<D>, E>>
     requires book { book.total ≡ 0 }
     requires share { (L.parts ≡ 1) × ((share.parts ≡ 1) × (share.amount ≡ 0)) }
-    requires asks { A.asks jobs.0 × (B.asks jobs.1 × (C.asks jobs.2 × (IfSome jobs.3 D.asks × E.asks jobs.4))) }
-    ensures did { IfOk result (λ done. A.did jobs.0 done.0 × (B.did jobs.1 done.1 × (C.did jobs.2 done.2
-        × (DidSome D D.Done D.did jobs.3 done.3 × E.did jobs.4 done.4)))) }
-    ensures same { IfErr result (λ back. back ≡ jobs) }
+    requires asks { A.asks jobs.0 × (B.asks jobs.1.0 × (C.asks jobs.1.1.0
+        × (IfSome jobs.1.1.1.0 D.asks × E.asks jobs.1.1.1.1))) }
+    ensures comes { Comes _ _ (Both A.did (Both B.did (Both C.did (Both (DidSome D D.Done D.did) E.did)))) jobs result }
 {
     thread::scope(
         thread::scope_env(),
         rt,
         move |scope| -> Result<
-            (A::Done, B::Done, C::Done, Option<D::Done>, E::Done),
-            (A, B, C, Option<D>, E),
+            Five<A::Done, B::Done, C::Done, Option<D::Done>, E::Done>,
+            Five<A, B, C, Option<D>, E>,
         >
             requires book { book.total ≡ 0 }
             requires share { (L.parts ≡ 1) × ((share.parts ≡ 1) × (share.amount ≡ 0)) }
-            requires asks { A.asks jobs.0
-                × (B.asks jobs.1 × (C.asks jobs.2 × (IfSome jobs.3 D.asks × E.asks jobs.4))) }
-            ensures did { IfOk result (λ done. A.did jobs.0 done.0 × (B.did jobs.1 done.1 × (C.did jobs.2 done.2
-                × (DidSome D D.Done D.did jobs.3 done.3 × E.did jobs.4 done.4)))) }
-            ensures same { IfErr result (λ back. back ≡ jobs) }
+            requires asks { A.asks jobs.0 × (B.asks jobs.1.0 × (C.asks jobs.1.1.0
+                × (IfSome jobs.1.1.1.0 D.asks × E.asks jobs.1.1.1.1))) }
+            ensures comes { Comes _ _ (Both A.did (Both B.did (Both C.did (Both (DidSome D D.Done D.did) E.did)))) jobs result }
         { begin_in(scope, rt, lock, book, share, jobs) },
     )
 }
@@ -442,14 +426,13 @@ fn with_ledger<
 >(
     rt: &R,
     blank: Blank,
-    jobs: (A, B, C, Option<D>, E),
-) -> Result<(A::Done, B::Done, C::Done, Option<D::Done>, E::Done), (A, B, C, Option<D>, E)>
+    jobs: Five<A, B, C, Option<D>, E>,
+) -> Result<Five<A::Done, B::Done, C::Done, Option<D::Done>, E::Done>, Five<A, B, C, Option<D>, E>>
     requires name { blank.name ≡ L.name }
     requires parts { (blank.parts ≡ L.parts) × (L.parts ≡ 1) }
-    requires asks { A.asks jobs.0 × (B.asks jobs.1 × (C.asks jobs.2 × (IfSome jobs.3 D.asks × E.asks jobs.4))) }
-    ensures did { IfOk result (λ done. A.did jobs.0 done.0 × (B.did jobs.1 done.1 × (C.did jobs.2 done.2
-        × (DidSome D D.Done D.did jobs.3 done.3 × E.did jobs.4 done.4)))) }
-    ensures same { IfErr result (λ back. back ≡ jobs) }
+    requires asks { A.asks jobs.0 × (B.asks jobs.1.0 × (C.asks jobs.1.1.0
+        × (IfSome jobs.1.1.1.0 D.asks × E.asks jobs.1.1.1.1))) }
+    ensures comes { Comes _ _ (Both A.did (Both B.did (Both C.did (Both (DidSome D D.Done D.did) E.did)))) jobs result }
 {
     let (book, share) = blank.open::<L>();
     let lock = OnceLock::new();
@@ -471,9 +454,13 @@ pub fn all_at_once<R: Threads + Wait + Sync, A: Job, B: Job, C: Job, D: Job>(
     ensures same { IfErr result (λ back. (back.0 ≡ one) × ((back.1 ≡ two) × ((back.2 ≡ three) × (back.3 ≡ four)))) }
 {
     let none: Option<A> = None;
-    match with_ledger::<Brand, R, A, B, C, A, D>(rt, Blank::new(1), (one, two, three, none, four)) {
-        Ok((one, two, three, _, four)) => Ok((one, two, three, four)),
-        Err((one, two, three, _, four)) => Err((one, two, three, four)),
+    match with_ledger::<Brand, R, A, B, C, A, D>(
+        rt,
+        Blank::new(1),
+        (one, (two, (three, (none, four)))),
+    ) {
+        Ok((one, (two, (three, (_, four))))) => Ok((one, two, three, four)),
+        Err((one, (two, (three, (_, four))))) => Err((one, two, three, four)),
     }
 }
 
@@ -495,13 +482,13 @@ pub fn five_at_once<R: Threads + Wait + Sync, A: Job, B: Job, C: Job, D: Job, E:
     match with_ledger::<Brand, R, A, B, C, D, E>(
         rt,
         Blank::new(1),
-        (one, two, three, Some(four), five),
+        (one, (two, (three, (Some(four), five)))),
     ) {
-        Ok((one, two, three, four, five)) => match four {
+        Ok((one, (two, (three, (four, five))))) => match four {
             Some(four) => Ok((one, two, three, four, five)),
             None => unreachable!(),
         },
-        Err((one, two, three, four, five)) => match four {
+        Err((one, (two, (three, (four, five))))) => match four {
             Some(four) => Err((one, two, three, four, five)),
             None => unreachable!(),
         },

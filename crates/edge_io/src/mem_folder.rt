@@ -75,22 +75,32 @@ fn find<'a>(files: &'a [MemFile], name: &str) -> Option<&'a MemFile>
     None
 }
 
-// Opens the first file of that name. Failed never comes.
-fn open_in(files: &[MemFile], alloc: Global, name: &str) -> Result<MemSource, OpenFault>
+// Opens the first file of that name, and counts one more open source. OutOfMemory also where no more can be counted.
+// Failed never comes.
+fn open_in(
+    files: &[MemFile],
+    opened: &mut u64,
+    alloc: Global,
+    name: &str,
+) -> Result<MemSource, OpenFault>
     ensures found { IfOk result (λ input. bytes_at files.now name.now ≡ Some input.left) }
     ensures reads { IfOk result (λ input. IfSome (file_at files.now name.now)
         (λ file. IsFresh input.reads file.fails)) }
     ensures fresh { IfOk result (λ input. input.reads.faults ≡ 0) }
     ensures missing { IsErrOf result OpenFault.NoSuchFile ↔ bytes_at files.now name.now ≡ None }
     ensures never { IsErrOf result OpenFault.Failed → ⊥ }
+    ensures given { OnOk result (opened.new ≡ opened.old + 1) }
+    ensures not_given { OnErr result (opened.new ≡ opened.old) }
 {
-    match find(files, name) {
-        Some(file) => match file.open(alloc) {
-            Ok(input) => Ok(input),
-            Err(_) => Err(OpenFault::OutOfMemory),
-        },
-        None => Err(OpenFault::NoSuchFile),
-    }
+    let Some(file) = find(files, name) else {
+        return Err(OpenFault::NoSuchFile);
+    };
+    let input = file.open(alloc)?;
+    let Some(count) = opened.checked_add(1) else {
+        return Err(OpenFault::OutOfMemory);
+    };
+    *opened = count;
+    Ok(input)
 }
 
 // The count after one more fault, if there was one.
@@ -285,12 +295,7 @@ impl Folder for MemFolder {
         if fails {
             return Err(OpenFault::Failed);
         }
-        let input = open_in(&self.files, alloc, name)?;
-        let Some(opened) = self.opened.checked_add(1) else {
-            return Err(OpenFault::OutOfMemory);
-        };
-        self.opened = opened;
-        Ok(input)
+        open_in(&self.files, &mut self.opened, alloc, name)
     }
 
     /// Makes a sink in memory. Failed at just the numbers of `fail_calls`.

@@ -35,10 +35,11 @@ impl MemSource {
         ensures bytes { IfOk result (λ s. s.left ≡ bytes.now) }
         ensures fails { IfOk result (λ s. IsFresh s.reads fails.now) }
     {
+        let fails = Fails::new(alloc, fails)?;
         Ok(MemSource {
             bytes: bytes.to_vec(alloc)?,
             next: 0,
-            fails: Fails::new(alloc, fails)?,
+            fails,
         })
     }
 

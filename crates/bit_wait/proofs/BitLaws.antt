@@ -59,24 +59,9 @@ use Rattle.wait_class.proofs.Ways.{finish_by, go_if, load_fork, look_by, sleep_b
 use Rattle.wait_class.specs.Wholes.{HasRested}
 use Rattle.wait_class.proofs.Wholes.{Rested, begins, ended_runs, none_of, rested_idle, rested_out, rests}
 use Rattle.bit_wait.specs.BitEnds.{EndsBitWait, HasLoadedBit, IsBitCause, WasBitInterrupted, answer_of_bit_end, bit_end_in, finds_no_place}
-use Rattle.bit_wait.specs.BitTables.{
-  BitAgainTrail,
-  BitCauseIn,
-  BitFinishTrail,
-  BitTestTrail,
-  BitWhyFailed,
-  IsFreshBitWait,
-  IsRunningBitWait,
-  answer_to_bit,
-  bit_frame,
-  wait_bit_in,
-  bit_table,
-  wait_bit_call,
-  bit_end_post,
-  is_bit_worn,
-  loads_set,
-  set_to,
-}
+use Rattle.bit_wait.specs.BitTables.{BitAgainTrail, BitCauseIn, BitFinishTrail, BitTestTrail, BitWhyFailed}
+use Rattle.bit_wait.specs.BitTables.{IsFreshBitWait, IsRunningBitWait, answer_to_bit, bit_frame, wait_bit_in, bit_table}
+use Rattle.bit_wait.specs.BitTables.{wait_bit_call, bit_end_post, is_bit_worn, loads_set, set_to}
 use Rattle.bit_wait.specs.declared.waits.BitOutcome.{BitOutcome}
 use Rattle.bit_wait.specs.declared.waits.BitOutcome.TheVariants as outcome
 use Rattle.bit_wait.specs.declared.waits.BitTest.{BitTest}

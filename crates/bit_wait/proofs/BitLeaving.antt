@@ -39,16 +39,8 @@ use Rattle.wait_leave.specs.Leaves.{stays_awake, with_asked}
 use Rattle.wait_leave.specs.OnTheWay.{IsOnWay, OnTheWay}
 use Rattle.wait_leave.proofs.Ways.{awake_since, way_asked, way_domain, way_keeps, way_lands, way_plan}
 use Rattle.bit_wait.specs.BitEnds.{HasLoadedBit}
-use Rattle.bit_wait.specs.BitLeaves.{
-  EndsBitWaitUntil,
-  IsBitUntilCause,
-  LeavesBitWait,
-  bit_awake,
-  bit_exit,
-  bit_exits,
-  bit_failed_in,
-  bit_until_in,
-}
+use Rattle.bit_wait.specs.BitLeaves.{EndsBitWaitUntil, IsBitUntilCause, LeavesBitWait, bit_awake, bit_exit, bit_exits}
+use Rattle.bit_wait.specs.BitLeaves.{bit_failed_in, bit_until_in}
 use Rattle.bit_wait.specs.BitTables.{BitCauseIn, BitWhyFailed, IsFreshBitWait, bit_frame, wait_bit_in, bit_table, wait_bit_call, is_bit_worn}
 use Rattle.bit_wait.specs.LockLeaves.{IsAskedFor}
 use Rattle.bit_wait.specs.declared.wait_calls.BitEnd.{BitEnd}

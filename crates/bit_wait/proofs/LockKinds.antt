@@ -41,19 +41,9 @@ use Rattle.wait_class.proofs.Wholes.{Rested}
 use Rattle.bit_wait.specs.Holders.{IsHolder}
 use Rattle.bit_wait.specs.LockStays.{LockKeeps, TakesBit}
 use Rattle.bit_wait.proofs.Holders.{none_taken}
-use Rattle.bit_wait.proofs.LockGround.{
-  gone,
-  lock_keeps_by,
-  lock_keeps_looks,
-  lock_keeps_none,
-  lock_keeps_on,
-  lock_keeps_own,
-  lock_keeps_removed,
-  lock_keeps_same,
-  lock_keeps_set,
-  lock_keeps_step,
-  lock_keeps_unlock,
-}
+use Rattle.bit_wait.proofs.LockGround.{gone, lock_keeps_by, lock_keeps_looks, lock_keeps_none, lock_keeps_on}
+use Rattle.bit_wait.proofs.LockGround.{lock_keeps_own, lock_keeps_removed, lock_keeps_same, lock_keeps_set}
+use Rattle.bit_wait.proofs.LockGround.{lock_keeps_step, lock_keeps_unlock}
 
 -- what stays of the task
 pub lock_stays : KeepsLaws LockKeeps

@@ -35,18 +35,8 @@ use Rattle.wait_leave.specs.ExitLaws.{AreLawfulExits, AwakeOn, ExitLaw}
 use Rattle.wait_leave.specs.Leaves.{stays_awake, with_asked}
 use Rattle.wait_leave.specs.OnTheWay.{IsOnWay, OnTheWay}
 use Rattle.wait_leave.proofs.Ways.{awake_since, way_asked, way_domain, way_keeps, way_lands, way_plan}
-use Rattle.bit_wait.specs.LockLeaves.{
-  EndsBitLockUntil,
-  IsAskedFor,
-  IsUntilCause,
-  LeavesBitLock,
-  failed_in,
-  lock_awake,
-  lock_exit,
-  lock_exits,
-  takes_until,
-  until_in,
-}
+use Rattle.bit_wait.specs.LockLeaves.{EndsBitLockUntil, IsAskedFor, IsUntilCause, LeavesBitLock, failed_in, lock_awake}
+use Rattle.bit_wait.specs.LockLeaves.{lock_exit, lock_exits, takes_until, until_in}
 use Rattle.bit_wait.specs.Holders.{IsHolder}
 use Rattle.bit_wait.specs.LockStays.{LockKeeps, TakesBit}
 use Rattle.bit_wait.specs.LockTables.{CauseIn, IsFreshLock, WhyFailed, lock_bit_in, lock_end_post, is_lock_over, lock_frame, lock_table}

@@ -1,26 +1,7 @@
 -- A count is asked, cleared, and taken where it is there: the transitions, and what the calls carry on.
 use Rattle.std.proofs.Common.{◌∙◌, ap, sym, refl, subst, arith, append_assoc, append-nil, eq-eqb}
-use Rattle.std.specs.Prelude.{
-  ℕ,
-  ◌≡◌,
-  ◌≤◌,
-  ◌-◌,
-  ◌||◌,
-  ◌==◌,
-  not,
-  nat_lt,
-  if◌then◌else◌,
-  Bool,
-  true,
-  false,
-  Some,
-  None,
-  List,
-  [],
-  ◌∷◌,
-  ◌++◌,
-  MatchBool,
-}
+use Rattle.std.specs.Prelude.{ℕ, ◌≡◌, ◌≤◌, ◌-◌, ◌||◌, ◌==◌, not, nat_lt, if◌then◌else◌, Bool, true, false, Some, None}
+use Rattle.std.specs.Prelude.{List, [], ◌∷◌, ◌++◌, MatchBool}
 use Rattle.std.proofs.lemmas.Bool.Decides.{nat_tests}
 use Rattle.wait_model.specs.declared.layout.TheConstants.{ALL_DONE}
 use Rattle.wait_model.specs.declared.calls.Call.TheVariants as calls
@@ -58,15 +39,8 @@ use Rattle.wait_event.proofs.Entering.{hold_carried, looked_carried}
 use Rattle.wait_class.proofs.Ground.Going.{runs_none, runs_on}
 use Rattle.wait_class.proofs.Histories.{unlocked_history}
 use Rattle.completion_cell.specs.Asks.{HasCountedDone, Decides, HasAsked, HasReset, HasTriedCell, TakesOne, hit_answer}
-use Rattle.completion_cell.proofs.Ground.{
-  as_looks,
-  count_after_step,
-  count_loads,
-  count_locks,
-  count_peeks,
-  count_unlocks,
-  quiet_store,
-}
+use Rattle.completion_cell.proofs.Ground.{as_looks, count_after_step, count_loads, count_locks, count_peeks}
+use Rattle.completion_cell.proofs.Ground.{count_unlocks, quiet_store}
 use Rattle.completion_cell.proofs.RangedLoads.{AreSmall, called_by, set_small, small_on}
 
 -- a whole hold carries on what what is done in it changes nothing of

@@ -36,15 +36,8 @@ use Rattle.wait_class.proofs.Ground.Keeping.{keeps_none, keeps_of, keeps_on, own
 use Rattle.wait_class.proofs.Ground.Standing.{home_waits, seen_book, seen_home, seen_looks, seen_stands, still_stands}
 use Rattle.wait_class.proofs.OwnSteps.{own_goes}
 use Rattle.wait_class.proofs.Turns.{GoesOn, advance_by}
-use Rattle.completion_cell.specs.Awaits.{
-  AwaitTurn,
-  CellKeeps,
-  AwaitTells,
-  await_head,
-  await_table,
-  counted_by,
-  counted_to,
-}
+use Rattle.completion_cell.specs.Awaits.{AwaitTurn, CellKeeps, AwaitTells, await_head, await_table, counted_by}
+use Rattle.completion_cell.specs.Awaits.{counted_to}
 use Rattle.completion_cell.specs.HeldPermits.{HasBegunHold, Knows}
 use Rattle.completion_cell.specs.LoadedCounts.{InRange}
 use Rattle.completion_cell.specs.declared.awaits.AwaitCall.{AwaitCall}

@@ -30,20 +30,8 @@ use Rattle.completion_cell.specs.LoadedCounts.{InRange}
 use Rattle.completion_cell.specs.declared.awaits.AwaitCall.{AwaitCall}
 use Rattle.completion_cell.specs.declared.awaits.AwaitStage.{AwaitStage}
 use Rattle.completion_cell.specs.declared.awaits.AwaitStage.TheVariants as stage
-use Rattle.completion_cell.proofs.AwaitTrails.{
-  first_begun,
-  gives_back,
-  knows_by,
-  knows_look,
-  knows_looks,
-  knows_none,
-  knows_state,
-  knows_stayed,
-  knows_for,
-  leaves_calm,
-  leaves_for,
-  still_by,
-}
+use Rattle.completion_cell.proofs.AwaitTrails.{first_begun, gives_back, knows_by, knows_look, knows_looks, knows_none}
+use Rattle.completion_cell.proofs.AwaitTrails.{knows_state, knows_stayed, knows_for, leaves_calm, leaves_for, still_by}
 use Rattle.completion_cell.proofs.Ground.{count_after_step, head_there, looked_count}
 use Rattle.completion_cell.proofs.RangedLoads.{quiet_ranged, ranged_on}
 use Rattle.completion_cell.proofs.WaitFronts.{waits_may_end}

@@ -37,17 +37,8 @@ use Rattle.wait_leave.specs.ExitLaws.{AreLawfulExits, AwakeOn, ExitLaw}
 use Rattle.wait_leave.specs.Leaves.{GoesOut, asked_run, with_asked}
 use Rattle.wait_leave.specs.OnTheWay.{IsOnWay, OnTheWay, left_at, straight}
 use Rattle.wait_leave.proofs.Ways.{way_asked, way_keeps, way_lands, way_plan}
-use Rattle.completion_cell.specs.AwaitLeaves.{
-  EndsAwaitUntil,
-  IsAwaitLeftFor,
-  IsAwaitUntil,
-  LeavesAwait,
-  await_exit,
-  await_exits,
-  await_stopped,
-  await_until,
-  leave_awake,
-}
+use Rattle.completion_cell.specs.AwaitLeaves.{EndsAwaitUntil, IsAwaitLeftFor, IsAwaitUntil, LeavesAwait, await_exit}
+use Rattle.completion_cell.specs.AwaitLeaves.{await_exits, await_stopped, await_until, leave_awake}
 use Rattle.completion_cell.specs.Awaits.{CellKeeps, IsFreshAwait, LeavesFor, AwaitTrailEnd, WhyStopped, await_table}
 use Rattle.completion_cell.specs.HeldPermits.{Knows}
 use Rattle.completion_cell.specs.declared.awaits.AwaitCall.{AwaitCall}

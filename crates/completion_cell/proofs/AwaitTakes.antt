@@ -1,30 +1,8 @@
 -- A wait takes one of its count, and before it the own entry off where it is queued.
 use Rattle.std.proofs.Common.{◌∙◌, ap, sym, refl, subst, arith, inl}
 use Rattle.std.proofs.lemmas.Bool.Decides.{nat_tests}
-use Rattle.std.specs.Prelude.{
-  ℕ,
-  ◌≡◌,
-  ◌≢◌,
-  ◌<◌,
-  ◌≤◌,
-  ◌+◌,
-  ◌-◌,
-  ◌==◌,
-  ◌||◌,
-  not,
-  if◌then◌else◌,
-  Bool,
-  true,
-  false,
-  is_some,
-  Option,
-  Some,
-  None,
-  [],
-  ◌∷◌,
-  ◌++◌,
-  MatchBool,
-}
+use Rattle.std.specs.Prelude.{ℕ, ◌≡◌, ◌≢◌, ◌<◌, ◌≤◌, ◌+◌, ◌-◌, ◌==◌, ◌||◌, not, if◌then◌else◌, Bool, true, false}
+use Rattle.std.specs.Prelude.{is_some, Option, Some, None, [], ◌∷◌, ◌++◌, MatchBool}
 use Rattle.wait_model.specs.declared.layout.TheConstants.{ALL_DONE, COMPLETIONS, HEADS}
 use Rattle.wait_model.specs.declared.calls.Event.TheVariants as event
 use Rattle.wait_model.specs.declared.points.AwaitPoint.TheVariants as awaiting
@@ -70,17 +48,8 @@ use Rattle.wait_class.specs.Laws.{Calm, IsPlainTurn, is_quiet_event, turn_post}
 use Rattle.wait_class.specs.declared.stages.Run.{Run}
 use Rattle.wait_class.specs.declared.stages.Turn.TheVariants as turn
 use Rattle.wait_class.proofs.Ground.Keeping.{keeps_none, keeps_of, keeps_on, keeps_taken, own_keeps}
-use Rattle.wait_class.proofs.Ground.Standing.{
-  carried_stands,
-  finds_own,
-  owner_own,
-  seen_book,
-  seen_home,
-  seen_looks,
-  seen_off,
-  seen_shows,
-  seen_stands,
-}
+use Rattle.wait_class.proofs.Ground.Standing.{carried_stands, finds_own, owner_own, seen_book, seen_home, seen_looks}
+use Rattle.wait_class.proofs.Ground.Standing.{seen_off, seen_shows, seen_stands}
 use Rattle.wait_class.proofs.CalmSteps.{calm_on, calm_removed, calm_saw, calm_unlock}
 use Rattle.wait_class.proofs.Histories.{unlocked_history}
 use Rattle.wait_class.proofs.Locks.{back_looks, back_stands, back_up}
@@ -89,29 +58,10 @@ use Rattle.wait_class.proofs.Turns.{GoesOn, advance_by}
 use Rattle.wait_event.specs.Waits.{is_queue}
 use Rattle.wait_event.proofs.Tellings.{quiet_queues}
 use Rattle.completion_cell.specs.Asks.{HasCountedDone, TakesOne}
-use Rattle.completion_cell.specs.Awaits.{
-  AwaitTurn,
-  CellKeeps,
-  FoundSome,
-  HasGivenBack,
-  IsUnqueued,
-  ParesAwait,
-  QuitsFrom,
-  TakesFrom,
-  AwaitTells,
-  AwaitTrail,
-  WhyStopped,
-  await_call,
-  await_head,
-  await_table,
-  await_watch,
-  await_end_post,
-  last_stage,
-  off_stage,
-  await_point_at,
-  quit_stage,
-  take_stage,
-}
+use Rattle.completion_cell.specs.Awaits.{AwaitTurn, CellKeeps, FoundSome, HasGivenBack, IsUnqueued, ParesAwait}
+use Rattle.completion_cell.specs.Awaits.{QuitsFrom, TakesFrom, AwaitTells, AwaitTrail, WhyStopped, await_call}
+use Rattle.completion_cell.specs.Awaits.{await_head, await_table, await_watch, await_end_post, last_stage, off_stage}
+use Rattle.completion_cell.specs.Awaits.{await_point_at, quit_stage, take_stage}
 use Rattle.completion_cell.specs.HeldPermits.{Deals, Knows, WaitsIn}
 use Rattle.completion_cell.specs.LoadedCounts.{InRange}
 use Rattle.completion_cell.specs.declared.awaits.AwaitCall.{AwaitCall}

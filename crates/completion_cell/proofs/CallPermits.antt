@@ -21,21 +21,9 @@ use Rattle.wq_head.specs.Holds.{HasLocked}
 use Rattle.wq_head.specs.Selects.{HasSelected}
 use Rattle.completion_cell.specs.Asks.{HasCountedDone}
 use Rattle.completion_cell.proofs.Asking.{none_held}
-use Rattle.completion_cell.proofs.Permits.{
-  Inside,
-  MayEndHold,
-  hold_made,
-  inside_join,
-  inside_none,
-  inside_step,
-  load_owes,
-  lowers,
-  nobody,
-  raises,
-  selection_inside,
-  store_inside,
-  store_owes,
-}
+use Rattle.completion_cell.proofs.Permits.{Inside, MayEndHold, hold_made, inside_join, inside_none, inside_step}
+use Rattle.completion_cell.proofs.Permits.{load_owes, lowers, nobody, raises, selection_inside, store_inside}
+use Rattle.completion_cell.proofs.Permits.{store_owes}
 
 -- a load without the lock
 pub ask_off : (old a : Known) (d v : ℕ) → a ≡ added old (item.Made (step.Load (watch.Done d) v))

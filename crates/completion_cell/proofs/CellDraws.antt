@@ -18,15 +18,8 @@ use Rattle.completion_cell.specs.declared.cell_turns.CellRun.{CellRun}
 use Rattle.completion_cell.specs.declared.cell_turns.CellStage.TheVariants as stage
 use Rattle.completion_cell.specs.declared.cell_turns.CellTurn.{CellTurn}
 use Rattle.completion_cell.specs.declared.cell_turns.CellTurn.TheVariants as turn
-use Rattle.completion_cell.specs.CellTurns.{
-  HasCellTurned,
-  HoldsForCell,
-  IsAtCell,
-  IsCellOver,
-  CellRests,
-  cell_head,
-  peeks_first,
-}
+use Rattle.completion_cell.specs.CellTurns.{HasCellTurned, HoldsForCell, IsAtCell, IsCellOver, CellRests, cell_head}
+use Rattle.completion_cell.specs.CellTurns.{peeks_first}
 use Rattle.completion_cell.proofs.Asking.{asked_none, free_on, tried_none}
 use Rattle.completion_cell.proofs.CallPermits.{ask_off}
 use Rattle.completion_cell.proofs.Ground.{head_there}

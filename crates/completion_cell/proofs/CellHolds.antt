@@ -22,27 +22,10 @@ use Rattle.completion_cell.specs.declared.cell_turns.CellCall.TheVariants as cal
 use Rattle.completion_cell.specs.Asks.{HasCountedDone, TakesOne}
 use Rattle.completion_cell.specs.CellTurns.{HasPeeked, HoldsForCell, IsCellOver, cell_head}
 use Rattle.completion_cell.specs.Completes.{RaisesOne}
-use Rattle.completion_cell.proofs.Asking.{
-  behind_load,
-  clears_none,
-  free_on,
-  is_done_asked,
-  none_held,
-  reinit_reset,
-  take_carried,
-  tried_some,
-  try_carried,
-  try_counted,
-  whole_carried,
-}
-use Rattle.completion_cell.proofs.CallPermits.{
-  ask_off,
-  complete_all_hold,
-  complete_hold,
-  is_done_hold,
-  reinit_hold,
-  try_hold,
-}
+use Rattle.completion_cell.proofs.Asking.{behind_load, clears_none, free_on, is_done_asked, none_held, reinit_reset}
+use Rattle.completion_cell.proofs.Asking.{take_carried, tried_some, try_carried, try_counted, whole_carried}
+use Rattle.completion_cell.proofs.CallPermits.{ask_off, complete_all_hold, complete_hold, is_done_hold, reinit_hold}
+use Rattle.completion_cell.proofs.CallPermits.{try_hold}
 use Rattle.completion_cell.proofs.Completing.{all_at, all_carried, all_holds, complete_at, complete_carried, complete_counted, complete_holds, complete_simple, has_completed, has_completed_all, stored_agreed}
 use Rattle.completion_cell.proofs.Permits.{MayEndHold, ends_off, ends_owing_none}
 

@@ -1,21 +1,7 @@
 -- The loads and stores of a count wake nobody.
 use Rattle.std.proofs.Common.{ap, sym, refl, subst}
-use Rattle.std.specs.Prelude.{
-  ℕ,
-  ◌≡◌,
-  ◌+◌,
-  ◌-◌,
-  ◌||◌,
-  ◌==◌,
-  nat_lt,
-  if◌then◌else◌,
-  Bool,
-  true,
-  false,
-  [],
-  ◌∷◌,
-  MatchBool,
-}
+use Rattle.std.specs.Prelude.{ℕ, ◌≡◌, ◌+◌, ◌-◌, ◌||◌, ◌==◌, nat_lt, if◌then◌else◌, Bool, true, false, [], ◌∷◌}
+use Rattle.std.specs.Prelude.{MatchBool}
 use Rattle.wait_model.specs.declared.layout.TheConstants.{ALL_DONE}
 use Rattle.wait_model.specs.declared.steps.Step.TheVariants as step
 use Rattle.wait_model.specs.declared.watches.Watch.TheVariants as watch

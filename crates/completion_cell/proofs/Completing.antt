@@ -1,29 +1,7 @@
 -- A completion is made done: the transitions, and what the calls carry on.
 use Rattle.std.proofs.Common.{◌∙◌, ap, sym, refl, subst, arith, inl, inr, eq-eqb, eqb-true}
-use Rattle.std.specs.Prelude.{
-  ℕ,
-  ◌≡◌,
-  ◌≢◌,
-  ◌<◌,
-  ◌≤◌,
-  ◌+◌,
-  ◌⊎◌,
-  ◌&&◌,
-  ◌||◌,
-  ◌==◌,
-  not,
-  nat_lt,
-  if◌then◌else◌,
-  Bool,
-  true,
-  false,
-  Some,
-  None,
-  [],
-  ◌∷◌,
-  ◌++◌,
-  MatchBool,
-}
+use Rattle.std.specs.Prelude.{ℕ, ◌≡◌, ◌≢◌, ◌<◌, ◌≤◌, ◌+◌, ◌⊎◌, ◌&&◌, ◌||◌, ◌==◌, not, nat_lt, if◌then◌else◌, Bool, true}
+use Rattle.std.specs.Prelude.{false, Some, None, [], ◌∷◌, ◌++◌, MatchBool}
 use Rattle.std.proofs.lemmas.Bool.Decides.{nat_tests}
 use Rattle.wait_model.specs.declared.layout.TheConstants.{ALL_DONE, FIRST_SIMPLE_HEAD}
 use Rattle.wait_model.specs.declared.calls.Call.{Call}
@@ -51,15 +29,8 @@ use Rattle.wait_rule.specs.HeldValues.{count_in}
 use Rattle.wait_rule.specs.Known.{Known}
 use Rattle.wait_rule.specs.Queues.{IsTold, IsWholeBook, MayRise, index, simple_watch, walk_of_hold}
 use Rattle.wait_rule.specs.Says.{IsFree, Excuse, added, history_of, told_of, unlocked_with, OwesBut}
-use Rattle.wait_rule.specs.Stays.{
-  Carries,
-  lock_change,
-  only_looks,
-  publish_change,
-  unchanged,
-  unlock_change,
-  with_wakes,
-}
+use Rattle.wait_rule.specs.Stays.{Carries, lock_change, only_looks, publish_change, unchanged, unlock_change}
+use Rattle.wait_rule.specs.Stays.{with_wakes}
 use Rattle.wait_rule.specs.Transitions.{by_step, call_program}
 use Rattle.wait_rule.proofs.KnownLaws.AfterSteps.{told_added}
 use Rattle.wait_rule.proofs.KnownLaws.CarriedTasks.{unchanged_none}

@@ -29,19 +29,9 @@ use Rattle.completion_cell.specs.AwaitEnds.{EndsAwait, HasAwaited, await_end_in}
 use Rattle.wait_class.specs.Tables.{Advances, IsAt, IsEnded, Plan}
 use Rattle.wait_class.specs.declared.stages.Run.{Run}
 use Rattle.wait_class.specs.declared.stages.Turn.TheVariants as turn
-use Rattle.completion_cell.specs.Awaits.{
-  CellKeeps,
-  FoundNoPlaceForCell,
-  HasGivenBack,
-  IsFreshAwait,
-  AwaitTrailEnd,
-  WasAwaitSignalled,
-  WhyStopped,
-  answer_to_await,
-  await_table,
-  await_watch,
-  await_left_by,
-}
+use Rattle.completion_cell.specs.Awaits.{CellKeeps, FoundNoPlaceForCell, HasGivenBack, IsFreshAwait, AwaitTrailEnd}
+use Rattle.completion_cell.specs.Awaits.{WasAwaitSignalled, WhyStopped, answer_to_await, await_table, await_watch}
+use Rattle.completion_cell.specs.Awaits.{await_left_by}
 use Rattle.completion_cell.specs.declared.awaits.AwaitOutcome.{AwaitOutcome}
 use Rattle.completion_cell.specs.declared.awaits.AwaitOutcome.TheVariants as outcome
 use Rattle.completion_cell.specs.declared.awaits.AwaitCall.{AwaitCall}

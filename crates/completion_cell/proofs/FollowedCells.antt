@@ -1,23 +1,8 @@
 -- What a task makes of a call on a completion follows the sentence of the call: the counts that it has loaded are in
 -- their range, and while it holds the head its count stays as its hold has loaded it.
 use Rattle.std.proofs.Common.{refl, sym, ◌∙◌, ap, subst, arith, append_assoc, eq-eqb}
-use Rattle.std.specs.Prelude.{
-  ℕ,
-  ◌≡◌,
-  ◌≤◌,
-  ◌==◌,
-  Bool,
-  true,
-  false,
-  if◌then◌else◌,
-  Option,
-  Some,
-  None,
-  List,
-  [],
-  ◌∷◌,
-  ◌++◌,
-}
+use Rattle.std.specs.Prelude.{ℕ, ◌≡◌, ◌≤◌, ◌==◌, Bool, true, false, if◌then◌else◌, Option, Some, None, List, [], ◌∷◌}
+use Rattle.std.specs.Prelude.{◌++◌}
 use Rattle.wait_model.specs.declared.layout.TheConstants.{ALL_DONE}
 use Rattle.wait_model.specs.declared.calls.Answer.{Answer}
 use Rattle.wait_model.specs.declared.calls.Call.{Call}
@@ -60,48 +45,19 @@ use Rattle.wait_rule.specs.Queues.{index}
 use Rattle.wait_rule.specs.Rule.{IsRuled}
 use Rattle.wait_rule.specs.SaidEvents.{MayOpen, said}
 use Rattle.wait_rule.specs.Says.{history_of, told_of}
-use Rattle.wait_rule.specs.Transitions.{
-  Finds,
-  FindsAt,
-  Goes,
-  IsMadeFor,
-  IsSeenAs,
-  OnlyLooks,
-  Program,
-  StepOrLook,
-  Transition,
-  after_step_or_look,
-  after_transition,
-  by_look,
-  by_step,
-  call_program,
-}
+use Rattle.wait_rule.specs.Transitions.{Finds, FindsAt, Goes, IsMadeFor, IsSeenAs, OnlyLooks, Program, StepOrLook}
+use Rattle.wait_rule.specs.Transitions.{Transition, after_step_or_look, after_transition, by_look, by_step}
+use Rattle.wait_rule.specs.Transitions.{call_program}
 use Rattle.wait_rule.proofs.KnownLaws.HandedSteps.{OrderStep, order_step}
 use Rattle.wait_rule.proofs.KnownLaws.HeldCounts.{counts_next}
 use Rattle.wait_rule.proofs.KnownLaws.Moments.{kept_of, moment_of}
-use Rattle.wait_rule.proofs.SaidEvents.Fronts.{
-  IsOff,
-  off_on,
-  off_still,
-  queued_before,
-  step_follows,
-  step_history,
-  steps_made,
-}
+use Rattle.wait_rule.proofs.SaidEvents.Fronts.{IsOff, off_on, off_still, queued_before, step_follows, step_history}
+use Rattle.wait_rule.proofs.SaidEvents.Fronts.{steps_made}
 use Rattle.wait_rule.proofs.SaidEvents.OwnFindings.{own_off}
 use Rattle.wait_rule.proofs.TableSteps.ItemLists.{steps_append}
 use Rattle.completion_cell.specs.LoadedCounts.{AreInRange, InRange}
-use Rattle.completion_cell.proofs.CellPoints.{
-  FindsThere,
-  ShowsLoad,
-  cell_spoken,
-  is_cell_point,
-  loads_at,
-  loads_shown,
-  reads_entry,
-  unspoken,
-  uses_at,
-}
+use Rattle.completion_cell.proofs.CellPoints.{FindsThere, ShowsLoad, cell_spoken, is_cell_point, loads_at, loads_shown}
+use Rattle.completion_cell.proofs.CellPoints.{reads_entry, unspoken, uses_at}
 use Rattle.completion_cell.proofs.Ground.{looked_count, value_append}
 
 -- in each table of an interleaving a held count stands as its hold has loaded or stored it

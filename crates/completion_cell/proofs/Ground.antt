@@ -1,23 +1,7 @@
 -- Events of a completion's calls, and what holds of a completion's head carry on.
 use Rattle.std.proofs.Common.{◌∙◌, ap, sym, refl, subst, arith}
-use Rattle.std.specs.Prelude.{
-  ℕ,
-  ◌≡◌,
-  ◌<◌,
-  ◌||◌,
-  ◌==◌,
-  if◌then◌else◌,
-  Bool,
-  true,
-  false,
-  pos,
-  Option,
-  None,
-  List,
-  [],
-  ◌∷◌,
-  ◌++◌,
-}
+use Rattle.std.specs.Prelude.{ℕ, ◌≡◌, ◌<◌, ◌||◌, ◌==◌, if◌then◌else◌, Bool, true, false, pos, Option, None, List, []}
+use Rattle.std.specs.Prelude.{◌∷◌, ◌++◌}
 use Rattle.wait_model.specs.declared.layout.TheConstants.{COMPLETIONS, HEADS}
 use Rattle.wait_model.specs.declared.calls.Call.{Call}
 use Rattle.wait_model.specs.declared.calls.Event.{Event}
@@ -46,20 +30,8 @@ use Rattle.wait_rule.specs.HeldValues.{count_in, value_after, value_from}
 use Rattle.wait_rule.specs.Items.{steps_of}
 use Rattle.wait_rule.specs.Queues.{at_head, walk_of_hold}
 use Rattle.wait_rule.specs.Stays.{Carries, only_looks, unchanged}
-use Rattle.wait_rule.specs.Transitions.{
-  AreLooks,
-  OnlyLooks,
-  Program,
-  FindsAt,
-  Finds,
-  IsAbout,
-  IsMadeFor,
-  IsStepFor,
-  StepOrLook,
-  after_step_or_look,
-  by_step,
-  call_program,
-}
+use Rattle.wait_rule.specs.Transitions.{AreLooks, OnlyLooks, Program, FindsAt, Finds, IsAbout, IsMadeFor, IsStepFor}
+use Rattle.wait_rule.specs.Transitions.{StepOrLook, after_step_or_look, by_step, call_program}
 use Rattle.wait_rule.proofs.KnownLaws.HeldCounts.{value_snoc}
 use Rattle.wait_rule.proofs.KnownLaws.Transitions.{only_none}
 use Rattle.wait_rule.proofs.TableSteps.ItemLists.{steps_append}

@@ -27,17 +27,8 @@ use Rattle.wait_model.proofs.WaitLaws.OutsideStages.{either}
 use Rattle.wait_rule.specs.Items.{steps_of}
 use Rattle.wait_rule.specs.Known.{Known}
 use Rattle.wait_rule.specs.Says.{history_of}
-use Rattle.wait_rule.specs.Transitions.{
-  Goes,
-  IsMadeFor,
-  Program,
-  StepOrLook,
-  Transition,
-  after_transition,
-  by_look,
-  by_step,
-  call_program,
-}
+use Rattle.wait_rule.specs.Transitions.{Goes, IsMadeFor, Program, StepOrLook, Transition, after_transition, by_look}
+use Rattle.wait_rule.specs.Transitions.{by_step, call_program}
 use Rattle.wait_rule.proofs.SaidEvents.Fronts.{history_grows, looks_history, step_history, steps_made}
 use Rattle.wait_class.specs.Laws.{is_quiet_event}
 use Rattle.wait_class.specs.Posts.{Runs}

@@ -18,17 +18,8 @@ use Rattle.wait_model.specs.declared.points.PreparePoint.TheVariants as preparin
 use Rattle.wait_model.specs.declared.points.Seen.{Seen}
 use Rattle.wait_model.specs.declared.tasks.SleepState.{SleepState}
 use Rattle.wait_model.specs.Points.{call_head, call_number, is_bit_wait, state_in}
-use Rattle.wait_model.specs.Programs.{
-  await_after,
-  await_ends,
-  is_at_end,
-  load,
-  look_event,
-  program,
-  program_start,
-  signalled,
-  zero_answer,
-}
+use Rattle.wait_model.specs.Programs.{await_after, await_ends, is_at_end, load, look_event, program, program_start}
+use Rattle.wait_model.specs.Programs.{signalled, zero_answer}
 use Rattle.wait_model.specs.Selections.{IsSignalledHold, signalled_hold}
 use Rattle.wait_model.specs.Tasks.{looks_in, pending, state_mask}
 use Rattle.wait_model.proofs.AccountLaws.Refusals.{refusal}

@@ -1,43 +1,13 @@
 -- What the steps of a wait's hold leave of permits, by the task's history, and that a hold which owes nothing may end.
 use Rattle.std.proofs.Common.{refl, sym, ◌∙◌, ap, subst, arith, append_assoc, append-nil, eq-eqb, inl, inr}
-use Rattle.std.specs.Prelude.{
-  ℕ,
-  ◌≡◌,
-  ◌≢◌,
-  ◌+◌,
-  ◌-◌,
-  ◌==◌,
-  ◌&&◌,
-  not,
-  Bool,
-  true,
-  false,
-  if◌then◌else◌,
-  Option,
-  Some,
-  List,
-  [],
-  ◌∷◌,
-  ◌++◌,
-}
+use Rattle.std.specs.Prelude.{ℕ, ◌≡◌, ◌≢◌, ◌+◌, ◌-◌, ◌==◌, ◌&&◌, not, Bool, true, false, if◌then◌else◌, Option, Some}
+use Rattle.std.specs.Prelude.{List, [], ◌∷◌, ◌++◌}
 use Rattle.wait_model.specs.declared.steps.Step.{Step}
 use Rattle.wait_model.specs.declared.steps.Step.TheVariants as step
 use Rattle.wait_model.specs.declared.watches.Watch.TheVariants as watch
 use Rattle.wait_model.specs.Fold.{after, view_of}
-use Rattle.wait_model.specs.Permits.{
-  Dealt,
-  MayGiveBack,
-  after_read,
-  after_store,
-  count_after,
-  dealt,
-  debt_after,
-  done_head,
-  is_in,
-  is_seen,
-  leaves,
-  none_dealt,
-}
+use Rattle.wait_model.specs.Permits.{Dealt, MayGiveBack, after_read, after_store, count_after, dealt, debt_after}
+use Rattle.wait_model.specs.Permits.{done_head, is_in, is_seen, leaves, none_dealt}
 use Rattle.wait_model.specs.Runs.{own}
 use Rattle.wait_model.specs.Views.{View, Look, unseen, off, shown, look_at, blank}
 use Rattle.wait_model.specs.Watches.{stands_at}
@@ -53,16 +23,8 @@ use Rattle.wait_rule.specs.Says.{history_of, told_of}
 use Rattle.wait_rule.proofs.KnownLaws.CalledPermits.{order_as}
 use Rattle.wait_rule.proofs.KnownLaws.HandedPermits.{cell_is}
 use Rattle.wait_rule.proofs.KnownLaws.HandedSteps.{order_front}
-use Rattle.completion_cell.specs.HeldPermits.{
-  Deals,
-  HasLoadedCount,
-  Held,
-  IsOfWait,
-  WaitsForPermit,
-  WaitsIn,
-  counted_in_cell,
-  still_owed_in_cell,
-}
+use Rattle.completion_cell.specs.HeldPermits.{Deals, HasLoadedCount, Held, IsOfWait, WaitsForPermit, WaitsIn}
+use Rattle.completion_cell.specs.HeldPermits.{counted_in_cell, still_owed_in_cell}
 
 pub wait_head : (v : View) (x : ℕ) (o : Option ℕ) (e : Step) → IsOfWait x o e → (after e v).hold.head ≡ v.hold.head
 wait_head v x o (step.Saw y w) is = refl

@@ -21,15 +21,8 @@ use Rattle.wait_event.proofs.Words.{list_of}
 use Rattle.completion_cell.specs.AwaitEnds.{answer_of_await}
 use Rattle.completion_cell.specs.Asks.{hit_answer}
 use Rattle.completion_cell.specs.LoadedCounts.{AreInRange}
-use Rattle.completion_cell.specs.Words.{
-  AllsFollow,
-  AsksFollow,
-  AwaitsFollow,
-  AwaitsHeed,
-  CompletesFollow,
-  ResetsFollow,
-  TryWaitsFollow,
-}
+use Rattle.completion_cell.specs.Words.{AllsFollow, AsksFollow, AwaitsFollow, AwaitsHeed, CompletesFollow, ResetsFollow}
+use Rattle.completion_cell.specs.Words.{TryWaitsFollow}
 use Rattle.completion_cell.proofs.FollowedCells.{cells_follow}
 use Rattle.completion_cell.proofs.StoppedAwaits.{awaits_stop}
 

@@ -1,22 +1,7 @@
 -- What an opening of an end, its closing, and the completion at the end of a worker's work leave of it.
 use Rattle.std.proofs.Common.{refl, sym, ◌∙◌, ap, subst, inl, inr, append-nil, append_assoc, arith}
-use Rattle.std.specs.Prelude.{
-  ℕ,
-  ◌≡◌,
-  ◌++◌,
-  ◌==◌,
-  ◌&&◌,
-  ◌||◌,
-  not,
-  if◌then◌else◌,
-  Bool,
-  true,
-  false,
-  None,
-  List,
-  [],
-  ◌∷◌,
-}
+use Rattle.std.specs.Prelude.{ℕ, ◌≡◌, ◌++◌, ◌==◌, ◌&&◌, ◌||◌, not, if◌then◌else◌, Bool, true, false, None, List, []}
+use Rattle.std.specs.Prelude.{◌∷◌}
 use Rattle.std.proofs.lemmas.Bool.{cases_eq}
 use Rattle.std.proofs.lemmas.Bool.Decides.{nat_tests}
 use Rattle.wait_model.specs.declared.calls.Call.TheVariants as calls
@@ -36,25 +21,8 @@ use Rattle.wait_rule.specs.Known.{Known}
 use Rattle.wait_rule.specs.Pipes.{End, closed, new_end, refused_item, was_refused}
 use Rattle.wait_rule.specs.PipeSays.{EndBecomes, EndsStay, end_at}
 use Rattle.wait_rule.specs.Queues.{index}
-use Rattle.wait_rule.specs.Says.{
-  Debts,
-  Obligation,
-  Excuse,
-  IsFree,
-  IsOutBut,
-  IsUp,
-  OwesBut,
-  OwesNothing,
-  added,
-  end_unclosed,
-  excuses,
-  has_duty,
-  has_end,
-  no_excuse,
-  page_asked,
-  told_of,
-  wake_of,
-}
+use Rattle.wait_rule.specs.Says.{Debts, Obligation, Excuse, IsFree, IsOutBut, IsUp, OwesBut, OwesNothing, added}
+use Rattle.wait_rule.specs.Says.{end_unclosed, excuses, has_duty, has_end, no_excuse, page_asked, told_of, wake_of}
 use Rattle.wait_rule.specs.Stays.{Carries, claim_change, with_end}
 use Rattle.wait_rule.specs.Transitions.{call_program}
 use Rattle.wait_rule.proofs.KnownLaws.AsideCalls.{calls_grow_aside}

@@ -14,19 +14,8 @@ use Rattle.copy_plan.specs.declared.stop.Stop.TheVariants as stop
 use Rattle.copy_plan.specs.declared.stop.WorkerEnd.{WorkerEnd}
 use Rattle.copy_ends.specs.Did.{IsIdler, Refused, RelayDid, RelayWorked, Served}
 use Rattle.copy_turns.specs.Turns.{IsRelayStop, Relaying}
-use Rattle.copy_ends.proofs.Ends.{
-  Closes,
-  Finishes,
-  Fails,
-  Leaves,
-  Opens,
-  end_closed,
-  leaves_then,
-  owes_swapped,
-  refused_later,
-  works_idler,
-  worn_later,
-}
+use Rattle.copy_ends.proofs.Ends.{Closes, Finishes, Fails, Leaves, Opens, end_closed, leaves_then, owes_swapped}
+use Rattle.copy_ends.proofs.Ends.{refused_later, works_idler, worn_later}
 use Rattle.copy_turns.proofs.PartLaws.{counted_none, counted_sums, grows_then, sums_counted, took_later}
 use Rattle.copy_turns.proofs.Relays.{relay_before}
 use Rattle.copy_turns.proofs.Stopping.{finished_map, taken_map, untaken}

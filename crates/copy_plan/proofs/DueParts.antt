@@ -1,27 +1,8 @@
 -- Signals of a plan: which are due among the first of them, and how many.
 use Rattle.std.proofs.Common.{ap, ◌∙◌, append-nil, length-append, arith}
 use Rattle.std.proofs.lemmas.List.{take_more, length-take-le}
-use Rattle.std.specs.Prelude.{
-  ℕ,
-  ◌≡◌,
-  ◌≤◌,
-  ◌<◌,
-  ◌+◌,
-  ◌++◌,
-  ◌&&◌,
-  Bool,
-  true,
-  false,
-  if◌then◌else◌,
-  nat_le,
-  List,
-  [],
-  ◌∷◌,
-  length,
-  take,
-  get_or,
-  refl,
-}
+use Rattle.std.specs.Prelude.{ℕ, ◌≡◌, ◌≤◌, ◌<◌, ◌+◌, ◌++◌, ◌&&◌, Bool, true, false, if◌then◌else◌, nat_le, List, []}
+use Rattle.std.specs.Prelude.{◌∷◌, length, take, get_or, refl}
 use Rattle.std.proofs.lemmas.Bool.Decides.{nat_tests}
 use Rattle.copy_plan.specs.declared.plan.Planned.{Planned}
 use Rattle.copy_plan.specs.Plans.{due_in, fatal_of, up_to}

@@ -1,22 +1,7 @@
 -- Signals of a plan that become due in several steps: those of each step together are those of all.
 use Rattle.std.proofs.Common.{refl, sym, ◌∙◌, ap, subst, arith}
-use Rattle.std.specs.Prelude.{
-  ℕ,
-  ◌≡◌,
-  ◌≤◌,
-  ◌<◌,
-  ◌+◌,
-  ◌&&◌,
-  Bool,
-  true,
-  false,
-  if◌then◌else◌,
-  nat_le,
-  List,
-  [],
-  ◌∷◌,
-  length,
-}
+use Rattle.std.specs.Prelude.{ℕ, ◌≡◌, ◌≤◌, ◌<◌, ◌+◌, ◌&&◌, Bool, true, false, if◌then◌else◌, nat_le, List, [], ◌∷◌}
+use Rattle.std.specs.Prelude.{length}
 use Rattle.std.proofs.lemmas.Bool.Decides.{nat_tests}
 use Rattle.copy_plan.specs.declared.plan.Planned.{Planned}
 use Rattle.copy_plan.specs.Plans.{due_in, fatal_of}

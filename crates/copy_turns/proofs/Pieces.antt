@@ -1,24 +1,8 @@
 -- Pieces that a worker puts into a pipe or takes out of it, one after another, and what ends such a part.
 use Rattle.std.proofs.Common.{refl, sym, ◌∙◌, ap, subst, append-nil, take-add, length-append, arith}
 use Rattle.std.proofs.lemmas.List.{length-take-le, take_all, take-append-drop}
-use Rattle.std.specs.Prelude.{
-  ℕ,
-  ◌≡◌,
-  ◌+◌,
-  ◌-◌,
-  ◌≤◌,
-  ◌++◌,
-  Result,
-  Ok,
-  Err,
-  IfErr,
-  MatchResult,
-  List,
-  [],
-  length,
-  take,
-  drop,
-}
+use Rattle.std.specs.Prelude.{ℕ, ◌≡◌, ◌+◌, ◌-◌, ◌≤◌, ◌++◌, Result, Ok, Err, IfErr, MatchResult, List, [], length, take}
+use Rattle.std.specs.Prelude.{drop}
 use Rattle.edge_io.proofs.Known.{take-rest}
 use Rattle.wait_rule.specs.Aside.{Grows}
 use Rattle.wait_rule.specs.Known.{Known}
@@ -31,17 +15,8 @@ use Rattle.copy_plan.specs.declared.stop.Halt.TheVariants as halt
 use Rattle.copy_turns.specs.Turns.{CountedAll, HasGotBytes, HandedAll, HandedFront}
 use Rattle.copy_turns.specs.Work.{Apart, HaltsBy, IsAtWork, IsHalt, IsOwnHalt}
 use Rattle.copy_turns.proofs.Frames.{own_kills, piece_works}
-use Rattle.copy_turns.proofs.PartLaws.{
-  halt_before,
-  moved_ends,
-  moved_none,
-  moved_then,
-  sums_counted,
-  sums_then,
-  took_before,
-  works_same,
-  works_then,
-}
+use Rattle.copy_turns.proofs.PartLaws.{halt_before, moved_ends, moved_none, moved_then, sums_counted, sums_then}
+use Rattle.copy_turns.proofs.PartLaws.{took_before, works_same, works_then}
 use Rattle.copy_turns.proofs.Stopping.{own_halt}
 
 pub got_none : (k : ℕ) (a : Known) → IsAtWork a → IsSettled (end_at k a) → HasGotBytes k a a []

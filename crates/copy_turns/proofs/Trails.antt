@@ -10,18 +10,8 @@ use Rattle.wait_pipe.specs.declared.pieces.PipeEnd.TheVariants as pipe_end
 use Rattle.wait_pipe.specs.Pieces.{IsReadCause}
 use Rattle.wait_pipe.specs.Trails.{ReadsPiece, WritesPiece}
 use Rattle.copy_plan.specs.declared.stop.Halt.{Halt}
-use Rattle.copy_turns.specs.Transfers.{
-  Again,
-  GetsPiece,
-  Heard,
-  InterruptedRead,
-  Puts,
-  PutsWhole,
-  SendsEach,
-  heard_again,
-  one_more,
-  took_front,
-}
+use Rattle.copy_turns.specs.Transfers.{Again, GetsPiece, Heard, InterruptedRead, Puts, PutsWhole, SendsEach}
+use Rattle.copy_turns.specs.Transfers.{heard_again, one_more, took_front}
 use Rattle.copy_turns.specs.Work.{GoesOnBy, HaltsBy}
 
 -- what is left of a text, as it is passed to a call

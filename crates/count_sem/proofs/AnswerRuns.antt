@@ -13,20 +13,8 @@ use Rattle.wait_rule.specs.Items.{steps_of}
 use Rattle.wait_rule.specs.Known.{Known}
 use Rattle.wait_rule.specs.LeftEntries.{Order}
 use Rattle.wait_rule.specs.Says.{history_of}
-use Rattle.wait_rule.specs.Transitions.{
-  AreLooks,
-  Finds,
-  Goes,
-  IsMadeFor,
-  IsStepFor,
-  OnlyLooks,
-  Program,
-  StepOrLook,
-  Transition,
-  after_transition,
-  by_look,
-  by_step,
-}
+use Rattle.wait_rule.specs.Transitions.{AreLooks, Finds, Goes, IsMadeFor, IsStepFor, OnlyLooks, Program, StepOrLook}
+use Rattle.wait_rule.specs.Transitions.{Transition, after_transition, by_look, by_step}
 use Rattle.wait_rule.proofs.KnownLaws.HandedSteps.{OrderStep, order_front, order_step}
 use Rattle.wait_rule.proofs.SaidEvents.Fronts.{looks_history, step_follows, step_history, steps_made}
 

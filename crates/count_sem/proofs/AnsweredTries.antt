@@ -1,23 +1,7 @@
 -- What a `try_down` takes, by its answer.
 use Rattle.std.proofs.Common.{refl, ◌∙◌, ap, subst, arith, eq-eqb, inl, inr}
-use Rattle.std.specs.Prelude.{
-  ℕ,
-  suc,
-  ◌≡◌,
-  ◌+◌,
-  ◌-◌,
-  ◌==◌,
-  ◌⊎◌,
-  pos,
-  Bool,
-  true,
-  false,
-  if◌then◌else◌,
-  List,
-  [],
-  ◌∷◌,
-  ◌++◌,
-}
+use Rattle.std.specs.Prelude.{ℕ, suc, ◌≡◌, ◌+◌, ◌-◌, ◌==◌, ◌⊎◌, pos, Bool, true, false, if◌then◌else◌, List, [], ◌∷◌}
+use Rattle.std.specs.Prelude.{◌++◌}
 use Rattle.wait_model.specs.declared.layout.TheConstants.{ALL_DONE}
 use Rattle.wait_model.specs.declared.calls.Answer.{Answer}
 use Rattle.wait_model.specs.declared.calls.Answer.TheVariants as answer
@@ -56,31 +40,12 @@ use Rattle.count_sem.specs.SemAnswers.{CountsMore, TriesAreCounted}
 use Rattle.count_sem.specs.SemPermits.{IsRaise, IsSemStep, permits_given, permits_taken, takes_permit}
 use Rattle.count_sem.specs.SemPrograms.{sem_head, try_down_plan}
 use Rattle.count_sem.proofs.AnswerRuns.{LooksHold, PointsHold, run_holds}
-use Rattle.count_sem.proofs.AnsweredUps.{
-  Has,
-  Stands,
-  has_still,
-  has_take,
-  load_quiet,
-  locked,
-  look_stands,
-  quietly,
-  unleft_look,
-  unlock_quiet,
-}
+use Rattle.count_sem.proofs.AnsweredUps.{Has, Stands, has_still, has_take, load_quiet, locked, look_stands, quietly}
+use Rattle.count_sem.proofs.AnsweredUps.{unleft_look, unlock_quiet}
 use Rattle.count_sem.proofs.LoadedEnds.{HasLoadedEnd, found_end, loaded_on}
 use Rattle.count_sem.proofs.SemCalls.{low_of, some_of, taken_less}
-use Rattle.count_sem.proofs.SemPoints.{
-  FoundLow,
-  IsIn,
-  found_low,
-  in_on,
-  loads_it,
-  lock_in,
-  low_on,
-  lowers_one,
-  saw_keeps,
-}
+use Rattle.count_sem.proofs.SemPoints.{FoundLow, IsIn, found_low, in_on, loads_it, lock_in, low_on, lowers_one}
+use Rattle.count_sem.proofs.SemPoints.{saw_keeps}
 
 -- the points of a `try_down` of a task that has given g permits, and taken t, before
 abbrev took_in : ℕ → Answer → ℕ

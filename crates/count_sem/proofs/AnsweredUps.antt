@@ -1,32 +1,8 @@
 -- What an `up` gives, by its answer.
 use Rattle.std.proofs.Common.{refl, sym, ◌∙◌, ap, subst, arith, eq-eqb}
 use Rattle.std.proofs.lemmas.Bool.Decides.{nat_tests}
-use Rattle.std.specs.Prelude.{
-  ℕ,
-  zero,
-  ◌≡◌,
-  ◌+◌,
-  ◌==◌,
-  ◌&&◌,
-  ◌||◌,
-  not,
-  nat_lt,
-  pos,
-  Bool,
-  true,
-  false,
-  if◌then◌else◌,
-  Option,
-  Some,
-  None,
-  Result,
-  Ok,
-  Err,
-  List,
-  [],
-  ◌∷◌,
-  ◌++◌,
-}
+use Rattle.std.specs.Prelude.{ℕ, zero, ◌≡◌, ◌+◌, ◌==◌, ◌&&◌, ◌||◌, not, nat_lt, pos, Bool, true, false, if◌then◌else◌}
+use Rattle.std.specs.Prelude.{Option, Some, None, Result, Ok, Err, List, [], ◌∷◌, ◌++◌}
 use Rattle.wait_model.specs.declared.layout.TheConstants.{ALL_DONE}
 use Rattle.wait_model.specs.declared.calls.Answer.{Answer}
 use Rattle.wait_model.specs.declared.calls.Answer.TheVariants as answer
@@ -63,25 +39,13 @@ use Rattle.wait_rule.specs.Known.{Known}
 use Rattle.wait_rule.specs.LeftEntries.{Order}
 use Rattle.wait_rule.specs.Says.{history_of}
 use Rattle.wait_rule.specs.Transitions.{Finds, FindsStep, IsMadeFor, IsStepFor, Program, by_look, by_step}
-use Rattle.wait_rule.proofs.KnownLaws.HandedSteps.{
-  AddsLow,
-  IsAwayAt,
-  OrderStep,
-  away_next,
-  off_there,
-  order_front,
-  order_view,
-}
+use Rattle.wait_rule.proofs.KnownLaws.HandedSteps.{AddsLow, IsAwayAt, OrderStep, away_next, off_there, order_front}
+use Rattle.wait_rule.proofs.KnownLaws.HandedSteps.{order_view}
 use Rattle.wait_rule.proofs.SaidEvents.Fronts.{history_grows, number_stays}
 use Rattle.wait_class.specs.Tables.{plan_program}
 use Rattle.count_sem.specs.declared.ups.SemFull.{SemFull}
 use Rattle.count_sem.specs.SemAnswers.{CountsMore, UpsAreCounted, up_gives}
-use Rattle.count_sem.specs.SemPermits.{
-  gives_permit,
-  permits_given,
-  permits_taken,
-  takes_permit,
-}
+use Rattle.count_sem.specs.SemPermits.{gives_permit, permits_given, permits_taken, takes_permit}
 use Rattle.count_sem.specs.SemPrograms.{is_full, sem_head, up_next, up_plan}
 use Rattle.count_sem.specs.Ups.{up_answer}
 use Rattle.count_sem.proofs.AnswerRuns.{LooksHold, PointsHold, run_holds}

@@ -1,24 +1,8 @@
 -- The count is loaded in a hold of a `down`.
 use Rattle.std.proofs.Common.{◌∙◌, ap, sym, refl, subst, arith, eq-eqb, append_assoc, eqb-true}
 use Rattle.std.proofs.lemmas.Bool.Decides.{nat_tests}
-use Rattle.std.specs.Prelude.{
-  ℕ,
-  ◌≡◌,
-  ◌≤◌,
-  ◌==◌,
-  ◌||◌,
-  Bool,
-  true,
-  false,
-  is_some,
-  if◌then◌else◌,
-  Option,
-  Some,
-  None,
-  [],
-  ◌∷◌,
-  ◌++◌,
-}
+use Rattle.std.specs.Prelude.{ℕ, ◌≡◌, ◌≤◌, ◌==◌, ◌||◌, Bool, true, false, is_some, if◌then◌else◌, Option, Some, None}
+use Rattle.std.specs.Prelude.{[], ◌∷◌, ◌++◌}
 use Rattle.wait_model.specs.declared.layout.TheConstants.{ALL_DONE}
 use Rattle.wait_model.specs.declared.calls.Answer.TheVariants as answer
 use Rattle.wait_model.specs.declared.points.AwaitPoint.TheVariants as awaiting
@@ -57,16 +41,8 @@ use Rattle.wait_class.specs.declared.stages.Run.{Run}
 use Rattle.wait_class.specs.declared.stages.Turn.TheVariants as turn
 use Rattle.wait_class.proofs.CalmSteps.{calm_saw}
 use Rattle.wait_class.proofs.Ground.Keeping.{keeps_none, keeps_of, keeps_on, own_keeps}
-use Rattle.wait_class.proofs.Ground.Standing.{
-  finds_own,
-  home_waits,
-  seen_book,
-  seen_home,
-  seen_looks,
-  seen_off,
-  seen_shows,
-  seen_stands,
-}
+use Rattle.wait_class.proofs.Ground.Standing.{finds_own, home_waits, seen_book, seen_home, seen_looks, seen_off}
+use Rattle.wait_class.proofs.Ground.Standing.{seen_shows, seen_stands}
 use Rattle.wait_class.proofs.OwnSteps.{own_goes}
 use Rattle.wait_class.proofs.Turns.{GoesOn, advance_by}
 use Rattle.wait_event.specs.Waits.{is_queue}
@@ -75,20 +51,8 @@ use Rattle.completion_cell.proofs.AwaitCounts.{still_stands_at}
 use Rattle.completion_cell.proofs.AwaitTrails.{again_begun, load_loaded}
 use Rattle.completion_cell.proofs.Ground.{count_after_step, step_behind}
 use Rattle.count_sem.specs.SemPrograms.{again_next}
-use Rattle.count_sem.specs.Downs.{
-  DownKeeps,
-  DownTurn,
-  FoundZero,
-  HasCount,
-  HasWalk,
-  again_by,
-  again_to,
-  down_head,
-  down_post,
-  down_table,
-  first_by,
-  first_to,
-}
+use Rattle.count_sem.specs.Downs.{DownKeeps, DownTurn, FoundZero, HasCount, HasWalk, again_by, again_to, down_head}
+use Rattle.count_sem.specs.Downs.{down_post, down_table, first_by, first_to}
 use Rattle.count_sem.specs.declared.downs.DownCall.{DownCall}
 use Rattle.count_sem.specs.declared.downs.DownOutcome.TheVariants as outcome
 use Rattle.count_sem.specs.declared.downs.DownStage.{DownStage}

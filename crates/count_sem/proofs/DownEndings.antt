@@ -39,21 +39,8 @@ use Rattle.wait_event.specs.Waits.{has_queued_in}
 use Rattle.completion_cell.proofs.HoldTurns.{head_apart}
 use Rattle.completion_cell.proofs.OtherCells.{IsAside, aside_stays}
 use Rattle.count_sem.specs.SemPrograms.{down_plan, down_program, joined, joins, sem_head}
-use Rattle.count_sem.specs.Downs.{
-  DownKeeps,
-  FoundNoSeat,
-  FoundDownSignal,
-  IsFreshDown,
-  OutFor,
-  StoodThere,
-  WentOutOfDown,
-  down_answer,
-  down_post,
-  down_table,
-  down_watch,
-  found_zero,
-  left_queue,
-}
+use Rattle.count_sem.specs.Downs.{DownKeeps, FoundNoSeat, FoundDownSignal, IsFreshDown, OutFor, StoodThere}
+use Rattle.count_sem.specs.Downs.{WentOutOfDown, down_answer, down_post, down_table, down_watch, found_zero, left_queue}
 use Rattle.count_sem.specs.DownEnds.{EndsDown, down_end_in}
 use Rattle.count_sem.specs.declared.downs.DownCall.{DownCall}
 use Rattle.count_sem.specs.declared.downs.DownOutcome.{DownOutcome}

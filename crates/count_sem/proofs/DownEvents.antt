@@ -1,30 +1,8 @@
 -- The events of a `down`, and what each makes of the permits that its task has given and taken.
 use Rattle.std.proofs.Common.{refl, sym, ◌∙◌, ap, subst, arith, eq-eqb, inl, inr}
 use Rattle.std.proofs.lemmas.Bool.Decides.{nat_tests}
-use Rattle.std.specs.Prelude.{
-  ℕ,
-  zero,
-  suc,
-  ◌≡◌,
-  ◌+◌,
-  ◌-◌,
-  ◌<◌,
-  ◌≤◌,
-  ◌==◌,
-  ◌||◌,
-  Bool,
-  true,
-  false,
-  is_some,
-  if◌then◌else◌,
-  Option,
-  Some,
-  None,
-  List,
-  [],
-  ◌∷◌,
-  ◌++◌,
-}
+use Rattle.std.specs.Prelude.{ℕ, zero, suc, ◌≡◌, ◌+◌, ◌-◌, ◌<◌, ◌≤◌, ◌==◌, ◌||◌, Bool, true, false, is_some}
+use Rattle.std.specs.Prelude.{if◌then◌else◌, Option, Some, None, List, [], ◌∷◌, ◌++◌}
 use Rattle.wait_model.specs.declared.layout.TheConstants.{ALL_DONE, ENTRIES}
 use Rattle.wait_model.specs.declared.calls.Answer.TheVariants as answer
 use Rattle.wait_model.specs.declared.calls.Event.TheVariants as event
@@ -68,82 +46,26 @@ use Rattle.wait_rule.specs.Known.{Known}
 use Rattle.wait_rule.specs.Queues.{index}
 use Rattle.wait_rule.specs.Says.{history_of, told_of}
 use Rattle.wait_rule.specs.Shown.{shown_entry, shown_queue}
-use Rattle.wait_rule.specs.Transitions.{
-  Finds,
-  FindsFirst,
-  FindsStep,
-  IsMadeFor,
-  IsSeenAs,
-  IsStepFor,
-  Program,
-  by_look,
-  by_step,
-}
+use Rattle.wait_rule.specs.Transitions.{Finds, FindsFirst, FindsStep, IsMadeFor, IsSeenAs, IsStepFor, Program, by_look}
+use Rattle.wait_rule.specs.Transitions.{by_step}
 use Rattle.wait_rule.proofs.KnownLaws.HandedSteps.{OrderStep}
 use Rattle.wq_head.proofs.MemberStands.{look_is_shown}
 use Rattle.wq_head.proofs.ShownQueue.{queue_in_order}
 use Rattle.count_sem.specs.SemPermits.{IsRaise, IsSemStep, takes_permit}
-use Rattle.count_sem.specs.SemPrograms.{
-  again_next,
-  down_part,
-  joined,
-  pass_gives,
-  pass_next,
-  sem_head,
-  sem_lock,
-  sem_set,
-  sem_unlock,
-}
+use Rattle.count_sem.specs.SemPrograms.{again_next, down_part, joined, pass_gives, pass_next, sem_head, sem_lock}
+use Rattle.count_sem.specs.SemPrograms.{sem_set, sem_unlock}
 use Rattle.count_sem.proofs.AnswerRuns.{PointsHold}
 use Rattle.count_sem.proofs.AnsweredUps.{Has, has_still, has_take, locked}
-use Rattle.count_sem.proofs.DownHolds.{
-  HasCome,
-  IsAsleep,
-  IsCalm,
-  IsGone,
-  IsPast,
-  IsSpent,
-  IsStill,
-  IsThere,
-  IsWaiting,
-  agrees_in,
-  asleep_on,
-  asleep_unlock,
-  come_lock,
-  gone_on,
-  gone_spent,
-  load_calm,
-  look_calm,
-  own_look,
-  past_unlock,
-  shows_some,
-  sleep_calm,
-  some_shows,
-  spent_off,
-  spent_on,
-  spent_other,
-  state_calm,
-  still_shows,
-  there_on,
-  there_queue,
-  waiting_on,
-  waiting_spent,
-  wake_calm,
-}
+use Rattle.count_sem.proofs.DownHolds.{HasCome, IsAsleep, IsCalm, IsGone, IsPast, IsSpent, IsStill, IsThere, IsWaiting}
+use Rattle.count_sem.proofs.DownHolds.{agrees_in, asleep_on, asleep_unlock, come_lock, gone_on, gone_spent, load_calm}
+use Rattle.count_sem.proofs.DownHolds.{look_calm, own_look, past_unlock, shows_some, sleep_calm, some_shows, spent_off}
+use Rattle.count_sem.proofs.DownHolds.{spent_on, spent_other, state_calm, still_shows, there_on, there_queue}
+use Rattle.count_sem.proofs.DownHolds.{waiting_on, waiting_spent, wake_calm}
 use Rattle.count_sem.proofs.DownPermits.{DownHolds, DownPlace, downer}
 use Rattle.count_sem.proofs.LoadedEnds.{HasLoadedEnd, at_end, found_end, loaded_on}
 use Rattle.count_sem.proofs.SemCalls.{low_of, some_of}
-use Rattle.count_sem.proofs.SemPoints.{
-  FoundLow,
-  IsIn,
-  found_low,
-  loads_it,
-  lock_in,
-  low_on,
-  lowers_one,
-  nobody_first,
-  off_keeps,
-}
+use Rattle.count_sem.proofs.SemPoints.{FoundLow, IsIn, found_low, loads_it, lock_in, low_on, lowers_one, nobody_first}
+use Rattle.count_sem.proofs.SemPoints.{off_keeps}
 
 -- no event of a `down` is a look for members
 abbrev NoScan : Planned → Type 0

@@ -2,27 +2,8 @@
 -- there, and which looks take a permit.
 use Rattle.std.proofs.Common.{refl, sym, ◌∙◌, ap, subst, eq-eqb, inl, inr}
 use Rattle.std.proofs.lemmas.Bool.Decides.{eqb_tells}
-use Rattle.std.specs.Prelude.{
-  ℕ,
-  ◌≡◌,
-  ◌≢◌,
-  ◌+◌,
-  ◌⊎◌,
-  ◌==◌,
-  ◌&&◌,
-  not,
-  Bool,
-  true,
-  false,
-  if◌then◌else◌,
-  Option,
-  Some,
-  None,
-  List,
-  [],
-  ◌∷◌,
-  ◌++◌,
-}
+use Rattle.std.specs.Prelude.{ℕ, ◌≡◌, ◌≢◌, ◌+◌, ◌⊎◌, ◌==◌, ◌&&◌, not, Bool, true, false, if◌then◌else◌, Option, Some}
+use Rattle.std.specs.Prelude.{None, List, [], ◌∷◌, ◌++◌}
 use Rattle.wait_model.specs.declared.calls.Event.TheVariants as event
 use Rattle.wait_model.specs.declared.points.Given.{Given}
 use Rattle.wait_model.specs.declared.steps.Step.{Step}
@@ -35,17 +16,8 @@ use Rattle.wait_model.specs.Fold.{after, holding, view_of}
 use Rattle.wait_model.specs.Permits.{Dealt, dealt, done_head, is_in, is_seen, leaves, none_dealt, shows_at}
 use Rattle.wait_model.specs.Runs.{own}
 use Rattle.wait_model.specs.Tables.{Table}
-use Rattle.wait_model.specs.Views.{
-  Hold,
-  Look,
-  View,
-  blank,
-  elsewhere,
-  look_at,
-  off as taken_off,
-  shown,
-  unseen as not_seen,
-}
+use Rattle.wait_model.specs.Views.{Hold, Look, View, blank, elsewhere, look_at, off as taken_off, shown}
+use Rattle.wait_model.specs.Views.{unseen as not_seen}
 use Rattle.wait_model.specs.Watches.{head_of, stands_at}
 use Rattle.wait_model.specs.Words.{entry_of}
 use Rattle.wait_model.proofs.Functions.{put_at, put_other}

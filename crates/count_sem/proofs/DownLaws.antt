@@ -15,20 +15,8 @@ use Rattle.wait_rule.specs.Stays.{with_left_entry}
 use Rattle.wait_rule.specs.Transitions.{OnlyLooks, StepOrLook, Transition}
 use Rattle.wait_rule.proofs.KnownLaws.Transitions.{only_looked}
 use Rattle.wait_class.specs.Posts.{own_of}
-use Rattle.wait_class.specs.Laws.{
-  Calm,
-  DrawLaw,
-  HasJoined,
-  IsLawfulCallTable,
-  LawOf,
-  LockLaw,
-  LookLaw,
-  PareLaw,
-  QueueLaw,
-  SleepLaw,
-  StateLaw,
-  UnlockLaw,
-}
+use Rattle.wait_class.specs.Laws.{Calm, DrawLaw, HasJoined, IsLawfulCallTable, LawOf, LockLaw, LookLaw, PareLaw}
+use Rattle.wait_class.specs.Laws.{QueueLaw, SleepLaw, StateLaw, UnlockLaw}
 use Rattle.wait_class.specs.declared.stages.Turn.TheVariants as turn
 use Rattle.wait_class.proofs.Histories.{stored_history, unmoved_by}
 use Rattle.wait_class.proofs.Ground.Standing.{owner_own}
@@ -38,33 +26,16 @@ use Rattle.wait_class.proofs.Ways.{look_by, sleep_by, way}
 use Rattle.wait_event.specs.Waits.{is_queue, has_queued_in}
 use Rattle.wait_event.proofs.Tellings.{or_none, queues_append, quiet_queues}
 use Rattle.completion_cell.specs.HeldPermits.{Knows}
-use Rattle.completion_cell.proofs.AwaitTrails.{
-  first_begun,
-  knows_by,
-  knows_look,
-  knows_looks,
-  knows_none,
-  knows_off,
-  knows_saw,
-  knows_state,
-  knows_stayed,
-}
+use Rattle.completion_cell.proofs.AwaitTrails.{first_begun, knows_by, knows_look, knows_looks, knows_none, knows_off}
+use Rattle.completion_cell.proofs.AwaitTrails.{knows_saw, knows_state, knows_stayed}
 use Rattle.completion_cell.proofs.Ground.{count_after_step, head_there, looked_count}
 use Rattle.completion_cell.proofs.WaitFronts.{waits_may_end}
 use Rattle.count_sem.specs.Downs.{DownTells, GaveBack, down_depth, down_doing, down_head, down_table}
 use Rattle.count_sem.specs.declared.downs.DownCall.{DownCall}
 use Rattle.count_sem.specs.declared.downs.DownStage.{DownStage}
 use Rattle.count_sem.specs.declared.downs.DownStage.TheVariants as stage
-use Rattle.count_sem.proofs.DownTrails.{
-  gave_back,
-  left_given,
-  left_none,
-  left_taken,
-  lock_walk,
-  out_signal,
-  still_down,
-  zero_on,
-}
+use Rattle.count_sem.proofs.DownTrails.{gave_back, left_given, left_none, left_taken, lock_walk, out_signal, still_down}
+use Rattle.count_sem.proofs.DownTrails.{zero_on}
 
 -- what the run tells
 pub told_by : (r q : DownCall) (x : Transition) → q.cell ≡ r.cell → q.state ≡ r.state → q.queued ≡ r.queued

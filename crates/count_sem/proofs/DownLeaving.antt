@@ -1,22 +1,7 @@
 -- A `down` that its task leaves; one that nobody asked to leave is such a one.
 use Rattle.std.proofs.Common.{◌∙◌, ap, append-nil, sym, refl, subst}
-use Rattle.std.specs.Prelude.{
-  ℕ,
-  ◌≡◌,
-  ◌≢◌,
-  Bool,
-  true,
-  false,
-  if◌then◌else◌,
-  is_some,
-  Option,
-  Some,
-  None,
-  Result,
-  List,
-  [],
-  ◌∷◌,
-}
+use Rattle.std.specs.Prelude.{ℕ, ◌≡◌, ◌≢◌, Bool, true, false, if◌then◌else◌, is_some, Option, Some, None, Result, List}
+use Rattle.std.specs.Prelude.{[], ◌∷◌}
 use Rattle.wait_model.specs.declared.points.FinishPoint.TheVariants as finishing
 use Rattle.wait_model.specs.declared.points.Planned.{Planned}
 use Rattle.wait_model.specs.declared.points.Point.{Point}
@@ -51,45 +36,18 @@ use Rattle.wait_leave.specs.Leaves.{GoesOut, asked_run, with_asked}
 use Rattle.wait_leave.specs.OnTheWay.{IsOnWay, OnTheWay, left_at, straight}
 use Rattle.wait_leave.proofs.Ways.{way_asked, way_keeps, way_lands, way_plan}
 use Rattle.completion_cell.proofs.OtherCells.{IsAside, aside_on}
-use Rattle.count_sem.specs.DownLeaves.{
-  ClosesDown,
-  EndsDownUntil,
-  IsDownLeftFor,
-  IsDownUntil,
-  LeavesDown,
-  down_exit,
-  down_exits,
-  end_until,
-  out_awake,
-  stopped_until,
-}
-use Rattle.count_sem.specs.Downs.{
-  DownKeeps,
-  DownTrailEnd,
-  FoundZero,
-  GaveBack,
-  IsFreshDown,
-  OutFor,
-  down_table,
-  left_queue,
-  looked_by,
-}
+use Rattle.count_sem.specs.DownLeaves.{ClosesDown, EndsDownUntil, IsDownLeftFor, IsDownUntil, LeavesDown, down_exit}
+use Rattle.count_sem.specs.DownLeaves.{down_exits, end_until, out_awake, stopped_until}
+use Rattle.count_sem.specs.Downs.{DownKeeps, DownTrailEnd, FoundZero, GaveBack, IsFreshDown, OutFor, down_table}
+use Rattle.count_sem.specs.Downs.{left_queue, looked_by}
 use Rattle.count_sem.specs.declared.down_calls.SemEnd.{SemEnd}
 use Rattle.count_sem.specs.declared.downs.DownCall.{DownCall}
 use Rattle.count_sem.specs.declared.downs.DownOutcome.{DownOutcome}
 use Rattle.count_sem.specs.declared.downs.DownOutcome.TheVariants as outcome
 use Rattle.count_sem.specs.declared.downs.DownStage.{DownStage}
 use Rattle.count_sem.specs.declared.downs.DownStage.TheVariants as stage
-use Rattle.count_sem.proofs.DownEndings.{
-  StandsBehind,
-  behind_carried,
-  behind_clean,
-  behind_idle,
-  down_adds,
-  part_runs,
-  plain_behind,
-  stays_off_by,
-}
+use Rattle.count_sem.proofs.DownEndings.{StandsBehind, behind_carried, behind_clean, behind_idle, down_adds, part_runs}
+use Rattle.count_sem.proofs.DownEndings.{plain_behind, stays_off_by}
 use Rattle.count_sem.proofs.DownLaws.{down_lawful}
 use Rattle.count_sem.proofs.DownPasses.{given_by, passed_adds, passed_behind, passed_here}
 use Rattle.count_sem.proofs.DownTrails.{still_down}

@@ -24,30 +24,9 @@ use Rattle.wait_rule.proofs.KnownLaws.HandedSteps.{IsAwayAt, away_next}
 use Rattle.count_sem.specs.SemPrograms.{down_program}
 use Rattle.count_sem.proofs.AnswerRuns.{LooksHold}
 use Rattle.count_sem.proofs.AnsweredUps.{Has, has_still, unleft_look}
-use Rattle.count_sem.proofs.DownHolds.{
-  HasCome,
-  IsAsleep,
-  IsGone,
-  IsPast,
-  IsSpent,
-  IsThere,
-  IsWaiting,
-  asleep_saw,
-  come_saw,
-  gone_saw,
-  gone_spent,
-  has_left,
-  has_past,
-  has_saw,
-  left_more,
-  past_saw,
-  saw_shows,
-  spent_saw,
-  there_saw,
-  there_spent,
-  waiting_saw,
-  waiting_spent,
-}
+use Rattle.count_sem.proofs.DownHolds.{HasCome, IsAsleep, IsGone, IsPast, IsSpent, IsThere, IsWaiting, asleep_saw}
+use Rattle.count_sem.proofs.DownHolds.{come_saw, gone_saw, gone_spent, has_left, has_past, has_saw, left_more, past_saw}
+use Rattle.count_sem.proofs.DownHolds.{saw_shows, spent_saw, there_saw, there_spent, waiting_saw, waiting_spent}
 use Rattle.count_sem.proofs.LoadedEnds.{HasLoadedEnd, loaded_on}
 use Rattle.count_sem.proofs.SemPoints.{FoundLow, IsIn, in_on, low_on, saw_keeps}
 

@@ -1,23 +1,7 @@
 -- What the stages of a `down` say of its last steps, over one event and the next.
 use Rattle.std.proofs.Common.{◌∙◌, ap, sym, refl, subst, append-nil, eqb-true}
-use Rattle.std.specs.Prelude.{
-  ℕ,
-  ◌≡◌,
-  ◌==◌,
-  ◌&&◌,
-  if◌then◌else◌,
-  Bool,
-  true,
-  false,
-  is_some,
-  Option,
-  Some,
-  None,
-  List,
-  [],
-  ◌∷◌,
-  ◌++◌,
-}
+use Rattle.std.specs.Prelude.{ℕ, ◌≡◌, ◌==◌, ◌&&◌, if◌then◌else◌, Bool, true, false, is_some, Option, Some, None, List}
+use Rattle.std.specs.Prelude.{[], ◌∷◌, ◌++◌}
 use Rattle.wait_model.specs.declared.steps.Step.{Step}
 use Rattle.wait_model.specs.declared.steps.Step.TheVariants as step
 use Rattle.wait_model.specs.declared.watches.Aim.{Aim}
@@ -43,22 +27,8 @@ use Rattle.completion_cell.proofs.Completing.{done_simple}
 use Rattle.completion_cell.proofs.HeldSteps.{held_by}
 use Rattle.completion_cell.proofs.WaitFronts.{waits_on}
 use Rattle.count_sem.specs.SemPrograms.{sem_head}
-use Rattle.count_sem.specs.Downs.{
-  DownTrail,
-  FoundDownSignal,
-  FoundZero,
-  GaveBack,
-  HasCount,
-  HasFoundZero,
-  HasLeftDown,
-  HasWalk,
-  OutFor,
-  SeesOwn,
-  WentOutOfDown,
-  down_head,
-  found_zero,
-  looked_by,
-}
+use Rattle.count_sem.specs.Downs.{DownTrail, FoundDownSignal, FoundZero, GaveBack, HasCount, HasFoundZero, HasLeftDown}
+use Rattle.count_sem.specs.Downs.{HasWalk, OutFor, SeesOwn, WentOutOfDown, down_head, found_zero, looked_by}
 use Rattle.count_sem.specs.declared.downs.DownCall.{DownCall}
 use Rattle.count_sem.specs.declared.downs.DownStage.{DownStage}
 use Rattle.count_sem.specs.declared.downs.DownStage.TheVariants as stage

@@ -2,30 +2,8 @@
 use Rattle.std.proofs.Common.{◌∙◌, ap, sym, refl, subst, arith}
 use Rattle.std.proofs.lemmas.Bool.Decides.{nat_tests}
 use Rattle.std.proofs.lemmas.List.{get_or-map, length-map}
-use Rattle.std.specs.Prelude.{
-  ℕ,
-  ◌≡◌,
-  ◌<◌,
-  ◌≤◌,
-  ◌+◌,
-  ◌-◌,
-  ◌/◌,
-  ◌%◌,
-  nat_lt,
-  if◌then◌else◌,
-  Bool,
-  true,
-  false,
-  Option,
-  Some,
-  None,
-  List,
-  length,
-  map,
-  slice_index,
-  slice_index_or,
-  MatchBool,
-}
+use Rattle.std.specs.Prelude.{ℕ, ◌≡◌, ◌<◌, ◌≤◌, ◌+◌, ◌-◌, ◌/◌, ◌%◌, nat_lt, if◌then◌else◌, Bool, true, false, Option}
+use Rattle.std.specs.Prelude.{Some, None, List, length, map, slice_index, slice_index_or, MatchBool}
 use Rattle.wait_model.specs.declared.layout.TheConstants.{ENTRIES, SLOTS, TASKS}
 use Rattle.wait_model.specs.declared.entry_words.EntryWord.{EntryWord}
 use Rattle.wait_model.specs.declared.queues.CalledEntry.{CalledEntry}

@@ -46,16 +46,8 @@ use Rattle.wait_class.proofs.Ground.Going.{runs_looks, runs_on, runs_one}
 use Rattle.completion_cell.specs.Asks.{HasCountedDone}
 use Rattle.completion_cell.proofs.Completing.{done_simple, stored_agreed}
 use Rattle.completion_cell.proofs.Ground.{looked_count, quiet_store}
-use Rattle.completion_cell.proofs.Permits.{
-  inside_join,
-  inside_looks,
-  inside_step,
-  nobody,
-  selection_inside,
-  store_inside,
-  store_owes,
-  unlocked_steps,
-}
+use Rattle.completion_cell.proofs.Permits.{inside_join, inside_looks, inside_step, nobody, selection_inside}
+use Rattle.completion_cell.proofs.Permits.{store_inside, store_owes, unlocked_steps}
 use Rattle.count_sem.specs.SemPrograms.{down_program, gives_to, joined, pass_gives, pass_point, sem_head}
 use Rattle.count_sem.specs.Downs.{down_table}
 use Rattle.count_sem.specs.Passes.{HasPassedOn, HasWaiter, pass_change}

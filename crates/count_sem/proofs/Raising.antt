@@ -1,27 +1,8 @@
 -- A permit is given back: to the first who waits, or to the count.
 use Rattle.std.proofs.Common.{◌∙◌, ap, sym, refl, subst, arith, inl, inr, eq-eqb, append_assoc}
 use Rattle.std.proofs.lemmas.Bool.Decides.{nat_tests}
-use Rattle.std.specs.Prelude.{
-  ℕ,
-  ◌≡◌,
-  ◌<◌,
-  ◌≤◌,
-  ◌+◌,
-  ◌-◌,
-  ◌⊎◌,
-  if◌then◌else◌,
-  Bool,
-  true,
-  false,
-  Option,
-  Some,
-  None,
-  Err,
-  Ok,
-  [],
-  ◌∷◌,
-  ◌++◌,
-}
+use Rattle.std.specs.Prelude.{ℕ, ◌≡◌, ◌<◌, ◌≤◌, ◌+◌, ◌-◌, ◌⊎◌, if◌then◌else◌, Bool, true, false, Option, Some, None}
+use Rattle.std.specs.Prelude.{Err, Ok, [], ◌∷◌, ◌++◌}
 use Rattle.wait_model.specs.declared.layout.TheConstants.{FIRST_SIMPLE_HEAD}
 use Rattle.wait_model.specs.declared.calls.Call.TheVariants as calls
 use Rattle.wait_model.specs.declared.points.CountPoint.{CountPoint}
@@ -47,18 +28,8 @@ use Rattle.wait_rule.specs.LeftEntries.{LeftOff}
 use Rattle.wait_rule.specs.Queues.{IsTold, IsWholeBook, index, simple_watch, walk_of_hold}
 use Rattle.wait_rule.specs.Says.{Excuse, IsFree, IsUp, OwesBut, added, history_of, told_of, unlocked_with}
 use Rattle.wait_rule.specs.Shown.{shown_entry}
-use Rattle.wait_rule.specs.Stays.{
-  Carries,
-  Stays,
-  StaysOwing,
-  lock_change,
-  no_entries,
-  only_looks,
-  publish_change,
-  unchanged,
-  unlock_change,
-  with_wakes,
-}
+use Rattle.wait_rule.specs.Stays.{Carries, Stays, StaysOwing, lock_change, no_entries, only_looks, publish_change}
+use Rattle.wait_rule.specs.Stays.{unchanged, unlock_change, with_wakes}
 use Rattle.wait_rule.specs.Transitions.{OnlyLooks, Program, by_step}
 use Rattle.wait_rule.proofs.KnownLaws.CarriedCounts.{as_publish}
 use Rattle.wait_rule.proofs.KnownLaws.CarriedTasks.{unchanged_none}
@@ -87,31 +58,14 @@ use Rattle.completion_cell.specs.Asks.{HasCountedDone}
 use Rattle.completion_cell.proofs.Asking.{none_held}
 use Rattle.completion_cell.proofs.Completing.{done_simple, stored_agreed}
 use Rattle.completion_cell.proofs.Ground.{count_after_step, quiet_store, step_behind}
-use Rattle.completion_cell.proofs.Permits.{
-  MayEndHold,
-  ends_off,
-  ends_owing_none,
-  hold_made,
-  inside_join,
-  inside_step,
-  nobody,
-  selection_inside,
-  store_inside,
-}
+use Rattle.completion_cell.proofs.Permits.{MayEndHold, ends_off, ends_owing_none, hold_made, inside_join, inside_step}
+use Rattle.completion_cell.proofs.Permits.{nobody, selection_inside, store_inside}
 use Rattle.count_sem.specs.declared.ups.TheConstants.{FULL}
 use Rattle.count_sem.specs.SemPrograms.{full_answer, gives_to, is_full, sem_head, up_next, up_plan}
 use Rattle.count_sem.specs.Ups.{FoundNobody, HasRaised}
 use Rattle.count_sem.proofs.FirstWaiters.{gives_runs}
-use Rattle.count_sem.proofs.SemBooks.{
-  SameBook,
-  book_load,
-  book_on,
-  book_store,
-  nobody_on,
-  simple_loaded,
-  simple_stored,
-  whole_on,
-}
+use Rattle.count_sem.proofs.SemBooks.{SameBook, book_load, book_on, book_store, nobody_on, simple_loaded, simple_stored}
+use Rattle.count_sem.proofs.SemBooks.{whole_on}
 
 -- what an `up` carries on: the lock, looks, what is counted, and the unlock
 module _ (d : ℕ) (old a m b new : Known) (spent : Bool) (free : IsFree old) (told : IsTold old)

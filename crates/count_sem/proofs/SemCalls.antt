@@ -1,29 +1,8 @@
 -- The three programs of semaphores, point by point.
 use Rattle.std.proofs.Common.{refl, sym, ◌∙◌, ap, subst, arith, inl, inr}
 use Rattle.std.proofs.lemmas.Bool.Decides.{eqb_tells, nat_tests}
-use Rattle.std.specs.Prelude.{
-  ℕ,
-  zero,
-  suc,
-  ◌≡◌,
-  ◌≢◌,
-  ◌-◌,
-  ◌<◌,
-  ◌==◌,
-  ◌||◌,
-  Bool,
-  true,
-  false,
-  if◌then◌else◌,
-  is_some,
-  Option,
-  Some,
-  None,
-  List,
-  [],
-  ◌∷◌,
-  ◌++◌,
-}
+use Rattle.std.specs.Prelude.{ℕ, zero, suc, ◌≡◌, ◌≢◌, ◌-◌, ◌<◌, ◌==◌, ◌||◌, Bool, true, false, if◌then◌else◌, is_some}
+use Rattle.std.specs.Prelude.{Option, Some, None, List, [], ◌∷◌, ◌++◌}
 use Rattle.wait_model.specs.declared.layout.TheConstants.{ALL_DONE}
 use Rattle.wait_model.specs.declared.calls.Answer.TheVariants as answer
 use Rattle.wait_model.specs.declared.calls.Event.TheVariants as event
@@ -59,47 +38,14 @@ use Rattle.wait_rule.specs.Transitions.{Finds, FindsStep, IsStepFor, Program, by
 use Rattle.wait_rule.proofs.SaidEvents.Fronts.{number_stays}
 use Rattle.wait_class.specs.Posts.{Runs}
 use Rattle.wait_class.specs.Tables.{plan_program}
-use Rattle.count_sem.specs.SemPrograms.{
-  again_next,
-  down_part,
-  down_plan,
-  down_program,
-  down_queue,
-  is_full,
-  joined,
-  leave_queue,
-  pass_gives,
-  pass_next,
-  sem_head,
-  sem_unlock,
-  try_down_plan,
-  up_next,
-  up_plan,
-}
+use Rattle.count_sem.specs.SemPrograms.{again_next, down_part, down_plan, down_program, down_queue, is_full, joined}
+use Rattle.count_sem.specs.SemPrograms.{leave_queue, pass_gives, pass_next, sem_head, sem_unlock, try_down_plan}
+use Rattle.count_sem.specs.SemPrograms.{up_next, up_plan}
 use Rattle.count_sem.specs.SemUses.{DownsKeepUse, KeepsUse, StretchesKeepUse, TriesKeepUse, UpsKeepUse, is_opening}
 use Rattle.count_sem.proofs.DownEndings.{joined_goes}
-use Rattle.count_sem.proofs.SemPoints.{
-  Found,
-  FoundLow,
-  IsIn,
-  MayRaise,
-  Loads,
-  found_it,
-  found_low,
-  found_on,
-  in_on,
-  loads_it,
-  lock_in,
-  low_on,
-  lowers_one,
-  may_raise,
-  nobody_first,
-  nobody_on,
-  off_keeps,
-  raises_one,
-  saw_keeps,
-  count_more,
-}
+use Rattle.count_sem.proofs.SemPoints.{Found, FoundLow, IsIn, MayRaise, Loads, found_it, found_low, found_on, in_on}
+use Rattle.count_sem.proofs.SemPoints.{loads_it, lock_in, low_on, lowers_one, may_raise, nobody_first, nobody_on}
+use Rattle.count_sem.proofs.SemPoints.{off_keeps, raises_one, saw_keeps, count_more}
 use Rattle.count_sem.proofs.SemRuns.{Fine, IsPlain, LooksStay, PointsAreFine, QNext, goes_on, plain_look, plain_step}
 
 -- an event that changes no condition

@@ -1,25 +1,8 @@
 -- The law on permits of semaphores, after each order of steps and on a Domain.
 use Rattle.std.proofs.Common.{refl, sym, ◌∙◌, ap, subst, arith, eq-eqb, inl, inr}
 use Rattle.std.proofs.lemmas.Bool.Decides.{eqb_tells, nat_tests}
-use Rattle.std.specs.Prelude.{
-  ℕ,
-  zero,
-  suc,
-  ◌≡◌,
-  ◌≢◌,
-  ◌<◌,
-  ◌+◌,
-  ◌==◌,
-  Bool,
-  true,
-  false,
-  ◌&&◌,
-  Some,
-  List,
-  [],
-  ◌∷◌,
-  ◌++◌,
-}
+use Rattle.std.specs.Prelude.{ℕ, zero, suc, ◌≡◌, ◌≢◌, ◌<◌, ◌+◌, ◌==◌, Bool, true, false, ◌&&◌, Some, List, [], ◌∷◌}
+use Rattle.std.specs.Prelude.{◌++◌}
 use Rattle.wait_model.specs.declared.layout.TheConstants.{ALL_DONE, TASKS}
 use Rattle.wait_model.specs.declared.steps.Step.{Step}
 use Rattle.wait_model.specs.declared.steps.Step.TheVariants as step
@@ -43,18 +26,9 @@ use Rattle.wait_model.proofs.PermitLaws.PermitTurns.{due}
 use Rattle.wait_rule.specs.Interleavings.{AreAllowed, AreHanded, TaskStep, table_of}
 use Rattle.wait_rule.proofs.KnownLaws.HandedPermits.{accounted_of}
 use Rattle.wait_rule.proofs.KnownLaws.Moments.{kept_of}
-use Rattle.count_sem.specs.SemPermits.{
-  AllKeepPermits,
-  AllUseAsSemaphore,
-  FindsNoEnd,
-  IsSemStep,
-  KeepsPermits,
-  RuleKeepsPermits,
-  StepsKeepPermits,
-  UsesAsSemaphore,
-  permits_given,
-  permits_taken,
-}
+use Rattle.count_sem.specs.SemPermits.{AllKeepPermits, AllUseAsSemaphore, FindsNoEnd, IsSemStep, KeepsPermits}
+use Rattle.count_sem.specs.SemPermits.{RuleKeepsPermits, StepsKeepPermits, UsesAsSemaphore, permits_given}
+use Rattle.count_sem.specs.SemPermits.{permits_taken}
 use Rattle.count_sem.proofs.SemSums.{due_of, owed_to, sem_before, sem_last}
 use Rattle.count_sem.proofs.SemTurns.{IsPaid, paid_step}
 

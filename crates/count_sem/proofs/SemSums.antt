@@ -17,15 +17,8 @@ use Rattle.wait_model.proofs.HistoryLaws.StepTotals.{sum_grown}
 use Rattle.wait_model.proofs.PermitLaws.OwnTurns.{other_dealt, other_view, own_dealt, own_view}
 use Rattle.wait_model.proofs.PermitLaws.PermitTurns.{due}
 use Rattle.wait_model.proofs.PermitLaws.Sums.{rest_is, rest_same}
-use Rattle.count_sem.specs.SemPermits.{
-  AreSemSteps,
-  IsSemStep,
-  counted_from,
-  gives_permit,
-  permits_given,
-  permits_taken,
-  takes_permit,
-}
+use Rattle.count_sem.specs.SemPermits.{AreSemSteps, IsSemStep, counted_from, gives_permit, permits_given, permits_taken}
+use Rattle.count_sem.specs.SemPermits.{takes_permit}
 
 pub counted_snoc : (test : ℕ → ℕ → View → Dealt → Step → Bool) (d x : ℕ) (v : View) (w : Dealt) (es : List Step)
     (e : Step)

@@ -1,23 +1,7 @@
 -- A permit is taken where one is there, in one hold.
 use Rattle.std.proofs.Common.{◌∙◌, ap, sym, refl, subst, eq-eqb, append_assoc}
-use Rattle.std.specs.Prelude.{
-  ℕ,
-  ◌≡◌,
-  ◌-◌,
-  ◌==◌,
-  not,
-  Bool,
-  true,
-  false,
-  if◌then◌else◌,
-  Some,
-  None,
-  List,
-  [],
-  ◌∷◌,
-  ◌++◌,
-  MatchBool,
-}
+use Rattle.std.specs.Prelude.{ℕ, ◌≡◌, ◌-◌, ◌==◌, not, Bool, true, false, if◌then◌else◌, Some, None, List, [], ◌∷◌, ◌++◌}
+use Rattle.std.specs.Prelude.{MatchBool}
 use Rattle.wait_model.specs.declared.calls.Call.TheVariants as calls
 use Rattle.wait_model.specs.declared.points.CountPoint.TheVariants as counting
 use Rattle.wait_model.specs.declared.points.Next.TheVariants as next
@@ -45,15 +29,8 @@ use Rattle.wait_class.specs.Posts.{Runs}
 use Rattle.wait_class.proofs.Ground.Going.{runs_on}
 use Rattle.wait_class.proofs.Histories.{unlocked_history}
 use Rattle.completion_cell.specs.Asks.{HasCountedDone, TakesOne, hit_answer}
-use Rattle.completion_cell.proofs.Asking.{
-  locked_history,
-  none_held,
-  steps_on,
-  take_carried,
-  take_history,
-  take_runs,
-  whole_carried,
-}
+use Rattle.completion_cell.proofs.Asking.{locked_history, none_held, steps_on, take_carried, take_history, take_runs}
+use Rattle.completion_cell.proofs.Asking.{whole_carried}
 use Rattle.completion_cell.proofs.CallPermits.{try_hold}
 use Rattle.completion_cell.proofs.Completing.{stored_agreed}
 use Rattle.completion_cell.proofs.Ground.{count_after_step, count_loads, count_locks, count_unlocks}

@@ -1,39 +1,13 @@
 -- To be believed.
 -- Permits of semaphores: none is counted while a task is queued, and those that were given were taken or are counted.
-use Rattle.std.specs.Prelude.{
-  ℕ,
-  ◌≡◌,
-  ◌≢◌,
-  ◌<◌,
-  ◌+◌,
-  ◌==◌,
-  ◌&&◌,
-  not,
-  Bool,
-  true,
-  false,
-  Some,
-  List,
-  [],
-  ◌∷◌,
-  ◌++◌,
-}
+use Rattle.std.specs.Prelude.{ℕ, ◌≡◌, ◌≢◌, ◌<◌, ◌+◌, ◌==◌, ◌&&◌, not, Bool, true, false, Some, List, [], ◌∷◌, ◌++◌}
 use Rattle.wait_model.specs.declared.layout.TheConstants.{ALL_DONE, TASKS}
 use Rattle.wait_model.specs.declared.steps.Step.{Step}
 use Rattle.wait_model.specs.declared.steps.Step.TheVariants as step
 use Rattle.wait_model.specs.declared.watches.Watch.TheVariants as watch
 use Rattle.wait_model.specs.Fold.{after}
-use Rattle.wait_model.specs.Permits.{
-  Dealt,
-  ShowsNobody,
-  deals,
-  dealt,
-  done_head,
-  finds_handed,
-  handed_to,
-  is_in,
-  none_dealt,
-}
+use Rattle.wait_model.specs.Permits.{Dealt, ShowsNobody, deals, dealt, done_head, finds_handed, handed_to, is_in}
+use Rattle.wait_model.specs.Permits.{none_dealt}
 use Rattle.wait_model.specs.Runs.{own}
 use Rattle.wait_model.specs.Tables.{Table}
 use Rattle.wait_model.specs.Totals.{sum_below}

@@ -1,25 +1,8 @@
 -- To be believed.
 -- The programs of counting semaphores (kernel/locking/semaphore.c), event by event. A semaphore is a completion's cell,
 -- and its count the done count; a count at its end stands for permits without end.
-use Rattle.std.specs.Prelude.{
-  ℕ,
-  zero,
-  suc,
-  ◌+◌,
-  ◌-◌,
-  ◌==◌,
-  ◌||◌,
-  nat_le,
-  Bool,
-  true,
-  false,
-  pos,
-  if◌then◌else◌,
-  is_some,
-  Option,
-  Some,
-  None,
-}
+use Rattle.std.specs.Prelude.{ℕ, zero, suc, ◌+◌, ◌-◌, ◌==◌, ◌||◌, nat_le, Bool, true, false, pos, if◌then◌else◌}
+use Rattle.std.specs.Prelude.{is_some, Option, Some, None}
 use Rattle.wait_model.specs.declared.calls.Answer.{Answer}
 use Rattle.wait_model.specs.declared.calls.Answer.TheVariants as answer
 use Rattle.wait_model.specs.declared.calls.Call.TheVariants as calls

@@ -1,35 +1,7 @@
 -- The lines of a drill: they are fit, and each call asks for 40 events.
-use Rattle.std.proofs.Common.{
-  ◌≡◌,
-  ℕ,
-  zero,
-  suc,
-  ◌+◌,
-  ◌-◌,
-  ◌*◌,
-  ◌/◌,
-  ◌^◌,
-  ◌<◌,
-  ◌≤◌,
-  Bool,
-  true,
-  false,
-  ◌==◌,
-  if◌then◌else◌,
-  ◌&&◌,
-  List,
-  [],
-  ◌∷◌,
-  ◌++◌,
-  All,
-  refl,
-  ap,
-  sym,
-  ◌∙◌,
-  append_assoc,
-  arith,
-  sum_by,
-}
+use Rattle.std.proofs.Common.{◌≡◌, ℕ, zero, suc, ◌+◌, ◌-◌, ◌*◌, ◌/◌, ◌^◌, ◌<◌, ◌≤◌, Bool, true, false, ◌==◌}
+use Rattle.std.proofs.Common.{if◌then◌else◌, ◌&&◌, List, [], ◌∷◌, ◌++◌, All, refl, ap, sym, ◌∙◌, append_assoc, arith}
+use Rattle.std.proofs.Common.{sum_by}
 use Rattle.std.proofs.lemmas.Bool.{lt-ltb}
 use Rattle.std.proofs.lemmas.List.Elements.{All-cons, All-append}
 use Rattle.std.proofs.lemmas.List.{append-nil}
@@ -46,24 +18,8 @@ use Rattle.wait_script.specs.declared.version.Version.TheVariants.{One}
 use Rattle.wait_script.specs.Versions.{last_task}
 use Rattle.wait_script.specs.Lines.{events_asked}
 use Rattle.wait_script.specs.Spelling.{IsFit, IsFitCall}
-use Rattle.drill_gen.specs.Drill.{
-  callers,
-  call_kinds,
-  conds,
-  most_steps,
-  plain,
-  int,
-  int_ex,
-  task_in,
-  kind_in,
-  drawn_cond,
-  whom_in,
-  call_of,
-  drawn_call,
-  drawn_lines,
-  drawn_from,
-  drill_of,
-}
+use Rattle.drill_gen.specs.Drill.{callers, call_kinds, conds, most_steps, plain, int, int_ex, task_in, kind_in}
+use Rattle.drill_gen.specs.Drill.{drawn_cond, whom_in, call_of, drawn_call, drawn_lines, drawn_from, drill_of}
 
 either : (task : ℕ) (test : Bool) (one other : Call) → IsFitCall One task one → IsFitCall One task other
     → IsFitCall One task (if test then one else other)

@@ -1,21 +1,6 @@
 -- To be believed.
 -- The drill: the script of a seed, by calls drawn from the words of a SplitMix64 generator.
-use Rattle.std.specs.Prelude.{
-  ℕ,
-  zero,
-  suc,
-  ◌*◌,
-  ◌/◌,
-  ◌%◌,
-  List,
-  [],
-  ◌∷◌,
-  ◌++◌,
-  true,
-  false,
-  if◌then◌else◌,
-  ◌==◌,
-}
+use Rattle.std.specs.Prelude.{ℕ, zero, suc, ◌*◌, ◌/◌, ◌%◌, List, [], ◌∷◌, ◌++◌, true, false, if◌then◌else◌, ◌==◌}
 use Rattle.rand_xoshiro.specs.SplitMix64.{mix_u64}
 use Rattle.wait_model.specs.declared.calls.Call.{Call}
 use Rattle.wait_model.specs.declared.calls.Call.TheVariants as call

@@ -1,28 +1,6 @@
 -- Laws of the files of a folder in memory. Only proofs use them.
-use Rattle.std.proofs.Common.{
-  ◌≡◌,
-  ℕ,
-  ◌<◌,
-  ◌≤◌,
-  suc,
-  arith,
-  List,
-  [],
-  ◌∷◌,
-  ◌++◌,
-  length,
-  get_or,
-  Some,
-  None,
-  Bool,
-  true,
-  false,
-  cond,
-  refl,
-  ap,
-  option_map,
-  bytes_eq,
-}
+use Rattle.std.proofs.Common.{◌≡◌, ℕ, ◌<◌, ◌≤◌, suc, arith, List, [], ◌∷◌, ◌++◌, length, get_or, Some, None, Bool, true}
+use Rattle.std.proofs.Common.{false, cond, refl, ap, option_map, bytes_eq}
 use Rattle.std.proofs.Math.ListN.{set}
 use Rattle.std.proofs.lemmas.Slice.Eq.{bytes_eq-Decides}
 use Rattle.edge_io.specs.Folders.{FileState, file_at, bytes_at, place_of, put, StoresBytes}

@@ -1,29 +1,7 @@
 -- Laws of texts that are written one after another, and of what is held where one of them fails. Only
 -- proofs use them.
-use Rattle.std.proofs.Common.{
-  ◌≡◌,
-  ℕ,
-  List,
-  [],
-  ◌++◌,
-  length,
-  take,
-  drop,
-  Option,
-  Some,
-  None,
-  Result,
-  Ok,
-  Err,
-  OnOk,
-  refl,
-  ap,
-  sym,
-  ◌∙◌,
-  append_assoc,
-  take_all,
-  arith,
-}
+use Rattle.std.proofs.Common.{◌≡◌, ℕ, List, [], ◌++◌, length, take, drop, Option, Some, None, Result, Ok, Err, OnOk}
+use Rattle.std.proofs.Common.{refl, ap, sym, ◌∙◌, append_assoc, take_all, arith}
 use Rattle.std.proofs.lemmas.List.{take-append-drop, append-nil}
 use Rattle.std.specs.Io.KnownBytes.{append_known}
 pub use Rattle.edge_io.specs.Text.{Midway}

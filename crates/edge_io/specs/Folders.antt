@@ -1,25 +1,7 @@
 -- To be believed.
 -- What is known of the files of a folder: the definitions that the contracts of folders cite.
-use Rattle.std.specs.Prelude.{
-  ◌≡◌,
-  ◌∷◌,
-  ℕ,
-  List,
-  [],
-  false,
-  cond,
-  Option,
-  Some,
-  None,
-  IfSome,
-  IsSome,
-  option_map,
-  bytes_eq,
-  Result,
-  suc,
-  Ok,
-  Err,
-}
+use Rattle.std.specs.Prelude.{◌≡◌, ◌∷◌, ℕ, List, [], false, cond, Option, Some, None, IfSome, IsSome, option_map}
+use Rattle.std.specs.Prelude.{bytes_eq, Result, suc, Ok, Err}
 use Rattle.edge_io.specs.declared.folder.OpenFault.{OpenFault}
 use Rattle.edge_io.specs.declared.folder.OpenFault.TheVariants.{Failed, OutOfMemory, NoSuchFile}
 use Rattle.edge_io.specs.Faults.{HasCounted}

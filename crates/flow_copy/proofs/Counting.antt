@@ -23,20 +23,8 @@ use Rattle.wait_rule.specs.HandedPermits.{StaysOff}
 use Rattle.wait_rule.specs.Known.{Known}
 use Rattle.wait_rule.specs.PipeSays.{EndsStay}
 use Rattle.wait_rule.specs.Queues.{IsIdle, IsTold, index}
-use Rattle.wait_rule.specs.Says.{
-  AsksNoPage,
-  Obligation,
-  Excuse,
-  IsUp,
-  OwesBut,
-  TriesNone,
-  added,
-  excuses,
-  has_duty,
-  no_excuse,
-  page_asked,
-  told_of,
-}
+use Rattle.wait_rule.specs.Says.{AsksNoPage, Obligation, Excuse, IsUp, OwesBut, TriesNone, added, excuses, has_duty}
+use Rattle.wait_rule.specs.Says.{no_excuse, page_asked, told_of}
 use Rattle.wait_rule.specs.Stays.{Carries, unchanged, with_bit, with_bits}
 use Rattle.wait_rule.specs.Tallies.{amount_of, amounts_of}
 use Rattle.wait_rule.specs.Transitions.{call_program}

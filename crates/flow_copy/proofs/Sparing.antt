@@ -25,41 +25,17 @@ use Rattle.wait_rule.specs.Journals.{pushed}
 use Rattle.wait_rule.specs.Known.{Known}
 use Rattle.wait_rule.specs.Pipes.{other_end, read_end, write_end}
 use Rattle.wait_rule.specs.Says.{added, grown, history_of}
-use Rattle.wait_rule.specs.Transitions.{
-  AreLooks,
-  AreScansOf,
-  Goes,
-  IsMadeFor,
-  IsStepFor,
-  OnlyLooks,
-  Program,
-  StepOrLook,
-  Transition,
-  after_step_or_look,
-  after_transition,
-  by_look,
-  by_step,
-  call_program,
-  with_lock,
-}
+use Rattle.wait_rule.specs.Transitions.{AreLooks, AreScansOf, Goes, IsMadeFor, IsStepFor, OnlyLooks, Program}
+use Rattle.wait_rule.specs.Transitions.{StepOrLook, Transition, after_step_or_look, after_transition, by_look, by_step}
+use Rattle.wait_rule.specs.Transitions.{call_program, with_lock}
 use Rattle.wait_rule.proofs.TableSteps.ItemLists.{steps_append}
 use Rattle.completion_cell.specs.Completes.{HasCompleted}
 use Rattle.page_lock.specs.PageEnds.{EndsPageLock}
 use Rattle.bit_wait.specs.declared.wait_calls.BitEnd.{BitEnd}
 use Rattle.wait_pipe.specs.declared.pieces.PipeEnd.{PipeEnd}
 use Rattle.wait_pipe.specs.declared.pieces.PipeEnd.TheVariants as pipe_end
-use Rattle.wait_pipe.specs.Trails.{
-  ClosesEnd,
-  LoadsOther,
-  PassesCells,
-  ReadEnds,
-  ReadsPiece,
-  WaitingTurn,
-  WaitingTurns,
-  WriteEnds,
-  WritesPiece,
-  cell_items,
-}
+use Rattle.wait_pipe.specs.Trails.{ClosesEnd, LoadsOther, PassesCells, ReadEnds, ReadsPiece, WaitingTurn, WaitingTurns}
+use Rattle.wait_pipe.specs.Trails.{WriteEnds, WritesPiece, cell_items}
 use Rattle.copy_plan.specs.declared.TheConstants.{COUNTED_PAGE, ENDED_CELL, SINK_PIPE, SOURCE_PIPE}
 use Rattle.copy_plan.specs.declared.plan.Planned.{Planned}
 use Rattle.copy_plan.specs.declared.stop.Halt.{Halt}

@@ -1,27 +1,7 @@
 -- What parts of turns, turns and whole tasks of a copy make, one behind the other.
 use Rattle.std.proofs.Common.{sym, ◌∙◌, ap, subst, arith, length-append}
-use Rattle.std.specs.Prelude.{
-  ℕ,
-  ◌≡◌,
-  ◌==◌,
-  ◌+◌,
-  ◌<◌,
-  ◌≤◌,
-  ◌++◌,
-  Bool,
-  true,
-  false,
-  Option,
-  None,
-  Some,
-  Result,
-  Ok,
-  Err,
-  List,
-  [],
-  length,
-  take,
-}
+use Rattle.std.specs.Prelude.{ℕ, ◌≡◌, ◌==◌, ◌+◌, ◌<◌, ◌≤◌, ◌++◌, Bool, true, false, Option, None, Some, Result, Ok, Err}
+use Rattle.std.specs.Prelude.{List, [], length, take}
 use Rattle.std.specs.Io.KnownBytes.{prepend_known}
 use Rattle.atomic_table.specs.Seated.{TableId}
 use Rattle.wait_model.specs.declared.queues.Walked.{Walked}
@@ -54,36 +34,11 @@ use Rattle.copy_turns.proofs.ReaderTurns.{prepend_none, prepend_twice}
 use Rattle.copy_ends.specs.Copied.{worker_numbers}
 use Rattle.flow_copy.proofs.Awaits.{locked_end}
 use Rattle.flow_copy.specs.PageWaits.{InterruptedWait, LastWaits, PageWaits}
-use Rattle.flow_copy.specs.Workers.{
-  AddsLocked,
-  ClaimsEnd,
-  ControllerGoes,
-  CountsBytes,
-  FollowsPrograms,
-  FromSource,
-  GetsAnd,
-  HandsBytes,
-  ReaderGoes,
-  ReaderTurn,
-  ReaderTurns,
-  ReaderWorks,
-  ReadsLocked,
-  RelayGoes,
-  RelayTurn,
-  RelayTurns,
-  SinksPiece,
-  WriterGoes,
-  WriterTurn,
-  WriterTurns,
-  a_turn,
-  get_halted,
-  pipe_ended,
-  reader_hands,
-  reader_works,
-  sink_took,
-  source_long,
-  stops_by,
-}
+use Rattle.flow_copy.specs.Workers.{AddsLocked, ClaimsEnd, ControllerGoes, CountsBytes, FollowsPrograms, FromSource}
+use Rattle.flow_copy.specs.Workers.{GetsAnd, HandsBytes, ReaderGoes, ReaderTurn, ReaderTurns, ReaderWorks, ReadsLocked}
+use Rattle.flow_copy.specs.Workers.{RelayGoes, RelayTurn, RelayTurns, SinksPiece, WriterGoes, WriterTurn, WriterTurns}
+use Rattle.flow_copy.specs.Workers.{a_turn, get_halted, pipe_ended, reader_hands, reader_works, sink_took, source_long}
+use Rattle.flow_copy.specs.Workers.{stops_by}
 
 -- waits for the page so far
 abbrev pub Waited : Known → Known → Type 0

@@ -1,28 +1,8 @@
 -- To be believed.
 -- The programs of the tasks of a copy: what each makes, from its first step to its last, is whole calls one behind the
 -- other, each by its own trail.
-use Rattle.std.specs.Prelude.{
-  ℕ,
-  ◌≡◌,
-  ◌==◌,
-  ◌+◌,
-  ◌<◌,
-  ◌≤◌,
-  ◌++◌,
-  Bool,
-  true,
-  false,
-  Option,
-  None,
-  Some,
-  Result,
-  Ok,
-  Err,
-  List,
-  [],
-  length,
-  take,
-}
+use Rattle.std.specs.Prelude.{ℕ, ◌≡◌, ◌==◌, ◌+◌, ◌<◌, ◌≤◌, ◌++◌, Bool, true, false, Option, None, Some, Result, Ok, Err}
+use Rattle.std.specs.Prelude.{List, [], length, take}
 use Rattle.std.specs.Io.KnownBytes.{prepend_known}
 use Rattle.atomic_table.specs.Seated.{TableId}
 use Rattle.wait_model.specs.declared.queues.Walked.{Walked}

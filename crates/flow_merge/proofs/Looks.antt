@@ -20,16 +20,8 @@ use Rattle.poll_wait.specs.declared.turns.Poll.{Poll}
 use Rattle.poll_wait.specs.declared.turns.PollEnd.{PollEnd}
 use Rattle.poll_wait.specs.declared.turns.PollEnd.TheVariants as poll_end
 use Rattle.poll_wait.specs.declared.turns.Ready.{Ready}
-use Rattle.poll_wait.specs.Polls.{
-  EndsPoll,
-  EndsWorn,
-  FindsNoPlace,
-  PollGoesOn,
-  StaysBesidePoll,
-  loaded,
-  poll_change,
-  ready_of,
-}
+use Rattle.poll_wait.specs.Polls.{EndsPoll, EndsWorn, FindsNoPlace, PollGoesOn, StaysBesidePoll, loaded, poll_change}
+use Rattle.poll_wait.specs.Polls.{ready_of}
 use Rattle.poll_wait.specs.Seconds.{IsSecondOut}
 use Rattle.poll_wait.proofs.Sides.{rest_beside}
 use Rattle.copy_plan.specs.declared.TheConstants.{ENDED_CELL}

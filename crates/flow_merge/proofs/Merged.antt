@@ -39,19 +39,8 @@ use Rattle.copy_ends.proofs.Rows.{gave_all, no_rest}
 use Rattle.flow_merge.specs.declared.TheConstants.{LEFT_PIPE, MERGED_PIPE, RIGHT_PIPE}
 use Rattle.flow_merge.specs.declared.sides.Side.{Side}
 use Rattle.flow_merge.specs.declared.sides.Side.TheVariants as sides
-use Rattle.flow_merge.specs.Merged.{
-  Drawn,
-  CrewEnds,
-  SinkFilled,
-  Five,
-  FiveDid,
-  HoldsMerged,
-  IsFront,
-  IsUnhurt,
-  MergesAll,
-  NoneHurt,
-  no_targets,
-}
+use Rattle.flow_merge.specs.Merged.{Drawn, CrewEnds, SinkFilled, Five, FiveDid, HoldsMerged, IsFront, IsUnhurt}
+use Rattle.flow_merge.specs.Merged.{MergesAll, NoneHurt, no_targets}
 use Rattle.flow_merge.specs.Mergers.{HasEnds, IsMergerStop, LacksEnd, MergerWorked}
 use Rattle.flow_merge.specs.Passed.{Piece, bytes_if, merged_bytes, bytes_of, read_of, sent_of, side_pipe}
 use Rattle.flow_merge.proofs.Turns.{reads_whole, sends_whole}

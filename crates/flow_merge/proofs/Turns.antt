@@ -10,15 +10,8 @@ use Rattle.copy_plan.specs.declared.stop.Stop.{Stop}
 use Rattle.copy_plan.specs.declared.stop.Stop.TheVariants as stop
 use Rattle.copy_turns.specs.Turns.{IfStopped, IfWhole, Relaying}
 use Rattle.copy_turns.specs.Work.{IsAtWork}
-use Rattle.copy_turns.proofs.PartLaws.{
-  counted_none,
-  counted_same,
-  counted_then,
-  sums_counted,
-  took_before,
-  works_same,
-  works_then,
-}
+use Rattle.copy_turns.proofs.PartLaws.{counted_none, counted_same, counted_then, sums_counted, took_before, works_same}
+use Rattle.copy_turns.proofs.PartLaws.{works_then}
 use Rattle.copy_turns.proofs.Stopping.{finished, stopped_map, whole_map}
 use Rattle.copy_turns.proofs.Sums.{sum_none, sum_then}
 use Rattle.flow_merge.specs.declared.TheConstants.{LEFT_PIPE, MERGED_PIPE, RIGHT_PIPE}

@@ -29,38 +29,13 @@ use Rattle.flow_copy.specs.Workers.{ControllerGoes, FromSource, ReaderGoes, Writ
 use Rattle.copy_ends.proofs.Crews.{crew, grown_view, of_each, parts_from}
 use Rattle.copy_ends.proofs.Idlers.{joined_clean}
 use Rattle.copy_ends.proofs.JoinedSums.{found_tally, joined_counts, last_list, last_tally, one_counts}
-use Rattle.flow_merge.specs.Merged.{
-  Drawn,
-  CrewEnds,
-  SinkFilled,
-  Five,
-  FiveDid,
-  FollowsMerge,
-  HasFive,
-  HoldsMerged,
-  IsMergeStop,
-  Merged,
-  MergesAll,
-  NoneHurt,
-  no_targets,
-  stops_of,
-}
+use Rattle.flow_merge.specs.Merged.{Drawn, CrewEnds, SinkFilled, Five, FiveDid, FollowsMerge, HasFive, HoldsMerged}
+use Rattle.flow_merge.specs.Merged.{IsMergeStop, Merged, MergesAll, NoneHurt, no_targets, stops_of}
 use Rattle.flow_merge.specs.declared.TheConstants.{LEFT_PIPE, MERGED_PIPE, RIGHT_PIPE}
 use Rattle.flow_merge.specs.Mergers.{MergerDid}
 use Rattle.flow_merge.specs.MergerWords.{MergerGoes}
-use Rattle.flow_merge.proofs.Merged.{
-  counted_all,
-  has_controller,
-  has_left,
-  has_merger,
-  has_right,
-  has_writer,
-  holds_merged,
-  joined,
-  joined_has,
-  merges_all,
-  none_hurt,
-}
+use Rattle.flow_merge.proofs.Merged.{counted_all, has_controller, has_left, has_merger, has_right, has_writer}
+use Rattle.flow_merge.proofs.Merged.{holds_merged, joined, joined_has, merges_all, none_hurt}
 
 -- how a merge stops
 named_stop : (k : Kind) (s : Stop) → is_of k s ≡ true → IsMergeStop s

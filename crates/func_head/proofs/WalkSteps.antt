@@ -1,41 +1,7 @@
 -- Laws of walks over lists of entries. Only proofs use them.
-use Rattle.std.proofs.Common.{
-  ◌≡◌,
-  ℕ,
-  ◌<◌,
-  ◌≤◌,
-  ◌+◌,
-  ◌-◌,
-  ◌^◌,
-  ◌==◌,
-  suc,
-  arith,
-  List,
-  [],
-  ◌∷◌,
-  ◌++◌,
-  length,
-  get_or,
-  take,
-  drop,
-  Bool,
-  true,
-  false,
-  if◌then◌else◌,
-  ◌&&◌,
-  Option,
-  Some,
-  None,
-  refl,
-  ap,
-  sym,
-  subst,
-  ◌∙◌,
-  append_assoc,
-  append-nil,
-  add-one,
-  map,
-}
+use Rattle.std.proofs.Common.{◌≡◌, ℕ, ◌<◌, ◌≤◌, ◌+◌, ◌-◌, ◌^◌, ◌==◌, suc, arith, List, [], ◌∷◌, ◌++◌, length, get_or}
+use Rattle.std.proofs.Common.{take, drop, Bool, true, false, if◌then◌else◌, ◌&&◌, Option, Some, None, refl, ap, sym}
+use Rattle.std.proofs.Common.{subst, ◌∙◌, append_assoc, append-nil, add-one, map}
 use Rattle.std.proofs.Math.ListN.{set, drop_of_length-le, get_or-map}
 use Rattle.std.proofs.Math.Seq.{take-suc-set, drop-cons}
 use Rattle.std.proofs.Math.Nat.{min-le_left}
@@ -45,24 +11,8 @@ use Rattle.wait_model.specs.declared.queues.Walked.{Walked}
 use Rattle.wait_model.specs.declared.queues.End.{End}
 use Rattle.wait_model.specs.declared.queues.End.TheVariants as ends
 use Rattle.func_head.specs.declared.walks.Turn.{Turn}
-use Rattle.func_head.specs.Walks.{
-  EntryState,
-  Walk,
-  answer_of,
-  is_above,
-  is_below,
-  counted,
-  called,
-  after_answer,
-  ends_by,
-  go_on,
-  seen_by,
-  walk,
-  walk_from,
-  walked_to,
-  IsPlaceOf,
-  Stay,
-}
+use Rattle.func_head.specs.Walks.{EntryState, Walk, answer_of, is_above, is_below, counted, called, after_answer}
+use Rattle.func_head.specs.Walks.{ends_by, go_on, seen_by, walk, walk_from, walked_to, IsPlaceOf, Stay}
 
 abbrev pub walk_with : List EntryState → Walked → Walk
 walk_with es walked = record { entries = es; walked = walked }

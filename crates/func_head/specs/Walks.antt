@@ -1,31 +1,7 @@
 -- To be believed.
 -- Wake functions of a caller, and what a walk over them does.
-use Rattle.std.specs.Prelude.{
-  ◌≡◌,
-  ◌+◌,
-  ◌-◌,
-  ◌^◌,
-  ◌==◌,
-  ◌&&◌,
-  ℕ,
-  ℤ,
-  pos,
-  negsuc,
-  zero,
-  suc,
-  List,
-  map,
-  [],
-  ◌∷◌,
-  Bool,
-  true,
-  false,
-  min,
-  if◌then◌else◌,
-  Option,
-  Some,
-  None,
-}
+use Rattle.std.specs.Prelude.{◌≡◌, ◌+◌, ◌-◌, ◌^◌, ◌==◌, ◌&&◌, ℕ, ℤ, pos, negsuc, zero, suc, List, map, [], ◌∷◌, Bool}
+use Rattle.std.specs.Prelude.{true, false, min, if◌then◌else◌, Option, Some, None}
 use Rattle.func_head.specs.declared.walks.Turn.{Turn}
 use Rattle.wait_model.specs.declared.layout.TheConstants.{NORMAL}
 use Rattle.wait_model.specs.declared.queues.Walked.{Walked}

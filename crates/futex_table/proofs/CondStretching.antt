@@ -40,47 +40,22 @@ use Rattle.futex_table.specs.declared.waits.FutexOutcome.{FutexOutcome}
 use Rattle.futex_table.specs.declared.waits.FutexStage.{FutexStage}
 use Rattle.futex_table.specs.declared.waits.FutexStage.TheVariants as stage
 use Rattle.futex_table.specs.declared.waits.FutexWait.{FutexWait}
-use Rattle.futex_table.specs.CondStretches.{
-  EndsCond,
-  IsCondWaiting,
-  IsCondAsleep,
-  IsCondAt,
-  IsCondUnderWay,
-  IsForCond,
-  IsGivingBack,
-  IsRelocking,
-  LeavesCond,
-  awaited_to,
-}
+use Rattle.futex_table.specs.CondStretches.{EndsCond, IsCondWaiting, IsCondAsleep, IsCondAt, IsCondUnderWay, IsForCond}
+use Rattle.futex_table.specs.CondStretches.{IsGivingBack, IsRelocking, LeavesCond, awaited_to}
 use Rattle.futex_table.specs.CondVars.{WaitsForCond, cond_answer}
 use Rattle.futex_table.specs.FutexEnds.{futex_aim}
 use Rattle.futex_table.specs.FutexLeaves.{EndsFutexUntil, futex_exits, futex_until_in}
 use Rattle.futex_table.specs.FutexTables.{futex_table}
 use Rattle.futex_table.specs.Holding.{StayHeld, holds_mutex}
 use Rattle.futex_table.specs.LockLeaves.{WaitsForCondUntil, cond_until_answer}
-use Rattle.futex_table.specs.LockStretches.{
-  AskedIf,
-  IsLockAsleep,
-  IsLockAt,
-  IsMutexLocking,
-  LeavesLock,
-  MutexTurn,
-  FutexWaitTurn,
-}
+use Rattle.futex_table.specs.LockStretches.{AskedIf, IsLockAsleep, IsLockAt, IsMutexLocking, LeavesLock, MutexTurn}
+use Rattle.futex_table.specs.LockStretches.{FutexWaitTurn}
 use Rattle.futex_table.specs.Mutexes.{HasFreedMutex, LocksMutex, is_locked}
 use Rattle.futex_table.specs.TallyUses.{LeavesTallies, StoresWord}
 use Rattle.futex_table.proofs.CondVaring.{cond_on, load_held, of_set, of_unchanged, of_wait, sets_out}
 use Rattle.futex_table.proofs.FutexLaws.{futex_lawful}
-use Rattle.futex_table.proofs.FutexLeaving.{
-  ends_until,
-  futex_may_leave,
-  left_carried,
-  left_held,
-  left_idle,
-  left_out,
-  left_up,
-  way_as,
-}
+use Rattle.futex_table.proofs.FutexLeaving.{ends_until, futex_may_leave, left_carried, left_held, left_idle, left_out}
+use Rattle.futex_table.proofs.FutexLeaving.{left_up, way_as}
 use Rattle.futex_table.proofs.LeftTallies.{until_leaves}
 use Rattle.futex_table.proofs.LockLeaving.{cond_until_held}
 use Rattle.futex_table.proofs.LockStretching.{lock_begins, plain_wait, way_dozed}

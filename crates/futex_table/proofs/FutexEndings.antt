@@ -16,18 +16,8 @@ use Rattle.wait_class.specs.Posts.{EndsWith, FoundWorn, IsOut, Keeps, own_of}
 use Rattle.wait_class.specs.Tables.{Advances, IsAt, IsEnded, Plan}
 use Rattle.wait_class.proofs.Wholes.{begins, ended_runs, none_of}
 use Rattle.wait_leave.specs.Leaves.{with_asked}
-use Rattle.futex_table.specs.FutexTables.{
-  FoundOff,
-  FutexTrailEnd,
-  HasLoadedWord,
-  IsFreshFutexWait,
-  IsFutex,
-  futex_answer,
-  futex_head,
-  futex_plan,
-  futex_table,
-  futex_word,
-}
+use Rattle.futex_table.specs.FutexTables.{FoundOff, FutexTrailEnd, HasLoadedWord, IsFreshFutexWait, IsFutex}
+use Rattle.futex_table.specs.FutexTables.{futex_answer, futex_head, futex_plan, futex_table, futex_word}
 use Rattle.futex_table.specs.FutexEnds.{EndsFutexWait, IsFutexCause, futex_answer_of, futex_end_in}
 use Rattle.futex_table.specs.declared.waits.FutexOutcome.{FutexOutcome}
 use Rattle.futex_table.specs.declared.waits.FutexOutcome.TheVariants as outcome

@@ -24,26 +24,9 @@ use Rattle.wait_rule.specs.Tickets.{taken}
 use Rattle.wq_head.proofs.PermitHeads.{owes_low}
 use Rattle.wait_class.specs.declared.stages.Turn.TheVariants as turn
 use Rattle.wait_class.specs.Posts.{IsStateFor}
-use Rattle.wait_class.specs.Laws.{
-  Calm,
-  DrawLaw,
-  GiveLaw,
-  HeedLaw,
-  IsLawfulCallTable,
-  IsPlainTurn,
-  LawOf,
-  LoadLaw,
-  LockLaw,
-  PareLaw,
-  PeekLaw,
-  QueueLaw,
-  SleepLaw,
-  StateLaw,
-  TurnTrail,
-  UnlockLaw,
-  mask_in,
-  turn_post,
-}
+use Rattle.wait_class.specs.Laws.{Calm, DrawLaw, GiveLaw, HeedLaw, IsLawfulCallTable, IsPlainTurn, LawOf, LoadLaw}
+use Rattle.wait_class.specs.Laws.{LockLaw, PareLaw, PeekLaw, QueueLaw, SleepLaw, StateLaw, TurnTrail, UnlockLaw}
+use Rattle.wait_class.specs.Laws.{mask_in, turn_post}
 use Rattle.wait_class.specs.Tables.{falls, next_in, post_of, took_in}
 use Rattle.wait_class.proofs.Ground.Standing.{home_waits, owner_own}
 use Rattle.wait_class.proofs.Stays.{wait_stays}

@@ -34,17 +34,8 @@ use Rattle.futex_table.specs.declared.waits.FutexOutcome.TheVariants as outcome
 use Rattle.futex_table.specs.declared.waits.FutexStage.{FutexStage}
 use Rattle.futex_table.specs.declared.waits.FutexStage.TheVariants as stage
 use Rattle.futex_table.specs.declared.waits.FutexWait.{FutexWait}
-use Rattle.futex_table.specs.FutexLeaves.{
-  EndsFutexUntil,
-  IsFutexAwake,
-  IsFutexLeftFor,
-  IsFutexUntil,
-  LeavesFutex,
-  futex_awake,
-  futex_exit,
-  futex_exits,
-  futex_until_in,
-}
+use Rattle.futex_table.specs.FutexLeaves.{EndsFutexUntil, IsFutexAwake, IsFutexLeftFor, IsFutexUntil, LeavesFutex}
+use Rattle.futex_table.specs.FutexLeaves.{futex_awake, futex_exit, futex_exits, futex_until_in}
 use Rattle.futex_table.specs.FutexTables.{FutexTrailEnd, HasLeftFutex, IsFreshFutexWait, futex_head, futex_table}
 use Rattle.futex_table.specs.Holding.{StayHeld, holds_mutex}
 use Rattle.futex_table.proofs.FutexEndings.{cause, first_is, over_carried, over_clean, over_idle, over_out, plain_is}

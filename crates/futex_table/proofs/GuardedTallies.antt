@@ -15,20 +15,9 @@ use Rattle.wait_model.specs.Totals.{total}
 use Rattle.wait_rule.specs.Interleavings.{AreAllowed, TaskStep, table_of}
 use Rattle.wait_rule.specs.Setters.{step_by}
 use Rattle.wait_rule.specs.TableLaws.{histories_in}
-use Rattle.futex_table.specs.GuardedTallies.{
-  AllCountAdds,
-  AllReadAdds,
-  AllUseTally,
-  AreTallySteps,
-  CountsAdds,
-  IsTallyStep,
-  RuleCountsAdds,
-  StepsCountAdds,
-  UsesTally,
-  adds_in,
-  opens_after,
-  tally_adds,
-}
+use Rattle.futex_table.specs.GuardedTallies.{AllCountAdds, AllReadAdds, AllUseTally, AreTallySteps, CountsAdds}
+use Rattle.futex_table.specs.GuardedTallies.{IsTallyStep, RuleCountsAdds, StepsCountAdds, UsesTally, adds_in}
+use Rattle.futex_table.specs.GuardedTallies.{opens_after, tally_adds}
 use Rattle.futex_table.specs.GuardedWords.{IsGuardedStep, IsGuardedWord, read_after, read_from, read_in}
 use Rattle.futex_table.specs.Holding.{holds_after, holds_from, holds_in}
 use Rattle.futex_table.specs.OneHolder.{AreUnopened, IsMutexStep, stores_word}

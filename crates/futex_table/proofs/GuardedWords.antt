@@ -12,15 +12,8 @@ use Rattle.wait_model.specs.Tables.{Table, next}
 use Rattle.wait_model.proofs.Functions.{put_other, put_same}
 use Rattle.wait_rule.specs.Interleavings.{AreAllowed, TaskStep, table_of}
 use Rattle.wait_rule.specs.Setters.{step_by}
-use Rattle.futex_table.specs.GuardedWords.{
-  AreGuardedSteps,
-  IsGuardedStep,
-  RuleKeepsRead,
-  StepsKeepRead,
-  read_after,
-  read_from,
-  read_in,
-}
+use Rattle.futex_table.specs.GuardedWords.{AreGuardedSteps, IsGuardedStep, RuleKeepsRead, StepsKeepRead, read_after}
+use Rattle.futex_table.specs.GuardedWords.{read_from, read_in}
 use Rattle.futex_table.specs.Holding.{holds_after, holds_from, holds_in}
 use Rattle.futex_table.specs.OneHolder.{AreMutexSteps, AreUnopened, HasOneHolder}
 use Rattle.futex_table.proofs.Holders.{held, holders_are_one, nobody_holds}

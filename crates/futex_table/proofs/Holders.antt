@@ -14,17 +14,8 @@ use Rattle.wait_model.proofs.Functions.{put_other, put_same}
 use Rattle.wait_rule.specs.Interleavings.{AreAllowed, TaskStep, table_of}
 use Rattle.wait_rule.specs.Setters.{step_by}
 use Rattle.futex_table.specs.Holding.{holds_after, holds_in}
-use Rattle.futex_table.specs.OneHolder.{
-  AreMutexSteps,
-  AreUnopened,
-  HasOneHolder,
-  HoldersAreOne,
-  IsMutexStep,
-  RuleHasOneHolder,
-  StepsHaveOneHolder,
-  holders,
-  stores_word,
-}
+use Rattle.futex_table.specs.OneHolder.{AreMutexSteps, AreUnopened, HasOneHolder, HoldersAreOne, IsMutexStep}
+use Rattle.futex_table.specs.OneHolder.{RuleHasOneHolder, StepsHaveOneHolder, holders, stores_word}
 use Rattle.futex_table.proofs.WordSteps.{holds_on}
 
 -- one history grows

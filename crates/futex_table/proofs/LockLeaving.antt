@@ -14,16 +14,8 @@ use Rattle.wait_leave.specs.declared.exits.Until.TheVariants as until
 use Rattle.futex_table.specs.declared.futexes.FutexEnd.{FutexEnd}
 use Rattle.futex_table.specs.FutexLeaves.{EndsFutexUntil}
 use Rattle.futex_table.specs.Holding.{OthersStayHeld, StayHeld, holds_mutex}
-use Rattle.futex_table.specs.LockLeaves.{
-  AsksRound,
-  HasAskedRounds,
-  LocksMutexUntil,
-  cond_until_answer,
-  is_held_until,
-  is_locked_until,
-  round_end,
-  worn_until,
-}
+use Rattle.futex_table.specs.LockLeaves.{AsksRound, HasAskedRounds, LocksMutexUntil, cond_until_answer, is_held_until}
+use Rattle.futex_table.specs.LockLeaves.{is_locked_until, round_end, worn_until}
 use Rattle.futex_table.specs.Mutexes.{HasTriedMutex, is_locked, worn_in}
 use Rattle.futex_table.proofs.CondVaring.{answer_held}
 use Rattle.futex_table.proofs.Mutexing.{IsBetween, again_between, again_carries, again_held, again_unlocked, between_none}

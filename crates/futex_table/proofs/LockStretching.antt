@@ -33,31 +33,15 @@ use Rattle.futex_table.specs.FutexEnds.{EndsFutexWait, futex_end_in}
 use Rattle.futex_table.specs.FutexLeaves.{EndsFutexUntil, futex_exits, futex_until_in}
 use Rattle.futex_table.specs.FutexTables.{futex_point, futex_table}
 use Rattle.futex_table.specs.Holding.{OthersStayHeld, StayHeld, holds_mutex}
-use Rattle.futex_table.specs.LockLeaves.{
-  AsksRound,
-  AsksRounds,
-  HasAskedRounds,
-  LocksMutexUntil,
-  is_locked_until,
-  round_end,
-  worn_until,
-}
+use Rattle.futex_table.specs.LockLeaves.{AsksRound, AsksRounds, HasAskedRounds, LocksMutexUntil, is_locked_until}
+use Rattle.futex_table.specs.LockLeaves.{round_end, worn_until}
 use Rattle.futex_table.specs.LockStretches.{AskedIf, IsInRound, IsLockAsleep, IsLockAt, IsLockUnderWay, IsMutexLocking, LeavesLock, FutexWaitTurn, ended_to, waited_to}
 use Rattle.futex_table.specs.Mutexes.{HasWaitedRounds, LocksMutex, WaitsRound, WaitsRounds, worn_in}
 use Rattle.futex_table.specs.TallyUses.{LeavesTallies}
 use Rattle.futex_table.proofs.FutexEndings.{ends_futex}
 use Rattle.futex_table.proofs.FutexLaws.{futex_lawful}
-use Rattle.futex_table.proofs.FutexLeaving.{
-  ends_until,
-  futex_may_leave,
-  until_as,
-  way_as,
-  left_carried,
-  left_held,
-  left_idle,
-  left_out,
-  left_up,
-}
+use Rattle.futex_table.proofs.FutexLeaving.{ends_until, futex_may_leave, until_as, way_as, left_carried, left_held}
+use Rattle.futex_table.proofs.FutexLeaving.{left_idle, left_out, left_up}
 use Rattle.futex_table.proofs.LeftTallies.{until_leaves}
 use Rattle.futex_table.proofs.LockLeaving.{locks_by, round_unlocks}
 use Rattle.futex_table.proofs.Mutexing.{out_still, still_waits, waits_on}

@@ -26,14 +26,8 @@ use Rattle.wait_class.specs.Tables.{IsAsleepAt}
 use Rattle.wait_class.proofs.Ground.Standing.{owner_own}
 use Rattle.futex_table.specs.FutexTables.{AreSaws, futex_head, futex_table, futex_word, slept_steps}
 use Rattle.futex_table.specs.Sleepers.{SleepsByValue}
-use Rattle.futex_table.specs.StaleSleepers.{
-  HasWokenStale,
-  IsOther,
-  RuleLeavesNobody,
-  SleepsFor,
-  StaysOther,
-  StepsLeaveNobody,
-}
+use Rattle.futex_table.specs.StaleSleepers.{HasWokenStale, IsOther, RuleLeavesNobody, SleepsFor, StaysOther}
+use Rattle.futex_table.specs.StaleSleepers.{StepsLeaveNobody}
 use Rattle.futex_table.specs.declared.waits.FutexStage.{FutexStage}
 use Rattle.futex_table.specs.declared.waits.FutexWait.{FutexWait}
 use Rattle.futex_table.proofs.FutexAdds.{kind_is}

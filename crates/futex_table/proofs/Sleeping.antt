@@ -16,22 +16,10 @@ use Rattle.wait_rule.specs.Says.{history_of}
 use Rattle.wait_class.specs.declared.stages.Run.{Run}
 use Rattle.wait_class.specs.Tables.{IsAsleepAt}
 use Rattle.wait_class.proofs.Ground.Standing.{owner_own}
-use Rattle.futex_table.specs.FutexTables.{
-  AreSaws,
-  FutexTrail,
-  SleptByValue,
-  futex_head,
-  futex_table,
-  futex_word,
-  is_behind_futex_sleep,
-}
+use Rattle.futex_table.specs.FutexTables.{AreSaws, FutexTrail, SleptByValue, futex_head, futex_table, futex_word}
+use Rattle.futex_table.specs.FutexTables.{is_behind_futex_sleep}
 use Rattle.futex_table.specs.StaleSleepers.{SleepersSleepFor, SleepsFor}
-use Rattle.futex_table.specs.Sleepers.{
-  RuleQueuedByValue,
-  SleepersQueuedByValue,
-  SleepsByValue,
-  StretchesQueuedByValue,
-}
+use Rattle.futex_table.specs.Sleepers.{RuleQueuedByValue, SleepersQueuedByValue, SleepsByValue, StretchesQueuedByValue}
 use Rattle.futex_table.specs.declared.waits.FutexStage.{FutexStage}
 use Rattle.futex_table.specs.declared.waits.FutexStage.TheVariants as stage
 use Rattle.futex_table.specs.declared.waits.FutexWait.{FutexWait}

@@ -30,15 +30,8 @@ use Rattle.wait_rule.specs.Setters.{step_by}
 use Rattle.wait_rule.proofs.KnownLaws.Moments.{kept_of, views_of}
 use Rattle.wait_rule.proofs.KnownLaws.SetterSteps.{anew_before}
 use Rattle.futex_table.specs.FutexTables.{futex_head, futex_word}
-use Rattle.futex_table.specs.StaleSleepers.{
-  HasPassedEntries,
-  IsOther,
-  RuleLeavesNoStale,
-  SleepsFor,
-  StaysOther,
-  StepsLeaveNoStale,
-  is_unsteady,
-}
+use Rattle.futex_table.specs.StaleSleepers.{HasPassedEntries, IsOther, RuleLeavesNoStale, SleepsFor, StaysOther}
+use Rattle.futex_table.specs.StaleSleepers.{StepsLeaveNoStale, is_unsteady}
 
 -- lists by their last step
 last_of : (es : List Step) → (es ≡ []) ⊎ ((fs : List Step) × (z : Step) × (es ≡ fs ++ z ∷ []))

@@ -17,19 +17,9 @@ use Rattle.wait_rule.specs.Says.{IsShown, added, history_of, newcomer, seen_with
 use Rattle.futex_table.specs.GuardedTallies.{UsesTally, tally_adds}
 use Rattle.futex_table.specs.Holding.{HoldsMutex}
 use Rattle.futex_table.specs.OneHolder.{stores_word}
-use Rattle.futex_table.specs.TalliedTasks.{
-  CountsAdd,
-  CutOffTallied,
-  HasReadTally,
-  HasTallied,
-  JoinsTallied,
-  LeftTallied,
-  ReadsAllAdds,
-  StartsTallies,
-  StayTallied,
-  StayTalliedApart,
-  TallyHad,
-}
+use Rattle.futex_table.specs.TalliedTasks.{CountsAdd, CutOffTallied, HasReadTally, HasTallied, JoinsTallied}
+use Rattle.futex_table.specs.TalliedTasks.{LeftTallied, ReadsAllAdds, StartsTallies, StayTallied, StayTalliedApart}
+use Rattle.futex_table.specs.TalliedTasks.{TallyHad}
 use Rattle.futex_table.specs.TallyUses.{AddsToTally, LeavesApart, LeavesTallies, StoresWord}
 use Rattle.futex_table.proofs.GuardedTallies.{all_read_adds}
 use Rattle.futex_table.proofs.TalliedTasks.{cut_had, first_had, grown_had, joined_had, left_had, read_of_all}

@@ -29,23 +29,9 @@ use Rattle.wait_rule.specs.Items.{steps_of}
 use Rattle.wait_rule.specs.Journals.{pushed}
 use Rattle.wait_rule.specs.Known.{Known}
 use Rattle.wait_rule.specs.Says.{added, history_of}
-use Rattle.wait_rule.specs.Transitions.{
-  AreLooks,
-  Goes,
-  IsMadeFor,
-  IsStepFor,
-  OnlyLooks,
-  Program,
-  StepOrLook,
-  Transition,
-  after_step_or_look,
-  after_transition,
-  by_look,
-  by_step,
-  walk_point,
-  walk_program,
-  with_lock,
-}
+use Rattle.wait_rule.specs.Transitions.{AreLooks, Goes, IsMadeFor, IsStepFor, OnlyLooks, Program, StepOrLook}
+use Rattle.wait_rule.specs.Transitions.{Transition, after_step_or_look, after_transition, by_look, by_step, walk_point}
+use Rattle.wait_rule.specs.Transitions.{walk_program, with_lock}
 use Rattle.wait_rule.proofs.KnownLaws.TaskHistories.{history_after}
 use Rattle.wq_head.specs.Walks.{HasWoken}
 use Rattle.wait_class.specs.Posts.{Runs}

@@ -33,23 +33,9 @@ use Rattle.wait_rule.specs.declared.journal.Item.TheVariants as item
 use Rattle.wait_rule.specs.Items.{steps_of}
 use Rattle.wait_rule.specs.Known.{Known}
 use Rattle.wait_rule.specs.Says.{added, history_of}
-use Rattle.wait_rule.specs.Transitions.{
-  AreLooks,
-  Goes,
-  IsMadeFor,
-  IsStepFor,
-  OnlyLooks,
-  Program,
-  StepOrLook,
-  Transition,
-  after_step_or_look,
-  after_transition,
-  by_look,
-  by_step,
-  walk_point,
-  walk_program,
-  with_lock,
-}
+use Rattle.wait_rule.specs.Transitions.{AreLooks, Goes, IsMadeFor, IsStepFor, OnlyLooks, Program, StepOrLook}
+use Rattle.wait_rule.specs.Transitions.{Transition, after_step_or_look, after_transition, by_look, by_step, walk_point}
+use Rattle.wait_rule.specs.Transitions.{walk_program, with_lock}
 use Rattle.wait_rule.proofs.TableSteps.ItemLists.{steps_append}
 use Rattle.wait_class.specs.Posts.{Runs}
 use Rattle.wait_class.specs.Tables.{plan_program}

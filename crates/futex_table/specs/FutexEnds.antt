@@ -18,15 +18,8 @@ use Rattle.wait_rule.specs.Transitions.{call_program}
 use Rattle.wq_head.specs.Walks.{HasEnded, HasWoken}
 use Rattle.wait_class.specs.Posts.{FoundWorn, Runs}
 use Rattle.wait_class.specs.Tables.{plan_program}
-use Rattle.futex_table.specs.FutexTables.{
-  FoundOff,
-  HasLoadedWord,
-  LeftForSignal,
-  futex_head,
-  futex_plan,
-  other_value,
-  futex_word,
-}
+use Rattle.futex_table.specs.FutexTables.{FoundOff, HasLoadedWord, LeftForSignal, futex_head, futex_plan, other_value}
+use Rattle.futex_table.specs.FutexTables.{futex_word}
 use Rattle.futex_table.specs.declared.futexes.FutexEnd.{FutexEnd}
 use Rattle.futex_table.specs.declared.futexes.FutexEnd.TheVariants as futex_end
 use Rattle.futex_table.specs.declared.waits.FutexOutcome.{FutexOutcome}

@@ -21,18 +21,8 @@ use Rattle.wait_model.proofs.HistoryLaws.HoldLooks.{after_snoc}
 use Rattle.wait_model.proofs.StepLaws.UnlockSteps.{unlock_bits}
 use Rattle.wait_rule.specs.declared.journal.Item.TheVariants as item
 use Rattle.wait_rule.specs.Known.{Known}
-use Rattle.wait_rule.specs.Says.{
-  IsClean,
-  IsFree,
-  Excuse,
-  OwesBut,
-  OwesNothing,
-  HasSlept,
-  no_excuse,
-  added,
-  history_of,
-  told_of,
-}
+use Rattle.wait_rule.specs.Says.{IsClean, IsFree, Excuse, OwesBut, OwesNothing, HasSlept, no_excuse, added, history_of}
+use Rattle.wait_rule.specs.Says.{told_of}
 use Rattle.wait_rule.specs.Queues.{IsIdle, IsTailPlace, KnewEntry, MayUnqueue, index, saw}
 use Rattle.wait_rule.specs.Stays.{Stays, StaysOwing, no_entries, with_entry, with_wakes}
 use Rattle.wait_rule.proofs.KnownLaws.AfterSteps.{told_added}

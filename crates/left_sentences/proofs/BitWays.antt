@@ -46,29 +46,10 @@ use Rattle.bit_wait.specs.declared.waits.BitTest.{BitTest}
 use Rattle.bit_wait.specs.declared.waits.BitTest.TheVariants as test
 use Rattle.bit_wait.specs.declared.waits.WaitBit.{WaitBit}
 use Rattle.left_sentences.specs.LeftWords.{IsLeftWord, WaysOut, holds_lock}
-use Rattle.left_sentences.specs.BitWays.{
-  LeftBitLocksFollow,
-  LeftBitWaitsFollow,
-  bit_says,
-  finishes_and_tries,
-  loads_and_finishes,
-  lock_says,
-  out_of_holds,
-}
-use Rattle.left_sentences.proofs.LeftWays.{
-  AnyRun,
-  IsRunOf,
-  LeadsOut,
-  Speech,
-  before_law,
-  before_rest,
-  gone_by,
-  kept,
-  left_word,
-  of_way,
-  plain_follows,
-  rested_number,
-}
+use Rattle.left_sentences.specs.BitWays.{LeftBitLocksFollow, LeftBitWaitsFollow, bit_says, finishes_and_tries}
+use Rattle.left_sentences.specs.BitWays.{loads_and_finishes, lock_says, out_of_holds}
+use Rattle.left_sentences.proofs.LeftWays.{AnyRun, IsRunOf, LeadsOut, Speech, before_law, before_rest, gone_by, kept}
+use Rattle.left_sentences.proofs.LeftWays.{left_word, of_way, plain_follows, rested_number}
 use Rattle.left_sentences.proofs.RunsTo.{AtNext, Before, Leads}
 
 -- at each point of such a wait a lock is held where the point says so

@@ -41,20 +41,8 @@ use Rattle.wait_rule.specs.Known.{Known}
 use Rattle.wait_rule.specs.Queues.{index}
 use Rattle.wait_rule.specs.SaidEvents.{said}
 use Rattle.wait_rule.specs.Says.{MeetsLaw, history_of, told_of}
-use Rattle.wait_rule.specs.Transitions.{
-  Finds,
-  FindsAt,
-  Goes,
-  IsMadeFor,
-  IsSeenAs,
-  Program,
-  StepOrLook,
-  Transition,
-  after_transition,
-  by_look,
-  by_step,
-  call_program,
-}
+use Rattle.wait_rule.specs.Transitions.{Finds, FindsAt, Goes, IsMadeFor, IsSeenAs, Program, StepOrLook, Transition}
+use Rattle.wait_rule.specs.Transitions.{after_transition, by_look, by_step, call_program}
 use Rattle.wait_rule.proofs.KnownLaws.Moments.{moment_of}
 use Rattle.wait_rule.proofs.SaidEvents.Fronts.{IsOff, off_on, off_still, queued_before, step_follows, steps_made}
 use Rattle.wait_rule.proofs.SaidEvents.OwnFindings.{own_off}
@@ -74,17 +62,8 @@ use Rattle.completion_cell.proofs.CellPoints.{FindsThere, ShowsLoad, cell_spoken
 use Rattle.left_sentences.specs.CellWays.{CellFrom, HasLoadedZero, LeftAwaitsFollow, await_says, before_sleep, cell_ways, counts_once_more, in_hold}
 use Rattle.left_sentences.specs.CondWays.{HasPrepared}
 use Rattle.left_sentences.specs.LeftWords.{IsLeftWord}
-use Rattle.left_sentences.proofs.LeftWays.{
-  FollowsOn,
-  IsRunOf,
-  LeadsOut,
-  Speech,
-  before_law,
-  gone_by,
-  kept,
-  left_word,
-  of_way,
-}
+use Rattle.left_sentences.proofs.LeftWays.{FollowsOn, IsRunOf, LeadsOut, Speech, before_law, gone_by, kept, left_word}
+use Rattle.left_sentences.proofs.LeftWays.{of_way}
 use Rattle.left_sentences.proofs.RunsTo.{AtNext, Before, Leads, OffFirst, all_notes}
 
 either : (P : Planned → Type 0) (b : Bool) (u v : Planned) → P u → P v → P (if b then u else v)

@@ -51,34 +51,11 @@ use Rattle.swait_queue.specs.SimpleWaits.{tail_in}
 use Rattle.var_wait.specs.VarLeaves.{until_loaded}
 use Rattle.var_wait.specs.VarWaits.{shared_in}
 use Rattle.left_sentences.specs.LeftWords.{IsLeftWord, IsWordTo}
-use Rattle.left_sentences.specs.CondWays.{
-  AskedWaitsFollow,
-  CondFrom,
-  HasMissed,
-  HasPrepared,
-  IsInPrepare,
-  LeftSimplesFollow,
-  LeftVarsFollow,
-  LeftWaitsFollow,
-  behind_prepare,
-  cond_says,
-  cond_ways,
-  in_hold,
-  parts_in_hold,
-}
-use Rattle.left_sentences.proofs.LeftWays.{
-  AnyRun,
-  IsRunOf,
-  LeadsOut,
-  Speech,
-  before_law,
-  ended_word,
-  gone_by,
-  kept,
-  left_word,
-  of_way,
-  plain_follows,
-}
+use Rattle.left_sentences.specs.CondWays.{AskedWaitsFollow, CondFrom, HasMissed, HasPrepared, IsInPrepare}
+use Rattle.left_sentences.specs.CondWays.{LeftSimplesFollow, LeftVarsFollow, LeftWaitsFollow, behind_prepare, cond_says}
+use Rattle.left_sentences.specs.CondWays.{cond_ways, in_hold, parts_in_hold}
+use Rattle.left_sentences.proofs.LeftWays.{AnyRun, IsRunOf, LeadsOut, Speech, before_law, ended_word, gone_by, kept}
+use Rattle.left_sentences.proofs.LeftWays.{left_word, of_way, plain_follows}
 use Rattle.left_sentences.proofs.RunsTo.{AtNext, Before, Leads}
 
 -- the latest events at each point of such a wait

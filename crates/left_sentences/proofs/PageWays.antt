@@ -33,25 +33,9 @@ use Rattle.page_lock.specs.declared.waits.PageOutcome.TheVariants as outcome
 use Rattle.page_lock.specs.declared.waits.PageStage.{PageStage}
 use Rattle.page_lock.specs.declared.waits.PageStage.TheVariants as stage
 use Rattle.left_sentences.specs.LeftWords.{IsLeftWord, holds_lock}
-use Rattle.left_sentences.specs.PageWays.{
-  LeftPagesFollow,
-  PageFrom,
-  at_once,
-  by_finish,
-  page_says,
-  page_ways,
-}
-use Rattle.left_sentences.proofs.LeftWays.{
-  AnyRun,
-  IsRunOf,
-  LeadsOut,
-  Speech,
-  before_law,
-  gone_by,
-  left_word,
-  of_way,
-  plain_follows,
-}
+use Rattle.left_sentences.specs.PageWays.{LeftPagesFollow, PageFrom, at_once, by_finish, page_says, page_ways}
+use Rattle.left_sentences.proofs.LeftWays.{AnyRun, IsRunOf, LeadsOut, Speech, before_law, gone_by, left_word, of_way}
+use Rattle.left_sentences.proofs.LeftWays.{plain_follows}
 use Rattle.left_sentences.proofs.RunsTo.{AtNext, Before, Leads}
 
 -- the latest events at each point of such a wait

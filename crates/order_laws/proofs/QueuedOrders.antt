@@ -1,28 +1,8 @@
 -- An entry that its task has queued or seen queued in its hold, and left so, stands as long as that task is not woken.
 use Rattle.std.proofs.lemmas.Bool.Decides.{eqb_tells, nat_tests}
 use Rattle.std.proofs.Common.{refl, sym, ◌∙◌, ap, subst, arith, inl, inr}
-use Rattle.std.specs.Prelude.{
-  ℕ,
-  ◌≡◌,
-  ◌≢◌,
-  ◌⊎◌,
-  ◌&&◌,
-  ◌||◌,
-  ◌==◌,
-  not,
-  Bool,
-  true,
-  false,
-  eqb,
-  if◌then◌else◌,
-  Option,
-  Some,
-  None,
-  List,
-  [],
-  ◌∷◌,
-  ◌++◌,
-}
+use Rattle.std.specs.Prelude.{ℕ, ◌≡◌, ◌≢◌, ◌⊎◌, ◌&&◌, ◌||◌, ◌==◌, not, Bool, true, false, eqb, if◌then◌else◌, Option}
+use Rattle.std.specs.Prelude.{Some, None, List, [], ◌∷◌, ◌++◌}
 use Rattle.wait_model.specs.declared.steps.Step.{Step}
 use Rattle.wait_model.specs.declared.steps.Step.TheVariants as step
 use Rattle.wait_model.specs.declared.tasks.TaskRecord.{TaskRecord}
@@ -42,17 +22,8 @@ use Rattle.wait_model.proofs.StepLaws.UnlockSteps.{unlock_hold}
 use Rattle.wait_model.proofs.WaitLaws.OutsideStages.{either}
 use Rattle.wait_rule.specs.Interleavings.{AreAllowed, TaskStep, table_of}
 use Rattle.wait_rule.proofs.KnownLaws.Moments.{kept_of, views_of}
-use Rattle.order_laws.specs.TakenOff.{
-  AllTakeOffWoken,
-  Grips,
-  IsGripped,
-  IsLeftQueued,
-  LeftEntriesStand,
-  TakesOffWoken,
-  frees,
-  is_mild,
-  leaves_running,
-}
+use Rattle.order_laws.specs.TakenOff.{AllTakeOffWoken, Grips, IsGripped, IsLeftQueued, LeftEntriesStand, TakesOffWoken}
+use Rattle.order_laws.specs.TakenOff.{frees, is_mild, leaves_running}
 
 -- the last step of a list that is split
 tail_is : (x y : Step) (xs ys : List Step) → x ∷ xs ≡ y ∷ ys → xs ≡ ys

@@ -11,17 +11,8 @@ use Rattle.wait_rule.specs.declared.journal.Item.TheVariants as item
 use Rattle.wait_rule.specs.Items.{steps_of}
 use Rattle.wait_rule.specs.Known.{Known}
 use Rattle.wait_rule.specs.Says.{history_of}
-use Rattle.wait_rule.specs.Transitions.{
-  AreLooks,
-  AreScansOf,
-  IsMadeFor,
-  IsStepFor,
-  OnlyLooks,
-  StepOrLook,
-  after_step_or_look,
-  by_look,
-  by_step,
-}
+use Rattle.wait_rule.specs.Transitions.{AreLooks, AreScansOf, IsMadeFor, IsStepFor, OnlyLooks, StepOrLook}
+use Rattle.wait_rule.specs.Transitions.{after_step_or_look, by_look, by_step}
 use Rattle.wait_rule.proofs.SaidEvents.Fronts.{looks_history, step_history}
 use Rattle.wait_class.specs.Tables.{has_sleep}
 use Rattle.page_lock.specs.PageEnds.{are_calm}

@@ -29,17 +29,8 @@ use Rattle.bit_wait.proofs.Holders.{none_taken}
 use Rattle.page_lock.specs.PageStays.{PageKeeps, TakesPage}
 use Rattle.page_lock.specs.PageEnds.{EndsPageLock, IsPageCause, page_end_in, has_taken_page as given}
 use Rattle.wait_leave.specs.Leaves.{with_asked}
-use Rattle.page_lock.specs.PageTables.{
-  IsFreshPageWait,
-  IsRunningPageWait,
-  PageCauseIn,
-  WhyPageFailed,
-  answer_to_page,
-  is_page_over,
-  page_in,
-  page_table,
-  page_took,
-}
+use Rattle.page_lock.specs.PageTables.{IsFreshPageWait, IsRunningPageWait, PageCauseIn, WhyPageFailed, answer_to_page}
+use Rattle.page_lock.specs.PageTables.{is_page_over, page_in, page_table, page_took}
 use Rattle.page_lock.specs.declared.waits.LockPage.{LockPage}
 use Rattle.page_lock.specs.declared.waits.PageOutcome.{PageOutcome}
 use Rattle.page_lock.specs.declared.waits.PageOutcome.TheVariants as outcome

@@ -47,21 +47,8 @@ use Rattle.wait_class.proofs.OwnSteps.{own_goes, stands_same}
 use Rattle.wait_class.proofs.Turns.{GoesOn, advance_by}
 use Rattle.wait_class.proofs.Wholes.{none_of}
 use Rattle.page_lock.specs.PageStays.{PageKeeps}
-use Rattle.page_lock.specs.PageTables.{
-  FlagsAt,
-  FoundPageSignal,
-  IsQuiet,
-  IsUnasked,
-  PageTurn,
-  WhyOut,
-  WhyPageFailed,
-  flagged_to,
-  page_call,
-  page_in,
-  page_table,
-  tries_page,
-  with_flag,
-}
+use Rattle.page_lock.specs.PageTables.{FlagsAt, FoundPageSignal, IsQuiet, IsUnasked, PageTurn, WhyOut, WhyPageFailed}
+use Rattle.page_lock.specs.PageTables.{flagged_to, page_call, page_in, page_table, tries_page, with_flag}
 use Rattle.page_lock.specs.declared.waits.LockPage.{LockPage}
 use Rattle.page_lock.specs.declared.waits.PageOutcome.TheVariants as outcome
 use Rattle.page_lock.specs.declared.waits.PageStage.{PageStage}

@@ -12,25 +12,9 @@ use Rattle.wait_rule.specs.Asked.{Asked, nothing_asked, is_asking}
 use Rattle.wait_rule.specs.Bits.{SetsBit, taken_bits}
 use Rattle.wait_rule.specs.Known.{Known}
 use Rattle.wait_rule.specs.Queues.{index}
-use Rattle.wait_rule.specs.Says.{
-  AsksNoPage,
-  Debts,
-  Obligation,
-  Excuse,
-  IsOutBut,
-  OwesBut,
-  added,
-  asks_for,
-  end_unclosed,
-  excuses,
-  has_duty,
-  has_end,
-  is_excused,
-  no_excuse,
-  page_asked,
-  told_of,
-  wake_of,
-}
+use Rattle.wait_rule.specs.Says.{AsksNoPage, Debts, Obligation, Excuse, IsOutBut, OwesBut, added, asks_for}
+use Rattle.wait_rule.specs.Says.{end_unclosed, excuses, has_duty, has_end, is_excused, no_excuse, page_asked, told_of}
+use Rattle.wait_rule.specs.Says.{wake_of}
 use Rattle.wait_rule.specs.Stays.{Carries, with_bits, with_entry, with_page}
 use Rattle.wait_rule.proofs.KnownLaws.AfterSteps.{told_added}
 use Rattle.wait_rule.proofs.KnownLaws.Debts.{LeavesNone, end_added, entries_debts, leaves_added, leaves_of}

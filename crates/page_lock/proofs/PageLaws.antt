@@ -13,38 +13,15 @@ use Rattle.wait_class.proofs.Ground.Standing.{owner_own}
 use Rattle.wait_class.proofs.Histories.{unmoved_by}
 use Rattle.wait_class.proofs.Ways.{look_by, sleep_by, way}
 use Rattle.wait_class.specs.declared.stages.Turn.TheVariants as turn
-use Rattle.wait_class.specs.Laws.{
-  DrawLaw,
-  IsLawfulCallTable,
-  LawOf,
-  LockLaw,
-  LookLaw,
-  PareLaw,
-  PeekLaw,
-  SleepLaw,
-  StateLaw,
-  UnlockLaw,
-}
+use Rattle.wait_class.specs.Laws.{DrawLaw, IsLawfulCallTable, LawOf, LockLaw, LookLaw, PareLaw, PeekLaw, SleepLaw}
+use Rattle.wait_class.specs.Laws.{StateLaw, UnlockLaw}
 use Rattle.page_lock.specs.PageTables.{page_depth, page_doing, page_head_in, page_in, page_table}
 use Rattle.page_lock.specs.declared.waits.LockPage.{LockPage}
 use Rattle.page_lock.specs.declared.waits.PageStage.{PageStage}
 use Rattle.page_lock.specs.declared.waits.PageStage.TheVariants as stage
 use Rattle.page_lock.proofs.PageGround.{page_stays}
-use Rattle.page_lock.proofs.PageTrails.{
-  asks_calm,
-  left_calm,
-  off_calm,
-  over_end,
-  pared_none,
-  pared_some,
-  peeked_none,
-  peeked_some,
-  quiet_calm,
-  signalled,
-  still_by,
-  waits_calm,
-  why_out,
-}
+use Rattle.page_lock.proofs.PageTrails.{asks_calm, left_calm, off_calm, over_end, pared_none, pared_some, peeked_none}
+use Rattle.page_lock.proofs.PageTrails.{peeked_some, quiet_calm, signalled, still_by, waits_calm, why_out}
 
 module _ (r : LockPage) where
   draw_queue : DrawLaw page_table r stage.QueueLock

@@ -31,18 +31,8 @@ use Rattle.wait_leave.specs.OnTheWay.{IsOnWay, OnTheWay}
 use Rattle.wait_leave.proofs.Ways.{awake_since, way_asked, way_keeps, way_lands, way_plan}
 use Rattle.bit_wait.specs.Holders.{IsHolder}
 use Rattle.bit_wait.specs.declared.wait_calls.BitEnd.{BitEnd}
-use Rattle.page_lock.specs.PageLeaves.{
-  EndsPageUntil,
-  IsLeftFor,
-  IsPageUntil,
-  LeavesPage,
-  page_awake,
-  page_exit,
-  page_exits,
-  page_failed,
-  page_until,
-  takes_page_until,
-}
+use Rattle.page_lock.specs.PageLeaves.{EndsPageUntil, IsLeftFor, IsPageUntil, LeavesPage, page_awake, page_exit}
+use Rattle.page_lock.specs.PageLeaves.{page_exits, page_failed, page_until, takes_page_until}
 use Rattle.page_lock.specs.PageStays.{PageKeeps, TakesPage}
 use Rattle.page_lock.specs.PageTables.{IsFreshPageWait, IsWaitingForPage, PageCauseIn, PageWaitTrail, WhyPageFailed, is_page_over, page_in, page_table, page_took}
 use Rattle.page_lock.specs.declared.waits.LockPage.{LockPage}

@@ -26,18 +26,8 @@ use Rattle.poll_wait.specs.Polls.{EndsPoll, IsPoll}
 use Rattle.poll_wait.specs.Seconds.{HasLeftSecond, MayLeave, second_of}
 use Rattle.poll_wait.specs.SecondSteps.{HasSeenSecond, IsSecondAtHead, ParesSecond}
 use Rattle.poll_wait.specs.TurnSteps.{HasDone}
-use Rattle.poll_wait.proofs.Leaving.{
-  leave_free,
-  leave_home,
-  leave_low,
-  leave_off,
-  leave_on,
-  leave_owes,
-  leave_up,
-  off_carried,
-  on_carried,
-  pares_second,
-}
+use Rattle.poll_wait.proofs.Leaving.{leave_free, leave_home, leave_low, leave_off, leave_on, leave_owes, leave_up}
+use Rattle.poll_wait.proofs.Leaving.{off_carried, on_carried, pares_second}
 use Rattle.poll_wait.proofs.Pairing.{done_then, leave_pair, out_stays}
 use Rattle.poll_wait.proofs.Queueing.{may_finish, may_leave}
 use Rattle.poll_wait.proofs.Turning.{done_carried, done_idle}

@@ -16,13 +16,8 @@ use Rattle.wait_event.specs.PartSteps.{Heeds}
 use Rattle.wait_event.specs.Prepares.{EndsPrepare, IsPart, MayPrepare, SuitsWait, with_signal}
 use Rattle.wait_event.proofs.Conditions.{low_fits}
 use Rattle.wait_event.proofs.PartSteps.{heeds_none, joins_at}
-use Rattle.wait_event.proofs.Preparing.{
-  ends_carried,
-  join_ends as prepared_ends,
-  prepare_home,
-  prepare_low,
-  prepare_may,
-}
+use Rattle.wait_event.proofs.Preparing.{ends_carried, join_ends as prepared_ends, prepare_home, prepare_low}
+use Rattle.wait_event.proofs.Preparing.{prepare_may}
 use Rattle.poll_wait.specs.declared.turns.Poll.{Poll}
 use Rattle.poll_wait.specs.Polls.{IsPoll, front_in}
 use Rattle.poll_wait.specs.Seconds.{IsPolled, MayJoinSecond, second_of}

@@ -12,25 +12,9 @@ use Rattle.poll_turns.specs.declared.stages.PollStage.{PollStage}
 use Rattle.poll_turns.specs.declared.stages.PollStage.TheVariants as stage
 use Rattle.poll_turns.specs.declared.stages.PollUntil.{PollUntil}
 use Rattle.poll_turns.specs.declared.stages.PollUntil.TheVariants as until
-use Rattle.poll_turns.specs.PollTurns.{
-  EndsPollUntil,
-  HasBegunTurn,
-  HasFirst,
-  HasLoadedBoth,
-  HasTriedQueueing,
-  HasMadeTurns,
-  IsEnding,
-  IsOnTurn,
-  IsPollAt,
-  IsToSleep,
-  LeavesPart,
-  found_no_signal,
-  found_unset,
-  leaves_at,
-  made_nothing,
-  queued_both,
-  queued_first,
-}
+use Rattle.poll_turns.specs.PollTurns.{EndsPollUntil, HasBegunTurn, HasFirst, HasLoadedBoth, HasTriedQueueing}
+use Rattle.poll_turns.specs.PollTurns.{HasMadeTurns, IsEnding, IsOnTurn, IsPollAt, IsToSleep, LeavesPart}
+use Rattle.poll_turns.specs.PollTurns.{found_no_signal, found_unset, leaves_at, made_nothing, queued_both, queued_first}
 use Rattle.poll_turns.proofs.Ending.{same_carries}
 use Rattle.poll_turns.proofs.Loading.{turn_within}
 

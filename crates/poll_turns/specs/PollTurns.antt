@@ -23,21 +23,8 @@ use Rattle.poll_wait.specs.declared.turns.Loads.{Loads}
 use Rattle.poll_wait.specs.declared.turns.Poll.{Poll}
 use Rattle.poll_wait.specs.declared.turns.PollEnd.{PollEnd}
 use Rattle.poll_wait.specs.declared.turns.Ready.{Ready}
-use Rattle.poll_wait.specs.Polls.{
-  AsksSignal,
-  EndsPoll,
-  EndsQueueing,
-  HasBoth,
-  LeavesBoth,
-  MayTurn,
-  QueuesBoth,
-  SleepsTurns,
-  StaysBesidePoll,
-  front_in,
-  loaded,
-  poll_change,
-  ready_of,
-}
+use Rattle.poll_wait.specs.Polls.{AsksSignal, EndsPoll, EndsQueueing, HasBoth, LeavesBoth, MayTurn, QueuesBoth}
+use Rattle.poll_wait.specs.Polls.{SleepsTurns, StaysBesidePoll, front_in, loaded, poll_change, ready_of}
 use Rattle.poll_wait.specs.Seconds.{IsSecondOut}
 use Rattle.poll_wait.specs.SecondSteps.{HasSeenSecond}
 use Rattle.poll_wait.specs.TurnSteps.{PairCarries, TurnCarries}

@@ -28,22 +28,8 @@ use Rattle.wait_rule.specs.Items.{steps_of}
 use Rattle.wait_rule.specs.Known.{Known}
 use Rattle.wait_rule.specs.Notes.{tell}
 use Rattle.wait_rule.specs.Says.{added, told_of}
-use Rattle.wait_rule.specs.Transitions.{
-  AreLooks,
-  Goes,
-  IsLook,
-  IsMadeFor,
-  IsStepFor,
-  OnlyLooks,
-  Program,
-  StepOrLook,
-  Transition,
-  after_step_or_look,
-  after_transition,
-  by_look,
-  by_step,
-  with_lock,
-}
+use Rattle.wait_rule.specs.Transitions.{AreLooks, Goes, IsLook, IsMadeFor, IsStepFor, OnlyLooks, Program, StepOrLook}
+use Rattle.wait_rule.specs.Transitions.{Transition, after_step_or_look, after_transition, by_look, by_step, with_lock}
 use Rattle.wait_rule.proofs.KnownLaws.AfterSteps.{told_after}
 
 -- the events of such a program, where each is given this; it queues at no completion

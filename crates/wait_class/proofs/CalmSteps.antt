@@ -20,15 +20,8 @@ use Rattle.wait_rule.proofs.KnownLaws.TaskHistories.{history_after}
 use Rattle.wait_rule.proofs.KnownLaws.Turns.{told_unlocked}
 use Rattle.wait_rule.proofs.TableSteps.ItemLists.{steps_append}
 use Rattle.wait_class.specs.Posts.{HasSeenOwn, own_of}
-use Rattle.wait_class.proofs.Histories.{
-  behind_more,
-  moves_more,
-  or_left,
-  or_right,
-  sleeps_more,
-  stored_history,
-  unlocked_history,
-}
+use Rattle.wait_class.proofs.Histories.{behind_more, moves_more, or_left, or_right, sleeps_more, stored_history}
+use Rattle.wait_class.proofs.Histories.{unlocked_history}
 use Rattle.wait_class.specs.Tables.{has_sleep}
 use Rattle.wait_class.specs.Laws.{Calm, moves_entries, state_behind}
 

@@ -23,17 +23,8 @@ use Rattle.wq_head.specs.Holds.{IsHolding}
 use Rattle.wait_class.specs.Posts.{HasSeenOwn, IsStateFor, Post, Stands, zone_at}
 use Rattle.wait_class.specs.Findings.{saw_entry, with_own}
 use Rattle.wait_class.proofs.Ground.Standing.{bare_head}
-use Rattle.wait_class.proofs.Ground.Standing.{
-  carried_stands,
-  finds_own,
-  seen_book,
-  seen_home,
-  seen_is,
-  seen_looks,
-  seen_shows,
-  seen_stands,
-  still_stands,
-}
+use Rattle.wait_class.proofs.Ground.Standing.{carried_stands, finds_own, seen_book, seen_home, seen_is, seen_looks}
+use Rattle.wait_class.proofs.Ground.Standing.{seen_shows, seen_stands, still_stands}
 use Rattle.wait_class.specs.declared.stages.Doing.TheVariants as doing
 use Rattle.wait_class.specs.declared.stages.Run.{Run}
 use Rattle.wait_class.specs.declared.stages.Turn.{Turn}
@@ -43,17 +34,8 @@ use Rattle.wait_class.specs.Tables.{IsAt, IsStop, CallTable, Turned, falls, post
 use Rattle.wait_class.specs.Laws.{Calm, turn_post}
 use Rattle.wait_class.proofs.CalmSteps.{calm_on, calm_peek, calm_removed, calm_saw, calm_step, calm_unlock}
 use Rattle.wait_class.proofs.Locks.{back_looks, back_stands, back_up}
-use Rattle.wait_class.proofs.Turns.{
-  GoesOn,
-  advance_by,
-  free_head,
-  free_ticket,
-  held_head,
-  held_ticket,
-  moves_quiet,
-  stands_plain,
-  stops_by,
-}
+use Rattle.wait_class.proofs.Turns.{GoesOn, advance_by, free_head, free_ticket, held_head, held_ticket, moves_quiet}
+use Rattle.wait_class.proofs.Turns.{stands_plain, stops_by}
 
 -- what a stage says of the own entry
 none_open : (z : Zone) → may_be_queued z ≡ true → (c : Watch) → IsHome z c None

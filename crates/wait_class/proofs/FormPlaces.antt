@@ -1,49 +1,15 @@
 -- Where a hold's whole book shows that a place is left for an add of a form, and where it shows that none is.
 use Rattle.std.proofs.Common.{◌∙◌, ap, sym, refl, inl, arith}
 use Rattle.std.proofs.lemmas.Bool.Decides.{nat_tests}
-use Rattle.std.specs.Prelude.{
-  ℕ,
-  ◌≡◌,
-  ◌<◌,
-  ◌≤◌,
-  ◌&&◌,
-  ◌||◌,
-  not,
-  Bool,
-  true,
-  false,
-  nat_lt,
-  if◌then◌else◌,
-  Option,
-  Some,
-  None,
-  List,
-  [],
-  ◌∷◌,
-  MatchBool,
-}
-use Rattle.wait_model.specs.declared.layout.TheConstants.{
-  ENTRIES,
-  MEMBERS,
-  PLACES,
-  MIDDLE,
-  FIRST_PLACE,
-  FIRST_PRIORITY,
-}
+use Rattle.std.specs.Prelude.{ℕ, ◌≡◌, ◌<◌, ◌≤◌, ◌&&◌, ◌||◌, not, Bool, true, false, nat_lt, if◌then◌else◌, Option, Some}
+use Rattle.std.specs.Prelude.{None, List, [], ◌∷◌, MatchBool}
+use Rattle.wait_model.specs.declared.layout.TheConstants.{ENTRIES, MEMBERS, PLACES, MIDDLE, FIRST_PLACE, FIRST_PRIORITY}
 use Rattle.wait_model.specs.declared.queues.Form.{Form}
 use Rattle.wait_model.specs.declared.queues.Form.TheVariants as forms
 use Rattle.wait_model.specs.declared.queues.Member.{Member}
 use Rattle.wait_model.specs.Places.{within, tail_for, priority_for}
-use Rattle.wait_model.specs.Queues.{
-  even_above,
-  entries_of,
-  is_entry,
-  is_within,
-  last_within,
-  place_behind,
-  place_for,
-  IsIn,
-}
+use Rattle.wait_model.specs.Queues.{even_above, entries_of, is_entry, is_within, last_within, place_behind, place_for}
+use Rattle.wait_model.specs.Queues.{IsIn}
 use Rattle.wait_model.proofs.QueueLaws.QueueEnds.{IsLastWithin, entry_in, in_entries, last_of, order_entries}
 use Rattle.wait_rule.specs.Known.{Known}
 use Rattle.wait_rule.specs.Queues.{IsHighest, IsPriorityPlace, IsTailPlace, IsWholeBook, place_by}

@@ -25,17 +25,8 @@ use Rattle.wait_class.specs.Laws.{Calm, Unmoved}
 use Rattle.wait_rule.specs.HandedPermits.{OwesNoPermit}
 use Rattle.wq_head.proofs.PermitHeads.{owes_low}
 use Rattle.wait_class.proofs.Entries.{none_in}
-use Rattle.wait_class.proofs.Holds.{
-  draw_by,
-  give_by,
-  lock_by,
-  pare_by,
-  peek_by,
-  queue_by,
-  running_by,
-  state_by,
-  unlock_by,
-}
+use Rattle.wait_class.proofs.Holds.{draw_by, give_by, lock_by, pare_by, peek_by, queue_by, running_by, state_by}
+use Rattle.wait_class.proofs.Holds.{unlock_by}
 use Rattle.wait_class.proofs.Turns.{free_head, free_ticket, zero_for}
 
 free_falls : (b : Bool) → b ≡ false → (not b || false) ≡ true

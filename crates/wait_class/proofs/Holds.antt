@@ -25,41 +25,11 @@ use Rattle.wait_rule.specs.Tickets.{Ticket, no_ticket, taken}
 use Rattle.wait_rule.specs.Transitions.{Finds, IsMadeFor, OnlyLooks, Transition, by_step}
 use Rattle.wait_class.specs.Findings.{saw_entry, saw_nothing, with_worn}
 use Rattle.wait_class.specs.Posts.{IsStateFor, own_of, zone_at}
-use Rattle.wait_class.specs.Laws.{
-  Calm,
-  DrawLaw,
-  GiveLaw,
-  HasJoined,
-  HasShown,
-  HomeStays,
-  IsPlainTurn,
-  IsWornOut,
-  LockLaw,
-  MayJoin,
-  Moves,
-  PareLaw,
-  PeekLaw,
-  QueueLaw,
-  StateGoes,
-  StateLaw,
-  StateStays,
-  TurnTrail,
-  UnlockLaw,
-  mask_in,
-  may_be_queued,
-  turn_post,
-}
-use Rattle.wait_class.specs.Tables.{
-  CallTable,
-  Plan,
-  falls,
-  head_in,
-  next_in,
-  plan_program,
-  post_of,
-  stage_watch,
-  took_in,
-}
+use Rattle.wait_class.specs.Laws.{Calm, DrawLaw, GiveLaw, HasJoined, HasShown, HomeStays, IsPlainTurn, IsWornOut}
+use Rattle.wait_class.specs.Laws.{LockLaw, MayJoin, Moves, PareLaw, PeekLaw, QueueLaw, StateGoes, StateLaw, StateStays}
+use Rattle.wait_class.specs.Laws.{TurnTrail, UnlockLaw, mask_in, may_be_queued, turn_post}
+use Rattle.wait_class.specs.Tables.{CallTable, Plan, falls, head_in, next_in, plan_program, post_of, stage_watch}
+use Rattle.wait_class.specs.Tables.{took_in}
 use Rattle.wait_class.specs.declared.stages.Added.TheVariants as adds
 use Rattle.wait_class.specs.declared.stages.Doing.{Doing}
 use Rattle.wait_class.specs.declared.stages.Doing.TheVariants as doing

@@ -13,16 +13,8 @@ use Rattle.wait_rule.specs.Items.{Book, learn_step}
 use Rattle.wait_rule.specs.Known.{Known}
 use Rattle.wait_rule.specs.Queues.{index}
 use Rattle.wait_rule.specs.Says.{IsUp, added, told_of}
-use Rattle.wait_rule.specs.Transitions.{
-  Finds,
-  Goes,
-  IsMadeFor,
-  OnlyLooks,
-  Program,
-  Transition,
-  after_step_or_look,
-  by_step,
-}
+use Rattle.wait_rule.specs.Transitions.{Finds, Goes, IsMadeFor, OnlyLooks, Program, Transition, after_step_or_look}
+use Rattle.wait_rule.specs.Transitions.{by_step}
 use Rattle.wait_rule.proofs.KnownLaws.AfterSteps.{told_added}
 use Rattle.wait_class.specs.Posts.{IsStateFor, Post, Stands}
 use Rattle.wait_class.specs.declared.stages.Turn.{Turn}

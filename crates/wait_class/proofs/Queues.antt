@@ -30,14 +30,7 @@ use Rattle.wait_class.specs.Findings.{saw_entry, with_worn}
 use Rattle.wait_class.proofs.Ground.Standing.{state_looks, state_stands, state_up}
 use Rattle.wait_class.proofs.Histories.{unlocked_history}
 use Rattle.wait_class.proofs.WornPlaces.{whole_seen, queue_same}
-use Rattle.wait_class.proofs.Ground.Standing.{
-  carried_stands,
-  finds_own,
-  seen_is,
-  seen_looks,
-  seen_stands,
-  seen_stored,
-}
+use Rattle.wait_class.proofs.Ground.Standing.{carried_stands, finds_own, seen_is, seen_looks, seen_stands, seen_stored}
 use Rattle.wait_class.specs.declared.stages.Added.TheVariants as adds
 use Rattle.wait_class.specs.declared.stages.Doing.TheVariants as doing
 use Rattle.wait_class.specs.declared.stages.Run.{Run}
@@ -47,17 +40,8 @@ use Rattle.wait_class.specs.Tables.{head_in}
 use Rattle.wait_class.specs.Tables.{IsAt, IsStop, CallTable, Turned, falls, post_of, watch_in}
 use Rattle.wait_class.specs.Laws.{turn_post}
 use Rattle.wait_class.proofs.CalmSteps.{calm_on, calm_saw, calm_step, told_stored}
-use Rattle.wait_class.proofs.Entries.{
-  at_is,
-  head_is,
-  holds_mid,
-  none_in,
-  post_head,
-  post_ticket,
-  shown_stands,
-  shows,
-  stands_held,
-}
+use Rattle.wait_class.proofs.Entries.{at_is, head_is, holds_mid, none_in, post_head, post_ticket, shown_stands, shows}
+use Rattle.wait_class.proofs.Entries.{stands_held}
 use Rattle.wait_class.proofs.Locks.{back_looks, back_stands, back_up}
 use Rattle.wait_class.proofs.Turns.{GoesOn, advance_by, moves_going, moves_quiet, stops_by}
 

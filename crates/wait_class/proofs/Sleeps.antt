@@ -37,17 +37,8 @@ use Rattle.wait_class.specs.Laws.{IsLawfulCallTable, LawOf, SleepLaw}
 use Rattle.wait_class.specs.Tables.{Advances, IsAsleepAt, IsAt, CallTable, SleptLast, Turned, Went, falls, plan_program, post_of, run_post, watch_in}
 use Rattle.wait_class.specs.Laws.{Unmoved}
 use Rattle.wait_class.proofs.CalmSteps.{calm_step}
-use Rattle.wait_class.proofs.Turns.{
-  advances_none,
-  any_for,
-  free_head,
-  free_ticket,
-  Passage,
-  moves_quiet,
-  plain_post,
-  stands_plain,
-  zero_for,
-}
+use Rattle.wait_class.proofs.Turns.{advances_none, any_for, free_head, free_ticket, Passage, moves_quiet, plain_post}
+use Rattle.wait_class.proofs.Turns.{stands_plain, zero_for}
 
 module _ {C S O : Type 0} (t : CallTable C S O) (law : IsLawfulCallTable t) where
   sleep_law : (r : C) (s : S) → t.doing s ≡ doing.Sleep → SleepLaw t r s (t.slept_to r s)

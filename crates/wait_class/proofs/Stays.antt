@@ -28,16 +28,8 @@ use Rattle.wq_head.specs.declared.adds.Worn.{Worn}
 use Rattle.wq_head.proofs.CarriedHolds.{looks_carried, unlock_carried}
 use Rattle.wait_class.proofs.FormPlaces.{form_is, form_left, form_worn}
 use Rattle.wait_class.proofs.Ground.Keeping.{own_keeps}
-use Rattle.wait_class.proofs.Ground.Keeping.{
-  keeps_none,
-  keeps_of,
-  keeps_on,
-  keeps_queued,
-  keeps_same,
-  keeps_taken,
-  keeps_told,
-  placed_owing,
-}
+use Rattle.wait_class.proofs.Ground.Keeping.{keeps_none, keeps_of, keeps_on, keeps_queued, keeps_same, keeps_taken}
+use Rattle.wait_class.proofs.Ground.Keeping.{keeps_told, placed_owing}
 use Rattle.wait_class.specs.Frames.{KeepsAll}
 use Rattle.wait_class.specs.Posts.{KeepsBut}
 use Rattle.wait_class.specs.Laws.{AddsOwn, HasJoined, IsWornFor, KeepsLaws}

@@ -1,19 +1,6 @@
 -- For proofs alone.
 -- What a table has to keep of a call that prepares and finishes as the waits for bits do.
-use Rattle.std.specs.Prelude.{
-  ℕ,
-  ◌≡◌,
-  ◌<◌,
-  Bool,
-  true,
-  false,
-  if◌then◌else◌,
-  is_some,
-  None,
-  List,
-  [],
-  ◌∷◌,
-}
+use Rattle.std.specs.Prelude.{ℕ, ◌≡◌, ◌<◌, Bool, true, false, if◌then◌else◌, is_some, None, List, [], ◌∷◌}
 use Rattle.wait_model.specs.declared.layout.TheConstants.{FIRST_DONE_HEAD}
 use Rattle.wait_model.specs.declared.calls.Event.TheVariants as event
 use Rattle.wait_model.specs.declared.points.FinishPoint.{FinishPoint}

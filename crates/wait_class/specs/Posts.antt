@@ -1,23 +1,8 @@
 -- To be believed.
 -- The ground of calls that are made in stretches: what a task knows of its own words at a point of its program, and
 -- what stays of it from one point to another.
-use Rattle.std.specs.Prelude.{
-  ℕ,
-  ◌≡◌,
-  ◌<◌,
-  ◌⊎◌,
-  ◌==◌,
-  Bool,
-  true,
-  false,
-  if◌then◌else◌,
-  Option,
-  Some,
-  None,
-  List,
-  ◌∷◌,
-  ◌++◌,
-}
+use Rattle.std.specs.Prelude.{ℕ, ◌≡◌, ◌<◌, ◌⊎◌, ◌==◌, Bool, true, false, if◌then◌else◌, Option, Some, None, List, ◌∷◌}
+use Rattle.std.specs.Prelude.{◌++◌}
 use Rattle.wait_model.specs.declared.layout.TheConstants.{SLOTS}
 use Rattle.wait_model.specs.declared.steps.Step.{Step}
 use Rattle.wait_model.specs.declared.steps.Step.TheVariants as step

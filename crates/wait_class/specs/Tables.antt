@@ -1,24 +1,7 @@
 -- To be believed.
 -- Calls that wait, as tables of small stages: what a table has, how a task stands at a stage, and what a turn did.
-use Rattle.std.specs.Prelude.{
-  ℕ,
-  ◌≡◌,
-  ◌⊎◌,
-  ◌||◌,
-  not,
-  nat_lt,
-  Bool,
-  true,
-  false,
-  if◌then◌else◌,
-  Option,
-  Some,
-  None,
-  List,
-  [],
-  ◌∷◌,
-  ◌++◌,
-}
+use Rattle.std.specs.Prelude.{ℕ, ◌≡◌, ◌⊎◌, ◌||◌, not, nat_lt, Bool, true, false, if◌then◌else◌, Option, Some, None}
+use Rattle.std.specs.Prelude.{List, [], ◌∷◌, ◌++◌}
 use Rattle.wait_model.specs.declared.calls.Call.{Call}
 use Rattle.wait_model.specs.declared.calls.Answer.{Answer}
 use Rattle.wait_model.specs.declared.points.Point.{Point}

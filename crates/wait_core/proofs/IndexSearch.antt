@@ -1,28 +1,6 @@
 -- What a search in the list of members finds.
-use Rattle.std.specs.Prelude.{
-  ◌≡◌,
-  ℕ,
-  ◌+◌,
-  ◌<◌,
-  ◌≤◌,
-  Bool,
-  true,
-  false,
-  ◌&&◌,
-  ◌==◌,
-  nat_lt,
-  nat_le,
-  List,
-  length,
-  slice_index_or,
-  ◌⊎◌,
-  ◌≢◌,
-  ◌*◌,
-  min,
-  Option,
-  Some,
-  None,
-}
+use Rattle.std.specs.Prelude.{◌≡◌, ℕ, ◌+◌, ◌<◌, ◌≤◌, Bool, true, false, ◌&&◌, ◌==◌, nat_lt, nat_le, List, length}
+use Rattle.std.specs.Prelude.{slice_index_or, ◌⊎◌, ◌≢◌, ◌*◌, min, Option, Some, None}
 use Rattle.wait_model.specs.declared.layout.TheConstants.{MEMBERS, INDEXES}
 use Rattle.wait_core.specs.declared.index.TheConstants.{RANKS}
 use Rattle.std.proofs.Common.{refl, arith, ap, sym, ◌∙◌, subst, inl, inr}

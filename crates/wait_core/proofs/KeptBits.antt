@@ -4,35 +4,9 @@ use Rattle.wait_model.specs.declared.layout.TheConstants.{TASKS, ENTRIES, BIT_WO
 use Rattle.std.proofs.lemmas.Grind.{get_or-set_at}
 use Rattle.std.proofs.lemmas.Option.{get_or_from_slice_get}
 use Rattle.std.proofs.lemmas.Bool.Decides.{nat_tests, eqb_tells}
-use Rattle.std.specs.Prelude.{
-  ◌≡◌,
-  ◌≢◌,
-  ℕ,
-  zero,
-  suc,
-  ◌+◌,
-  ◌*◌,
-  ◌<◌,
-  Bool,
-  true,
-  false,
-  not,
-  ◌&&◌,
-  ◌||◌,
-  ◌==◌,
-  if◌then◌else◌,
-  List,
-  [],
-  ◌∷◌,
-  length,
-  slice_get,
-  slice_index_or,
-  slice_set,
-  Option,
-  Some,
-  None,
-  IfSome,
-}
+use Rattle.std.specs.Prelude.{◌≡◌, ◌≢◌, ℕ, zero, suc, ◌+◌, ◌*◌, ◌<◌, Bool, true, false, not, ◌&&◌, ◌||◌, ◌==◌}
+use Rattle.std.specs.Prelude.{if◌then◌else◌, List, [], ◌∷◌, length, slice_get, slice_index_or, slice_set, Option, Some}
+use Rattle.std.specs.Prelude.{None, IfSome}
 use Rattle.wait_model.specs.declared.watches.Entry.{Entry}
 use Rattle.wait_model.specs.declared.watches.Watch.{Watch}
 use Rattle.wait_model.specs.declared.watches.Watch.TheVariants as watch
@@ -49,18 +23,8 @@ use Rattle.wait_model.specs.Tables.{start, value_of, next}
 use Rattle.wait_model.specs.Facts.{Kept}
 use Rattle.wait_model.specs.Rows.{AllAllowed}
 use Rattle.wait_model.specs.Reached.{Allows, Joins}
-use Rattle.wait_model.specs.Runs.{
-  State,
-  is_publishing,
-  looks_below,
-  looks,
-  peeks_below,
-  all_peeks,
-  set_step,
-  event_steps,
-  after_event,
-  own,
-}
+use Rattle.wait_model.specs.Runs.{State, is_publishing, looks_below, looks, peeks_below, all_peeks, set_step}
+use Rattle.wait_model.specs.Runs.{event_steps, after_event, own}
 use Rattle.wait_model.specs.Functions.{put}
 use Rattle.wait_model.proofs.Functions.{put_at}
 use Rattle.wait_model.proofs.RunLaws.OthersEvents.{own_one}

@@ -1,40 +1,9 @@
 -- A core is kept by an opening and by an event.
-use Rattle.std.specs.Prelude.{
-  ◌≡◌,
-  ℕ,
-  ◌+◌,
-  ◌*◌,
-  ◌<◌,
-  ◌≤◌,
-  Bool,
-  true,
-  false,
-  if◌then◌else◌,
-  List,
-  [],
-  ◌∷◌,
-  ◌++◌,
-  slice_get,
-  slice_set,
-  length,
-  ◌≢◌,
-  Option,
-}
+use Rattle.std.specs.Prelude.{◌≡◌, ℕ, ◌+◌, ◌*◌, ◌<◌, ◌≤◌, Bool, true, false, if◌then◌else◌, List, [], ◌∷◌, ◌++◌}
+use Rattle.std.specs.Prelude.{slice_get, slice_set, length, ◌≢◌, Option}
 use Rattle.wait_model.specs.declared.layout.TheConstants.{TASKS, EVENTS, RUN_ITEMS}
 use Rattle.std.specs.declared.option.Option.TheVariants.{Some, None}
-use Rattle.std.proofs.Common.{
-  refl,
-  arith,
-  ap,
-  sym,
-  ◌∙◌,
-  subst,
-  inl,
-  inr,
-  length-set,
-  length-append,
-  get_or-set_other,
-}
+use Rattle.std.proofs.Common.{refl, arith, ap, sym, ◌∙◌, subst, inl, inr, length-set, length-append, get_or-set_other}
 use Rattle.std.proofs.lemmas.Option.{slice_get-get_or, slice_get_within, get_or_from_slice_get}
 use Rattle.std.proofs.lemmas.List.Sums.{sum_by-set, sum_by-cons}
 use Rattle.std.proofs.lemmas.Grind.{get_or-set_at}
@@ -55,38 +24,11 @@ use Rattle.wait_model.specs.Points.{call_watch, given_at}
 use Rattle.wait_model.specs.Admission.{admits}
 use Rattle.wait_model.specs.Shown.{IsInRange}
 use Rattle.wait_model.specs.Locations.{Shows}
-use Rattle.wait_model.specs.Reached.{
-  HandsAt,
-  marked_at,
-  IsSound,
-  IsSoundCall,
-  IsPlaced,
-  Allows,
-  Joins,
-  Rests,
-  KeepsCleared,
-  CountedAt,
-  CountedBy,
-}
-use Rattle.wait_model.specs.Runs.{
-  State,
-  start_state,
-  after_event,
-  planned,
-  seen_by,
-  progress_at,
-  progress_after,
-  given_by,
-  found_by,
-  own,
-  happens,
-  state_of,
-  IsItem,
-  Continues,
-  busy_head,
-  made_in,
-  is_open,
-}
+use Rattle.wait_model.specs.Reached.{HandsAt, marked_at, IsSound, IsSoundCall, IsPlaced, Allows, Joins, Rests}
+use Rattle.wait_model.specs.Reached.{KeepsCleared, CountedAt, CountedBy}
+use Rattle.wait_model.specs.Runs.{State, start_state, after_event, planned, seen_by, progress_at, progress_after}
+use Rattle.wait_model.specs.Runs.{given_by, found_by, own, happens, state_of, IsItem, Continues, busy_head, made_in}
+use Rattle.wait_model.specs.Runs.{is_open}
 use Rattle.wait_model.proofs.Functions.{put_at}
 use Rattle.wait_model.proofs.RunLaws.WalkEvents.{program_fine}
 use Rattle.wait_model.proofs.RunLaws.FineEvents.{Fine}

@@ -1,20 +1,7 @@
 -- What each event says of bits: a store is of no bit, and an exchange tells whether it found its bit set, one for
 -- another task too.
 use Rattle.std.proofs.Common.{refl}
-use Rattle.std.specs.Prelude.{
-  ◌≡◌,
-  ℕ,
-  ◌&&◌,
-  ◌==◌,
-  Bool,
-  true,
-  false,
-  is_some,
-  if◌then◌else◌,
-  Option,
-  Some,
-  None,
-}
+use Rattle.std.specs.Prelude.{◌≡◌, ℕ, ◌&&◌, ◌==◌, Bool, true, false, is_some, if◌then◌else◌, Option, Some, None}
 use Rattle.wait_model.specs.declared.watches.Watch.{Watch}
 use Rattle.wait_model.specs.declared.watches.Watch.TheVariants as watch
 use Rattle.wait_model.specs.declared.watches.Kind.{Kind}
@@ -49,48 +36,13 @@ use Rattle.wait_model.specs.declared.points.BitPoint.TheVariants as biting
 use Rattle.wait_model.specs.Tasks.{meets, state_mask}
 use Rattle.wait_model.specs.Watches.{is_bit, is_done, word_of, bit_of, page, mask_of}
 use Rattle.wait_model.specs.Words.{bit_at, flag}
-use Rattle.wait_model.specs.Points.{
-  call_aim,
-  call_watch,
-  call_head,
-  is_await,
-  is_publisher,
-  is_lock,
-  mode_of,
-  state_in,
-  form_of,
-}
+use Rattle.wait_model.specs.Points.{call_aim, call_watch, call_head, is_await, is_publisher, is_lock, mode_of, state_in}
+use Rattle.wait_model.specs.Points.{form_of}
 use Rattle.wait_model.specs.Counts.{taken_done}
-use Rattle.wait_model.specs.Programs.{
-  worn_next,
-  go,
-  ends_with,
-  zero_answer,
-  signalled,
-  interrupted,
-  call_fails,
-  load,
-  store,
-  exchange,
-  ask,
-  bit_event,
-  finished,
-  publishing_event,
-  active_event,
-  reached,
-  call_entry,
-  call_next,
-  walk_event,
-  done_in,
-  is_at_end,
-  is_enough,
-  select_ends,
-  select_next,
-  await_ends,
-  await_event,
-  count_event,
-  program,
-}
+use Rattle.wait_model.specs.Programs.{worn_next, go, ends_with, zero_answer, signalled, interrupted, call_fails, load}
+use Rattle.wait_model.specs.Programs.{store, exchange, ask, bit_event, finished, publishing_event, active_event}
+use Rattle.wait_model.specs.Programs.{reached, call_entry, call_next, walk_event, done_in, is_at_end, is_enough}
+use Rattle.wait_model.specs.Programs.{select_ends, select_next, await_ends, await_event, count_event, program}
 use Rattle.wait_model.specs.Reached.{IsFitted, IsPlain}
 use Rattle.wait_model.specs.declared.points.PagePoint.{PagePoint}
 use Rattle.wait_model.specs.declared.points.PagePoint.TheVariants as paging

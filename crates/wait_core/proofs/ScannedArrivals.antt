@@ -2,44 +2,11 @@
 use Rattle.std.proofs.lemmas.Bool.Decides.{nat_tests}
 use Rattle.wait_model.specs.declared.layout.TheConstants.{PLACES, INDEXES, BREAK}
 use Rattle.std.proofs.Common.{refl, sym, ◌∙◌, ap, subst, arith, inl, inr}
-use Rattle.std.specs.Prelude.{
-  ℕ,
-  ◌≡◌,
-  ◌+◌,
-  ◌*◌,
-  ◌<◌,
-  ◌≤◌,
-  ◌&&◌,
-  Bool,
-  true,
-  false,
-  cond,
-  min,
-  nat_le,
-  nat_lt,
-  is_some,
-  if◌then◌else◌,
-  List,
-  [],
-  ◌∷◌,
-  Option,
-  Some,
-  None,
-}
+use Rattle.std.specs.Prelude.{ℕ, ◌≡◌, ◌+◌, ◌*◌, ◌<◌, ◌≤◌, ◌&&◌, Bool, true, false, cond, min, nat_le, nat_lt, is_some}
+use Rattle.std.specs.Prelude.{if◌then◌else◌, List, [], ◌∷◌, Option, Some, None}
 use Rattle.wait_model.specs.declared.queues.Member.{Member}
-use Rattle.wait_model.specs.Queues.{
-  rank,
-  rank_at,
-  member_from,
-  entry_from,
-  members_from,
-  has_members,
-  is_entry,
-  Arrival,
-  arrive,
-  IsIn,
-  IsInOrder,
-}
+use Rattle.wait_model.specs.Queues.{rank, rank_at, member_from, entry_from, members_from, has_members, is_entry}
+use Rattle.wait_model.specs.Queues.{Arrival, arrive, IsIn, IsInOrder}
 use Rattle.wait_model.specs.declared.watches.Watch.{Watch}
 use Rattle.wait_model.specs.Watches.{is_for}
 use Rattle.wait_model.specs.Runs.{State, arrives_from}

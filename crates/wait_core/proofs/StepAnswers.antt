@@ -1,26 +1,6 @@
 -- The answers of a step and of a start, by what the code read.
-use Rattle.std.specs.Prelude.{
-  ◌≡◌,
-  ℕ,
-  ◌+◌,
-  ◌*◌,
-  ◌<◌,
-  ◌≤◌,
-  Bool,
-  true,
-  false,
-  ◌==◌,
-  if◌then◌else◌,
-  List,
-  [],
-  ◌∷◌,
-  ◌++◌,
-  slice_get,
-  slice_set,
-  length,
-  not,
-  nat_lt,
-}
+use Rattle.std.specs.Prelude.{◌≡◌, ℕ, ◌+◌, ◌*◌, ◌<◌, ◌≤◌, Bool, true, false, ◌==◌, if◌then◌else◌, List, [], ◌∷◌, ◌++◌}
+use Rattle.std.specs.Prelude.{slice_get, slice_set, length, not, nat_lt}
 use Rattle.wait_model.specs.declared.layout.TheConstants.{TASKS, BIT_WORDS, WORD_BITS, BREAK, EVENTS, RUN_ITEMS}
 use Rattle.std.specs.declared.option.Option.{Option}
 use Rattle.std.specs.declared.option.Option.TheVariants.{Some, None}
@@ -63,23 +43,8 @@ use Rattle.wait_model.specs.Shown.{IsInRange}
 use Rattle.wait_model.specs.Locations.{Shows, IsLocation, location_of}
 use Rattle.wait_model.proofs.WordLaws.ShownSteps.{event_located}
 use Rattle.wait_model.specs.Reached.{IsSoundCall, IsCallSound, IsCounted, Allows, Joins}
-use Rattle.wait_model.specs.Runs.{
-  State,
-  start_state,
-  after_event,
-  given_by,
-  planned,
-  progress_at,
-  found_by,
-  seen_by,
-  arrives_at,
-  arrives_from,
-  own,
-  state_of,
-  busy_head,
-  made_in,
-  is_open,
-}
+use Rattle.wait_model.specs.Runs.{State, start_state, after_event, given_by, planned, progress_at, found_by, seen_by}
+use Rattle.wait_model.specs.Runs.{arrives_at, arrives_from, own, state_of, busy_head, made_in, is_open}
 use Rattle.std.proofs.lemmas.Bool.Decides.{nat_tests}
 use Rattle.wait_core.specs.declared.engine.Stepped.{Stepped}
 use Rattle.wait_core.specs.declared.engine.Stepped.TheVariants as answers
@@ -90,19 +55,8 @@ use Rattle.wait_core.specs.declared.engine.StartFault.TheVariants as faults
 use Rattle.std.specs.declared.result.Result.TheVariants.{Ok, Err}
 use Rattle.wait_core.specs.Core.{IsCore, open_calls}
 use Rattle.wait_core.specs.Keepers.{ShowsKeepers, ShowsTaken, keeps_shown, kept_after, taken_after}
-use Rattle.wait_core.proofs.KeptCore.{
-  calls_few,
-  MayOpen,
-  allowed_in_range,
-  open_is,
-  allowed,
-  joins,
-  made_core,
-  keepers_kept,
-  taken_kept,
-  opened_room,
-  opened_core,
-}
+use Rattle.wait_core.proofs.KeptCore.{calls_few, MayOpen, allowed_in_range, open_is, allowed, joins, made_core}
+use Rattle.wait_core.proofs.KeptCore.{keepers_kept, taken_kept, opened_room, opened_core}
 
 -- a bookmark is put only where a walk breaks, and then where it went on from its place
 module _ (s : State) (me : ℕ) (call : Call) (seen : Seen) (walk : Arrived) where

@@ -1,24 +1,8 @@
 -- For proofs alone.
 -- Who keeps each bit, in a list by the bit's number: `WORD_BITS` times the word, and the bit. Beside it the page that a
 -- walk took for each task, which has not taken note of it yet.
-use Rattle.std.specs.Prelude.{
-  ◌≡◌,
-  ℕ,
-  ◌+◌,
-  ◌*◌,
-  ◌<◌,
-  ◌==◌,
-  Bool,
-  false,
-  if◌then◌else◌,
-  List,
-  length,
-  slice_index_or,
-  slice_set,
-  Option,
-  Some,
-  None,
-}
+use Rattle.std.specs.Prelude.{◌≡◌, ℕ, ◌+◌, ◌*◌, ◌<◌, ◌==◌, Bool, false, if◌then◌else◌, List, length, slice_index_or}
+use Rattle.std.specs.Prelude.{slice_set, Option, Some, None}
 use Rattle.wait_model.specs.declared.layout.TheConstants.{TASKS, BIT_WORDS, WORD_BITS, BITS}
 use Rattle.wait_model.specs.declared.watches.Watch.TheVariants as watch
 use Rattle.wait_model.specs.declared.calls.Call.{Call}

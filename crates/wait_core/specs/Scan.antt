@@ -1,23 +1,7 @@
 -- For proofs alone.
 -- The member that a scan over the words of entries and bookmarks finds.
-use Rattle.std.specs.Prelude.{
-  ◌≡◌,
-  ℕ,
-  ◌+◌,
-  ◌<◌,
-  Bool,
-  true,
-  false,
-  ◌&&◌,
-  ◌==◌,
-  nat_lt,
-  if◌then◌else◌,
-  List,
-  slice_index,
-  Option,
-  Some,
-  None,
-}
+use Rattle.std.specs.Prelude.{◌≡◌, ℕ, ◌+◌, ◌<◌, Bool, true, false, ◌&&◌, ◌==◌, nat_lt, if◌then◌else◌, List, slice_index}
+use Rattle.std.specs.Prelude.{Option, Some, None}
 use Rattle.wait_model.specs.declared.layout.TheConstants.{ENTRY_AT, BOOKMARK_AT}
 use Rattle.wait_model.specs.declared.watches.Entry.{Entry}
 use Rattle.wait_model.specs.declared.queues.Member.{Member}

@@ -1,22 +1,7 @@
 -- To be believed.
 -- What a step answers, and what it adds to the run.
-use Rattle.std.specs.Prelude.{
-  ℕ,
-  ◌<◌,
-  ◌-◌,
-  ◌^◌,
-  Bool,
-  true,
-  false,
-  ◌≡◌,
-  ◌==◌,
-  if◌then◌else◌,
-  List,
-  [],
-  ◌∷◌,
-  ◌++◌,
-  IfSome,
-}
+use Rattle.std.specs.Prelude.{ℕ, ◌<◌, ◌-◌, ◌^◌, Bool, true, false, ◌≡◌, ◌==◌, if◌then◌else◌, List, [], ◌∷◌, ◌++◌}
+use Rattle.std.specs.Prelude.{IfSome}
 use Rattle.wait_model.specs.declared.layout.TheConstants.{EVENTS, PLACES}
 use Rattle.std.specs.declared.option.Option.{Option}
 use Rattle.std.specs.declared.option.Option.TheVariants.{Some, None}
@@ -29,18 +14,8 @@ use Rattle.wait_model.specs.declared.points.Progress.TheVariants as now
 use Rattle.wait_model.specs.declared.calls.Ran.{Ran}
 use Rattle.wait_model.specs.declared.calls.Ran.TheVariants as ran
 use Rattle.wait_model.specs.declared.points.Point.{Point}
-use Rattle.wait_model.specs.Runs.{
-  State,
-  own,
-  planned,
-  found_by,
-  is_open,
-  busy_head,
-  state_of,
-  made_in,
-  seen_by,
-  arrives_at,
-}
+use Rattle.wait_model.specs.Runs.{State, own, planned, found_by, is_open, busy_head, state_of, made_in, seen_by}
+use Rattle.wait_model.specs.Runs.{arrives_at}
 use Rattle.wait_model.specs.Followed.{LeavesNobody}
 use Rattle.wait_model.specs.Admission.{is_in_range, lacks_bit, is_queued_twice, lacks_entry}
 use Rattle.wait_model.specs.Points.{call_watch, call_head}

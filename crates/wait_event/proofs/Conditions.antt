@@ -2,14 +2,8 @@
 use Rattle.std.proofs.Common.{◌∙◌, ap, sym, refl, subst, inl, inr, arith}
 use Rattle.std.proofs.lemmas.Bool.Decides.{nat_tests}
 use Rattle.std.specs.Prelude.{ℕ, ◌≡◌, ◌+◌, ◌<◌, ◌≤◌, nat_lt, Bool, true, false, if◌then◌else◌}
-use Rattle.wait_model.specs.declared.layout.TheConstants.{
-  BIT_WORDS,
-  FIRST_DONE_HEAD,
-  FIRST_SIMPLE,
-  HEADS,
-  PLAIN_CONDITIONS,
-  VARIABLES,
-}
+use Rattle.wait_model.specs.declared.layout.TheConstants.{BIT_WORDS, FIRST_DONE_HEAD, FIRST_SIMPLE, HEADS}
+use Rattle.wait_model.specs.declared.layout.TheConstants.{PLAIN_CONDITIONS, VARIABLES}
 use Rattle.wait_model.specs.declared.queues.Form.{Form}
 use Rattle.wait_model.specs.declared.queues.Form.TheVariants as forms
 use Rattle.wait_model.specs.declared.tasks.How.{How}

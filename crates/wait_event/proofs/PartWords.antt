@@ -19,32 +19,10 @@ use Rattle.wait_model.specs.declared.watches.Entry.{Entry}
 use Rattle.wait_model.specs.declared.watches.Kind.{Kind}
 use Rattle.wait_model.specs.declared.watches.Watch.{Watch}
 use Rattle.wait_model.specs.Findings.{none_noted, notes}
-use Rattle.wait_model.specs.Phrases.{
-  Phrase,
-  Rest,
-  ◌>>=◌,
-  ◌>>◌,
-  ends,
-  finds,
-  gives,
-  makes,
-  when◌then◌otherwise◌,
-}
+use Rattle.wait_model.specs.Phrases.{Phrase, Rest, ◌>>=◌, ◌>>◌, ends, finds, gives, makes, when◌then◌otherwise◌}
 use Rattle.wait_model.specs.Programs.{go, zero_answer}
-use Rattle.wait_model.specs.SentenceSteps.{
-  Prepared,
-  enters,
-  finishes,
-  is_ready,
-  is_signalled,
-  is_worn,
-  locks,
-  nothing,
-  number,
-  stands,
-  takes_off,
-  unlocks,
-}
+use Rattle.wait_model.specs.SentenceSteps.{Prepared, enters, finishes, is_ready, is_signalled, is_worn, locks, nothing}
+use Rattle.wait_model.specs.SentenceSteps.{number, stands, takes_off, unlocks}
 use Rattle.wait_model.specs.Tables.{Table}
 use Rattle.wait_model.specs.Tasks.{looks_in, pending, state_mask}
 use Rattle.wait_model.specs.Watches.{head_of}
@@ -55,18 +33,8 @@ use Rattle.wait_rule.specs.Known.{Known}
 use Rattle.wait_rule.specs.Queues.{index}
 use Rattle.wait_rule.specs.SaidEvents.{said}
 use Rattle.wait_rule.specs.Says.{history_of, told_of}
-use Rattle.wait_rule.specs.Transitions.{
-  Finds,
-  FindsAt,
-  Goes,
-  IsSeenAs,
-  Program,
-  StepOrLook,
-  Transition,
-  after_transition,
-  by_look,
-  by_step,
-}
+use Rattle.wait_rule.specs.Transitions.{Finds, FindsAt, Goes, IsSeenAs, Program, StepOrLook, Transition}
+use Rattle.wait_rule.specs.Transitions.{after_transition, by_look, by_step}
 use Rattle.wait_rule.proofs.KnownLaws.Moments.{moment_of}
 use Rattle.wait_rule.proofs.SaidEvents.Fronts.{IsOff, number_stays, off_on, off_still, step_follows, steps_made}
 use Rattle.wait_rule.proofs.SaidEvents.OwnFindings.{own_off}

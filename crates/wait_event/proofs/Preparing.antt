@@ -45,26 +45,9 @@ use Rattle.wait_class.proofs.Histories.{ends_more, stored_history, unlocked_hist
 use Rattle.wait_event.specs.declared.prepares.Part.{Part}
 use Rattle.wait_event.specs.PartSteps.{HasJoinedPart, Heeds, IsAtHead, IsWornPart, JoinsPart, PartCarries, ParesPart}
 use Rattle.wait_event.specs.PartSteps.{locked_to, part_looked_to, program_of, unsignalled}
-use Rattle.wait_event.specs.Prepares.{
-  BeginsOwing,
-  CarriesPrepare,
-  EndsExclusive,
-  EndsPart,
-  IsPrepareLeft,
-  IsNoWaiter,
-  IsPart,
-  MayFinish,
-  MayPrepare,
-  Prepares,
-  SuitsWait,
-  WasAsked,
-  answers_first,
-  exclusive_in,
-  leave_change,
-  prepare_program,
-  prepare_change,
-  with_none,
-}
+use Rattle.wait_event.specs.Prepares.{BeginsOwing, CarriesPrepare, EndsExclusive, EndsPart, IsPrepareLeft, IsNoWaiter}
+use Rattle.wait_event.specs.Prepares.{IsPart, MayFinish, MayPrepare, Prepares, SuitsWait, WasAsked, answers_first}
+use Rattle.wait_event.specs.Prepares.{exclusive_in, leave_change, prepare_program, prepare_change, with_none}
 use Rattle.wait_event.specs.Waits.{wait_left_by, queues_first}
 use Rattle.wait_event.proofs.Conditions.{suits_low}
 use Rattle.wait_event.proofs.Entering.{note_unlocked, unlock_looks}

@@ -22,20 +22,8 @@ use Rattle.wait_rule.specs.Tickets.{taken}
 use Rattle.wq_head.proofs.PermitHeads.{owes_low}
 use Rattle.wait_class.specs.declared.stages.Turn.TheVariants as turn
 use Rattle.wait_class.specs.Posts.{IsStateFor}
-use Rattle.wait_class.specs.Laws.{
-  DrawLaw,
-  IsLawfulCallTable,
-  LawOf,
-  LoadLaw,
-  LockLaw,
-  LookLaw,
-  PareLaw,
-  PeekLaw,
-  QueueLaw,
-  SleepLaw,
-  StateLaw,
-  UnlockLaw,
-}
+use Rattle.wait_class.specs.Laws.{DrawLaw, IsLawfulCallTable, LawOf, LoadLaw, LockLaw, LookLaw, PareLaw, PeekLaw}
+use Rattle.wait_class.specs.Laws.{QueueLaw, SleepLaw, StateLaw, UnlockLaw}
 use Rattle.wait_class.specs.Tables.{falls, next_in, post_of, took_in}
 use Rattle.wait_class.specs.Laws.{IsPlainTurn, TurnTrail, turn_post}
 use Rattle.wait_class.proofs.Ground.Standing.{home_waits, owner_own}
@@ -51,16 +39,8 @@ use Rattle.wait_event.proofs.PermitHeads.{run_low}
 use Rattle.wait_event.proofs.Tellings.{joined_told, loaded_told, quiet_told, wait_told}
 use Rattle.wait_class.proofs.Histories.{found_calm}
 use Rattle.wait_event.specs.Waits.{last_load}
-use Rattle.wait_event.proofs.WaitTrails.{
-  finds_off,
-  gives_back,
-  left_loads,
-  signal_seen,
-  takes_entry,
-  trail_rises,
-  trail_still,
-  unset_by,
-}
+use Rattle.wait_event.proofs.WaitTrails.{finds_off, gives_back, left_loads, signal_seen, takes_entry, trail_rises}
+use Rattle.wait_event.proofs.WaitTrails.{trail_still, unset_by}
 
 -- behind the lock of a prepare: whether it looks for a signal
 locks_to : (looks : Bool)

@@ -26,20 +26,8 @@ use Rattle.wait_leave.specs.Leaves.{GoesOut, stays_awake}
 use Rattle.wait_leave.specs.OnTheWay.{IsOnWay, OnTheWay, left_at, straight}
 use Rattle.wait_leave.proofs.Ways.{way_asked, way_keeps, way_lands}
 use Rattle.wait_event.specs.Ends.{wait_change}
-use Rattle.wait_event.specs.WaitLeaves.{
-  EndsWaitUntil,
-  IsAskedWait,
-  IsAwakeOff,
-  IsWaitCause,
-  LeavesWait,
-  out_queues,
-  parted_in,
-  wait_awake,
-  wait_exit,
-  wait_exits,
-  wait_until_in,
-  way_queues,
-}
+use Rattle.wait_event.specs.WaitLeaves.{EndsWaitUntil, IsAskedWait, IsAwakeOff, IsWaitCause, LeavesWait, out_queues}
+use Rattle.wait_event.specs.WaitLeaves.{parted_in, wait_awake, wait_exit, wait_exits, wait_until_in, way_queues}
 use Rattle.wait_event.specs.Waits.{IsFreshWait, IsUnset, LeftSo, SameCall, WaitTrailEnd, last_load, wait_table}
 use Rattle.wait_event.specs.declared.waits.WaitCall.{WaitCall}
 use Rattle.wait_event.specs.declared.waits.WaitOutcome.{WaitOutcome}

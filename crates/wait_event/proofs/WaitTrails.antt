@@ -15,22 +15,8 @@ use Rattle.wait_rule.specs.Says.{history_of, told_of}
 use Rattle.wait_class.specs.Posts.{EndsWith, own_of}
 use Rattle.wait_class.specs.Laws.{Calm, Unmoved}
 use Rattle.wait_class.proofs.Histories.{ends_calm, ends_still, found_still, unmoved_by}
-use Rattle.wait_event.specs.Waits.{
-  GoesOff,
-  IsQueuedIn,
-  IsUnset,
-  LeftQueue,
-  LeftSo,
-  PartedQueue,
-  SawSignal,
-  TakesOwnOff,
-  WaitTrailAt,
-  head_of_wait,
-  is_slept,
-  last_load,
-  wait_left_by,
-  off_by,
-}
+use Rattle.wait_event.specs.Waits.{GoesOff, IsQueuedIn, IsUnset, LeftQueue, LeftSo, PartedQueue, SawSignal, TakesOwnOff}
+use Rattle.wait_event.specs.Waits.{WaitTrailAt, head_of_wait, is_slept, last_load, wait_left_by, off_by}
 use Rattle.wait_event.specs.declared.waits.WaitCall.{WaitCall}
 use Rattle.wait_event.specs.declared.waits.WaitStage.{WaitStage}
 use Rattle.wait_event.specs.declared.waits.WaitStage.TheVariants as stage

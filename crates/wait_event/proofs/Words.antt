@@ -19,19 +19,8 @@ use Rattle.wait_rule.specs.declared.journal.Journal.{Journal}
 use Rattle.wait_rule.specs.Known.{Known}
 use Rattle.wait_rule.specs.Says.{MeetsLaw, added}
 use Rattle.wait_rule.specs.SaidEvents.{HasWalked, plain_aim}
-use Rattle.wait_rule.specs.Transitions.{
-  Goes,
-  Program,
-  StepOrLook,
-  Transition,
-  after_step_or_look,
-  after_transition,
-  by_look,
-  by_step,
-  call_program,
-  walk_program,
-  with_lock,
-}
+use Rattle.wait_rule.specs.Transitions.{Goes, Program, StepOrLook, Transition, after_step_or_look, after_transition}
+use Rattle.wait_rule.specs.Transitions.{by_look, by_step, call_program, walk_program, with_lock}
 use Rattle.wait_rule.proofs.SaidEvents.Fronts.{number_stays}
 use Rattle.wait_rule.proofs.SaidEvents.FollowedRuns.{runs_follow}
 use Rattle.wait_rule.proofs.SaidEvents.FollowedWalks.{walks_follow}
@@ -40,17 +29,8 @@ use Rattle.wait_rule.proofs.SaidEvents.SelectingWalks.{runs_select}
 use Rattle.wait_rule.proofs.SaidEvents.SignalledRuns.{runs_heed}
 use Rattle.wait_event.specs.Ends.{answer_of_end}
 use Rattle.wait_event.specs.Entries.{add_answer}
-use Rattle.wait_event.specs.Words.{
-  AddsFollow,
-  RemovesFollow,
-  SetsFollow,
-  TakesFollow,
-  WaitsFollow,
-  WaitsHeed,
-  WaitsSay,
-  WokensFollow,
-  call_says,
-}
+use Rattle.wait_event.specs.Words.{AddsFollow, RemovesFollow, SetsFollow, TakesFollow, WaitsFollow, WaitsHeed, WaitsSay}
+use Rattle.wait_event.specs.Words.{WokensFollow, call_says}
 use Rattle.wait_event.specs.declared.wait_events.WaitEnd.TheVariants as wait_end
 
 -- the own list, in the table that a task sees after its last step

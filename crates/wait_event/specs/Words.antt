@@ -22,16 +22,8 @@ use Rattle.wait_model.specs.declared.watches.Mode.{Mode}
 use Rattle.wait_model.specs.Programs.{program_start, signalled, zero_answer}
 use Rattle.wait_model.specs.declared.watches.Watch.{Watch}
 use Rattle.wait_model.specs.Phrases.{Phrase, ◌>>=◌, ◌>>◌, ends, gives}
-use Rattle.wait_model.specs.SentenceSteps.{
-  Prepared,
-  finishes,
-  is_ready,
-  is_signalled,
-  is_worn,
-  number,
-  prepares,
-  prepares_event,
-}
+use Rattle.wait_model.specs.SentenceSteps.{Prepared, finishes, is_ready, is_signalled, is_worn, number, prepares}
+use Rattle.wait_model.specs.SentenceSteps.{prepares_event}
 use Rattle.wait_model.specs.Sentences.{Follows}
 use Rattle.wait_class.specs.Queueing.{wait_form}
 use Rattle.wait_rule.specs.Known.{Known}

@@ -16,20 +16,8 @@ use Rattle.wait_rule.specs.declared.journal.Item.TheVariants as item
 use Rattle.wait_rule.specs.Items.{steps_of}
 use Rattle.wait_rule.specs.Known.{Known}
 use Rattle.wait_rule.specs.Says.{added, history_of}
-use Rattle.wait_rule.specs.Transitions.{
-  AreScansOf,
-  Goes,
-  IsMadeFor,
-  IsStepFor,
-  Program,
-  StepOrLook,
-  Transition,
-  after_step_or_look,
-  after_transition,
-  by_look,
-  by_step,
-  with_lock,
-}
+use Rattle.wait_rule.specs.Transitions.{AreScansOf, Goes, IsMadeFor, IsStepFor, Program, StepOrLook, Transition}
+use Rattle.wait_rule.specs.Transitions.{after_step_or_look, after_transition, by_look, by_step, with_lock}
 use Rattle.wait_rule.proofs.KnownLaws.TaskHistories.{history_after}
 use Rattle.wait_rule.proofs.TableSteps.ItemLists.{steps_append}
 use Rattle.wait_class.specs.declared.stages.Doing.TheVariants as doing

@@ -1,16 +1,8 @@
 -- To be believed.
 -- What each call is about, which calls a task may open by their numbers, and where their programs begin.
 use Rattle.std.specs.Prelude.{ℕ, Bool, true, false, not, ◌&&◌, ◌||◌, nat_lt}
-use Rattle.wait_model.specs.declared.layout.TheConstants.{
-  TASKS,
-  PLAIN_CONDITIONS,
-  FIRST_SIMPLE,
-  COMPLETIONS,
-  BIT_WORDS,
-  WORD_BITS,
-  VARIABLES,
-  PRIORITY_TASKS,
-}
+use Rattle.wait_model.specs.declared.layout.TheConstants.{TASKS, PLAIN_CONDITIONS, FIRST_SIMPLE, COMPLETIONS, BIT_WORDS}
+use Rattle.wait_model.specs.declared.layout.TheConstants.{WORD_BITS, VARIABLES, PRIORITY_TASKS}
 use Rattle.wait_model.specs.declared.calls.Call.{Call}
 use Rattle.wait_model.specs.declared.calls.Call.TheVariants as calls
 use Rattle.wait_model.specs.declared.points.Point.{Point}

@@ -24,17 +24,7 @@ use Rattle.wait_model.specs.Watches.{same}
 use Rattle.wait_model.specs.Tables.{met}
 use Rattle.wait_model.specs.Points.{call_watch}
 use Rattle.wait_model.specs.Wakes.{Sleeps}
-use Rattle.wait_model.specs.Runs.{
-  State,
-  given_by,
-  event_steps,
-  planned,
-  happens,
-  state_after,
-  state_of,
-  IsRun,
-  made_in,
-}
+use Rattle.wait_model.specs.Runs.{State, given_by, event_steps, planned, happens, state_after, state_of, IsRun, made_in}
 
 -- the calls that wake whoever waits for their watch, in whatever state: until the end of the queue, or until a count
 -- is used up

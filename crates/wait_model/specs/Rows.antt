@@ -10,18 +10,8 @@ use Rattle.wait_model.specs.declared.watches.Aim.{Aim}
 use Rattle.wait_model.specs.declared.steps.Step.{Step}
 use Rattle.wait_model.specs.declared.steps.Step.TheVariants as step
 use Rattle.wait_model.specs.Tasks.{task_of}
-use Rattle.wait_model.specs.Watches.{
-  head_of,
-  counted,
-  is_done,
-  is_bit,
-  is_woken,
-  is_simple,
-  owner,
-  part_of,
-  is_page,
-  page,
-}
+use Rattle.wait_model.specs.Watches.{head_of, counted, is_done, is_bit, is_woken, is_simple, owner, part_of, is_page}
+use Rattle.wait_model.specs.Watches.{page}
 use Rattle.wait_model.specs.Words.{bit_at, entry_of, spent_of, flag_of}
 use Rattle.wait_model.specs.Views.{View, Walk, off}
 use Rattle.wait_model.specs.Tables.{Words, Table, next}

@@ -1,33 +1,10 @@
 -- To be believed.
 -- Waits for a bit.
 use Rattle.std.specs.Prelude.{ℕ, Bool, true, false, not, ◌&&◌, if◌then◌else◌}
-use Rattle.wait_model.specs.Phrases.{
-  Phrase,
-  ◌>>=◌,
-  ◌>>◌,
-  gives,
-  makes,
-  finds,
-  when◌then◌otherwise◌,
-  Turn,
-  leaves,
-  repeat,
-  repeats,
-}
-use Rattle.wait_model.specs.SentenceSteps.{
-  nothing,
-  number,
-  minus_4,
-  locks,
-  unlocks,
-  is_met,
-  looks,
-  sleeps,
-  puts_in,
-  prepares,
-  finishes,
-  acts,
-}
+use Rattle.wait_model.specs.Phrases.{Phrase, ◌>>=◌, ◌>>◌, gives, makes, finds, when◌then◌otherwise◌, Turn, leaves}
+use Rattle.wait_model.specs.Phrases.{repeat, repeats}
+use Rattle.wait_model.specs.SentenceSteps.{nothing, number, minus_4, locks, unlocks, is_met, looks, sleeps, puts_in}
+use Rattle.wait_model.specs.SentenceSteps.{prepares, finishes, acts}
 use Rattle.wait_model.specs.Tasks.{state_mask}
 use Rattle.wait_model.specs.Watches.{page}
 use Rattle.wait_model.specs.Words.{flag}

@@ -2,32 +2,10 @@
 -- Completions: calls that raise a done count, and calls that lower it.
 use Rattle.std.specs.Prelude.{ℕ, ◌+◌, ◌-◌, ◌≤◌, Bool, true, false, not, ◌==◌, if◌then◌else◌}
 use Rattle.wait_model.specs.declared.layout.TheConstants.{ALL_DONE}
-use Rattle.wait_model.specs.Phrases.{
-  Phrase,
-  ◌>>=◌,
-  ◌>>◌,
-  gives,
-  makes,
-  given,
-  when◌then◌otherwise◌,
-  Turn,
-  leaves,
-  repeat,
-  repeats,
-}
-use Rattle.wait_model.specs.SentenceSteps.{
-  nothing,
-  number,
-  minus_512,
-  locks,
-  unlocks,
-  loads,
-  stores,
-  looks,
-  sleeps,
-  takes_off,
-  enters,
-}
+use Rattle.wait_model.specs.Phrases.{Phrase, ◌>>=◌, ◌>>◌, gives, makes, given, when◌then◌otherwise◌, Turn, leaves}
+use Rattle.wait_model.specs.Phrases.{repeat, repeats}
+use Rattle.wait_model.specs.SentenceSteps.{nothing, number, minus_512, locks, unlocks, loads, stores, looks, sleeps}
+use Rattle.wait_model.specs.SentenceSteps.{takes_off, enters}
 use Rattle.wait_model.specs.SentenceWalks.{selects, selects_all}
 use Rattle.wait_model.specs.Watches.{head_of}
 use Rattle.wait_model.specs.declared.calls.Answer.{Answer}

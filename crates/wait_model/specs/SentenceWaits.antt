@@ -1,32 +1,10 @@
 -- To be believed.
 -- Waits for a plain condition or a variable, and for a WOKEN flag.
 use Rattle.std.specs.Prelude.{ℕ, Bool, true, false, if◌then◌else◌}
-use Rattle.wait_model.specs.Phrases.{
-  Phrase,
-  ◌>>=◌,
-  ◌>>◌,
-  gives,
-  makes,
-  finds,
-  when◌then◌otherwise◌,
-  Turn,
-  leaves,
-  repeat,
-  repeats,
-}
-use Rattle.wait_model.specs.SentenceSteps.{
-  Prepared,
-  is_ready,
-  is_signalled,
-  is_worn,
-  nothing,
-  number,
-  minus_512,
-  is_met,
-  sleeps,
-  prepares_event,
-  finishes,
-}
+use Rattle.wait_model.specs.Phrases.{Phrase, ◌>>=◌, ◌>>◌, gives, makes, finds, when◌then◌otherwise◌, Turn, leaves}
+use Rattle.wait_model.specs.Phrases.{repeat, repeats}
+use Rattle.wait_model.specs.SentenceSteps.{Prepared, is_ready, is_signalled, is_worn, nothing, number, minus_512}
+use Rattle.wait_model.specs.SentenceSteps.{is_met, sleeps, prepares_event, finishes}
 use Rattle.wait_model.specs.Tasks.{state_mask}
 use Rattle.wait_model.specs.declared.calls.Answer.{Answer}
 use Rattle.wait_model.specs.declared.calls.Answer.TheVariants as answer

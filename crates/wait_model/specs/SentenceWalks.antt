@@ -2,21 +2,8 @@
 -- Walks of wake-ups and selections of simple queues.
 use Rattle.std.specs.Prelude.{ℕ, ◌+◌, ◌-◌, ◌<◌, ◌≤◌, Bool, true, false, ◌&&◌, ◌==◌, if◌then◌else◌, not}
 use Rattle.wait_model.specs.declared.layout.TheConstants.{BREAK}
-use Rattle.wait_model.specs.Phrases.{
-  Phrase,
-  ◌>>=◌,
-  ◌>>◌,
-  gives,
-  makes,
-  finds,
-  any,
-  given,
-  when◌then◌otherwise◌,
-  Turn,
-  leaves,
-  repeat,
-  repeats,
-}
+use Rattle.wait_model.specs.Phrases.{Phrase, ◌>>=◌, ◌>>◌, gives, makes, finds, any, given, when◌then◌otherwise◌, Turn}
+use Rattle.wait_model.specs.Phrases.{leaves, repeat, repeats}
 use Rattle.wait_model.specs.SentenceSteps.{locks, unlocks, unlocks_spent, is_met}
 use Rattle.wait_model.specs.Words.{flag, bit_at}
 use Rattle.wait_model.specs.Watches.{head_of, word_of, bit_of, is_page, misses}

@@ -1,27 +1,7 @@
 -- To be believed.
 -- Walks, plainly over a task's history: the hold of a walk, the entries that it has called, and looks without the lock.
-use Rattle.std.specs.Prelude.{
-  ℕ,
-  zero,
-  suc,
-  ◌≡◌,
-  ◌<◌,
-  ◌≤◌,
-  ◌⊎◌,
-  Bool,
-  true,
-  false,
-  not,
-  ◌&&◌,
-  ◌==◌,
-  if◌then◌else◌,
-  Option,
-  Some,
-  None,
-  List,
-  ◌∷◌,
-  ◌++◌,
-}
+use Rattle.std.specs.Prelude.{ℕ, zero, suc, ◌≡◌, ◌<◌, ◌≤◌, ◌⊎◌, Bool, true, false, not, ◌&&◌, ◌==◌, if◌then◌else◌}
+use Rattle.std.specs.Prelude.{Option, Some, None, List, ◌∷◌, ◌++◌}
 use Rattle.wait_model.specs.declared.layout.TheConstants.{ENTRIES}
 use Rattle.wait_model.specs.declared.watches.Watch.{Watch}
 use Rattle.wait_model.specs.declared.watches.Entry.{Entry}
@@ -29,20 +9,8 @@ use Rattle.wait_model.specs.declared.watches.Aim.{Aim}
 use Rattle.wait_model.specs.declared.steps.Step.{Step}
 use Rattle.wait_model.specs.declared.steps.Step.TheVariants as step
 use Rattle.wait_model.specs.Tasks.{meets}
-use Rattle.wait_model.specs.Watches.{
-  same,
-  head_of,
-  is_bit,
-  page,
-  is_woken,
-  is_page,
-  is_simple,
-  mask_of,
-  failing,
-  owner,
-  stands_at,
-  part_of,
-}
+use Rattle.wait_model.specs.Watches.{same, head_of, is_bit, page, is_woken, is_page, is_simple, mask_of, failing, owner}
+use Rattle.wait_model.specs.Watches.{stands_at, part_of}
 use Rattle.wait_model.specs.Words.{entry_of}
 use Rattle.wait_model.specs.Histories.{Lacks, Since, turns_lock, is_publish, is_mark, marks}
 

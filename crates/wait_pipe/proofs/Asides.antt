@@ -23,13 +23,8 @@ use Rattle.wait_rule.specs.PipeSays.{end_at}
 use Rattle.wait_rule.specs.Says.{added, grown, told_of}
 use Rattle.wait_rule.specs.Tallies.{amount_of}
 use Rattle.wait_rule.specs.Transitions.{AreScansOf, call_program, walk_program}
-use Rattle.wait_rule.proofs.KnownLaws.AsideCalls.{
-  aside_join,
-  calls_grow_aside,
-  items_stay_off,
-  step_mine,
-  walks_grow_aside,
-}
+use Rattle.wait_rule.proofs.KnownLaws.AsideCalls.{aside_join, calls_grow_aside, items_stay_off, step_mine}
+use Rattle.wait_rule.proofs.KnownLaws.AsideCalls.{walks_grow_aside}
 use Rattle.wait_rule.proofs.KnownLaws.OtherCalls.{others_stay_off}
 use Rattle.wait_rule.proofs.KnownLaws.PipeItems.{end_append}
 use Rattle.wait_rule.proofs.KnownLaws.TallySteps.{amounts_append}

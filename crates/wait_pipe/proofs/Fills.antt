@@ -1,37 +1,7 @@
 -- A piece of bytes that is being put into a pipe, or taken out of it.
-use Rattle.std.proofs.Common.{
-  ◌≡◌,
-  ◌<◌,
-  ◌≤◌,
-  ◌+◌,
-  ◌-◌,
-  ◌/◌,
-  ◌%◌,
-  ◌⊎◌,
-  inl,
-  inr,
-  ℕ,
-  List,
-  [],
-  ◌∷◌,
-  ◌++◌,
-  true,
-  length,
-  take,
-  drop,
-  refl,
-  sym,
-  ap,
-  ◌∙◌,
-  subst,
-  arith,
-  ◌*◌,
-  add-zero,
-  append-nil,
-  append_assoc,
-  length-append,
-  take-add,
-}
+use Rattle.std.proofs.Common.{◌≡◌, ◌<◌, ◌≤◌, ◌+◌, ◌-◌, ◌/◌, ◌%◌, ◌⊎◌, inl, inr, ℕ, List, [], ◌∷◌, ◌++◌, true, length}
+use Rattle.std.proofs.Common.{take, drop, refl, sym, ap, ◌∙◌, subst, arith, ◌*◌, add-zero, append-nil, append_assoc}
+use Rattle.std.proofs.Common.{length-append, take-add}
 use Rattle.std.proofs.lemmas.List.{append_cancel_left, take_all}
 use Rattle.std.proofs.lemmas.Grind.{flat_map-append}
 use Rattle.std.proofs.lemmas.Bool.Decides.{nat_tests}
@@ -45,32 +15,14 @@ use Rattle.wait_rule.specs.declared.journal.Item.{Item}
 use Rattle.wait_rule.specs.declared.journal.Item.TheVariants as item
 use Rattle.wait_rule.specs.Known.{Known}
 use Rattle.wait_rule.specs.Says.{added, grown}
-use Rattle.wait_rule.specs.Pipes.{
-  End,
-  bytes_in,
-  cell_bytes,
-  end_word,
-  moved_bytes,
-  with_all_passed,
-  read_end,
-  with_cell,
-  word_counts,
-  write_end,
-}
+use Rattle.wait_rule.specs.Pipes.{End, bytes_in, cell_bytes, end_word, moved_bytes, with_all_passed, read_end}
+use Rattle.wait_rule.specs.Pipes.{with_cell, word_counts, write_end}
 use Rattle.wait_rule.specs.PipeSays.{EndBecomes, IsOpen, KeepsEnd, end_at, reading, writing}
 use Rattle.wait_rule.specs.Stays.{Carries, unchanged}
 use Rattle.wait_rule.proofs.KnownLaws.CarriedTasks.{unchanged_none, unchanged_on}
 use Rattle.var_wait.specs.VarPublishes.{HasPublished}
-use Rattle.wait_pipe.specs.Pieces.{
-  HasSeen,
-  IsAtEnd,
-  IsSettled,
-  Moved,
-  OtherPipesStay,
-  LeavesAside,
-  ShowsNoCell,
-  WaitsAtPipe,
-}
+use Rattle.wait_pipe.specs.Pieces.{HasSeen, IsAtEnd, IsSettled, Moved, OtherPipesStay, LeavesAside, ShowsNoCell}
+use Rattle.wait_pipe.specs.Pieces.{WaitsAtPipe}
 use Rattle.wait_pipe.specs.Trails.{LoadsCells, LoadsOther, LooksOver, PassesCells, StoresCells, WakesAfter, cell_items}
 use Rattle.wait_pipe.specs.declared.looks.Look.{Look}
 use Rattle.wait_pipe.proofs.Asides.{none_more, quiet_cell, quiet_none, quiet_on}

@@ -1,32 +1,7 @@
 -- A look at the other end of a pipe, and a wait for it.
 use Rattle.std.proofs.Common.{refl, sym, ◌∙◌, ap, subst, arith}
-use Rattle.std.specs.Prelude.{
-  ℕ,
-  ◌≡◌,
-  ◌≢◌,
-  ◌+◌,
-  ◌-◌,
-  ◌*◌,
-  ◌/◌,
-  ◌%◌,
-  ◌<◌,
-  ◌==◌,
-  ◌&&◌,
-  not,
-  if◌then◌else◌,
-  Bool,
-  true,
-  false,
-  Some,
-  None,
-  Result,
-  Ok,
-  Err,
-  IfErr,
-  List,
-  [],
-  ◌∷◌,
-}
+use Rattle.std.specs.Prelude.{ℕ, ◌≡◌, ◌≢◌, ◌+◌, ◌-◌, ◌*◌, ◌/◌, ◌%◌, ◌<◌, ◌==◌, ◌&&◌, not, if◌then◌else◌, Bool, true}
+use Rattle.std.specs.Prelude.{false, Some, None, Result, Ok, Err, IfErr, List, [], ◌∷◌}
 use Rattle.std.proofs.lemmas.Bool.Decides.{nat_tests}
 use mathlib.Core.Logic.{dite}
 use native.Mathlib.Decide.{ℕ_discrete}
@@ -41,19 +16,8 @@ use Rattle.wait_model.specs.declared.watches.Watch.TheVariants as watch
 use Rattle.wait_rule.specs.declared.journal.Item.{Item}
 use Rattle.wait_rule.specs.declared.journal.Item.TheVariants as item
 use Rattle.wait_rule.specs.Known.{Known}
-use Rattle.wait_rule.specs.Pipes.{
-  End,
-  after_end_look,
-  count_on,
-  end_item,
-  end_word,
-  if_unclosed,
-  no_end,
-  other_end,
-  read_end,
-  word_counts,
-  write_end,
-}
+use Rattle.wait_rule.specs.Pipes.{End, after_end_look, count_on, end_item, end_word, if_unclosed, no_end, other_end}
+use Rattle.wait_rule.specs.Pipes.{read_end, word_counts, write_end}
 use Rattle.wait_rule.specs.PipeSays.{IsOpen, IsSoundEnd, KeepsEnd, end_at}
 use Rattle.wait_rule.specs.Queues.{IsAgreedHold, IsIdle, index}
 use Rattle.wait_rule.specs.Says.{IsFree, IsUp, added, told_of}

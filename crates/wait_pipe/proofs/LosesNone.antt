@@ -1,24 +1,8 @@
 -- Nobody is left asleep at a pipe that has a cell for it.
 use Rattle.std.proofs.Common.{◌∙◌, ap, arith, inl, inr, refl, subst, sym}
 use Rattle.std.proofs.lemmas.Bool.Decides.{nat_tests}
-use Rattle.std.specs.Prelude.{
-  ℕ,
-  ◌≡◌,
-  ◌≢◌,
-  ◌<◌,
-  ◌≤◌,
-  ◌+◌,
-  ◌/◌,
-  ◌%◌,
-  ◌==◌,
-  ◌⊎◌,
-  not,
-  if◌then◌else◌,
-  Bool,
-  true,
-  false,
-  List,
-}
+use Rattle.std.specs.Prelude.{ℕ, ◌≡◌, ◌≢◌, ◌<◌, ◌≤◌, ◌+◌, ◌/◌, ◌%◌, ◌==◌, ◌⊎◌, not, if◌then◌else◌, Bool, true, false}
+use Rattle.std.specs.Prelude.{List}
 use Rattle.wait_model.specs.declared.layout.TheConstants.{CLAIMS, PIPES, PIPE_CELLS, PIPE_ENDS}
 use Rattle.wait_model.specs.declared.watches.Entry.{Entry}
 use Rattle.wait_model.specs.declared.watches.Mode.TheVariants as mode
@@ -39,14 +23,8 @@ use Rattle.wait_rule.proofs.KnownLaws.PipeWords.{test_on}
 use Rattle.wait_rule.proofs.KnownLaws.TableLaws.{rule_loses_none}
 use Rattle.var_wait.proofs.LosesNone.{publishes_lose_none}
 use Rattle.wait_pipe.specs.Pieces.{ShowsNoCell}
-use Rattle.wait_pipe.specs.LosesNone.{
-  ClosesLoseNone,
-  HasCell,
-  LeavesNoneAtOther,
-  PassesLoseNone,
-  PipesLoseNone,
-  SleepsBeside,
-}
+use Rattle.wait_pipe.specs.LosesNone.{ClosesLoseNone, HasCell, LeavesNoneAtOther, PassesLoseNone, PipesLoseNone}
+use Rattle.wait_pipe.specs.LosesNone.{SleepsBeside}
 
 -- a word that shows an end open, and this count, is not the one of an end that is closed, or counts up to a ring more
 differs : (n count word : ℕ) (shut : Bool) → word % 2 ≡ 0 → word / 2 % word_counts ≡ count % word_counts → count ≤ n

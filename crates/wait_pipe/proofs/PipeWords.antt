@@ -1,32 +1,7 @@
 -- What whole calls on pipes make follows their sentences.
 use Rattle.std.proofs.Common.{refl, sym, ◌∙◌, ap, subst, append_assoc, arith}
-use Rattle.std.specs.Prelude.{
-  ℕ,
-  zero,
-  suc,
-  ◌≡◌,
-  ◌<◌,
-  ◌≤◌,
-  ◌+◌,
-  ◌/◌,
-  ◌%◌,
-  ◌==◌,
-  ◌&&◌,
-  not,
-  if◌then◌else◌,
-  Bool,
-  true,
-  false,
-  Result,
-  Ok,
-  Err,
-  List,
-  [],
-  ◌∷◌,
-  ◌++◌,
-  length,
-  take,
-}
+use Rattle.std.specs.Prelude.{ℕ, zero, suc, ◌≡◌, ◌<◌, ◌≤◌, ◌+◌, ◌/◌, ◌%◌, ◌==◌, ◌&&◌, not, if◌then◌else◌, Bool, true}
+use Rattle.std.specs.Prelude.{false, Result, Ok, Err, List, [], ◌∷◌, ◌++◌, length, take}
 use Rattle.wait_model.specs.declared.layout.TheConstants.{PIPE_CELLS}
 use Rattle.wait_model.specs.declared.calls.Answer.{Answer}
 use Rattle.wait_model.specs.declared.calls.Answer.TheVariants as answer
@@ -62,36 +37,10 @@ use Rattle.var_wait.proofs.VarWords.{publishes_follow, var_waits_heed}
 use Rattle.wait_pipe.specs.declared.pieces.PipeEnd.{PipeEnd}
 use Rattle.wait_pipe.specs.declared.pieces.PipeEnd.TheVariants as pipe_end
 use Rattle.wait_pipe.specs.Pieces.{end_of_wait}
-use Rattle.wait_pipe.specs.Trails.{
-  LooksOver,
-  PassesCells,
-  ReadEnds,
-  WaitingTurn,
-  WaitingTurns,
-  WriteEnds,
-  cell_items,
-}
-use Rattle.wait_pipe.specs.PipeWords.{
-  ClosesFollow,
-  Deed,
-  LastReads,
-  LastWrites,
-  PeeksFollow,
-  ReadsFollow,
-  TurnPasses,
-  TurnWaits,
-  TurnsHeed,
-  TurnsWait,
-  WritesFollow,
-  all_cells,
-  all_events,
-  loads_other,
-  read_said,
-  turn_said,
-  turns_said,
-  wait_answer,
-  write_said,
-}
+use Rattle.wait_pipe.specs.Trails.{LooksOver, PassesCells, ReadEnds, WaitingTurn, WaitingTurns, WriteEnds, cell_items}
+use Rattle.wait_pipe.specs.PipeWords.{ClosesFollow, Deed, LastReads, LastWrites, PeeksFollow, ReadsFollow, TurnPasses}
+use Rattle.wait_pipe.specs.PipeWords.{TurnWaits, TurnsHeed, TurnsWait, WritesFollow, all_cells, all_events, loads_other}
+use Rattle.wait_pipe.specs.PipeWords.{read_said, turn_said, turns_said, wait_answer, write_said}
 use Rattle.wait_pipe.proofs.Asides.{none_more, quiet_cell, quiet_load, quiet_none}
 use Rattle.wait_pipe.proofs.Looking.{none_kept, other_apart}
 use Rattle.wait_pipe.proofs.PieceChanges.{keeps_none, keeps_on}

@@ -1,29 +1,7 @@
 -- The turns of a task that writes a piece or reads one: it looks, and then passes on or waits.
 use Rattle.std.proofs.Common.{◌∙◌, ap, arith, refl, subst}
-use Rattle.std.specs.Prelude.{
-  ℕ,
-  zero,
-  suc,
-  ◌≡◌,
-  ◌<◌,
-  ◌≤◌,
-  ◌+◌,
-  ◌-◌,
-  ◌/◌,
-  ◌%◌,
-  true,
-  false,
-  List,
-  [],
-  ◌∷◌,
-  ◌++◌,
-  length,
-  take,
-  Result,
-  Ok,
-  Err,
-  MatchResult,
-}
+use Rattle.std.specs.Prelude.{ℕ, zero, suc, ◌≡◌, ◌<◌, ◌≤◌, ◌+◌, ◌-◌, ◌/◌, ◌%◌, true, false, List, [], ◌∷◌, ◌++◌, length}
+use Rattle.std.specs.Prelude.{take, Result, Ok, Err, MatchResult}
 use Rattle.wait_rule.specs.Known.{Known}
 use Rattle.wait_rule.specs.Pipes.{read_end, word_counts, write_end}
 use Rattle.wait_rule.specs.PipeSays.{end_at, reading, writing}
@@ -31,33 +9,10 @@ use Rattle.wait_pipe.specs.declared.looks.Look.{Look}
 use Rattle.wait_pipe.specs.declared.pieces.PipeEnd.{PipeEnd}
 use Rattle.wait_pipe.specs.declared.pieces.PipeEnd.TheVariants as pipe_end
 use Rattle.wait_pipe.specs.PassedOn.{Drained, Filled}
-use Rattle.wait_pipe.specs.Pieces.{
-  Got,
-  GotNone,
-  HasSeen,
-  IsPipeCause,
-  IsReadCause,
-  IsSettled,
-  Put,
-  PutNone,
-  RestsBehindPiece,
-  WaitsAtPipe,
-}
-use Rattle.wait_pipe.specs.Trails.{
-  AwaitsOther,
-  FillsCells,
-  LoadsCells,
-  LoadsOther,
-  LooksOver,
-  ReadEnds,
-  ReadsPiece,
-  SeesClosed,
-  StoresCells,
-  WaitingTurn,
-  WaitingTurns,
-  WriteEnds,
-  WritesPiece,
-}
+use Rattle.wait_pipe.specs.Pieces.{Got, GotNone, HasSeen, IsPipeCause, IsReadCause, IsSettled, Put, PutNone}
+use Rattle.wait_pipe.specs.Pieces.{RestsBehindPiece, WaitsAtPipe}
+use Rattle.wait_pipe.specs.Trails.{AwaitsOther, FillsCells, LoadsCells, LoadsOther, LooksOver, ReadEnds, ReadsPiece}
+use Rattle.wait_pipe.specs.Trails.{SeesClosed, StoresCells, WaitingTurn, WaitingTurns, WriteEnds, WritesPiece}
 use Rattle.wait_pipe.proofs.PieceChanges.{rests_on, waits_on}
 use Rattle.wait_pipe.proofs.Fills.{at_end, waited_none, waited_settled, waited_then}
 

@@ -8,21 +8,9 @@ use Rattle.wait_leave.specs.declared.exits.Until.{Until}
 use Rattle.wait_leave.specs.declared.exits.Until.TheVariants as until
 use Rattle.wait_pipe.specs.declared.pieces.PipeEnd.{PipeEnd}
 use Rattle.wait_pipe.specs.declared.pieces.PipeEnd.TheVariants as pipe_end
-use Rattle.wait_pipe.specs.PieceLeaves.{
-  AwaitsUntil,
-  GotUntil,
-  LeftNone,
-  PutUntil,
-  ReadEndsUntil,
-  ReadsUntil,
-  SeesNoCell,
-  TurnGoesOn,
-  UntilTurn,
-  UntilTurns,
-  WasPieceLeft,
-  WriteEndsUntil,
-  WritesUntil,
-}
+use Rattle.wait_pipe.specs.PieceLeaves.{AwaitsUntil, GotUntil, LeftNone, PutUntil, ReadEndsUntil, ReadsUntil}
+use Rattle.wait_pipe.specs.PieceLeaves.{SeesNoCell, TurnGoesOn, UntilTurn, UntilTurns, WasPieceLeft, WriteEndsUntil}
+use Rattle.wait_pipe.specs.PieceLeaves.{WritesUntil}
 use Rattle.wait_pipe.specs.Pieces.{IsReadCause, IsSettled, WaitsAtPipe}
 use Rattle.wait_pipe.proofs.Fills.{waited_none, waited_then}
 use Rattle.wait_pipe.proofs.PieceChanges.{waits_on}

@@ -1,27 +1,7 @@
 -- To be believed.
 -- What a piece of bytes tells that went into a pipe or came out of it, and what calls on ends leave of a task.
-use Rattle.std.specs.Prelude.{
-  ℕ,
-  ◌≡◌,
-  ◌≢◌,
-  ◌<◌,
-  ◌≤◌,
-  ◌+◌,
-  ◌/◌,
-  ◌%◌,
-  ◌==◌,
-  ◌++◌,
-  Bool,
-  true,
-  false,
-  Result,
-  Ok,
-  Err,
-  List,
-  [],
-  length,
-  take,
-}
+use Rattle.std.specs.Prelude.{ℕ, ◌≡◌, ◌≢◌, ◌<◌, ◌≤◌, ◌+◌, ◌/◌, ◌%◌, ◌==◌, ◌++◌, Bool, true, false, Result, Ok, Err}
+use Rattle.std.specs.Prelude.{List, [], length, take}
 use Rattle.wait_model.specs.declared.layout.TheConstants.{PIPE_CELLS, PIPE_ENDS}
 use Rattle.wait_model.specs.declared.tasks.SleepState.TheVariants as state
 use Rattle.wait_model.specs.declared.watches.Watch.TheVariants as watch

@@ -1,29 +1,8 @@
 -- To be believed.
 -- Whole calls on pipes as lists of events and cells: what each makes follows its sentence, and the answer is the one
 -- that the sentence gives.
-use Rattle.std.specs.Prelude.{
-  ℕ,
-  zero,
-  suc,
-  ◌≡◌,
-  ◌<◌,
-  ◌≤◌,
-  ◌+◌,
-  ◌/◌,
-  ◌%◌,
-  ◌++◌,
-  true,
-  false,
-  ◌==◌,
-  Result,
-  Ok,
-  Err,
-  List,
-  [],
-  ◌∷◌,
-  length,
-  take,
-}
+use Rattle.std.specs.Prelude.{ℕ, zero, suc, ◌≡◌, ◌<◌, ◌≤◌, ◌+◌, ◌/◌, ◌%◌, ◌++◌, true, false, ◌==◌, Result, Ok, Err}
+use Rattle.std.specs.Prelude.{List, [], ◌∷◌, length, take}
 use Rattle.wait_model.specs.declared.layout.TheConstants.{PIPE_CELLS}
 use Rattle.wait_model.specs.declared.calls.Answer.{Answer}
 use Rattle.wait_model.specs.declared.calls.Answer.TheVariants as answer
@@ -47,15 +26,7 @@ use Rattle.wait_pipe.specs.declared.pieces.PipeEnd.TheVariants as pipe_end
 use Rattle.wait_pipe.specs.declared.peeks.PipeState.{PipeState}
 use Rattle.wait_pipe.specs.Pieces.{ShowsNoCell}
 use Rattle.wait_pipe.specs.PipeStates.{PeeksRead}
-use Rattle.wait_pipe.specs.Trails.{
-  ClosesEnd,
-  ReadEnds,
-  ReadsPiece,
-  WaitingTurn,
-  WaitingTurns,
-  WriteEnds,
-  WritesPiece,
-}
+use Rattle.wait_pipe.specs.Trails.{ClosesEnd, ReadEnds, ReadsPiece, WaitingTurn, WaitingTurns, WriteEnds, WritesPiece}
 
 -- What a task makes at an end of a pipe, in the order in which it comes: events of the model; and cells, which it stores
 -- at a write end and loads at a read end, and which are none.

@@ -1,27 +1,8 @@
 -- To be believed.
 -- What calls on ends of pipes make, one thing after the other: turns that only wait, and then a look that ends the call,
 -- or cells that are passed on with a wake.
-use Rattle.std.specs.Prelude.{
-  ℕ,
-  zero,
-  suc,
-  ◌≡◌,
-  ◌<◌,
-  ◌≤◌,
-  ◌+◌,
-  ◌/◌,
-  ◌%◌,
-  true,
-  false,
-  Result,
-  Ok,
-  Err,
-  List,
-  [],
-  ◌∷◌,
-  length,
-  take,
-}
+use Rattle.std.specs.Prelude.{ℕ, zero, suc, ◌≡◌, ◌<◌, ◌≤◌, ◌+◌, ◌/◌, ◌%◌, true, false, Result, Ok, Err, List, [], ◌∷◌}
+use Rattle.std.specs.Prelude.{length, take}
 use Rattle.wait_model.specs.declared.layout.TheConstants.{PIPE_CELLS}
 use Rattle.wait_model.specs.declared.queues.Walked.{Walked}
 use Rattle.wait_model.specs.declared.steps.Step.TheVariants as step

@@ -1,26 +1,8 @@
 -- To be believed.
 -- The words that stand beside the model's table: those by which a head knows its members, tickets, tallies, and the
 -- claims and cells of pipes.
-use Rattle.std.specs.Prelude.{
-  ℕ,
-  ◌≡◌,
-  ◌≢◌,
-  ◌+◌,
-  ◌-◌,
-  ◌*◌,
-  ◌<◌,
-  Bool,
-  true,
-  false,
-  nat_lt,
-  if◌then◌else◌,
-  Option,
-  Some,
-  None,
-  List,
-  length,
-  slice_index,
-}
+use Rattle.std.specs.Prelude.{ℕ, ◌≡◌, ◌≢◌, ◌+◌, ◌-◌, ◌*◌, ◌<◌, Bool, true, false, nat_lt, if◌then◌else◌, Option, Some}
+use Rattle.std.specs.Prelude.{None, List, length, slice_index}
 use Rattle.wait_model.specs.declared.layout.TheConstants.{ENTRIES, WORD_BITS, MEMBER_WORDS, WORDS}
 use Rattle.wait_model.specs.Watches.{owner, stands_at}
 use Rattle.wait_model.specs.Words.{bit_word}

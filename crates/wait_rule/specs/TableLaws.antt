@@ -11,15 +11,7 @@ use Rattle.wait_model.specs.Totals.{total, total_below}
 use Rattle.wait_model.specs.Wakes.{NoWakeIsLost}
 use Rattle.wait_model.specs.SignalCounts.{AreRaised, takes_fatal, takes_any, raises_fatal, raises_any}
 use Rattle.wait_model.specs.BitKeepers.{AreKept}
-use Rattle.wait_model.specs.DoneCounts.{
-  IsBalanced,
-  of_store,
-  raises_by_one,
-  lowers_by_one,
-  grants,
-  throws,
-  ends_count,
-}
+use Rattle.wait_model.specs.DoneCounts.{IsBalanced, of_store, raises_by_one, lowers_by_one, grants, throws, ends_count}
 use Rattle.wait_model.specs.Histories.{Lacks}
 use Rattle.wait_rule.specs.declared.journal.Item.{Item}
 use Rattle.wait_rule.specs.declared.journal.Journal.{Journal}

@@ -2,19 +2,9 @@
 -- Worked histories of holds: what the definitions say of small ones.
 use Rattle.std.specs.Prelude.{◌+◌, ◌-◌, ℕ, zero, suc, ◌≡◌, Bool, true, false, Option, Some, None, List, [], ◌∷◌, ◌++◌}
 use Rattle.atomic_table.specs.Seated.{TableId}
-use Rattle.wait_model.specs.declared.layout.TheConstants.{
-  TASKS,
-  ENTRIES,
-  FIRST_SIMPLE,
-  COMPLETIONS,
-  FIRST_PLAIN_HEAD,
-  FIRST_SIMPLE_HEAD,
-  HEADS,
-  FIRST_PLACE,
-  UNINTERRUPTIBLE,
-  NORMAL,
-  RUNNABLE,
-}
+use Rattle.wait_model.specs.declared.layout.TheConstants.{TASKS, ENTRIES, FIRST_SIMPLE, COMPLETIONS, FIRST_PLAIN_HEAD}
+use Rattle.wait_model.specs.declared.layout.TheConstants.{FIRST_SIMPLE_HEAD, HEADS, FIRST_PLACE, UNINTERRUPTIBLE}
+use Rattle.wait_model.specs.declared.layout.TheConstants.{NORMAL, RUNNABLE}
 use Rattle.wait_model.specs.declared.watches.Watch.{Watch}
 use Rattle.wait_model.specs.declared.watches.Watch.TheVariants as watch
 use Rattle.wait_model.specs.declared.watches.Mode.TheVariants as mode

@@ -1,15 +1,8 @@
 -- A check of the definitions.
 -- Worked orders of steps of setters that are followed through time: that the laws speak of them.
 use Rattle.std.specs.Prelude.{ℕ, zero, suc, ◌≡◌, ◌+◌, ◌-◌, true, false, Some, None, List, [], ◌∷◌, ◌++◌}
-use Rattle.wait_model.specs.declared.layout.TheConstants.{
-  ENTRIES,
-  MEMBER_WORDS,
-  FIRST_PLACE,
-  FIRST_PLAIN_HEAD,
-  NORMAL,
-  RUNNABLE,
-  UNINTERRUPTIBLE,
-}
+use Rattle.wait_model.specs.declared.layout.TheConstants.{ENTRIES, MEMBER_WORDS, FIRST_PLACE, FIRST_PLAIN_HEAD, NORMAL}
+use Rattle.wait_model.specs.declared.layout.TheConstants.{RUNNABLE, UNINTERRUPTIBLE}
 use Rattle.wait_model.specs.declared.watches.Watch.{Watch}
 use Rattle.wait_model.specs.declared.watches.Watch.TheVariants as watch
 use Rattle.wait_model.specs.declared.watches.Entry.{Entry}

@@ -1,49 +1,13 @@
 -- Where bytes are cut into lines.
-use Rattle.std.proofs.Common.{
-  ◌≡◌,
-  ℕ,
-  ◌+◌,
-  ◌-◌,
-  ◌<◌,
-  Bool,
-  true,
-  false,
-  cond,
-  not,
-  List,
-  [],
-  ◌∷◌,
-  Some,
-  None,
-  Err,
-  length,
-  take,
-  drop,
-  refl,
-  ap,
-  sym,
-  ◌∙◌,
-  arith,
-  nat_lt,
-  position,
-  Ok,
-}
+use Rattle.std.proofs.Common.{◌≡◌, ℕ, ◌+◌, ◌-◌, ◌<◌, Bool, true, false, cond, not, List, [], ◌∷◌, Some, None, Err}
+use Rattle.std.proofs.Common.{length, take, drop, refl, ap, sym, ◌∙◌, arith, nat_lt, position, Ok}
 use Rattle.std.proofs.lemmas.Bool.Decides.{nat_tests}
 use Rattle.std.proofs.lemmas.List.Splits.{slice_split_first, length-slice_split}
 use Rattle.std.specs.List.{onto_first, position_or_len}
 use Rattle.wait_script.specs.declared.reason.Reason.{Reason}
 use Rattle.wait_script.specs.declared.version.Version.{Version}
 use Rattle.wait_script.specs.Lines.{header_at, line_at}
-use Rattle.wait_script.specs.Script.{
-  is_end,
-  parts_of,
-  lines_from,
-  and_lines,
-  versioned,
-  under,
-  headed,
-  script_of,
-}
+use Rattle.wait_script.specs.Script.{is_end, parts_of, lines_from, and_lines, versioned, under, headed, script_of}
 use Rattle.wait_script.proofs.LineCuts.{rest_from}
 use Rattle.wait_script.proofs.Truths.{some_by, none_by}
 

@@ -1,37 +1,7 @@
 -- Lines of steps that are read in one pass.
-use Rattle.std.proofs.Common.{
-  ◌≡◌,
-  ℕ,
-  ◌+◌,
-  ◌-◌,
-  ◌*◌,
-  ◌<◌,
-  ◌≤◌,
-  ◌^◌,
-  List,
-  [],
-  ◌∷◌,
-  ◌++◌,
-  Some,
-  None,
-  Bool,
-  true,
-  false,
-  cond,
-  nat_lt,
-  length,
-  take,
-  drop,
-  get_or,
-  decimal,
-  codes,
-  append_assoc,
-  arith,
-  refl,
-  sym,
-  ap,
-  ◌∙◌,
-}
+use Rattle.std.proofs.Common.{◌≡◌, ℕ, ◌+◌, ◌-◌, ◌*◌, ◌<◌, ◌≤◌, ◌^◌, List, [], ◌∷◌, ◌++◌, Some, None, Bool, true, false}
+use Rattle.std.proofs.Common.{cond, nat_lt, length, take, drop, get_or, decimal, codes, append_assoc, arith, refl, sym}
+use Rattle.std.proofs.Common.{ap, ◌∙◌}
 use mathlib.Core.Bool.{◌&&◌}
 use Rattle.std.specs.Char.{is_ascii_digit, digit_value}
 use Rattle.std.specs.Str.{all_ascii_digits}

@@ -1,34 +1,6 @@
 -- What is read of digits, one after another.
-use Rattle.std.proofs.Common.{
-  ◌≡◌,
-  ℕ,
-  ◌+◌,
-  ◌-◌,
-  ◌*◌,
-  ◌<◌,
-  ◌≤◌,
-  ◌^◌,
-  List,
-  [],
-  ◌∷◌,
-  Option,
-  Some,
-  None,
-  Bool,
-  true,
-  false,
-  cond,
-  eqb,
-  nat_lt,
-  length,
-  drop,
-  get_or,
-  arith,
-  refl,
-  sym,
-  ap,
-  ◌∙◌,
-}
+use Rattle.std.proofs.Common.{◌≡◌, ℕ, ◌+◌, ◌-◌, ◌*◌, ◌<◌, ◌≤◌, ◌^◌, List, [], ◌∷◌, Option, Some, None, Bool, true}
+use Rattle.std.proofs.Common.{false, cond, eqb, nat_lt, length, drop, get_or, arith, refl, sym, ap, ◌∙◌}
 use mathlib.Core.Bool.{◌&&◌}
 use Rattle.std.specs.Char.{is_ascii_digit, digit_value}
 use Rattle.std.specs.Str.{all_ascii_digits}

@@ -1,46 +1,7 @@
 -- What a word that is read in its place is spelled as.
-use Rattle.std.proofs.Common.{
-  ◌≡◌,
-  ◌⊎◌,
-  inl,
-  inr,
-  ⊎_elim,
-  ℕ,
-  ◌+◌,
-  ◌-◌,
-  ◌<◌,
-  Bool,
-  true,
-  false,
-  cond,
-  eqb,
-  List,
-  [],
-  ◌∷◌,
-  ◌++◌,
-  Option,
-  Some,
-  None,
-  Result,
-  Ok,
-  Err,
-  codes,
-  decimal,
-  append_assoc,
-  drop,
-  length,
-  get_or,
-  ◌^◌,
-  refl,
-  ap,
-  sym,
-  ◌∙◌,
-  subst,
-  arith,
-  nat_le,
-  nat_lt,
-  ◌≤◌,
-}
+use Rattle.std.proofs.Common.{◌≡◌, ◌⊎◌, inl, inr, ⊎_elim, ℕ, ◌+◌, ◌-◌, ◌<◌, Bool, true, false, cond, eqb, List, [], ◌∷◌}
+use Rattle.std.proofs.Common.{◌++◌, Option, Some, None, Result, Ok, Err, codes, decimal, append_assoc, drop, length}
+use Rattle.std.proofs.Common.{get_or, ◌^◌, refl, ap, sym, ◌∙◌, subst, arith, nat_le, nat_lt, ◌≤◌}
 use mathlib.Core.Bool.{◌&&◌, ◌||◌, not}
 use Rattle.std.proofs.lemmas.Bool.Decides.{nat_tests}
 use Rattle.std.proofs.lemmas.Grind.{common_steps}
@@ -55,65 +16,20 @@ use Rattle.wait_model.specs.declared.watches.Kind.{Kind}
 use Rattle.wait_model.specs.declared.queues.Form.{Form}
 use Rattle.wait_model.specs.Tasks.{looks_in, is_killable}
 use Rattle.wait_model.specs.Admission.{IsStandingKind}
-use Rattle.wait_model.specs.declared.layout.TheConstants.{
-  BIT_WORDS,
-  COMPLETIONS,
-  FIRST_SIMPLE,
-  PLAIN_CONDITIONS,
-  VARIABLES,
-  WORD_BITS,
-}
+use Rattle.wait_model.specs.declared.layout.TheConstants.{BIT_WORDS, COMPLETIONS, FIRST_SIMPLE, PLAIN_CONDITIONS}
+use Rattle.wait_model.specs.declared.layout.TheConstants.{VARIABLES, WORD_BITS}
 use Rattle.wait_script.specs.declared.reason.Reason.{Reason}
 use Rattle.wait_script.specs.declared.reason.Reason.TheVariants.{BadNumber, BadCondition}
 use Rattle.wait_script.specs.Number.{numeral_value}
 use Rattle.wait_script.specs.Words.{both_of, made_of}
-use Rattle.wait_script.specs.Fields.{
-  last_cond,
-  last_cell,
-  last_var,
-  last_word,
-  last_bit,
-  number_within,
-  number_at,
-  value_at,
-  numbered_at,
-  cond_field,
-  cell_at,
-  page_at,
-  var_at,
-  is_dot,
-  bit_at,
-  keyword_at,
-  hows,
-  states,
-  simple_states,
-  modes,
-  kinds,
-  forms,
-  signal_words,
-  extents,
-  how_at,
-  state_at,
-  simple_state_at,
-  mode_at,
-  kind_field,
-  form_at,
-  fatal_at,
-  all_at,
-}
+use Rattle.wait_script.specs.Fields.{last_cond, last_cell, last_var, last_word, last_bit, number_within, number_at}
+use Rattle.wait_script.specs.Fields.{value_at, numbered_at, cond_field, cell_at, page_at, var_at, is_dot, bit_at}
+use Rattle.wait_script.specs.Fields.{keyword_at, hows, states, simple_states, modes, kinds, forms, signal_words}
+use Rattle.wait_script.specs.Fields.{extents, how_at, state_at, simple_state_at, mode_at, kind_field, form_at, fatal_at}
+use Rattle.wait_script.specs.Fields.{all_at}
 use Rattle.wait_script.specs.Text.{form_text, bit_text}
-use Rattle.wait_script.specs.Spelling.{
-  cond_word,
-  cell_word,
-  page_word,
-  var_word,
-  how_word,
-  state_word,
-  mode_word,
-  kind_word,
-  fatal_word,
-  extent_word,
-}
+use Rattle.wait_script.specs.Spelling.{cond_word, cell_word, page_word, var_word, how_word, state_word, mode_word}
+use Rattle.wait_script.specs.Spelling.{kind_word, fatal_word, extent_word}
 use Rattle.wait_script.proofs.ReadNumbers.{number_is}
 pub use Rattle.wait_script.proofs.Truths.{both_true}
 

@@ -1,27 +1,6 @@
 -- A call that is read is spelled so, and is one that a core has: a lemma a form.
-use Rattle.std.proofs.Common.{
-  ◌≡◌,
-  ⊎_elim,
-  ℕ,
-  ◌^◌,
-  ◌<◌,
-  Bool,
-  true,
-  false,
-  if◌then◌else◌,
-  nat_lt,
-  List,
-  [],
-  ◌∷◌,
-  ◌++◌,
-  Result,
-  Ok,
-  codes,
-  refl,
-  sym,
-  subst,
-  arith,
-}
+use Rattle.std.proofs.Common.{◌≡◌, ⊎_elim, ℕ, ◌^◌, ◌<◌, Bool, true, false, if◌then◌else◌, nat_lt, List, [], ◌∷◌, ◌++◌}
+use Rattle.std.proofs.Common.{Result, Ok, codes, refl, sym, subst, arith}
 use mathlib.Core.Bool.{◌||◌, not}
 use Rattle.std.specs.Str.{bytes_eq}
 use Rattle.std.specs.Cmp.Lexicographic.{same_text}
@@ -35,97 +14,22 @@ use Rattle.wait_script.specs.declared.reason.Reason.{Reason}
 use Rattle.wait_script.specs.declared.version.Version.{Version}
 use Rattle.wait_script.specs.declared.version.Version.TheVariants.{One, Two}
 use Rattle.wait_script.specs.Words.{both_of}
-use Rattle.wait_script.specs.Fields.{
-  number_at,
-  value_at,
-  cond_field,
-  cell_at,
-  var_at,
-  bit_at,
-  page_at,
-  how_at,
-  state_at,
-  simple_state_at,
-  mode_at,
-  kind_field,
-  form_at,
-  fatal_at,
-  all_at,
-  last_full,
-  last_cond,
-}
-use Rattle.wait_script.specs.Forms.{
-  form0,
-  form1,
-  form2,
-  form3,
-  wait_at,
-  set_at,
-  take_at,
-  read_at,
-  wake_at,
-  add_at,
-  remove_at,
-  woken_at,
-  signal_at,
-  accept_at,
-  kick_at,
-  simple_wait_at,
-  simple_wake_at,
-  complete_at,
-  complete_all_at,
-  reinit_at,
-  wait_for_at,
-  try_wait_at,
-  is_done_at,
-  try_bit_at,
-  wait_bit_at,
-  lock_bit_at,
-  clear_bit_at,
-  wait_var_at,
-  set_var_at,
-  lock_page_at,
-  further_forms,
-  call_forms,
-  call_in,
-  named_at,
-}
+use Rattle.wait_script.specs.Fields.{number_at, value_at, cond_field, cell_at, var_at, bit_at, page_at, how_at}
+use Rattle.wait_script.specs.Fields.{state_at, simple_state_at, mode_at, kind_field, form_at, fatal_at, all_at}
+use Rattle.wait_script.specs.Fields.{last_full, last_cond}
+use Rattle.wait_script.specs.Forms.{form0, form1, form2, form3, wait_at, set_at, take_at, read_at, wake_at, add_at}
+use Rattle.wait_script.specs.Forms.{remove_at, woken_at, signal_at, accept_at, kick_at, simple_wait_at, simple_wake_at}
+use Rattle.wait_script.specs.Forms.{complete_at, complete_all_at, reinit_at, wait_for_at, try_wait_at, is_done_at}
+use Rattle.wait_script.specs.Forms.{try_bit_at, wait_bit_at, lock_bit_at, clear_bit_at, wait_var_at, set_var_at}
+use Rattle.wait_script.specs.Forms.{lock_page_at, further_forms, call_forms, call_in, named_at}
 use Rattle.wait_script.specs.Versions.{last_task, most_selected}
 use Rattle.wait_script.specs.Spelling.{call_words, IsFitCall}
 use Rattle.wait_script.proofs.Versions.{few_tasks, few_selected}
-use Rattle.wait_script.proofs.ReadFields.{
-  chosen,
-  made_ok,
-  both_ok,
-  both_true,
-  number_ok,
-  number_fits,
-  number_below,
-  value_ok,
-  value_below,
-  cond_ok,
-  cond_below,
-  simple_between,
-  cell_ok,
-  cell_below,
-  var_ok,
-  var_below,
-  bit_ok,
-  page_ok,
-  page_below,
-  bit_below,
-  how_ok,
-  how_listed,
-  state_ok,
-  simple_state_ok,
-  simple_state_listed,
-  mode_ok,
-  kind_ok,
-  kind_listed,
-  form_ok,
-  fatal_ok,
-  all_ok,
-}
+use Rattle.wait_script.proofs.ReadFields.{chosen, made_ok, both_ok, both_true, number_ok, number_fits, number_below}
+use Rattle.wait_script.proofs.ReadFields.{value_ok, value_below, cond_ok, cond_below, simple_between, cell_ok}
+use Rattle.wait_script.proofs.ReadFields.{cell_below, var_ok, var_below, bit_ok, page_ok, page_below, bit_below, how_ok}
+use Rattle.wait_script.proofs.ReadFields.{how_listed, state_ok, simple_state_ok, simple_state_listed, mode_ok, kind_ok}
+use Rattle.wait_script.proofs.ReadFields.{kind_listed, form_ok, fatal_ok, all_ok}
 
 -- what stands of the right fields in their places stands of the words of a form and its call
 met0 : (made : Call) (P : List (List ℕ) → Call → Type 0) → P [] made

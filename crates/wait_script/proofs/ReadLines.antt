@@ -1,34 +1,6 @@
 -- What is read is spelled so, and has its numbers in their ranges.
-use Rattle.std.proofs.Common.{
-  ◌≡◌,
-  ⊎_elim,
-  ℕ,
-  ◌+◌,
-  Bool,
-  true,
-  false,
-  cond,
-  eqb,
-  List,
-  [],
-  ◌∷◌,
-  ◌++◌,
-  Result,
-  Ok,
-  Err,
-  length,
-  codes,
-  refl,
-  ap,
-  sym,
-  ◌∙◌,
-  subst,
-  arith,
-  append_assoc,
-  nat_lt,
-  ◌≤◌,
-  All,
-}
+use Rattle.std.proofs.Common.{◌≡◌, ⊎_elim, ℕ, ◌+◌, Bool, true, false, cond, eqb, List, [], ◌∷◌, ◌++◌, Result, Ok, Err}
+use Rattle.std.proofs.Common.{length, codes, refl, ap, sym, ◌∙◌, subst, arith, append_assoc, nat_lt, ◌≤◌, All}
 use Rattle.std.proofs.lemmas.Bool.Decides.{nat_tests}
 use Rattle.std.proofs.lemmas.List.Elements.{All-nil, All-cons}
 use Rattle.std.proofs.lemmas.List.Splits.{join_with_byte-slice_split}
@@ -45,17 +17,8 @@ use Rattle.wait_script.specs.declared.version.Version.TheVariants.{One, Two}
 use Rattle.wait_script.specs.Words.{words_of, both_of}
 use Rattle.wait_script.specs.Fields.{number_at, last_priority_task}
 use Rattle.wait_script.specs.Forms.{named_at, is_priority_add, last_of}
-use Rattle.wait_script.specs.Lines.{
-  VersionedLines,
-  step_at,
-  call_at,
-  words_at,
-  plain_at,
-  version_at,
-  header_at,
-  line_at,
-  is_printable,
-}
+use Rattle.wait_script.specs.Lines.{VersionedLines, step_at, call_at, words_at, plain_at, version_at, header_at}
+use Rattle.wait_script.specs.Lines.{line_at, is_printable}
 use Rattle.wait_script.specs.Script.{parts_of, and_lines, lines_from, versioned, under, headed, script_of}
 use Rattle.wait_script.specs.Spelling.{line_words, line_text, script_text, IsFit, IsFitScript}
 use Rattle.wait_script.specs.Versions.{header_of, last_task}

@@ -1,42 +1,12 @@
 -- What `parse` reads, in the grammar's words.
-use Rattle.std.proofs.Common.{
-  ◌≡◌,
-  ℕ,
-  List,
-  [],
-  ◌∷◌,
-  Some,
-  None,
-  true,
-  false,
-  length,
-  get_or,
-  arith,
-  refl,
-  sym,
-  ap,
-  ◌∙◌,
-  cond,
-  Bool,
-  nat_lt,
-  ◌^◌,
-  ◌<◌,
-  zero,
-  suc,
-  decimal,
-}
+use Rattle.std.proofs.Common.{◌≡◌, ℕ, List, [], ◌∷◌, Some, None, true, false, length, get_or, arith, refl, sym, ap, ◌∙◌}
+use Rattle.std.proofs.Common.{cond, Bool, nat_lt, ◌^◌, ◌<◌, zero, suc, decimal}
 use mathlib.Core.Bool.{◌&&◌}
 use Rattle.std.specs.Str.{all_ascii_digits}
 use Rattle.std.specs.Str.Parse.{digits_value}
 use Rattle.std.proofs.lemmas.Str.Parse.{IsNumeralModel, numerals_by_value, tells_all_ascii_digits}
-use Rattle.std.proofs.lemmas.Fmt.{
-  decimal-digits_value,
-  digits_decimal,
-  digits_value-decimal,
-  decimal_nonempty,
-  first_decimal,
-  decimal_digit,
-}
+use Rattle.std.proofs.lemmas.Fmt.{decimal-digits_value, digits_decimal, digits_value-decimal, decimal_nonempty}
+use Rattle.std.proofs.lemmas.Fmt.{first_decimal, decimal_digit}
 use Rattle.std.proofs.lemmas.Bool.Decides.{nat_tests}
 use Rattle.wait_script.specs.Number.{is_plain, numeral_value}
 

@@ -1,37 +1,7 @@
 -- Words, and what they say in their places.
-use Rattle.std.proofs.Common.{
-  ◌≡◌,
-  ℕ,
-  ◌+◌,
-  ◌-◌,
-  ◌^◌,
-  ◌<◌,
-  ◌≤◌,
-  Bool,
-  true,
-  false,
-  cond,
-  eqb,
-  List,
-  [],
-  ◌∷◌,
-  ◌++◌,
-  Ok,
-  Err,
-  length,
-  take,
-  drop,
-  codes,
-  decimal,
-  refl,
-  ap,
-  ◌∙◌,
-  arith,
-  append_assoc,
-  nat_le,
-  nat_lt,
-  length-append,
-}
+use Rattle.std.proofs.Common.{◌≡◌, ℕ, ◌+◌, ◌-◌, ◌^◌, ◌<◌, ◌≤◌, Bool, true, false, cond, eqb, List, [], ◌∷◌, ◌++◌, Ok}
+use Rattle.std.proofs.Common.{Err, length, take, drop, codes, decimal, refl, ap, ◌∙◌, arith, append_assoc, nat_le}
+use Rattle.std.proofs.Common.{nat_lt, length-append}
 use mathlib.Core.Bool.{◌&&◌, ◌||◌, not}
 use Rattle.std.proofs.lemmas.Bool.Decides.{nat_tests}
 use Rattle.std.proofs.lemmas.List.Folds.{list_all-append}
@@ -55,24 +25,9 @@ use Rattle.wait_script.specs.declared.reason.Reason.{Reason}
 use Rattle.wait_script.specs.declared.reason.Reason.TheVariants.{BadNumber, BadCondition}
 use Rattle.wait_script.specs.Number.{numeral_value}
 use Rattle.wait_script.specs.Words.{both_of}
-use Rattle.wait_script.specs.Fields.{
-  last_word,
-  last_bit,
-  number_within,
-  number_at,
-  value_at,
-  numbered_at,
-  is_dot,
-  bit_at,
-  how_at,
-  state_at,
-  simple_state_at,
-  mode_at,
-  kind_field,
-  form_at,
-  fatal_at,
-  all_at,
-}
+use Rattle.wait_script.specs.Fields.{last_word, last_bit, number_within, number_at, value_at, numbered_at, is_dot}
+use Rattle.wait_script.specs.Fields.{bit_at, how_at, state_at, simple_state_at, mode_at, kind_field, form_at, fatal_at}
+use Rattle.wait_script.specs.Fields.{all_at}
 use Rattle.wait_script.specs.Text.{form_text, bit_text}
 use Rattle.wait_script.specs.Spelling.{how_word, state_word, mode_word, kind_word, fatal_word, extent_word}
 use Rattle.wait_script.proofs.ReadNumbers.{number_again, decimal_digits}

@@ -1,27 +1,7 @@
 -- To be believed.
 -- What a word says in its place, or why not.
-use Rattle.std.specs.Prelude.{
-  ℕ,
-  ◌-◌,
-  ◌^◌,
-  List,
-  [],
-  ◌∷◌,
-  Option,
-  Some,
-  None,
-  Result,
-  Ok,
-  Err,
-  Bool,
-  true,
-  false,
-  ◌&&◌,
-  nat_le,
-  if◌then◌else◌,
-  ◌==◌,
-  codes,
-}
+use Rattle.std.specs.Prelude.{ℕ, ◌-◌, ◌^◌, List, [], ◌∷◌, Option, Some, None, Result, Ok, Err, Bool, true, false, ◌&&◌}
+use Rattle.std.specs.Prelude.{nat_le, if◌then◌else◌, ◌==◌, codes}
 use Rattle.std.specs.List.{before_first, after_first}
 use Rattle.std.specs.Str.{bytes_eq}
 use Rattle.wait_model.specs.declared.tasks.How.{How}
@@ -33,15 +13,8 @@ use Rattle.wait_model.specs.declared.watches.Kind.{Kind}
 use Rattle.wait_model.specs.declared.watches.Kind.TheVariants as kind
 use Rattle.wait_model.specs.declared.queues.Form.{Form}
 use Rattle.wait_model.specs.declared.queues.Form.TheVariants as form
-use Rattle.wait_model.specs.declared.layout.TheConstants.{
-  BIT_WORDS,
-  COMPLETIONS,
-  FIRST_SIMPLE,
-  PLAIN_CONDITIONS,
-  PRIORITY_TASKS,
-  VARIABLES,
-  WORD_BITS,
-}
+use Rattle.wait_model.specs.declared.layout.TheConstants.{BIT_WORDS, COMPLETIONS, FIRST_SIMPLE, PLAIN_CONDITIONS}
+use Rattle.wait_model.specs.declared.layout.TheConstants.{PRIORITY_TASKS, VARIABLES, WORD_BITS}
 use Rattle.wait_script.specs.declared.reason.Reason.{Reason}
 use Rattle.wait_script.specs.declared.reason.Reason.TheVariants.{BadNumber, BadForm, BadCondition}
 use Rattle.wait_script.specs.Number.{numeral_value}

@@ -1,22 +1,7 @@
 -- To be believed.
 -- The forms of the calls: for each name what its words say, or the first why.
-use Rattle.std.specs.Prelude.{
-  ℕ,
-  List,
-  [],
-  ◌∷◌,
-  ◌++◌,
-  Result,
-  Ok,
-  Err,
-  Bool,
-  true,
-  false,
-  ◌&&◌,
-  if◌then◌else◌,
-  codes,
-  decimal,
-}
+use Rattle.std.specs.Prelude.{ℕ, List, [], ◌∷◌, ◌++◌, Result, Ok, Err, Bool, true, false, ◌&&◌, if◌then◌else◌, codes}
+use Rattle.std.specs.Prelude.{decimal}
 use Rattle.std.specs.Str.{bytes_eq}
 use Rattle.wait_model.specs.declared.calls.Call.{Call}
 use Rattle.wait_model.specs.declared.calls.Call.TheVariants as call
@@ -35,26 +20,9 @@ use Rattle.wait_script.specs.declared.version.Version.TheVariants.{One, Two}
 use Rattle.wait_script.specs.Text.{form_text, bit_text}
 use Rattle.wait_script.specs.Versions.{last_task, most_selected}
 use Rattle.wait_script.specs.Words.{both_of, made_of}
-use Rattle.wait_script.specs.Fields.{
-  number_at,
-  value_at,
-  cond_field,
-  cell_at,
-  var_at,
-  bit_at,
-  page_at,
-  how_at,
-  state_at,
-  simple_state_at,
-  mode_at,
-  kind_field,
-  form_at,
-  fatal_at,
-  all_at,
-  last_priority_task,
-  last_full,
-  last_cond,
-}
+use Rattle.wait_script.specs.Fields.{number_at, value_at, cond_field, cell_at, var_at, bit_at, page_at, how_at}
+use Rattle.wait_script.specs.Fields.{state_at, simple_state_at, mode_at, kind_field, form_at, fatal_at, all_at}
+use Rattle.wait_script.specs.Fields.{last_priority_task, last_full, last_cond}
 
 -- so many fields, each in its place
 abbrev pub form0 : Call → List (List ℕ) → Result Call Reason

@@ -1,21 +1,7 @@
 -- To be believed.
 -- What a line says, or the first reason why it says nothing.
-use Rattle.std.specs.Prelude.{
-  ℕ,
-  List,
-  [],
-  ◌∷◌,
-  Result,
-  Ok,
-  Err,
-  Bool,
-  ◌&&◌,
-  nat_le,
-  nat_lt,
-  if◌then◌else◌,
-  length,
-  codes,
-}
+use Rattle.std.specs.Prelude.{ℕ, List, [], ◌∷◌, Result, Ok, Err, Bool, ◌&&◌, nat_le, nat_lt, if◌then◌else◌, length}
+use Rattle.std.specs.Prelude.{codes}
 use Rattle.std.specs.List.{list_all}
 use Rattle.std.specs.Str.{bytes_eq}
 use Rattle.wait_model.specs.declared.layout.TheConstants.{EVENTS, LINE_BYTES}

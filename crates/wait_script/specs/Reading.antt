@@ -1,21 +1,7 @@
 -- For proofs alone.
 -- What the functions that read a script tell one another.
-use Rattle.std.specs.Prelude.{
-  ◌≡◌,
-  ℕ,
-  ◌+◌,
-  ◌^◌,
-  List,
-  Option,
-  Some,
-  None,
-  Result,
-  Bool,
-  ◌||◌,
-  nat_le,
-  nat_lt,
-  if◌then◌else◌,
-}
+use Rattle.std.specs.Prelude.{◌≡◌, ℕ, ◌+◌, ◌^◌, List, Option, Some, None, Result, Bool, ◌||◌, nat_le, nat_lt}
+use Rattle.std.specs.Prelude.{if◌then◌else◌}
 use Rattle.std.specs.Str.{all_ascii_digits}
 use Rattle.std.specs.Str.Parse.{digits_value}
 use Rattle.wait_script.specs.declared.line.Line.{Line}

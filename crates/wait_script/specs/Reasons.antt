@@ -2,17 +2,8 @@
 -- The reasons why a line is bad: their numbers, and which of two comes first.
 use Rattle.std.specs.Prelude.{ℕ, nat_le, if◌then◌else◌}
 use Rattle.wait_script.specs.declared.reason.Reason.{Reason}
-use Rattle.wait_script.specs.declared.reason.Reason.TheVariants.{
-  CutLine,
-  LongLine,
-  BadByte,
-  NoHeader,
-  UnknownWord,
-  WordCount,
-  BadNumber,
-  BadForm,
-  BadCondition,
-}
+use Rattle.wait_script.specs.declared.reason.Reason.TheVariants.{CutLine, LongLine, BadByte, NoHeader, UnknownWord}
+use Rattle.wait_script.specs.declared.reason.Reason.TheVariants.{WordCount, BadNumber, BadForm, BadCondition}
 
 abbrev pub reason_number : Reason → ℕ
 reason_number CutLine = 1

@@ -1,20 +1,6 @@
 -- To be believed.
 -- What bytes say as a script, or the first bad line and its first reason.
-use Rattle.std.specs.Prelude.{
-  ◌≡◌,
-  ℕ,
-  ◌+◌,
-  List,
-  [],
-  ◌∷◌,
-  Result,
-  Ok,
-  Err,
-  Bool,
-  if◌then◌else◌,
-  ◌==◌,
-  length,
-}
+use Rattle.std.specs.Prelude.{◌≡◌, ℕ, ◌+◌, List, [], ◌∷◌, Result, Ok, Err, Bool, if◌then◌else◌, ◌==◌, length}
 use Rattle.std.specs.List.{slice_split}
 use Rattle.wait_script.specs.declared.line.Line.{Line}
 use Rattle.wait_script.specs.declared.script.ReadScript.{ReadScript}

@@ -1,38 +1,13 @@
 -- To be believed.
 -- How a script is spelled, and which lines there are.
-use Rattle.std.specs.Prelude.{
-  ◌≡◌,
-  ℕ,
-  ◌^◌,
-  ◌<◌,
-  ◌≤◌,
-  List,
-  [],
-  ◌∷◌,
-  ◌++◌,
-  All,
-  true,
-  codes,
-  decimal,
-}
+use Rattle.std.specs.Prelude.{◌≡◌, ℕ, ◌^◌, ◌<◌, ◌≤◌, List, [], ◌∷◌, ◌++◌, All, true, codes, decimal}
 use Rattle.std.specs.List.{flat_map, join_with_byte}
 use Rattle.wait_model.specs.declared.calls.Call.{Call}
 use Rattle.wait_model.specs.declared.calls.Call.TheVariants as call
 use Rattle.wait_model.specs.Admission.{is_in_range, IsListed}
 use Rattle.wait_model.specs.declared.layout.TheConstants.{EVENTS}
-pub use Rattle.wait_script.specs.Forms.{
-  cond_word,
-  cell_word,
-  var_word,
-  page_word,
-  state_word,
-  how_word,
-  mode_word,
-  kind_word,
-  fatal_word,
-  extent_word,
-  call_words,
-}
+pub use Rattle.wait_script.specs.Forms.{cond_word, cell_word, var_word, page_word, state_word, how_word, mode_word}
+pub use Rattle.wait_script.specs.Forms.{kind_word, fatal_word, extent_word, call_words}
 use Rattle.wait_script.specs.declared.line.Line.{Line}
 use Rattle.wait_script.specs.declared.line.Line.TheVariants as line
 use Rattle.wait_script.specs.declared.version.Version.{Version}

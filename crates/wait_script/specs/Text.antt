@@ -1,33 +1,10 @@
 -- To be believed.
 -- The texts of events, answers and refusals.
-use Rattle.std.specs.Prelude.{
-  ℕ,
-  ◌-◌,
-  List,
-  [],
-  ◌∷◌,
-  ◌++◌,
-  Option,
-  Some,
-  None,
-  Bool,
-  true,
-  false,
-  nat_lt,
-  if◌then◌else◌,
-  ◌==◌,
-  codes,
-  decimal,
-}
+use Rattle.std.specs.Prelude.{ℕ, ◌-◌, List, [], ◌∷◌, ◌++◌, Option, Some, None, Bool, true, false, nat_lt, if◌then◌else◌}
+use Rattle.std.specs.Prelude.{◌==◌, codes, decimal}
 use Rattle.std.specs.Fmt.{signed_decimal}
-use Rattle.wait_model.specs.declared.layout.TheConstants.{
-  FIRST_BIT_WORD,
-  FIRST_DONE,
-  FIRST_VARIABLE,
-  INTERRUPTIBLE,
-  RUNNING,
-  UNINTERRUPTIBLE,
-}
+use Rattle.wait_model.specs.declared.layout.TheConstants.{FIRST_BIT_WORD, FIRST_DONE, FIRST_VARIABLE, INTERRUPTIBLE}
+use Rattle.wait_model.specs.declared.layout.TheConstants.{RUNNING, UNINTERRUPTIBLE}
 use Rattle.wait_model.specs.declared.tasks.Sleep.{Sleep}
 use Rattle.wait_model.specs.declared.tasks.Sleep.TheVariants as sleep
 use Rattle.wait_model.specs.declared.tasks.Taken.{Taken}
@@ -43,13 +20,7 @@ use Rattle.wait_model.specs.declared.calls.Answer.TheVariants.{Number, Value, Wa
 use Rattle.wait_core.specs.declared.engine.Stepped.{Stepped}
 use Rattle.wait_core.specs.declared.engine.Stepped.TheVariants.{Made, NoCall, Asleep, Busy, Full}
 use Rattle.wait_core.specs.declared.engine.StartFault.{StartFault}
-use Rattle.wait_core.specs.declared.engine.StartFault.TheVariants.{
-  CallOpen,
-  NoSuchCond,
-  NotHeld,
-  EntryQueued,
-  NoEntry,
-}
+use Rattle.wait_core.specs.declared.engine.StartFault.TheVariants.{CallOpen, NoSuchCond, NotHeld, EntryQueued, NoEntry}
 
 -- the name of a task's state
 abbrev pub state_text : ℕ → List ℕ

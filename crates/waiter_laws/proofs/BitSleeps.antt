@@ -14,17 +14,8 @@ use Rattle.wait_model.specs.declared.points.Point.TheVariants as at
 use Rattle.wait_model.specs.declared.points.PreparePoint.TheVariants as preparing
 use Rattle.wait_model.specs.declared.points.Seen.{Seen}
 use Rattle.wait_model.specs.Points.{call_head, is_bit_wait, is_lock, state_in}
-use Rattle.wait_model.specs.Programs.{
-  ask,
-  call_fails,
-  finished,
-  go,
-  look_event,
-  prepared_at,
-  program,
-  signalled_at,
-  worn_next,
-}
+use Rattle.wait_model.specs.Programs.{ask, call_fails, finished, go, look_event, prepared_at, program, signalled_at}
+use Rattle.wait_model.specs.Programs.{worn_next}
 use Rattle.wait_model.specs.Tasks.{pending, state_mask}
 use Rattle.wait_model.proofs.WaitLaws.OutsideStages.{either}
 use Rattle.waiter_laws.proofs.LastSleeps.{Stays, goes_within}

@@ -13,23 +13,9 @@ use Rattle.wait_rule.specs.declared.journal.Item.TheVariants as item
 use Rattle.wait_rule.specs.Items.{steps_of}
 use Rattle.wait_rule.specs.Known.{Known}
 use Rattle.wait_rule.specs.Says.{added, history_of}
-use Rattle.wait_rule.specs.Transitions.{
-  AreLooks,
-  Finds,
-  Goes,
-  IsMadeFor,
-  IsStepFor,
-  IsTransition,
-  OnlyLooks,
-  Program,
-  StepOrLook,
-  Transition,
-  after_step_or_look,
-  after_transition,
-  by_look,
-  by_step,
-  with_lock,
-}
+use Rattle.wait_rule.specs.Transitions.{AreLooks, Finds, Goes, IsMadeFor, IsStepFor, IsTransition, OnlyLooks, Program}
+use Rattle.wait_rule.specs.Transitions.{StepOrLook, Transition, after_step_or_look, after_transition, by_look, by_step}
+use Rattle.wait_rule.specs.Transitions.{with_lock}
 use Rattle.wait_rule.proofs.TableSteps.ItemLists.{steps_append}
 use Rattle.wait_class.proofs.Turns.{looks_history}
 use Rattle.waiter_laws.proofs.PointRuns.{is_active, no_look}

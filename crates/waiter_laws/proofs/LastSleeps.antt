@@ -20,21 +20,8 @@ use Rattle.wait_rule.specs.declared.journal.Item.TheVariants as item
 use Rattle.wait_rule.specs.Items.{steps_of}
 use Rattle.wait_rule.specs.Known.{Known}
 use Rattle.wait_rule.specs.Says.{IsUp, history_of}
-use Rattle.wait_rule.specs.Transitions.{
-  AreLooks,
-  Goes,
-  IsMadeFor,
-  IsStepFor,
-  IsTransition,
-  OnlyLooks,
-  Program,
-  StepOrLook,
-  Transition,
-  after_transition,
-  by_look,
-  by_step,
-  call_program,
-}
+use Rattle.wait_rule.specs.Transitions.{AreLooks, Goes, IsMadeFor, IsStepFor, IsTransition, OnlyLooks, Program}
+use Rattle.wait_rule.specs.Transitions.{StepOrLook, Transition, after_transition, by_look, by_step, call_program}
 use Rattle.wait_rule.proofs.KnownLaws.Transitions.{only_none}
 use Rattle.wait_rule.proofs.SaidEvents.Fronts.{history_grows, looks_history, step_history, steps_made}
 use Rattle.wait_class.specs.Posts.{IsOut, Runs}

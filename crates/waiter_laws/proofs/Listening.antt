@@ -33,33 +33,15 @@ use Rattle.wait_rule.specs.Items.{steps_of}
 use Rattle.wait_rule.specs.Known.{Known}
 use Rattle.wait_rule.specs.Queues.{index}
 use Rattle.wait_rule.specs.Says.{history_of, told_of}
-use Rattle.wait_rule.specs.Transitions.{
-  FindsStep,
-  Goes,
-  IsMadeFor,
-  IsStepFor,
-  IsTransition,
-  OnlyLooks,
-  Program,
-  StepOrLook,
-  Transition,
-  after_step_or_look,
-  after_transition,
-  by_look,
-  by_step,
-  call_program,
-}
+use Rattle.wait_rule.specs.Transitions.{FindsStep, Goes, IsMadeFor, IsStepFor, IsTransition, OnlyLooks, Program}
+use Rattle.wait_rule.specs.Transitions.{StepOrLook, Transition, after_step_or_look, after_transition, by_look, by_step}
+use Rattle.wait_rule.specs.Transitions.{call_program}
 use Rattle.wait_event.specs.WokenWaits.{woken_program}
 use Rattle.wait_event.proofs.Hearing.Endings.{hears_on}
 use Rattle.wait_rule.proofs.TableSteps.MemberMoves.{own_index}
 use Rattle.waiter_laws.proofs.HistoryRuns.{IsLed, Leads, only_still, run, step_history}
-use Rattle.waiter_laws.specs.Listening.{
-  EndsListening,
-  HasTestedUnheard,
-  HearingsAreOne,
-  ListenersAreKept,
-  StretchesEndListening,
-}
+use Rattle.waiter_laws.specs.Listening.{EndsListening, HasTestedUnheard, HearingsAreOne, ListenersAreKept}
+use Rattle.waiter_laws.specs.Listening.{StretchesEndListening}
 
 -- a step after which the test is still unheard, and one after which the flag is still read as not set
 tested_on : (es : List Step) (x : ℕ) (c : Watch) (e : Step) → clears_flag x e ≡ false → fails e c ≡ false

@@ -29,25 +29,9 @@ use Rattle.wait_rule.specs.Items.{Book, after_awake, book_from, learn, learn_ste
 use Rattle.wait_rule.specs.Known.{Known}
 use Rattle.wait_rule.specs.Notes.{tell}
 use Rattle.wait_rule.specs.Says.{added, told_of}
-use Rattle.wait_rule.specs.Transitions.{
-  AreLooks,
-  Finds,
-  FindsStep,
-  Goes,
-  IsLook,
-  IsMadeFor,
-  IsStepFor,
-  IsTransition,
-  OnlyLooks,
-  Program,
-  StepOrLook,
-  Transition,
-  after_step_or_look,
-  after_transition,
-  by_look,
-  by_step,
-  with_lock,
-}
+use Rattle.wait_rule.specs.Transitions.{AreLooks, Finds, FindsStep, Goes, IsLook, IsMadeFor, IsStepFor, IsTransition}
+use Rattle.wait_rule.specs.Transitions.{OnlyLooks, Program, StepOrLook, Transition, after_step_or_look}
+use Rattle.wait_rule.specs.Transitions.{after_transition, by_look, by_step, with_lock}
 use Rattle.wait_rule.proofs.KnownLaws.AfterSteps.{told_after}
 
 -- what looks leave

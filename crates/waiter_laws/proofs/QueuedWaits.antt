@@ -1,23 +1,7 @@
 -- Whoever such a wait has put asleep left its entry queued behind the hold in which it prepared.
 use Rattle.std.proofs.Common.{refl, sym, ◌∙◌, ap, subst}
-use Rattle.std.specs.Prelude.{
-  ℕ,
-  ◌≡◌,
-  ◌==◌,
-  ◌&&◌,
-  not,
-  Bool,
-  true,
-  false,
-  if◌then◌else◌,
-  is_some,
-  Option,
-  Some,
-  List,
-  [],
-  ◌∷◌,
-  ◌++◌,
-}
+use Rattle.std.specs.Prelude.{ℕ, ◌≡◌, ◌==◌, ◌&&◌, not, Bool, true, false, if◌then◌else◌, is_some, Option, Some, List}
+use Rattle.std.specs.Prelude.{[], ◌∷◌, ◌++◌}
 use Rattle.wait_model.specs.declared.calls.Call.{Call}
 use Rattle.wait_model.specs.declared.calls.Call.TheVariants as calls
 use Rattle.wait_model.specs.declared.calls.Event.{Event}
@@ -41,22 +25,8 @@ use Rattle.wait_model.specs.declared.watches.Watch.TheVariants as watch
 use Rattle.wait_model.specs.Calls.{call_watch, program_start}
 use Rattle.wait_model.specs.Fold.{after, view_of}
 use Rattle.wait_model.specs.Points.{form_of, given_at, is_bit_wait, is_lock, state_in}
-use Rattle.wait_model.specs.Programs.{
-  ask,
-  await_after,
-  await_ends,
-  call_fails,
-  finished,
-  is_at_end,
-  load,
-  look_event,
-  prepared_at,
-  program,
-  queue_event,
-  signalled_at,
-  slept_at,
-  worn_next,
-}
+use Rattle.wait_model.specs.Programs.{ask, await_after, await_ends, call_fails, finished, is_at_end, load, look_event}
+use Rattle.wait_model.specs.Programs.{prepared_at, program, queue_event, signalled_at, slept_at, worn_next}
 use Rattle.wait_model.specs.Selections.{is_page_lock}
 use Rattle.wait_model.specs.Tasks.{looks_in, pending, state_mask}
 use Rattle.wait_model.specs.Views.{Look, View, blank, elsewhere, off, shown, unseen}
@@ -69,17 +39,8 @@ use Rattle.wait_model.proofs.WaitLaws.OutsideStages.{either}
 use Rattle.wait_rule.specs.Known.{Known}
 use Rattle.wait_rule.specs.Queues.{index}
 use Rattle.wait_rule.specs.Says.{history_of, told_of}
-use Rattle.wait_rule.specs.Transitions.{
-  IsMadeFor,
-  IsSeenAs,
-  IsStepFor,
-  StepOrLook,
-  after_step_or_look,
-  after_transition,
-  by_look,
-  by_step,
-  call_program,
-}
+use Rattle.wait_rule.specs.Transitions.{IsMadeFor, IsSeenAs, IsStepFor, StepOrLook, after_step_or_look}
+use Rattle.wait_rule.specs.Transitions.{after_transition, by_look, by_step, call_program}
 use Rattle.wait_rule.proofs.TableSteps.MemberMoves.{own_index}
 use Rattle.order_laws.specs.TakenOff.{IsGripped, IsLeftQueued, frees, is_mild}
 use Rattle.order_laws.proofs.QueuedOrders.{still_queued}

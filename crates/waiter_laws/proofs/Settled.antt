@@ -24,15 +24,8 @@ use Rattle.wait_event.specs.Conds.{set_change}
 use Rattle.completion_cell.specs.declared.cell_turns.CellCall.{CellCall}
 use Rattle.completion_cell.specs.declared.cell_turns.CellCall.TheVariants as cell_call
 use Rattle.completion_cell.specs.CellTurns.{change_of}
-use Rattle.waiter_laws.specs.Settled.{
-  CellsSettle,
-  SettledWakeAll,
-  SettlesAll,
-  SwakesSettle,
-  WakesAll,
-  WakesSettle,
-  makes_done,
-}
+use Rattle.waiter_laws.specs.Settled.{CellsSettle, SettledWakeAll, SettlesAll, SwakesSettle, WakesAll, WakesSettle}
+use Rattle.waiter_laws.specs.Settled.{makes_done}
 
 -- by the order that leads to the table its list is as its history
 wakes_all : (c : Watch) (m : Mode) (k : Known) → OwesNoneOf c m k → WakesAll c m k

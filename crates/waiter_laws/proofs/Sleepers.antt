@@ -45,17 +45,8 @@ use Rattle.wait_rule.specs.Items.{steps_of}
 use Rattle.wait_rule.specs.Known.{Known}
 use Rattle.wait_rule.specs.Queues.{index}
 use Rattle.wait_rule.specs.Says.{history_of, told_of}
-use Rattle.wait_rule.specs.Transitions.{
-  IsMadeFor,
-  IsStepFor,
-  Program,
-  StepOrLook,
-  after_step_or_look,
-  after_transition,
-  by_look,
-  by_step,
-  call_program,
-}
+use Rattle.wait_rule.specs.Transitions.{IsMadeFor, IsStepFor, Program, StepOrLook, after_step_or_look, after_transition}
+use Rattle.wait_rule.specs.Transitions.{by_look, by_step, call_program}
 use Rattle.wait_rule.proofs.KnownLaws.Moments.{kept_of, views_of}
 use Rattle.wait_rule.proofs.TableSteps.MemberMoves.{own_index}
 use Rattle.order_laws.specs.SafeSleep.{SleepsSafely}

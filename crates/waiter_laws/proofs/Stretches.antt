@@ -43,27 +43,13 @@ use Rattle.page_lock.specs.declared.waits.LockPage.{LockPage}
 use Rattle.page_lock.specs.declared.waits.PageStage.{PageStage}
 use Rattle.page_lock.specs.declared.waits.PageStage.TheVariants as page_stage
 use Rattle.page_lock.specs.PageTables.{is_behind_sleep, page_call, page_table, page_point_at}
-use Rattle.waiter_laws.specs.Stretches.{
-  AwaitersAreKept,
-  BitLockersAreKept,
-  BitWaitersAreKept,
-  PageWaitersAreKept,
-  SleepIsLastOfAll,
-  StretchesAreOne,
-  WaitersAreKept,
-  WasPutAsleep,
-}
+use Rattle.waiter_laws.specs.Stretches.{AwaitersAreKept, BitLockersAreKept, BitWaitersAreKept, PageWaitersAreKept}
+use Rattle.waiter_laws.specs.Stretches.{SleepIsLastOfAll, StretchesAreOne, WaitersAreKept, WasPutAsleep}
 use Rattle.waiter_laws.proofs.BitSleeps.{bit_stays, is_biting}
 use Rattle.waiter_laws.proofs.LastSleeps.{ends_asleep, last_behind}
 use Rattle.waiter_laws.proofs.PointRuns.{Here, IsLed, all}
-use Rattle.waiter_laws.proofs.Sleepers.{
-  HasSlept,
-  kept_by,
-  sleepers_are_kept,
-  slept_by_count,
-  slept_by_load,
-  slept_by_try,
-}
+use Rattle.waiter_laws.proofs.Sleepers.{HasSlept, kept_by, sleepers_are_kept, slept_by_count, slept_by_load}
+use Rattle.waiter_laws.proofs.Sleepers.{slept_by_try}
 use Rattle.waiter_laws.proofs.AwaitedCounts.{AwaitedAt, awaited_led}
 use Rattle.waiter_laws.proofs.TestedWaits.{TestedAt, is_tested, tested_led}
 use Rattle.waiter_laws.proofs.TriedPages.{TriedAt, tried_led}

@@ -21,18 +21,8 @@ use Rattle.wait_model.specs.declared.watches.Watch.{Watch}
 use Rattle.wait_model.specs.Calls.{call_watch, program_start}
 use Rattle.wait_model.specs.Fold.{after}
 use Rattle.wait_model.specs.Points.{given_at, is_bit_wait, is_lock, state_in}
-use Rattle.wait_model.specs.Programs.{
-  ask,
-  call_fails,
-  finished,
-  load,
-  look_event,
-  prepared_at,
-  program,
-  signalled_at,
-  slept_at,
-  worn_next,
-}
+use Rattle.wait_model.specs.Programs.{ask, call_fails, finished, load, look_event, prepared_at, program, signalled_at}
+use Rattle.wait_model.specs.Programs.{slept_at, worn_next}
 use Rattle.wait_model.specs.Tasks.{looks_in, pending, sleep_of, state_mask}
 use Rattle.wait_model.specs.Views.{View}
 use Rattle.wait_model.specs.Watches.{failing, head_of, kind_for, misses}

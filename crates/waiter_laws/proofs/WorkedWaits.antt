@@ -22,30 +22,14 @@ use Rattle.wait_rule.specs.Looking.{ShowsEmpty}
 use Rattle.wait_rule.specs.Queues.{IsWholeBook, place_by}
 use Rattle.wait_rule.specs.Says.{newcomer, told_of}
 use Rattle.wait_rule.specs.Shown.{queue_below, queue_with, shown_queue}
-use Rattle.wait_rule.specs.Transitions.{
-  IsSeenAs,
-  IsTransition,
-  OnlyLooks,
-  Transition,
-  after_transition,
-  by_step,
-  call_program,
-  is_worn,
-}
+use Rattle.wait_rule.specs.Transitions.{IsSeenAs, IsTransition, OnlyLooks, Transition, after_transition, by_step}
+use Rattle.wait_rule.specs.Transitions.{call_program, is_worn}
 use Rattle.wait_rule.proofs.KnownLaws.Transitions.{only_none}
 use Rattle.wait_rule.proofs.WorkedTests.QueuedEntry.{none_by, not_unknown, not_unseen}
 use Rattle.wait_class.specs.Findings.{saw_nothing, saw_entry, with_own, with_value}
 use Rattle.waiter_laws.specs.Asleep.{EndsAsleep}
-use Rattle.waiter_laws.specs.WorkedWaits.{
-  WorkedWaits,
-  from_hold,
-  the_entry,
-  the_wait,
-  the_watch,
-  untested,
-  up_to_hold,
-  with_steps,
-}
+use Rattle.waiter_laws.specs.WorkedWaits.{WorkedWaits, from_hold, the_entry, the_wait, the_watch, untested, up_to_hold}
+use Rattle.waiter_laws.specs.WorkedWaits.{with_steps}
 
 -- a queue of nobody
 none_at : (o : Option ℕ) → ((p : ℕ) → o ≡ Some p → ⊥) → o ≡ None

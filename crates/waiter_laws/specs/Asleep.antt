@@ -19,14 +19,7 @@ use Rattle.wait_rule.specs.Known.{Known}
 use Rattle.wait_rule.specs.Queues.{index}
 use Rattle.wait_rule.specs.Rule.{IsRuled}
 use Rattle.wait_rule.specs.Says.{IsUp, history_of, told_of}
-use Rattle.wait_rule.specs.Transitions.{
-  Goes,
-  IsTransition,
-  OnlyLooks,
-  Transition,
-  after_transition,
-  call_program,
-}
+use Rattle.wait_rule.specs.Transitions.{Goes, IsTransition, OnlyLooks, Transition, after_transition, call_program}
 use Rattle.order_laws.specs.SafeSleep.{SleepsSafely}
 
 -- where a call that waits sleeps

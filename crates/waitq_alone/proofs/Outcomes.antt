@@ -1,29 +1,6 @@
 -- The verdicts of bytes and of lines.
-use Rattle.std.proofs.Common.{
-  ◌⊎◌,
-  ◌≡◌,
-  ℕ,
-  ◌<◌,
-  ◌≤◌,
-  List,
-  length,
-  Option,
-  Some,
-  None,
-  Result,
-  Ok,
-  Err,
-  true,
-  false,
-  IfSome,
-  refl,
-  ap,
-  sym,
-  ◌∙◌,
-  subst,
-  arith,
-  sum_by,
-}
+use Rattle.std.proofs.Common.{◌⊎◌, ◌≡◌, ℕ, ◌<◌, ◌≤◌, List, length, Option, Some, None, Result, Ok, Err, true, false}
+use Rattle.std.proofs.Common.{IfSome, refl, ap, sym, ◌∙◌, subst, arith, sum_by}
 use Rattle.std.proofs.lemmas.Bool.{false≢true}
 use Rattle.std.proofs.lemmas.Bool.Decides.{nat_tests}
 use Rattle.edge_io.specs.Text.{HoldsPrefix}
@@ -34,21 +11,8 @@ use Rattle.wait_script.specs.Lines.{VersionedLines, events_asked}
 use Rattle.wait_script.specs.Script.{script_of}
 use Rattle.waitq_alone.specs.Fault.{sink_fault, script_fault, status_of}
 use Rattle.wait_script.specs.Replay.{replay_text}
-use Rattle.waitq_alone.specs.Outcome.{
-  Verdict,
-  TooLong,
-  BadLine,
-  Text,
-  script_verdict,
-  verdict_of,
-  IsFaultOf,
-  Answers,
-  Writes,
-  LeavesUnwritten,
-  IsBad,
-  IsLong,
-  IsNoCopyEnd,
-}
+use Rattle.waitq_alone.specs.Outcome.{Verdict, TooLong, BadLine, Text, script_verdict, verdict_of, IsFaultOf, Answers}
+use Rattle.waitq_alone.specs.Outcome.{Writes, LeavesUnwritten, IsBad, IsLong, IsNoCopyEnd}
 use Rattle.waitq_alone.specs.Commands.{Request, Replay, Drill, Copy, Merge, may_end_with}
 use Rattle.waitq_alone.specs.Alone.{exit_status, is_quiet}
 use Rattle.waitq_alone.specs.declared.fault.Fault.{Fault}

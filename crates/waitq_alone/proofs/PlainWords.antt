@@ -1,63 +1,13 @@
 -- What a parse makes of plain words.
-use Rattle.std.proofs.Common.{
-  ◌≡◌,
-  ℕ,
-  ◌≤◌,
-  List,
-  [],
-  ◌∷◌,
-  ◌++◌,
-  Bool,
-  true,
-  false,
-  Some,
-  None,
-  refl,
-  codes,
-  ap,
-  ap₂,
-  ◌∙◌,
-  ◌==◌,
-  ◌&&◌,
-  fold,
-  length,
-  append_assoc,
-  arith,
-}
+use Rattle.std.proofs.Common.{◌≡◌, ℕ, ◌≤◌, List, [], ◌∷◌, ◌++◌, Bool, true, false, Some, None, refl, codes, ap, ap₂}
+use Rattle.std.proofs.Common.{◌∙◌, ◌==◌, ◌&&◌, fold, length, append_assoc, arith}
 use Rattle.std.specs.Prelude.{not}
 use Rattle.std.proofs.lemmas.List.{append-nil}
 use Rattle.std.proofs.lemmas.Bool.Decides.{nat_tests}
-use Rattle.clap.specs.Words.{
-  App,
-  Row,
-  Rule,
-  Shape,
-  Text,
-  Kinds,
-  is_simple,
-  fault_of,
-  is_simple_and_free,
-  subcommand_of,
-  built,
-}
-use Rattle.clap.specs.Walk.{
-  Held,
-  Names,
-  Walk,
-  Waiting,
-  subcommand_met,
-  idle,
-  positional,
-  value,
-  walk,
-  walked,
-  to_positional,
-  arg_by_index,
-  walk_from,
-  nothing_held,
-  finished,
-  rows_after,
-}
+use Rattle.clap.specs.Words.{App, Row, Rule, Shape, Text, Kinds, is_simple, fault_of, is_simple_and_free, subcommand_of}
+use Rattle.clap.specs.Words.{built}
+use Rattle.clap.specs.Walk.{Held, Names, Walk, Waiting, subcommand_met, idle, positional, value, walk, walked}
+use Rattle.clap.specs.Walk.{to_positional, arg_by_index, walk_from, nothing_held, finished, rows_after}
 use Rattle.clap.specs.Simple.{built_leaf, inherited, marked_built, names_of, rows_at, with_leaf_noted}
 use Rattle.clap.specs.Kinds.{or_else, values_kinds, range_kinds}
 use Rattle.clap.specs.Faults.{walk_fault, turn_fault, step_fault, level_fault}

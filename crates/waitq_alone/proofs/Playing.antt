@@ -1,36 +1,7 @@
 -- One step, and one line, of a replay's text.
-use Rattle.std.proofs.Common.{
-  ◌≡◌,
-  ℕ,
-  suc,
-  ◌+◌,
-  ◌-◌,
-  ◌<◌,
-  ◌≤◌,
-  Bool,
-  true,
-  false,
-  cond,
-  List,
-  [],
-  ◌∷◌,
-  ◌++◌,
-  length,
-  drop,
-  get_or,
-  Option,
-  Result,
-  Ok,
-  Err,
-  OnOk,
-  refl,
-  ap,
-  sym,
-  ◌∙◌,
-  arith,
-  add-one,
-  drop-cons,
-}
+use Rattle.std.proofs.Common.{◌≡◌, ℕ, suc, ◌+◌, ◌-◌, ◌<◌, ◌≤◌, Bool, true, false, cond, List, [], ◌∷◌, ◌++◌, length}
+use Rattle.std.proofs.Common.{drop, get_or, Option, Result, Ok, Err, OnOk, refl, ap, sym, ◌∙◌, arith, add-one}
+use Rattle.std.proofs.Common.{drop-cons}
 use Rattle.std.proofs.lemmas.List.{append-nil}
 use Rattle.std.proofs.lemmas.Grind.{common_steps}
 use Rattle.edge_io.specs.Text.{Midway, WritesText}
@@ -41,15 +12,7 @@ use Rattle.wait_core.specs.declared.engine.Stepped.{Stepped}
 use Rattle.wait_script.specs.declared.line.Line.{Line}
 use Rattle.wait_script.specs.Text.{step_text}
 use Rattle.wait_script.specs.Ending.{ending_text}
-use Rattle.wait_script.specs.Replay.{
-  stops,
-  then_text,
-  played_steps,
-  answer_at,
-  run_after,
-  replay_line,
-  replay_from,
-}
+use Rattle.wait_script.specs.Replay.{stops, then_text, played_steps, answer_at, run_after, replay_line, replay_from}
 
 -- the text of n steps and one more, by the answer of the first
 abbrev after : ℕ → List Ran → ℕ → Stepped → List ℕ × List Ran

@@ -1,32 +1,6 @@
 -- What is read of a parse of plain words is the command that they are.
-use Rattle.std.proofs.Common.{
-  ◌≡◌,
-  ℕ,
-  List,
-  [],
-  ◌∷◌,
-  Bool,
-  true,
-  false,
-  ◌&&◌,
-  Option,
-  Some,
-  None,
-  refl,
-  codes,
-  ap,
-  ap₂,
-  option_map,
-  sym,
-  ◌∙◌,
-  ◌⊎◌,
-  inl,
-  inr,
-  length,
-  arith,
-  subst,
-  map,
-}
+use Rattle.std.proofs.Common.{◌≡◌, ℕ, List, [], ◌∷◌, Bool, true, false, ◌&&◌, Option, Some, None, refl, codes, ap, ap₂}
+use Rattle.std.proofs.Common.{option_map, sym, ◌∙◌, ◌⊎◌, inl, inr, length, arith, subst, map}
 use Rattle.std.specs.Prelude.{if◌then◌else◌, nat_le, not, ◌==◌}
 use Rattle.std.specs.List.{list_all}
 use Rattle.std.specs.Str.{bytes_eq}
@@ -41,36 +15,11 @@ use Rattle.wait_script.specs.Number.{numeral_value}
 use Rattle.waitq_alone.specs.Commands.{Request, command_of, copy_at, drill_at, drill_of, is_name, merge_at, merge_of}
 use Rattle.waitq_alone.specs.Events.{event_of, events_of, before, plan_of}
 use Rattle.waitq_alone.specs.Parsed.{are_names, asked_of, asks_help, waitq_app, found_text, found_texts}
-use Rattle.waitq_alone.proofs.PlainWords.{
-  nobody,
-  unknown,
-  replay_entered,
-  drill_entered,
-  copy_entered,
-  replay_faults,
-  drill_faults,
-  copy_faults,
-  replay_alone,
-  replay_more,
-  drill_row,
-  drill_rows,
-  drill_passes,
-  drill_more,
-  src_row,
-  copy_rows,
-  copy_rows_told,
-  copy_passes,
-  copy_passes_told,
-  merge_entered,
-  merge_faults,
-  merge_row,
-  merge_two_rows,
-  merge_rows,
-  merge_passes,
-  merge_more,
-  first_name,
-  more_names,
-}
+use Rattle.waitq_alone.proofs.PlainWords.{nobody, unknown, replay_entered, drill_entered, copy_entered, replay_faults}
+use Rattle.waitq_alone.proofs.PlainWords.{drill_faults, copy_faults, replay_alone, replay_more, drill_row, drill_rows}
+use Rattle.waitq_alone.proofs.PlainWords.{drill_passes, drill_more, src_row, copy_rows, copy_rows_told, copy_passes}
+use Rattle.waitq_alone.proofs.PlainWords.{copy_passes_told, merge_entered, merge_faults, merge_row, merge_two_rows}
+use Rattle.waitq_alone.proofs.PlainWords.{merge_rows, merge_passes, merge_more, first_name, more_names}
 
 -- a word is another, or differs from it by either test
 data Same (w k : Text) : Type 0 where

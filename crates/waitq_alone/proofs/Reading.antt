@@ -1,28 +1,6 @@
 -- Words that are read one after another.
-use Rattle.std.proofs.Common.{
-  ◌≡◌,
-  ℕ,
-  ◌+◌,
-  ◌<◌,
-  List,
-  [],
-  ◌∷◌,
-  ◌++◌,
-  length,
-  map,
-  get_or,
-  drop,
-  Option,
-  Some,
-  None,
-  refl,
-  Bool,
-  true,
-  false,
-  add-one,
-  append_assoc,
-  drop-cons,
-}
+use Rattle.std.proofs.Common.{◌≡◌, ℕ, ◌+◌, ◌<◌, List, [], ◌∷◌, ◌++◌, length, map, get_or, drop, Option, Some, None}
+use Rattle.std.proofs.Common.{refl, Bool, true, false, add-one, append_assoc, drop-cons}
 use Rattle.std.specs.Prelude.{if◌then◌else◌, nat_le}
 use Rattle.copy_plan.specs.declared.TheConstants.{SIGNALS}
 use Rattle.copy_plan.specs.declared.plan.Planned.{Planned}

@@ -1,26 +1,7 @@
 -- To be believed.
 -- The commands: which words are one, what becomes of it, and with which statuses it ends.
-use Rattle.std.specs.Prelude.{
-  ℕ,
-  List,
-  [],
-  ◌∷◌,
-  Option,
-  Some,
-  None,
-  Bool,
-  true,
-  false,
-  ◌||◌,
-  ◌&&◌,
-  ◌==◌,
-  ◌≤◌,
-  length,
-  not,
-  nat_le,
-  if◌then◌else◌,
-  codes,
-}
+use Rattle.std.specs.Prelude.{ℕ, List, [], ◌∷◌, Option, Some, None, Bool, true, false, ◌||◌, ◌&&◌, ◌==◌, ◌≤◌, length}
+use Rattle.std.specs.Prelude.{not, nat_le, if◌then◌else◌, codes}
 use Rattle.std.specs.Str.{bytes_eq}
 use Rattle.wait_script.specs.Number.{numeral_value}
 use Rattle.drill_gen.specs.declared.lines.TheConstants.{MOST_CALLS}

@@ -1,23 +1,7 @@
 -- To be believed.
 -- The signals that a copy is told to send: how each is spelled.
-use Rattle.std.specs.Prelude.{
-  ℕ,
-  List,
-  [],
-  ◌∷◌,
-  Option,
-  Some,
-  None,
-  Bool,
-  true,
-  false,
-  nat_eq,
-  nat_le,
-  length,
-  drop,
-  if◌then◌else◌,
-  codes,
-}
+use Rattle.std.specs.Prelude.{ℕ, List, [], ◌∷◌, Option, Some, None, Bool, true, false, nat_eq, nat_le, length, drop}
+use Rattle.std.specs.Prelude.{if◌then◌else◌, codes}
 use Rattle.std.specs.List.{starts_with}
 use Rattle.wait_script.specs.Number.{numeral_value}
 use Rattle.copy_plan.specs.declared.TheConstants.{LONGEST, SIGNALS}

@@ -1,18 +1,6 @@
 -- To be believed.
 -- What becomes of an input.
-use Rattle.std.specs.Prelude.{
-  ◌≡◌,
-  ℕ,
-  List,
-  length,
-  Option,
-  Result,
-  Ok,
-  Err,
-  nat_lt,
-  if◌then◌else◌,
-  sum_by,
-}
+use Rattle.std.specs.Prelude.{◌≡◌, ℕ, List, length, Option, Result, Ok, Err, nat_lt, if◌then◌else◌, sum_by}
 use Rattle.std.specs.Io.KnownBytes.{append_known}
 use Rattle.edge_io.specs.Text.{HoldsPrefix}
 use Rattle.wait_model.specs.declared.layout.TheConstants.{EVENTS, INPUT_BYTES}

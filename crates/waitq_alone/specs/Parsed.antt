@@ -5,20 +5,8 @@ use Rattle.std.specs.Prelude.{List, [], ◌∷◌, Option, Some, None, Bool, tru
 use Rattle.std.specs.List.{list_all}
 use Rattle.std.specs.Str.{bytes_eq}
 use Rattle.clap.specs.Simple.{on_top}
-use Rattle.clap.specs.Words.{
-  App,
-  Row,
-  Rule,
-  Shape,
-  Text,
-  all_of,
-  first_of,
-  new_app,
-  new_rule,
-  subcommand_rows_of,
-  with_rule,
-  with_subcommand,
-}
+use Rattle.clap.specs.Words.{App, Row, Rule, Shape, Text, all_of, first_of, new_app, new_rule, subcommand_rows_of}
+use Rattle.clap.specs.Words.{with_rule, with_subcommand}
 use Rattle.clap.specs.declared.parser.matches.ArgMatches.{ArgMatches}
 use Rattle.copy_plan.specs.declared.TheConstants.{SIGNALS}
 use Rattle.wait_script.specs.Number.{numeral_value}

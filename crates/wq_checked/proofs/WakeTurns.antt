@@ -21,14 +21,7 @@ use Rattle.wq_head.specs.declared.wakes.WakeTurn.TheVariants as turn
 use Rattle.wq_checked.specs.Kept.{IsReadyWith, but_kept}
 use Rattle.wq_checked.specs.Begins.{HasJustBegun, BeginsAs}
 use Rattle.wq_checked.specs.declared.calls.Call.{Call}
-use Rattle.wq_checked.specs.Calls.{
-  Began,
-  CameFrom,
-  IsRunningSound,
-  IsWaking,
-  WakesFirst,
-  WentOn,
-}
+use Rattle.wq_checked.specs.Calls.{Began, CameFrom, IsRunningSound, IsWaking, WakesFirst, WentOn}
 use Rattle.wq_checked.specs.Advancing.{Waking, WakesAs, wake_left, wake_shown}
 use Rattle.wq_checked.proofs.Elsewhere.{wakes_off}
 use Rattle.wq_checked.specs.declared.calls.Running.{Running}

@@ -48,18 +48,8 @@ use Rattle.wq_head.specs.declared.wakes.WakeRun.{WakeRun}
 use Rattle.wq_head.specs.declared.wakes.WakeStage.TheVariants as wake_stage
 use Rattle.wq_checked.specs.Kept.{IsReadyWith, but_kept, keeps_in}
 use Rattle.wq_checked.specs.Locks.{awaited_in, refusal_told}
-use Rattle.wq_checked.specs.Stages.{
-  AwaitRun,
-  BitRun,
-  HasComeBy,
-  LockRun,
-  PageRun,
-  StandsBy,
-  WaitRun,
-  WaitTurn,
-  bit_first,
-  lock_first,
-}
+use Rattle.wq_checked.specs.Stages.{AwaitRun, BitRun, HasComeBy, LockRun, PageRun, StandsBy, WaitRun, WaitTurn}
+use Rattle.wq_checked.specs.Stages.{bit_first, lock_first}
 use Rattle.wq_checked.specs.declared.calls.Answer.{Answer}
 use Rattle.wq_checked.specs.declared.calls.Answer.TheVariants as answer
 use Rattle.wq_checked.specs.declared.calls.Progress.{Progress}

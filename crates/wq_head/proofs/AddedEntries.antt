@@ -3,19 +3,9 @@ use Rattle.std.proofs.Common.{◌∙◌, ap, sym, refl, subst, inl, inr, eq-eqb,
 use Rattle.std.proofs.lemmas.Bool.Decides.{nat_tests}
 use Rattle.std.specs.Prelude.{ℕ, ◌≡◌, ◌+◌, ◌-◌, ◌*◌, ◌%◌, ◌<◌, ◌≤◌, ◌⊎◌, ◌&&◌, ◌||◌, ◌==◌, not}
 use Rattle.std.specs.Prelude.{Bool, true, false, nat_lt, if◌then◌else◌, Option, Some, None, length}
-use Rattle.wait_model.specs.declared.layout.TheConstants.{
-  SLOTS,
-  ENTRIES,
-  MEMBERS,
-  MEMBER_WORDS,
-  PLAIN_CONDITIONS,
-  PLACES,
-  MIDDLE,
-  FIRST_PLACE,
-  FIRST_PRIORITY,
-  PRIORITY_TASKS,
-  FIRST_DONE_HEAD,
-}
+use Rattle.wait_model.specs.declared.layout.TheConstants.{SLOTS, ENTRIES, MEMBERS, MEMBER_WORDS, PLAIN_CONDITIONS}
+use Rattle.wait_model.specs.declared.layout.TheConstants.{PLACES, MIDDLE, FIRST_PLACE, FIRST_PRIORITY, PRIORITY_TASKS}
+use Rattle.wait_model.specs.declared.layout.TheConstants.{FIRST_DONE_HEAD}
 use Rattle.wait_model.specs.declared.watches.Watch.{Watch}
 use Rattle.wait_model.specs.declared.watches.Kind.{Kind}
 use Rattle.wait_model.specs.declared.watches.Kind.TheVariants as kind
@@ -33,36 +23,14 @@ use Rattle.wait_rule.specs.Known.{Known}
 use Rattle.wait_rule.specs.LookCounts.{LooksAtMost}
 use Rattle.wait_rule.specs.Shown.{shown_queue}
 use Rattle.wait_rule.specs.Members.{IsStanding}
-use Rattle.wait_rule.specs.Queues.{
-  place_by,
-  StandsIn,
-  IsLowest,
-  IsHighest,
-  IsFrontPlace,
-  IsTailPlace,
-  IsPriorityPlace,
-  KnewEntry,
-  MayQueue,
-  IsPlaceFor,
-  IsWholeBook,
-  saw,
-  index,
-}
+use Rattle.wait_rule.specs.Queues.{place_by, StandsIn, IsLowest, IsHighest, IsFrontPlace, IsTailPlace, IsPriorityPlace}
+use Rattle.wait_rule.specs.Queues.{KnewEntry, MayQueue, IsPlaceFor, IsWholeBook, saw, index}
 use Rattle.wait_rule.specs.Asked.{nothing_asked}
 use Rattle.wait_rule.specs.Pages.{uses_flag}
 use Rattle.wait_rule.specs.Says.{Debts, Excuse, IsOutBut, OwesBut, TriesNone, added, asks_for, told_of}
 use Rattle.wait_rule.proofs.KnownLaws.Debts.{entries_debts, queued_debts, queues_quiet, stored_debts}
-use Rattle.wait_rule.specs.Stays.{
-  Stays,
-  only,
-  with_entry,
-  with_left_entry,
-  Carries,
-  only_looks,
-  queue_cell_change,
-  queue_change,
-  take_off_change,
-}
+use Rattle.wait_rule.specs.Stays.{Stays, only, with_entry, with_left_entry, Carries, only_looks, queue_cell_change}
+use Rattle.wait_rule.specs.Stays.{queue_change, take_off_change}
 use Rattle.wq_head.proofs.AskedHolds.{looks_unasked}
 use Rattle.wq_head.proofs.CarriedHolds.{looks_carried}
 use Rattle.wq_head.proofs.CountedLooks.{counted_add}

@@ -1,24 +1,7 @@
 -- The function of an entry for a bit, and the load that it begins with.
 use Rattle.std.proofs.Common.{◌∙◌, ap, sym, refl, subst, inl, inr, arith}
-use Rattle.std.specs.Prelude.{
-  ℕ,
-  ◌+◌,
-  ◌≡◌,
-  ◌<◌,
-  ◌≤◌,
-  ◌⊎◌,
-  ◌&&◌,
-  ◌||◌,
-  Bool,
-  true,
-  false,
-  if◌then◌else◌,
-  Option,
-  Some,
-  None,
-  [],
-  ◌∷◌,
-}
+use Rattle.std.specs.Prelude.{ℕ, ◌+◌, ◌≡◌, ◌<◌, ◌≤◌, ◌⊎◌, ◌&&◌, ◌||◌, Bool, true, false, if◌then◌else◌, Option, Some}
+use Rattle.std.specs.Prelude.{None, [], ◌∷◌}
 use Rattle.wait_model.specs.declared.layout.TheConstants.{ENTRIES}
 use Rattle.wait_model.specs.declared.watches.Entry.{Entry}
 use Rattle.wait_model.specs.declared.watches.Kind.TheVariants as kind
@@ -44,22 +27,8 @@ use Rattle.wait_rule.proofs.KnownLaws.AfterSteps.{told_added, noted_added}
 use Rattle.wait_rule.proofs.KnownLaws.Transitions.{goes_on}
 use Rattle.wq_head.specs.declared.functions.ShownEntry.{ShownEntry}
 use Rattle.wq_head.specs.Walks.{IsFull}
-use Rattle.wq_head.specs.Walking.{
-  StaysInWalk,
-  IsHeld,
-  AreCalled,
-  IsWalking,
-  IsCalling,
-  IsNextEntry,
-  HasCalled,
-  WakesOff,
-  woke_by,
-  SamePlaces,
-  entry_called,
-  rest_of,
-  with_left,
-  is_used,
-}
+use Rattle.wq_head.specs.Walking.{StaysInWalk, IsHeld, AreCalled, IsWalking, IsCalling, IsNextEntry, HasCalled}
+use Rattle.wq_head.specs.Walking.{WakesOff, woke_by, SamePlaces, entry_called, rest_of, with_left, is_used}
 use Rattle.wq_head.proofs.CalledEntries.{called_less}
 use Rattle.wq_head.proofs.EntryFunctions.{passes_told, next_same, under_one}
 use Rattle.wq_head.proofs.EntryOffs.{onto, off_bit, off_called}

@@ -21,18 +21,8 @@ use Rattle.wq_head.specs.Looking.{IsClear, IsSet, IsByBit, AreByBits}
 use Rattle.wq_head.specs.Members.{IsShownMember}
 use Rattle.wq_head.proofs.FirstAndLast.{below_or}
 use Rattle.wq_head.proofs.MemberStands.{saw_stands, mark_stands, stands_on}
-use Rattle.wq_head.proofs.OneMoreLook.{
-  saw_looks,
-  saw_is_seen,
-  saw_is_placed,
-  mark_looks,
-  mark_is_seen,
-  mark_is_placed,
-  looks_none,
-  looks_on,
-  holding_on,
-  word_looks,
-}
+use Rattle.wq_head.proofs.OneMoreLook.{saw_looks, saw_is_seen, saw_is_placed, mark_looks, mark_is_seen, mark_is_placed}
+use Rattle.wq_head.proofs.OneMoreLook.{looks_none, looks_on, holding_on, word_looks}
 
 pub clear_on : (old new : Known) → Looks old new → (m : ℕ) → IsClear old m → IsClear new m
 clear_on old new l m c = record {

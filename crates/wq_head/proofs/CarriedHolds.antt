@@ -14,17 +14,8 @@ use Rattle.wait_rule.specs.Known.{Known}
 use Rattle.wait_rule.specs.Tickets.{no_ticket, taken}
 use Rattle.wait_rule.specs.Says.{Excuse, OwesBut, is_excused, told_of, unlocked_with, wake_of}
 use Rattle.wait_rule.specs.Queues.{IsIdle}
-use Rattle.wait_rule.specs.Stays.{
-  Stays,
-  StaysOwing,
-  no_entries,
-  with_wakes,
-  Carries,
-  only_looks,
-  lock_change,
-  unlock_change,
-  wake_all_change,
-}
+use Rattle.wait_rule.specs.Stays.{Stays, StaysOwing, no_entries, with_wakes, Carries, only_looks, lock_change}
+use Rattle.wait_rule.specs.Stays.{unlock_change, wake_all_change}
 use Rattle.wait_rule.proofs.KnownLaws.Turns.{told_unlocked}
 use Rattle.wait_rule.proofs.KnownLaws.CarriedTasks.{owes_more, owes_wakes, stays_carried}
 use Rattle.wait_rule.proofs.KnownLaws.Debts.{unlock_fewer}

@@ -2,30 +2,8 @@
 use Rattle.std.proofs.Common.{◌∙◌, ap, sym, refl, inl, inr, eq-eqb, arith}
 use Rattle.std.proofs.lemmas.Bool.Decides.{nat_tests}
 use native.Mathlib.Decide.{dec_le}
-use Rattle.std.specs.Prelude.{
-  ℕ,
-  ◌+◌,
-  ◌-◌,
-  ◌*◌,
-  ◌%◌,
-  ◌≡◌,
-  ◌≢◌,
-  ◌<◌,
-  ◌≤◌,
-  ◌⊎◌,
-  ◌&&◌,
-  ◌||◌,
-  ◌==◌,
-  not,
-  Bool,
-  true,
-  false,
-  nat_le,
-  if◌then◌else◌,
-  Option,
-  Some,
-  None,
-}
+use Rattle.std.specs.Prelude.{ℕ, ◌+◌, ◌-◌, ◌*◌, ◌%◌, ◌≡◌, ◌≢◌, ◌<◌, ◌≤◌, ◌⊎◌, ◌&&◌, ◌||◌, ◌==◌, not, Bool, true, false}
+use Rattle.std.specs.Prelude.{nat_le, if◌then◌else◌, Option, Some, None}
 use Rattle.wait_model.specs.declared.layout.TheConstants.{ENTRIES}
 use Rattle.wait_model.specs.declared.watches.Entry.{Entry}
 use Rattle.wait_model.specs.declared.watches.Aim.{Aim}
@@ -39,21 +17,8 @@ use Rattle.wait_model.specs.Programs.{past}
 use Rattle.wait_model.proofs.Functions.{put_at, put_other}
 use Rattle.wait_rule.specs.declared.journal.Item.TheVariants as item
 use Rattle.wait_rule.specs.Known.{Known}
-use Rattle.wait_rule.specs.Notes.{
-  Notes,
-  notes_after_wake,
-  after_noted_call,
-  callee,
-  first_due,
-  is_due,
-  is_for_look,
-  is_ahead,
-  is_sooner,
-  is_exclusive_look,
-  look_place,
-  lowered,
-  with_normal,
-}
+use Rattle.wait_rule.specs.Notes.{Notes, notes_after_wake, after_noted_call, callee, first_due, is_due, is_for_look}
+use Rattle.wait_rule.specs.Notes.{is_ahead, is_sooner, is_exclusive_look, look_place, lowered, with_normal}
 use Rattle.wait_rule.specs.Says.{told_of, noted, added}
 use Rattle.wait_rule.specs.Shown.{look_entry, shown_entry}
 use Rattle.wait_rule.proofs.KnownLaws.AfterSteps.{told_added, noted_added}

@@ -1,29 +1,7 @@
 -- The functions of entries that take the entry off where its task was woken: of kind Autoremove, Var and Bit.
 use Rattle.std.proofs.Common.{◌∙◌, ap, sym, refl, subst, inl, inr, eq-eqb, eqb-true, arith}
-use Rattle.std.specs.Prelude.{
-  ℕ,
-  ◌+◌,
-  ◌%◌,
-  ◌≡◌,
-  ◌<◌,
-  ◌≤◌,
-  ◌⊎◌,
-  ◌&&◌,
-  ◌||◌,
-  ◌==◌,
-  not,
-  Bool,
-  true,
-  false,
-  if◌then◌else◌,
-  Option,
-  Some,
-  None,
-  List,
-  [],
-  ◌∷◌,
-  ◌++◌,
-}
+use Rattle.std.specs.Prelude.{ℕ, ◌+◌, ◌%◌, ◌≡◌, ◌<◌, ◌≤◌, ◌⊎◌, ◌&&◌, ◌||◌, ◌==◌, not, Bool, true, false, if◌then◌else◌}
+use Rattle.std.specs.Prelude.{Option, Some, None, List, [], ◌∷◌, ◌++◌}
 use Rattle.wait_model.specs.declared.layout.TheConstants.{SLOTS, ENTRIES}
 use Rattle.wait_model.specs.declared.watches.Entry.{Entry}
 use Rattle.wait_model.specs.declared.watches.Kind.{Kind}
@@ -55,34 +33,11 @@ use Rattle.wait_rule.proofs.KnownLaws.MemberBits.{told_stored, noted_stored}
 use Rattle.wait_rule.proofs.KnownLaws.Transitions.{goes_on}
 use Rattle.wq_head.specs.declared.functions.ShownEntry.{ShownEntry}
 use Rattle.wq_head.specs.Walks.{IsFull}
-use Rattle.wq_head.specs.Walking.{
-  IsAhead,
-  StaysInWalk,
-  IsPassing,
-  IsHeld,
-  IsCalling,
-  IsNextEntry,
-  HasCalled,
-  TakesOff,
-  WakesOff,
-  woke_by,
-  SamePlaces,
-  entry_called,
-  rest_of,
-  next_in_walk,
-}
+use Rattle.wq_head.specs.Walking.{IsAhead, StaysInWalk, IsPassing, IsHeld, IsCalling, IsNextEntry, HasCalled, TakesOff}
+use Rattle.wq_head.specs.Walking.{WakesOff, woke_by, SamePlaces, entry_called, rest_of, next_in_walk}
 use Rattle.wq_head.proofs.CalledEntries.{called_less}
-use Rattle.wq_head.proofs.EntryFunctions.{
-  keeps_on,
-  keeps_same,
-  gone_woke,
-  under_one,
-  counted_spends,
-  wake_keeps,
-  wake_calling,
-  wake_places,
-  wake_shows,
-}
+use Rattle.wq_head.proofs.EntryFunctions.{keeps_on, keeps_same, gone_woke, under_one, counted_spends, wake_keeps}
+use Rattle.wq_head.proofs.EntryFunctions.{wake_calling, wake_places, wake_shows}
 use Rattle.wq_head.proofs.EntryWakes.{blank_seen, wake_transition, auto_goes, var_goes, off_goes}
 use Rattle.wq_head.proofs.FullHeads.{IsOne, one_of, same_self, var_only}
 use Rattle.wq_head.proofs.PastMembers.{passed_more}

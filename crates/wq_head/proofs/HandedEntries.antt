@@ -25,20 +25,8 @@ use Rattle.wait_model.proofs.Functions.{put_at, put_same}
 use Rattle.wait_rule.specs.declared.journal.Item.TheVariants as item
 use Rattle.wait_rule.specs.Known.{Known}
 use Rattle.wait_rule.specs.Members.{IsOwnKind}
-use Rattle.wait_rule.specs.Notes.{
-  Notes,
-  after_noted_call,
-  after_telling,
-  callee,
-  first_due,
-  is_ahead,
-  is_due,
-  is_for_look,
-  is_simple_look,
-  notes_after_wake,
-  with_normal,
-  without_normal,
-}
+use Rattle.wait_rule.specs.Notes.{Notes, after_noted_call, after_telling, callee, first_due, is_ahead, is_due}
+use Rattle.wait_rule.specs.Notes.{is_for_look, is_simple_look, notes_after_wake, with_normal, without_normal}
 use Rattle.wait_rule.specs.Queues.{IsWholeBook, index, place_by}
 use Rattle.wait_rule.specs.Says.{added, noted, stored_with, told_of}
 use Rattle.wait_rule.specs.Shown.{look_entry, shown_entry}
@@ -54,42 +42,14 @@ use Rattle.wq_head.specs.Walks.{IsFull}
 use Rattle.wq_head.specs.Walking.{HandsPage, HasCalled, IsCalling, IsHeld, IsNextEntry, SamePlaces, StaysInWalk}
 use Rattle.wq_head.specs.Walking.{entry_called, rest_of, next_in_walk, with_left}
 use Rattle.wq_head.proofs.BitEntries.{tested_places}
-use Rattle.wq_head.proofs.CountedCalls.{
-  call_called,
-  call_left,
-  call_notes,
-  call_used,
-  even_index,
-  one_slot,
-  rest_now,
-  shows_entry,
-  walk_is,
-}
+use Rattle.wq_head.proofs.CountedCalls.{call_called, call_left, call_notes, call_used, even_index, one_slot, rest_now}
+use Rattle.wq_head.proofs.CountedCalls.{shows_entry, walk_is}
 use Rattle.wq_head.proofs.EntryFunctions.{keeps_on, under_one}
 use Rattle.wq_head.proofs.EntryWakes.{load_transition, page_goes}
-use Rattle.wq_head.proofs.PageEntries.{
-  clear_is,
-  for_page,
-  looked,
-  looked_keeps,
-  looked_next,
-  noted_tried,
-  page_bit,
-  told_tried,
-  tried,
-  tries,
-}
-use Rattle.wq_head.proofs.PageTransitions.{
-  at_stage,
-  hand_goes,
-  hand_transition,
-  leave_goes,
-  leave_transition,
-  rouse_goes,
-  rouse_transition,
-  try_goes,
-  try_transition,
-}
+use Rattle.wq_head.proofs.PageEntries.{clear_is, for_page, looked, looked_keeps, looked_next, noted_tried, page_bit}
+use Rattle.wq_head.proofs.PageEntries.{told_tried, tried, tries}
+use Rattle.wq_head.proofs.PageTransitions.{at_stage, hand_goes, hand_transition, leave_goes, leave_transition}
+use Rattle.wq_head.proofs.PageTransitions.{rouse_goes, rouse_transition, try_goes, try_transition}
 use Rattle.wq_head.proofs.PassedBits.{passes_all}
 use Rattle.wq_head.proofs.ShownMembers.{off_entry, places_off, standing_off, whole_off}
 

@@ -18,53 +18,19 @@ use Rattle.wait_rule.specs.Known.{Known}
 use Rattle.wait_rule.specs.LookCounts.{LooksAtMost}
 use Rattle.wait_rule.specs.Members.{IsStanding}
 use Rattle.wait_rule.specs.Queues.{IsTailPlace, index}
-use Rattle.wait_rule.specs.Says.{
-  Debts,
-  Obligation,
-  Excuse,
-  IsOutBut,
-  OwesBut,
-  TriesNone,
-  added,
-  asks_for,
-  end_unclosed,
-  excuses,
-  has_duty,
-  has_end,
-  is_excused,
-  page_asked,
-  stored_with,
-  told_of,
-  wake_of,
-}
+use Rattle.wait_rule.specs.Says.{Debts, Obligation, Excuse, IsOutBut, OwesBut, TriesNone, added, asks_for, end_unclosed}
+use Rattle.wait_rule.specs.Says.{excuses, has_duty, has_end, is_excused, page_asked, stored_with, told_of, wake_of}
 use Rattle.wait_rule.specs.Stays.{Carries, only_looks, with_entry, with_page}
 use Rattle.wait_rule.proofs.KnownLaws.AskedPages.{asked_added}
 use Rattle.wait_rule.proofs.KnownLaws.Debts.{LeavesNone, end_added, leaves_of, leaves_stored}
 use Rattle.wait_rule.proofs.KnownLaws.StayingParts.{owes_also}
 use Rattle.wq_head.proofs.CarriedHolds.{looks_carried}
 use Rattle.wait_rule.specs.Shown.{shown_queue}
-use Rattle.wq_head.specs.Adds.{
-  IsFor,
-  IsForBit,
-  IsForVar,
-  HasAddedForBit,
-  HasAddedForPage,
-  HasQueued,
-  front_entry,
-  page_change,
-  tail_entry,
-}
+use Rattle.wq_head.specs.Adds.{IsFor, IsForBit, IsForVar, HasAddedForBit, HasAddedForPage, HasQueued, front_entry}
+use Rattle.wq_head.specs.Adds.{page_change, tail_entry}
 use Rattle.wq_head.specs.Looks.{Looks, AreLow, AreSeen}
-use Rattle.wq_head.proofs.AddedEntries.{
-  IsAfter,
-  TriesNo,
-  full_unpaged,
-  no_paged,
-  plain_stands,
-  queue_memberd,
-  queue_other,
-  queue_told,
-}
+use Rattle.wq_head.proofs.AddedEntries.{IsAfter, TriesNo, full_unpaged, no_paged, plain_stands, queue_memberd}
+use Rattle.wq_head.proofs.AddedEntries.{queue_other, queue_told}
 use Rattle.wq_head.proofs.CountedLooks.{counted_add}
 use Rattle.wq_head.proofs.OneMoreLook.{looks_on}
 use Rattle.wq_head.proofs.PermitHeads.{page_low}

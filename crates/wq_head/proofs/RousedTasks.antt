@@ -1,22 +1,7 @@
 -- Whom a task has woken whose threads are to be roused, after each of its steps.
 use Rattle.std.proofs.Common.{◌∙◌, ap, sym, refl, append_assoc, append-nil, length-append, arith}
-use Rattle.std.specs.Prelude.{
-  ℕ,
-  ◌≡◌,
-  ◌≤◌,
-  ◌++◌,
-  ◌∷◌,
-  [],
-  Bool,
-  true,
-  false,
-  List,
-  length,
-  if◌then◌else◌,
-  Option,
-  Some,
-  None,
-}
+use Rattle.std.specs.Prelude.{ℕ, ◌≡◌, ◌≤◌, ◌++◌, ◌∷◌, [], Bool, true, false, List, length, if◌then◌else◌, Option, Some}
+use Rattle.std.specs.Prelude.{None}
 use Rattle.wait_model.specs.declared.steps.Step.{Step}
 use Rattle.wait_model.specs.declared.steps.Step.TheVariants as step
 use Rattle.wait_model.specs.declared.queues.Mark.{Mark}

@@ -29,17 +29,8 @@ use Rattle.wait_rule.specs.Known.{Known}
 use Rattle.wait_rule.specs.Queues.{IsWholeBook, IsWalkOfCall, simple_watch, walk_of_hold}
 use Rattle.wait_rule.specs.Says.{added, unlocked_with}
 use Rattle.wait_rule.specs.Shown.{shown_entry, shown_queue, queue_below}
-use Rattle.wait_rule.specs.Transitions.{
-  Program,
-  Transition,
-  OnlyLooks,
-  Goes,
-  IsMadeFor,
-  IsTransition,
-  by_step,
-  after_transition,
-  call_program,
-}
+use Rattle.wait_rule.specs.Transitions.{Program, Transition, OnlyLooks, Goes, IsMadeFor, IsTransition, by_step}
+use Rattle.wait_rule.specs.Transitions.{after_transition, call_program}
 use Rattle.wait_rule.proofs.KnownLaws.MemberBits.{bit_looks}
 use Rattle.wait_rule.proofs.KnownLaws.Transitions.{only_none, goes_on, looks_first}
 use Rattle.wait_rule.proofs.KnownLaws.Turns.{serve_looks}

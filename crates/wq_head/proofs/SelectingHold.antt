@@ -14,15 +14,8 @@ use Rattle.wq_head.specs.declared.looks.ShownMember.{ShownMember}
 use Rattle.wq_head.specs.Holds.{IsHolding}
 use Rattle.wq_head.specs.Looks.{Looks}
 use Rattle.wq_head.specs.Members.{AreStanding, member_of}
-use Rattle.wq_head.specs.Selects.{
-  HasSelected,
-  IsSimpleHold,
-  KeepsHold,
-  SelectsMany,
-  ShowsNoEntry,
-  EndsSelection,
-  simple_aim,
-}
+use Rattle.wq_head.specs.Selects.{HasSelected, IsSimpleHold, KeepsHold, SelectsMany, ShowsNoEntry, EndsSelection}
+use Rattle.wq_head.specs.Selects.{simple_aim}
 use Rattle.wq_head.specs.Selecting.{IsFirstEntry, HasSelectedFirst}
 use Rattle.wq_head.proofs.CountedLooks.{marked_longer}
 use Rattle.wq_head.proofs.KeptHolds.{hold_on, hold_looks, hold_holds}

@@ -4,17 +4,8 @@ use Rattle.std.specs.Prelude.{ℕ, ◌≡◌, ◌<◌, ◌≤◌, Bool, true, fa
 use Rattle.wait_model.specs.declared.layout.TheConstants.{MEMBERS, PLACES, MIDDLE, FIRST_PLACE}
 use Rattle.wait_model.specs.declared.queues.Member.{Member}
 use Rattle.wait_model.specs.declared.queues.Form.TheVariants as forms
-use Rattle.wait_model.specs.Queues.{
-  even_below,
-  even_above,
-  rank_at,
-  member_from,
-  last_within,
-  place_before,
-  place_behind,
-  place_for,
-  IsIn,
-}
+use Rattle.wait_model.specs.Queues.{even_below, even_above, rank_at, member_from, last_within, place_before}
+use Rattle.wait_model.specs.Queues.{place_behind, place_for, IsIn}
 use Rattle.wait_model.specs.Places.{within, front_for, tail_for}
 use Rattle.wait_model.proofs.QueueLaws.QueueOrder.{IsFirstFrom, first_is}
 use Rattle.wait_model.proofs.QueueLaws.QueueEnds.{IsLastWithin, last_of}

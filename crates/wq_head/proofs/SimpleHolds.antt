@@ -3,14 +3,8 @@ use Rattle.std.proofs.Common.{◌∙◌, ap, sym, refl, subst, inl, inr, eqb-tru
 use Rattle.std.proofs.lemmas.Bool.Decides.{nat_tests}
 use Rattle.std.specs.Prelude.{ℕ, ◌+◌, ◌-◌, ◌≡◌, ◌<◌, ◌≤◌, ◌⊎◌, ◌&&◌, ◌||◌, ◌==◌, not, nat_lt, if◌then◌else◌}
 use Rattle.std.specs.Prelude.{Bool, true, false, Option, Some, None}
-use Rattle.wait_model.specs.declared.layout.TheConstants.{
-  ENTRIES,
-  FIRST_SIMPLE,
-  FIRST_SIMPLE_HEAD,
-  FIRST_PLAIN_HEAD,
-  FIRST_DONE_HEAD,
-  PLAIN_CONDITIONS,
-}
+use Rattle.wait_model.specs.declared.layout.TheConstants.{ENTRIES, FIRST_SIMPLE, FIRST_SIMPLE_HEAD, FIRST_PLAIN_HEAD}
+use Rattle.wait_model.specs.declared.layout.TheConstants.{FIRST_DONE_HEAD, PLAIN_CONDITIONS}
 use Rattle.wait_model.specs.declared.watches.Aim.{Aim}
 use Rattle.wait_model.specs.declared.watches.Mode.TheVariants as mode
 use Rattle.wait_model.specs.declared.watches.Watch.{Watch}

@@ -5,18 +5,8 @@ use Rattle.wait_rule.specs.Known.{Known}
 use Rattle.wait_rule.specs.Says.{told_of, noted}
 use Rattle.wait_rule.specs.Queues.{place_by}
 use Rattle.wq_head.specs.declared.looks.ShownMember.{ShownMember}
-use Rattle.wq_head.specs.Looks.{
-  Looks,
-  IsLow,
-  is_seen_member,
-  IsBetween,
-  IsOutermost,
-  IsFirst,
-  IsLast,
-  IsSurveyed,
-  first_with,
-  last_with,
-}
+use Rattle.wq_head.specs.Looks.{Looks, IsLow, is_seen_member, IsBetween, IsOutermost, IsFirst, IsLast, IsSurveyed}
+use Rattle.wq_head.specs.Looks.{first_with, last_with}
 use Rattle.wq_head.proofs.FirstAndLast.{below_or, first_more, last_more}
 use Rattle.wq_head.specs.Looking.{IsClear}
 use Rattle.wq_head.specs.Members.{IsShownMember}

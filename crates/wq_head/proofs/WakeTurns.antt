@@ -17,17 +17,8 @@ use Rattle.wq_head.specs.Holds.{HasWaited, HasLocked}
 use Rattle.wq_head.specs.declared.wakes.WakeTurn.{WakeTurn}
 use Rattle.wq_head.specs.declared.wakes.WakeTurn.TheVariants as turn
 use Rattle.wq_head.specs.declared.wakes.WakeStage.{WakeStage}
-use Rattle.wq_head.specs.Turns.{
-  HasTurned,
-  WakeRests,
-  InWalk,
-  IsAtWake,
-  IsServed,
-  IsTurnStage,
-  IsBroken,
-  HasDrawn,
-  first_counts,
-}
+use Rattle.wq_head.specs.Turns.{HasTurned, WakeRests, InWalk, IsAtWake, IsServed, IsTurnStage, IsBroken, HasDrawn}
+use Rattle.wq_head.specs.Turns.{first_counts}
 use Rattle.wq_head.specs.Walking.{with_left}
 use Rattle.wq_head.proofs.BrokenHold.{base_up, base_free, may_go, may_take, goes_back}
 use Rattle.wq_head.proofs.DrawnTurns.{draws, drawn_outside, still_waits, turn_is, turn_up, turn_goes, turn_locked}

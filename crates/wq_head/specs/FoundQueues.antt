@@ -1,4 +1,4 @@
--- To be believed.
+-- For proofs alone.
 -- Whom a hold finds queued at its head.
 use Rattle.std.specs.Prelude.{ℕ, ◌≡◌, ◌+◌, ◌<◌, [], ◌∷◌}
 use Rattle.wait_model.specs.declared.layout.TheConstants.{MEMBERS}

@@ -27,19 +27,8 @@ use Rattle.wq_head.specs.Holds.{HasWaited}
 use Rattle.wq_head.specs.LockTurns.{FindsOther}
 use Rattle.wq_head.specs.Members.{member_of}
 use Rattle.wq_head.specs.Walks.{IsFull, MayWake, HasWoken, HasEnded, HasStarved}
-use Rattle.wq_head.specs.Walking.{
-  SameNumbers,
-  Counts,
-  IsAhead,
-  IsCountedDown,
-  StaysInWalk,
-  IsStarting,
-  IsCalling,
-  IsBreak,
-  Meeting,
-  rest_of,
-  next_in_walk,
-}
+use Rattle.wq_head.specs.Walking.{SameNumbers, Counts, IsAhead, IsCountedDown, StaysInWalk, IsStarting, IsCalling}
+use Rattle.wq_head.specs.Walking.{IsBreak, Meeting, rest_of, next_in_walk}
 
 -- where the program of a walk begins
 abbrev pub walk_start : Next

@@ -29,20 +29,8 @@ use Rattle.wait_model.specs.Programs.{resumed, walk_event}
 use Rattle.wait_model.specs.Tasks.{meets}
 use Rattle.wait_model.specs.Watches.{head_of, mask_of, misses}
 use Rattle.wait_rule.specs.Known.{Known}
-use Rattle.wait_rule.specs.Transitions.{
-  Finds,
-  Goes,
-  IsAbout,
-  IsMadeFor,
-  IsStepFor,
-  StepOrLook,
-  Transition,
-  after_transition,
-  by_look,
-  by_step,
-  call_program,
-  walk_program,
-}
+use Rattle.wait_rule.specs.Transitions.{Finds, Goes, IsAbout, IsMadeFor, IsStepFor, StepOrLook, Transition}
+use Rattle.wait_rule.specs.Transitions.{after_transition, by_look, by_step, call_program, walk_program}
 
 -- a walk that goes on or has ended, with one hold at least
 abbrev pub HasHoldAt : WalkPoint → Type 0

@@ -25,17 +25,8 @@ use Rattle.wait_rule.proofs.KnownLaws.Transitions.{only_none}
 use Rattle.wait_class.specs.Posts.{IsStateFor, Post, Stands}
 use Rattle.wait_class.specs.Posts.{EndsWith, own_of}
 use Rattle.wait_class.specs.Findings.{saw_nothing, with_own}
-use Rattle.wait_event.specs.WokenWaits.{
-  HasHeardSo,
-  Hears,
-  IsHearing,
-  heard_post,
-  heard_steps,
-  unless_set,
-  woken_point,
-  woken_post,
-  woken_program,
-}
+use Rattle.wait_event.specs.WokenWaits.{HasHeardSo, Hears, IsHearing, heard_post, heard_steps, unless_set, woken_point}
+use Rattle.wait_event.specs.WokenWaits.{woken_post, woken_program}
 use Rattle.wait_event.specs.declared.woken_waits.WokenStage.TheVariants as stage
 use Rattle.wait_event.specs.declared.woken_waits.WokenTurn.TheVariants as turn
 use Rattle.wait_class.proofs.Ground.Standing.{stands_on}

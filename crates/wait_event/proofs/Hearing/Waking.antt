@@ -18,17 +18,8 @@ use Rattle.wait_rule.proofs.KnownLaws.Debts.{looked_debts}
 use Rattle.wait_rule.proofs.KnownLaws.Transitions.{book_told, looks_of}
 use Rattle.wait_class.specs.Posts.{IsStateFor, Stands}
 use Rattle.wait_class.specs.Posts.{EndsWith}
-use Rattle.wait_event.specs.WokenWaits.{
-  HasHeardSo,
-  Hears,
-  IsHearingAsleep,
-  KeepsEntries,
-  WentHearing,
-  heard_steps,
-  woken_point,
-  woken_post,
-  woken_program,
-}
+use Rattle.wait_event.specs.WokenWaits.{HasHeardSo, Hears, IsHearingAsleep, KeepsEntries, WentHearing, heard_steps}
+use Rattle.wait_event.specs.WokenWaits.{woken_point, woken_post, woken_program}
 use Rattle.wait_event.specs.declared.woken_waits.WokenStage.TheVariants as stage
 use Rattle.wait_event.specs.declared.woken_waits.WokenTurn.TheVariants as turn
 use Rattle.wait_class.proofs.Ground.Going.{runs_looks}

@@ -11,21 +11,9 @@ use Rattle.wait_model.specs.Histories.{Lacks}
 use Rattle.wait_model.specs.Tables.{Table, next, start}
 use Rattle.wait_model.specs.Rows.{Allowed}
 use Rattle.wait_model.specs.Totals.{total}
-use Rattle.wait_model.specs.DoneCounts.{
-  raises_by_one,
-  lowers_by_one,
-  grants,
-  throws,
-  of_store,
-  total_stored,
-  IsBalanced,
-  IsStored,
-  IsDoneStore,
-  CountsStayBalanced,
-  CountsStartBalanced,
-  ends_count,
-  TakesAreCompleted,
-}
+use Rattle.wait_model.specs.DoneCounts.{raises_by_one, lowers_by_one, grants, throws, of_store, total_stored}
+use Rattle.wait_model.specs.DoneCounts.{IsBalanced, IsStored, IsDoneStore, CountsStayBalanced, CountsStartBalanced}
+use Rattle.wait_model.specs.DoneCounts.{ends_count, TakesAreCompleted}
 use Rattle.wait_model.proofs.Functions.{put_same, put_other}
 use Rattle.wait_model.proofs.HistoryLaws.StepTotals.{total_grown, sum_zero}
 

@@ -16,21 +16,8 @@ use Rattle.wait_model.specs.DoneCounts.{IsStored, IsDoneStore, IsBalanced}
 use Rattle.wait_model.specs.Completions.{NoRunMiscounts}
 use Rattle.wait_model.specs.Locations.{cond_at, word_in}
 use Rattle.wait_model.specs.Reached.{Joins, IsSound}
-use Rattle.wait_model.specs.Runs.{
-  State,
-  given_by,
-  is_publishing,
-  looks_below,
-  looks,
-  peeks_below,
-  all_peeks,
-  set_step,
-  event_steps,
-  happens,
-  start_state,
-  IsRunFrom,
-  made_in,
-}
+use Rattle.wait_model.specs.Runs.{State, given_by, is_publishing, looks_below, looks, peeks_below, all_peeks, set_step}
+use Rattle.wait_model.specs.Runs.{event_steps, happens, start_state, IsRunFrom, made_in}
 use Rattle.wait_model.specs.Tables.{Table, value_of}
 use Rattle.wait_model.specs.Watches.{IsThere, number_of}
 use Rattle.wait_model.proofs.WordLaws.CondWords.{number_value}

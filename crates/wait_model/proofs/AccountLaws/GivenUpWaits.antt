@@ -1,24 +1,8 @@
 -- A wait for a bit gives up only after a turn that a signal ended: what its latest events are at each place.
 use Rattle.std.proofs.Common.{refl, sym, ◌∙◌, ap, arith, inl}
 use Rattle.std.proofs.lemmas.List.Elements.{All-nil, All-cons}
-use Rattle.std.specs.Prelude.{
-  ℕ,
-  ◌≡◌,
-  ◌≢◌,
-  Bool,
-  true,
-  false,
-  not,
-  ◌&&◌,
-  if◌then◌else◌,
-  is_some,
-  List,
-  [],
-  ◌∷◌,
-  Option,
-  Some,
-  None,
-}
+use Rattle.std.specs.Prelude.{ℕ, ◌≡◌, ◌≢◌, Bool, true, false, not, ◌&&◌, if◌then◌else◌, is_some, List, [], ◌∷◌, Option}
+use Rattle.std.specs.Prelude.{Some, None}
 use Rattle.wait_model.specs.declared.calls.Call.{Call}
 use Rattle.wait_model.specs.declared.calls.Call.TheVariants as calls
 use Rattle.wait_model.specs.declared.calls.Event.{Event}
@@ -44,22 +28,8 @@ use Rattle.wait_model.specs.Watches.{misses, word_of, bit_of}
 use Rattle.wait_model.specs.Words.{bit_at, flag}
 use Rattle.wait_model.specs.Points.{call_watch, call_number, call_head, is_bit_wait, is_lock, state_in}
 use Rattle.wait_model.specs.Tables.{value_of}
-use Rattle.wait_model.specs.Programs.{
-  go,
-  ends_with,
-  program_start,
-  signalled_at,
-  prepared_at,
-  slept_at,
-  signalled,
-  interrupted,
-  zero_answer,
-  exchange,
-  ask,
-  look_event,
-  await_after,
-  page_last,
-}
+use Rattle.wait_model.specs.Programs.{go, ends_with, program_start, signalled_at, prepared_at, slept_at, signalled}
+use Rattle.wait_model.specs.Programs.{interrupted, zero_answer, exchange, ask, look_event, await_after, page_last}
 use Rattle.wait_model.specs.Runs.{State, own, seen_by, planned, progress_at}
 use Rattle.wait_model.specs.Reached.{absent, IsFitted, HomeAt, IsHome}
 use Rattle.wait_model.specs.Accounts.{Account}

@@ -2,26 +2,8 @@
 -- it.
 use Rattle.std.proofs.lemmas.Bool.Decides.{eqb_tells}
 use Rattle.std.proofs.Common.{refl, sym, ◌∙◌, ap, subst, arith, inl, inr}
-use Rattle.std.specs.Prelude.{
-  ℕ,
-  ◌≡◌,
-  ◌≢◌,
-  ◌+◌,
-  ◌≤◌,
-  ◌⊎◌,
-  Bool,
-  true,
-  false,
-  not,
-  if◌then◌else◌,
-  is_some,
-  Option,
-  Some,
-  None,
-  List,
-  [],
-  ◌∷◌,
-}
+use Rattle.std.specs.Prelude.{ℕ, ◌≡◌, ◌≢◌, ◌+◌, ◌≤◌, ◌⊎◌, Bool, true, false, not, if◌then◌else◌, is_some, Option, Some}
+use Rattle.std.specs.Prelude.{None, List, [], ◌∷◌}
 use Rattle.wait_model.specs.declared.layout.TheConstants.{EVENTS}
 use Rattle.wait_model.specs.declared.watches.Watch.{Watch}
 use Rattle.wait_model.specs.declared.watches.Entry.{Entry}
@@ -52,36 +34,11 @@ use Rattle.wait_model.specs.Tables.{value_of}
 use Rattle.wait_model.specs.Tables as tables
 use Rattle.wait_model.specs.Points.{call_watch, call_head, state_in}
 use Rattle.wait_model.specs.Programs.{program_start, page_event, page_queue, page_last, call_fails}
-use Rattle.wait_model.specs.Reached.{
-  held_at,
-  handed_by,
-  HomeAt,
-  IsFlagged,
-  IsSound,
-  IsSoundCall,
-  IsPlaced,
-  CountedBy,
-  zone,
-}
-use Rattle.wait_model.specs.Runs.{
-  State,
-  own,
-  is_open,
-  given_by,
-  planned,
-  seen_by,
-  progress_at,
-  progress_after,
-  is_publishing,
-  happens,
-  start_state,
-  state_after,
-  state_of,
-  Continues,
-  IsRunFrom,
-  IsRun,
-  made_in,
-}
+use Rattle.wait_model.specs.Reached.{held_at, handed_by, HomeAt, IsFlagged, IsSound, IsSoundCall, IsPlaced, CountedBy}
+use Rattle.wait_model.specs.Reached.{zone}
+use Rattle.wait_model.specs.Runs.{State, own, is_open, given_by, planned, seen_by, progress_at, progress_after}
+use Rattle.wait_model.specs.Runs.{is_publishing, happens, start_state, state_after, state_of, Continues, IsRunFrom}
+use Rattle.wait_model.specs.Runs.{IsRun, made_in}
 use Rattle.wait_model.proofs.Functions.{put_at, put_case, put_same, put_other}
 use Rattle.wait_model.proofs.Sameness.{same_bit, same_bit_is}
 use Rattle.wait_model.proofs.HistoryLaws.HoldLooks.{looks_same}

@@ -1,22 +1,7 @@
 -- What an account that fits its state says of selections and of interrupted waits.
 use Rattle.std.proofs.Common.{refl, sym, ◌∙◌, ap, subst, arith, inl, inr}
-use Rattle.std.specs.Prelude.{
-  ℕ,
-  ◌≡◌,
-  ◌<◌,
-  ◌≤◌,
-  ◌≢◌,
-  ◌⊎◌,
-  Bool,
-  true,
-  false,
-  if◌then◌else◌,
-  is_some,
-  List,
-  Option,
-  Some,
-  None,
-}
+use Rattle.std.specs.Prelude.{ℕ, ◌≡◌, ◌<◌, ◌≤◌, ◌≢◌, ◌⊎◌, Bool, true, false, if◌then◌else◌, is_some, List, Option, Some}
+use Rattle.std.specs.Prelude.{None}
 use Rattle.wait_model.specs.declared.calls.Call.{Call}
 use Rattle.wait_model.specs.declared.calls.Event.{Event}
 use Rattle.wait_model.specs.declared.calls.Event.TheVariants as event
@@ -41,18 +26,8 @@ use Rattle.wait_model.specs.declared.points.WalkPoint.TheVariants as walking
 use Rattle.wait_model.specs.Tasks.{meets}
 use Rattle.wait_model.specs.Watches.{mask_of}
 use Rattle.wait_model.specs.Points.{call_aim, call_watch, call_number, call_head, is_lock, mode_of, count_of}
-use Rattle.wait_model.specs.Programs.{
-  go,
-  ends_with,
-  signalled,
-  interrupted,
-  zero_answer,
-  call_entry,
-  call_next,
-  reached,
-  past,
-  page_last,
-}
+use Rattle.wait_model.specs.Programs.{go, ends_with, signalled, interrupted, zero_answer, call_entry, call_next}
+use Rattle.wait_model.specs.Programs.{reached, past, page_last}
 use Rattle.wait_model.specs.Runs.{State, own, seen_by, planned, state_of, made_in}
 use Rattle.wait_model.specs.Tables.{value_of}
 use Rattle.wait_model.proofs.RunLaws.FineEvents.{none_there}

@@ -34,22 +34,8 @@ use Rattle.wait_model.specs.Accounts.{Account, account_of}
 use Rattle.wait_model.specs.Accounts as accounts
 use Rattle.wait_model.specs.Selections.{is_page_lock, is_finish_event, is_page_turn_event, page_hold, IsPageBroken}
 use Rattle.wait_model.specs.Reached.{IsSound, IsSoundCall}
-use Rattle.wait_model.specs.Runs.{
-  State,
-  own,
-  given_by,
-  planned,
-  progress_at,
-  progress_after,
-  happens,
-  start_state,
-  state_after,
-  state_of,
-  Continues,
-  IsRunFrom,
-  IsRun,
-  made_in,
-}
+use Rattle.wait_model.specs.Runs.{State, own, given_by, planned, progress_at, progress_after, happens, start_state}
+use Rattle.wait_model.specs.Runs.{state_after, state_of, Continues, IsRunFrom, IsRun, made_in}
 use Rattle.wait_model.proofs.Functions.{put_at, put_same, put_other}
 use Rattle.wait_model.proofs.RunLaws.EveryRun.{IsMade, made_of, opened_sound, made_sound, start_sound}
 use Rattle.wait_model.proofs.WaitLaws.Waiters.{IsAlert, IsTurn, turn_of, made_alert, opened_alert, start_alert}

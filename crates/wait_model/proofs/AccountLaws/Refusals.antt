@@ -32,22 +32,9 @@ use Rattle.wait_model.specs.Tasks.{meets, taken_of}
 use Rattle.wait_model.specs.Watches.{mask_of}
 use Rattle.wait_model.specs.Points.{call_aim, call_watch, mode_of, who_of}
 use Rattle.wait_model.specs.Tables.{value_of}
-use Rattle.wait_model.specs.Programs.{
-  ends_with,
-  selected_answer,
-  select_next,
-  is_enough,
-  is_at_end,
-  call_entry,
-  call_next,
-  reached,
-  taken_answer,
-  kicked,
-  active_event,
-  signalled,
-  interrupted,
-  page_queue,
-}
+use Rattle.wait_model.specs.Programs.{ends_with, selected_answer, select_next, is_enough, is_at_end, call_entry}
+use Rattle.wait_model.specs.Programs.{call_next, reached, taken_answer, kicked, active_event, signalled, interrupted}
+use Rattle.wait_model.specs.Programs.{page_queue}
 use Rattle.wait_model.specs.Runs.{State, own, seen_by, planned}
 use Rattle.wait_model.proofs.WaitLaws.OutsideStages.{either, both, unset}
 use Rattle.wait_model.specs.declared.points.PagePoint.TheVariants as paging

@@ -1,31 +1,8 @@
 -- Accounts follow runs: turns that a signal ends, whom a walk has selected, and the signals of each task.
 use Rattle.std.proofs.lemmas.Bool.Decides.{nat_tests, eqb_tells}
 use Rattle.std.proofs.Common.{refl, sym, ◌∙◌, ap, subst, arith, inl, inr}
-use Rattle.std.specs.Prelude.{
-  ℕ,
-  ◌≡◌,
-  ◌≢◌,
-  ◌+◌,
-  ◌-◌,
-  ◌<◌,
-  ◌⊎◌,
-  Bool,
-  true,
-  false,
-  not,
-  ◌&&◌,
-  ◌==◌,
-  if◌then◌else◌,
-  is_some,
-  nat_le,
-  nat_lt,
-  List,
-  [],
-  ◌∷◌,
-  Option,
-  Some,
-  None,
-}
+use Rattle.std.specs.Prelude.{ℕ, ◌≡◌, ◌≢◌, ◌+◌, ◌-◌, ◌<◌, ◌⊎◌, Bool, true, false, not, ◌&&◌, ◌==◌, if◌then◌else◌}
+use Rattle.std.specs.Prelude.{is_some, nat_le, nat_lt, List, [], ◌∷◌, Option, Some, None}
 use Rattle.wait_model.specs.declared.layout.TheConstants.{ENTRIES, BREAK}
 use Rattle.wait_model.specs.declared.calls.Call.{Call}
 use Rattle.wait_model.specs.declared.calls.Call.TheVariants as calls
@@ -57,60 +34,17 @@ use Rattle.wait_model.specs.declared.points.Progress.{Progress}
 use Rattle.wait_model.specs.declared.points.Progress.TheVariants as now
 use Rattle.wait_model.specs.Tasks.{meets, pending, sleep_of, state_mask, looks_in}
 use Rattle.wait_model.specs.Watches.{owner, mask_of, is_for, is_page}
-use Rattle.wait_model.specs.Points.{
-  call_aim,
-  call_watch,
-  call_number,
-  call_head,
-  is_await,
-  is_bit_wait,
-  is_lock,
-  state_in,
-  mode_of,
-  count_of,
-  called_task,
-}
+use Rattle.wait_model.specs.Points.{call_aim, call_watch, call_number, call_head, is_await, is_bit_wait, is_lock}
+use Rattle.wait_model.specs.Points.{state_in, mode_of, count_of, called_task}
 use Rattle.wait_model.specs.Tables.{value_of}
-use Rattle.wait_model.specs.Programs.{
-  program_start,
-  signalled_at,
-  prepared_at,
-  slept_at,
-  is_at_end,
-  is_enough,
-  select_next,
-  await_after,
-  look_event,
-  past,
-  onward,
-  wake_event,
-  wake_off_event,
-  call_entry,
-  call_next,
-  reached,
-  resumed,
-  call_fails,
-  ask,
-  acted,
-  finished,
-  publishing_event,
-  active_event,
-  page_queue,
-  page_last,
-}
+use Rattle.wait_model.specs.Programs.{program_start, signalled_at, prepared_at, slept_at, is_at_end, is_enough}
+use Rattle.wait_model.specs.Programs.{select_next, await_after, look_event, past, onward, wake_event, wake_off_event}
+use Rattle.wait_model.specs.Programs.{call_entry, call_next, reached, resumed, call_fails, ask, acted, finished}
+use Rattle.wait_model.specs.Programs.{publishing_event, active_event, page_queue, page_last}
 use Rattle.wait_model.specs.declared.queues.Mark.{Mark}
 use Rattle.wait_model.specs.Queues.{rank, rank_at, is_entry, members_from, arrive, IsIn}
-use Rattle.wait_model.specs.Runs.{
-  State,
-  own,
-  called_member,
-  called_as,
-  called_by,
-  called_of,
-  seen_by,
-  planned,
-  progress_at,
-}
+use Rattle.wait_model.specs.Runs.{State, own, called_member, called_as, called_by, called_of, seen_by, planned}
+use Rattle.wait_model.specs.Runs.{progress_at}
 use Rattle.wait_model.specs.Reached.{IsFitted, IsMember, IsQueued, IsPlaced, IsFlagged, IsSound}
 use Rattle.wait_model.specs.Accounts.{is_exclusive_entry, one_if, event_selects, is_woken_exclusive}
 use Rattle.wait_model.specs.Selections.{IsSignalledTurn, signalled_hold}

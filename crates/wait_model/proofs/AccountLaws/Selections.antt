@@ -1,24 +1,8 @@
 -- Every run is orderly: what its walks select, how its waits are interrupted, which signals are accepted.
 use Rattle.std.proofs.lemmas.Bool.Decides.{nat_tests, eqb_tells}
 use Rattle.std.proofs.Common.{refl, sym, ap, subst, arith, inl, inr}
-use Rattle.std.specs.Prelude.{
-  ℕ,
-  ◌≡◌,
-  ◌≢◌,
-  ◌+◌,
-  ◌≤◌,
-  Bool,
-  true,
-  false,
-  ◌&&◌,
-  ◌||◌,
-  IsTrue,
-  ◌==◌,
-  if◌then◌else◌,
-  List,
-  [],
-  ◌∷◌,
-}
+use Rattle.std.specs.Prelude.{ℕ, ◌≡◌, ◌≢◌, ◌+◌, ◌≤◌, Bool, true, false, ◌&&◌, ◌||◌, IsTrue, ◌==◌, if◌then◌else◌, List}
+use Rattle.std.specs.Prelude.{[], ◌∷◌}
 use Rattle.wait_model.specs.declared.layout.TheConstants.{EVENTS}
 use Rattle.wait_model.specs.declared.calls.Call.{Call}
 use Rattle.wait_model.specs.declared.calls.Event.{Event}
@@ -36,38 +20,12 @@ use Rattle.wait_model.specs.Functions.{put}
 use Rattle.wait_model.specs.Tables.{next as next_table, value_of}
 use Rattle.wait_model.proofs.WordLaws.CondWords.{set_rest}
 use Rattle.wait_model.specs.Words.{head_word}
-use Rattle.wait_model.specs.Runs.{
-  State,
-  given_by,
-  progress_after,
-  after_event,
-  happens,
-  start_state,
-  state_after,
-  state_of,
-  Continues,
-  IsItem,
-  IsRunFrom,
-  IsRun,
-  made_in,
-}
+use Rattle.wait_model.specs.Runs.{State, given_by, progress_after, after_event, happens, start_state, state_after}
+use Rattle.wait_model.specs.Runs.{state_of, Continues, IsItem, IsRunFrom, IsRun, made_in}
 use Rattle.wait_model.specs.Reached.{IsPlaced, IsSoundCall, IsSound, Allows}
-use Rattle.wait_model.specs.Accounts.{
-  Account,
-  one_if,
-  event_selects,
-  unqueues,
-  event_raises,
-  event_raises_fatal,
-  taken_any,
-  taken_fatal,
-  accepts,
-  accepts_fatal,
-  accounted,
-  account_after,
-  nothing_done,
-  account_of,
-}
+use Rattle.wait_model.specs.Accounts.{Account, one_if, event_selects, unqueues, event_raises, event_raises_fatal}
+use Rattle.wait_model.specs.Accounts.{taken_any, taken_fatal, accepts, accepts_fatal, accounted, account_after}
+use Rattle.wait_model.specs.Accounts.{nothing_done, account_of}
 use Rattle.wait_model.specs.Selections.{AcceptsRaised}
 use Rattle.wait_model.proofs.Functions.{put_at}
 use Rattle.wait_model.proofs.HistoryLaws.HoldLooks.{looks_same}

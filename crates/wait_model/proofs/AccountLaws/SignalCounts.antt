@@ -10,17 +10,8 @@ use Rattle.wait_model.specs.Tasks.{woken, slept, raised, accepted, task_of}
 use Rattle.wait_model.specs.Words.{flag}
 use Rattle.wait_model.specs.Tables.{Table, next}
 use Rattle.wait_model.specs.Totals.{total, total_below}
-use Rattle.wait_model.specs.SignalCounts.{
-  is_signalled,
-  takes_fatal,
-  takes_any,
-  raises_fatal,
-  raises_any,
-  AreRaised,
-  SignalsStayRaised,
-  SignalsStartRaised,
-  NoRunInventsSignals,
-}
+use Rattle.wait_model.specs.SignalCounts.{is_signalled, takes_fatal, takes_any, raises_fatal, raises_any, AreRaised}
+use Rattle.wait_model.specs.SignalCounts.{SignalsStayRaised, SignalsStartRaised, NoRunInventsSignals}
 use Rattle.wait_model.specs.Functions.{put}
 use Rattle.wait_model.proofs.Functions.{put_at, put_same, put_other}
 use Rattle.wait_model.proofs.HistoryLaws.StepTotals.{total_grown, total_still, total_own, total_other}

@@ -1,25 +1,8 @@
 -- What a selection from a simple queue has taken off: at each place of its call, and by its answer.
 use Rattle.std.proofs.lemmas.Bool.Decides.{nat_tests}
 use Rattle.std.proofs.Common.{refl, sym, ◌∙◌, ap, arith}
-use Rattle.std.specs.Prelude.{
-  ℕ,
-  ◌≡◌,
-  ◌+◌,
-  ◌<◌,
-  ◌≤◌,
-  Bool,
-  true,
-  false,
-  not,
-  ◌&&◌,
-  ◌==◌,
-  if◌then◌else◌,
-  is_some,
-  pos,
-  Option,
-  Some,
-  None,
-}
+use Rattle.std.specs.Prelude.{ℕ, ◌≡◌, ◌+◌, ◌<◌, ◌≤◌, Bool, true, false, not, ◌&&◌, ◌==◌, if◌then◌else◌, is_some, pos}
+use Rattle.std.specs.Prelude.{Option, Some, None}
 use Rattle.wait_model.specs.declared.calls.Call.{Call}
 use Rattle.wait_model.specs.declared.calls.Call.TheVariants as calls
 use Rattle.wait_model.specs.declared.calls.Event.{Event}
@@ -54,30 +37,10 @@ use Rattle.wait_model.specs.Tasks.{meets, pending, state_mask}
 use Rattle.wait_model.specs.Watches.{mask_of}
 use Rattle.wait_model.specs.Points.{call_watch, call_aim, is_lock, state_in, mode_of, count_of}
 use Rattle.wait_model.specs.Tables.{value_of}
-use Rattle.wait_model.specs.Programs.{
-  program_start,
-  signalled_at,
-  prepared_at,
-  slept_at,
-  look_event,
-  ask,
-  acted,
-  finished,
-  past,
-  onward,
-  reached,
-  call_entry,
-  call_next,
-  is_at_end,
-  is_enough,
-  select_from,
-  select_next,
-  await_after,
-  active_event,
-  await_ends,
-  page_queue,
-  page_last,
-}
+use Rattle.wait_model.specs.Programs.{program_start, signalled_at, prepared_at, slept_at, look_event, ask, acted}
+use Rattle.wait_model.specs.Programs.{finished, past, onward, reached, call_entry, call_next, is_at_end, is_enough}
+use Rattle.wait_model.specs.Programs.{select_from, select_next, await_after, active_event, await_ends, page_queue}
+use Rattle.wait_model.specs.Programs.{page_last}
 use Rattle.wait_model.specs.Runs.{State, own, seen_by, planned, progress_at}
 use Rattle.wait_model.specs.Accounts.{unqueues}
 use Rattle.wait_model.specs.Selections.{is_selection}

@@ -13,18 +13,8 @@ use Rattle.wait_model.specs.Histories.{Lacks}
 use Rattle.wait_model.specs.Tables.{Table, next, start, met}
 use Rattle.wait_model.specs.Rows.{Allowed}
 use Rattle.wait_model.specs.Facts.{Kept}
-use Rattle.wait_model.specs.BitKeepers.{
-  clears_bit,
-  KeepsBit,
-  AreKept,
-  KeepsTold,
-  BitsStayKept,
-  BitsStartKept,
-  EveryRunKeepsBits,
-  comes_to_keep,
-  HoldsBit,
-  IsTakenFor,
-}
+use Rattle.wait_model.specs.BitKeepers.{clears_bit, KeepsBit, AreKept, KeepsTold, BitsStayKept, BitsStartKept}
+use Rattle.wait_model.specs.BitKeepers.{EveryRunKeepsBits, comes_to_keep, HoldsBit, IsTakenFor}
 use Rattle.wait_model.proofs.Functions.{put_at, put_case}
 use Rattle.wait_model.proofs.StepLaws.KeptLaws.{step_keeps}
 use Rattle.wait_model.proofs.HistoryLaws.HoldLooks.{IsLookTold, told_next}

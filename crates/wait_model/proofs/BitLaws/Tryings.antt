@@ -1,22 +1,6 @@
 -- Whom the fold takes for trying a bit is who tries it plainly.
 use Rattle.std.proofs.Common.{refl, sym, ◌∙◌, ap, subst, arith, inl, inr}
-use Rattle.std.specs.Prelude.{
-  ℕ,
-  ◌≡◌,
-  ◌⊎◌,
-  Option,
-  Some,
-  None,
-  Bool,
-  true,
-  false,
-  cond,
-  not,
-  ◌&&◌,
-  ◌||◌,
-  ◌==◌,
-  List,
-}
+use Rattle.std.specs.Prelude.{ℕ, ◌≡◌, ◌⊎◌, Option, Some, None, Bool, true, false, cond, not, ◌&&◌, ◌||◌, ◌==◌, List}
 use Rattle.wait_model.specs.declared.watches.Watch.{Watch}
 use Rattle.wait_model.specs.declared.watches.Watch.TheVariants as watch
 use Rattle.wait_model.specs.declared.watches.Entry.{Entry}
@@ -30,18 +14,8 @@ use Rattle.wait_model.specs.Fold.{view_of, is_off}
 use Rattle.wait_model.specs.Laws.{TryingBy}
 use Rattle.wait_model.specs.Histories.{Lacks, Since}
 use Rattle.wait_model.specs.BitKeepers.{gets}
-use Rattle.wait_model.specs.Tryings.{
-  queues_for,
-  finds_off,
-  resettles,
-  HasQueuedForBit,
-  answers,
-  begins,
-  HasGot,
-  IsUnanswered,
-  IsUnseen,
-  IsTrying,
-}
+use Rattle.wait_model.specs.Tryings.{queues_for, finds_off, resettles, HasQueuedForBit, answers, begins, HasGot}
+use Rattle.wait_model.specs.Tryings.{IsUnanswered, IsUnseen, IsTrying}
 use Rattle.wait_model.specs.Told.{TryingTold}
 use Rattle.wait_model.proofs.BitLaws.BitKeepers.{keeps_told}
 use Rattle.wait_model.proofs.HistoryLaws.Stretches.{Seen, IsSetBy, seen_in, set_at, kept_so}

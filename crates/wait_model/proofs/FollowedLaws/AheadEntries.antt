@@ -1,23 +1,8 @@
 -- A walk that wakes whoever waits for a watch has each of them before it: behind its place no owner of an entry waits.
 -- This holds after each event of the walk's own, where the watch is set.
 use Rattle.std.proofs.Common.{refl, sym, ◌∙◌, ap, subst, arith, inl, inr}
-use Rattle.std.specs.Prelude.{
-  ℕ,
-  ◌≡◌,
-  ◌≢◌,
-  ◌+◌,
-  ◌<◌,
-  ◌≤◌,
-  ◌⊎◌,
-  ◌&&◌,
-  Bool,
-  true,
-  false,
-  if◌then◌else◌,
-  Option,
-  Some,
-  None,
-}
+use Rattle.std.specs.Prelude.{ℕ, ◌≡◌, ◌≢◌, ◌+◌, ◌<◌, ◌≤◌, ◌⊎◌, ◌&&◌, Bool, true, false, if◌then◌else◌, Option, Some}
+use Rattle.std.specs.Prelude.{None}
 use Rattle.wait_model.specs.declared.layout.TheConstants.{RUNNING, INTERRUPTIBLE, UNINTERRUPTIBLE, KILLABLE, NORMAL}
 use Rattle.wait_model.specs.declared.tasks.TaskRecord.{TaskRecord}
 use Rattle.wait_model.specs.declared.watches.Watch.{Watch}
@@ -45,53 +30,18 @@ use Rattle.wait_model.specs.declared.points.Progress.TheVariants as now
 use Rattle.wait_model.specs.declared.steps.Step.TheVariants as step
 use Rattle.wait_model.specs.Functions.{put}
 use Rattle.wait_model.specs.Tasks.{IsLawful, meets, woken}
-use Rattle.wait_model.specs.Watches.{
-  same,
-  is_done,
-  is_bit,
-  is_woken,
-  is_page,
-  counted,
-  misses,
-  number_of,
-  word_of,
-  bit_of,
-  mask_of,
-  owner,
-}
+use Rattle.wait_model.specs.Watches.{same, is_done, is_bit, is_woken, is_page, counted, misses, number_of, word_of}
+use Rattle.wait_model.specs.Watches.{bit_of, mask_of, owner}
 use Rattle.wait_model.specs.Words.{head_word, bit_at, flag, Suited}
 use Rattle.wait_model.specs.Tables.{Table, met, steps, value_of}
 use Rattle.wait_model.specs.Tables as tables
 use Rattle.wait_model.specs.Laws.{Waits, Unheard}
 use Rattle.wait_model.specs.Queues.{mark_place, Arrival}
 use Rattle.wait_model.specs.Points.{call_aim, call_watch, call_head, mode_of, called_task, given_at, walk_mask}
-use Rattle.wait_model.specs.Programs.{
-  go,
-  load,
-  call_fails,
-  past,
-  onward,
-  reached,
-  resumed,
-  wake_event,
-  wake_off_event,
-  tests,
-  tests_page,
-  hands_event,
-  call_entry,
-  call_next,
-}
-use Rattle.wait_model.specs.Runs.{
-  State,
-  own,
-  arrives_from,
-  mark_for,
-  called_by,
-  seen_by,
-  event_steps,
-  planned,
-  progress_at,
-}
+use Rattle.wait_model.specs.Programs.{go, load, call_fails, past, onward, reached, resumed, wake_event, wake_off_event}
+use Rattle.wait_model.specs.Programs.{tests, tests_page, hands_event, call_entry, call_next}
+use Rattle.wait_model.specs.Runs.{State, own, arrives_from, mark_for, called_by, seen_by, event_steps, planned}
+use Rattle.wait_model.specs.Runs.{progress_at}
 use Rattle.wait_model.specs.Reached.{IsFlagged, IsPlaced, IsCallSound, CountedAt, IsSound}
 use Rattle.wait_model.proofs.Functions.{put_at, put_same, both_left, both_right}
 use Rattle.wait_model.proofs.Sameness.{same_head, same_bit, same_trans, same_bit_is, same_done_is, failing_unmet}

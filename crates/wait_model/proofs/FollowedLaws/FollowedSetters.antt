@@ -30,24 +30,8 @@ use Rattle.wait_model.specs.Laws.{Waits, Unheard}
 use Rattle.wait_model.specs.Rows.{MayPublish, AllAllowed}
 use Rattle.wait_model.specs.Points.{call_aim, call_watch, given_at}
 use Rattle.wait_model.specs.Programs.{program_start}
-use Rattle.wait_model.specs.Runs.{
-  State,
-  given_by,
-  event_steps,
-  seen_by,
-  planned,
-  progress_at,
-  progress_after,
-  happens,
-  start_state,
-  state_after,
-  state_of,
-  IsItem,
-  Continues,
-  IsRunFrom,
-  IsRun,
-  made_in,
-}
+use Rattle.wait_model.specs.Runs.{State, given_by, event_steps, seen_by, planned, progress_at, progress_after, happens}
+use Rattle.wait_model.specs.Runs.{start_state, state_after, state_of, IsItem, Continues, IsRunFrom, IsRun, made_in}
 use Rattle.wait_model.specs.Reached.{held_at, IsPlaced, CountedBy, IsSoundCall, IsSound}
 use Rattle.wait_model.specs.Followed.{comes_to_end, Publishes, EndsWake, StaysMet, SettersLeaveNobody}
 use Rattle.wait_model.proofs.Functions.{put_at, put_same, put_other, bool_or}
@@ -59,34 +43,12 @@ use Rattle.wait_model.proofs.QueueLaws.OutsideWalks.{goes_away, program_away}
 use Rattle.wait_model.proofs.QueueLaws.OwnBookmarks.{marks_other}
 use Rattle.wait_model.proofs.QueueLaws.PlacesApart.{AreApart, event_apart}
 use Rattle.wait_model.proofs.RunLaws.EveryRun.{IsMade, made_of, opened_sound, made_sound, start_sound}
-use Rattle.wait_model.proofs.FollowedLaws.OldWaiters.{
-  FoundZero,
-  has_store,
-  Before,
-  AllMet,
-  event_met,
-  waits_all,
-  unheard_all,
-  zero_all,
-}
-use Rattle.wait_model.proofs.FollowedLaws.AheadEntries.{
-  walks_for,
-  IsAhead,
-  IsFlagAhead,
-  flag_first,
-  walks_none_done,
-  walk_both,
-}
-use Rattle.wait_model.proofs.FollowedLaws.WakePoints.{
-  is_at_home,
-  IsAtHome,
-  start_home,
-  is_of_walks,
-  walks_publish_not,
-  goes,
-  walk_step,
-  home_next,
-}
+use Rattle.wait_model.proofs.FollowedLaws.OldWaiters.{FoundZero, has_store, Before, AllMet, event_met, waits_all}
+use Rattle.wait_model.proofs.FollowedLaws.OldWaiters.{unheard_all, zero_all}
+use Rattle.wait_model.proofs.FollowedLaws.AheadEntries.{walks_for, IsAhead, IsFlagAhead, flag_first, walks_none_done}
+use Rattle.wait_model.proofs.FollowedLaws.AheadEntries.{walk_both}
+use Rattle.wait_model.proofs.FollowedLaws.WakePoints.{is_at_home, IsAtHome, start_home, is_of_walks, walks_publish_not}
+use Rattle.wait_model.proofs.FollowedLaws.WakePoints.{goes, walk_step, home_next}
 use Rattle.wait_model.proofs.FollowedLaws.WakeEnds.{Gone, ends_gone}
 
 -- what holds of every state of a run

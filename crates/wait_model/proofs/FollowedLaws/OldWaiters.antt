@@ -24,24 +24,12 @@ use Rattle.wait_model.proofs.Functions.{put_case, bool_or}
 use Rattle.wait_model.proofs.Sameness.{failing_unmet, tas_unmet}
 use Rattle.wait_model.proofs.StepLaws.KeptLaws.{step_keeps}
 use Rattle.wait_model.proofs.StepLaws.UntouchedParts.{back_view, at_view}
-use Rattle.wait_model.proofs.StepLaws.QuietSteps.{
-  back_waits,
-  slept_state,
-  signal_state,
-  accept_state,
-  unflag_checked,
-  consumed_checked,
-}
+use Rattle.wait_model.proofs.StepLaws.QuietSteps.{back_waits, slept_state, signal_state, accept_state, unflag_checked}
+use Rattle.wait_model.proofs.StepLaws.QuietSteps.{consumed_checked}
 use Rattle.wait_model.proofs.StepLaws.WakeSteps.{wake_state}
 use Rattle.wait_model.proofs.StepLaws.LoadSteps.{loaded_checked}
-use Rattle.wait_model.proofs.StepLaws.StoreSteps.{
-  stored_own,
-  stored_page,
-  stored_task,
-  queued_own,
-  queued_other,
-  flag_own,
-}
+use Rattle.wait_model.proofs.StepLaws.StoreSteps.{stored_own, stored_page, stored_task, queued_own, queued_other}
+use Rattle.wait_model.proofs.StepLaws.StoreSteps.{flag_own}
 use Rattle.wait_model.proofs.StepLaws.FlagSteps.{back_unheard, low_put, own_low}
 use Rattle.wait_model.proofs.StepLaws.UnlockSteps.{unlock_checks, unlock_checked, unlock_hold}
 

@@ -35,19 +35,8 @@ use Rattle.wait_model.specs.Tasks.{meets}
 use Rattle.wait_model.specs.Watches.{same, mask_of, owner}
 use Rattle.wait_model.specs.Queues.{rank, is_entry, entry_from, has_members, Arrival, IsIn}
 use Rattle.wait_model.specs.Points.{call_aim, call_watch, call_head, mode_of, called_task, given_at}
-use Rattle.wait_model.specs.Programs.{
-  go,
-  past,
-  reached,
-  hands_event,
-  call_entry,
-  call_next,
-  select_next,
-  select_ends,
-  is_enough,
-  active_event,
-  selected_answer,
-}
+use Rattle.wait_model.specs.Programs.{go, past, reached, hands_event, call_entry, call_next, select_next, select_ends}
+use Rattle.wait_model.specs.Programs.{is_enough, active_event, selected_answer}
 use Rattle.wait_model.specs.Runs.{State, called_as, called_of, called_by, seen_by, event_steps, planned}
 use Rattle.wait_model.specs.Followed.{is_wake, is_end, comes_to_end}
 use Rattle.wait_model.specs.Reached.{IsCallSound, IsMember, IsSound}

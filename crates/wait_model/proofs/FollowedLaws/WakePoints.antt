@@ -31,22 +31,8 @@ use Rattle.wait_model.specs.declared.points.Progress.TheVariants as now
 use Rattle.wait_model.specs.Tasks.{meets}
 use Rattle.wait_model.specs.Watches.{head_of, mask_of, misses}
 use Rattle.wait_model.specs.Points.{call_aim}
-use Rattle.wait_model.specs.Programs.{
-  go,
-  past,
-  reached,
-  walk_event,
-  hands_event,
-  call_entry,
-  call_next,
-  select_event,
-  select_next,
-  select_ends,
-  is_enough,
-  active_event,
-  program,
-  program_start,
-}
+use Rattle.wait_model.specs.Programs.{go, past, reached, walk_event, hands_event, call_entry, call_next, select_event}
+use Rattle.wait_model.specs.Programs.{select_next, select_ends, is_enough, active_event, program, program_start}
 use Rattle.wait_model.specs.Runs.{State, event_steps}
 
 -- the points of walks, of selections, and of calls that publish and then walk

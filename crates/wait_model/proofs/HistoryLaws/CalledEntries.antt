@@ -1,24 +1,7 @@
 -- Which entries a walk has called, by the fold and by the history.
 use Rattle.std.proofs.Common.{refl, sym, ◌∙◌, ap, subst, arith, inl, inr}
-use Rattle.std.specs.Prelude.{
-  ℕ,
-  ◌≡◌,
-  ◌⊎◌,
-  Option,
-  Some,
-  None,
-  Bool,
-  true,
-  false,
-  not,
-  ◌&&◌,
-  ◌||◌,
-  ◌==◌,
-  List,
-  ◌∷◌,
-  ◌++◌,
-  if◌then◌else◌,
-}
+use Rattle.std.specs.Prelude.{ℕ, ◌≡◌, ◌⊎◌, Option, Some, None, Bool, true, false, not, ◌&&◌, ◌||◌, ◌==◌, List, ◌∷◌}
+use Rattle.std.specs.Prelude.{◌++◌, if◌then◌else◌}
 use Rattle.wait_model.specs.declared.watches.Watch.{Watch}
 use Rattle.wait_model.specs.declared.watches.Watch.TheVariants as watch
 use Rattle.wait_model.specs.declared.watches.Entry.{Entry}
@@ -30,40 +13,13 @@ use Rattle.wait_model.specs.Watches.{same, head_of, is_bit, is_woken, mask_of, f
 use Rattle.wait_model.specs.Views.{View, Walk, Hold, blank, no_hold, concerns, gone, ahead, all_passed}
 use Rattle.wait_model.specs.Fold.{after, after_all, after_unlock, view_of, hits, finds_bit_set, paused, is_for_page}
 use Rattle.wait_model.specs.Histories.{Lacks, Since, turns_lock, is_publish}
-use Rattle.wait_model.specs.Walks.{
-  WalkHold,
-  calls_entry,
-  wakes_entry,
-  flags,
-  CalledBy,
-  CalledNow,
-  finds_off_head,
-  sees_set,
-}
+use Rattle.wait_model.specs.Walks.{WalkHold, calls_entry, wakes_entry, flags, CalledBy, CalledNow, finds_off_head}
+use Rattle.wait_model.specs.Walks.{sees_set}
 use Rattle.wait_model.specs.Walks.{looks_anew}
-use Rattle.wait_model.proofs.HistoryLaws.Stretches.{
-  after_append,
-  lacks_append,
-  lacks_left,
-  lacks_right,
-  lacks_more,
-  lacks_both,
-  Seen,
-  IsSetBy,
-  seen_in,
-  set_at,
-  kept_so,
-  append_split,
-}
-use Rattle.wait_model.proofs.HistoryLaws.HoldWalks.{
-  IsForWalk,
-  begun_for,
-  walks_for,
-  Locked,
-  HasWalk,
-  locked_for,
-  locked_front,
-}
+use Rattle.wait_model.proofs.HistoryLaws.Stretches.{after_append, lacks_append, lacks_left, lacks_right, lacks_more}
+use Rattle.wait_model.proofs.HistoryLaws.Stretches.{lacks_both, Seen, IsSetBy, seen_in, set_at, kept_so, append_split}
+use Rattle.wait_model.proofs.HistoryLaws.HoldWalks.{IsForWalk, begun_for, walks_for, Locked, HasWalk, locked_for}
+use Rattle.wait_model.proofs.HistoryLaws.HoldWalks.{locked_front}
 use Rattle.wait_model.proofs.StepLaws.UnlockSteps.{unlock_hold}
 use Rattle.wait_model.proofs.Sameness.{same_trans, same_bit, same_bit_failing}
 

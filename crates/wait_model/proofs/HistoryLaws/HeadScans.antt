@@ -1,32 +1,8 @@
 -- A look at all member words of a head that finds no bit ends what is owed there, and nothing else.
 use Rattle.std.proofs.Common.{refl, sym, ◌∙◌, ap, subst, arith, inl, inr}
 use Rattle.std.proofs.lemmas.List.{append_assoc}
-use Rattle.std.specs.Prelude.{
-  ℕ,
-  zero,
-  suc,
-  ◌≡◌,
-  ◌+◌,
-  ◌-◌,
-  ◌<◌,
-  ◌≤◌,
-  ◌⊎◌,
-  Option,
-  Some,
-  None,
-  Bool,
-  true,
-  false,
-  not,
-  ◌&&◌,
-  ◌||◌,
-  ◌==◌,
-  if◌then◌else◌,
-  List,
-  [],
-  ◌∷◌,
-  ◌++◌,
-}
+use Rattle.std.specs.Prelude.{ℕ, zero, suc, ◌≡◌, ◌+◌, ◌-◌, ◌<◌, ◌≤◌, ◌⊎◌, Option, Some, None, Bool, true, false, not}
+use Rattle.std.specs.Prelude.{◌&&◌, ◌||◌, ◌==◌, if◌then◌else◌, List, [], ◌∷◌, ◌++◌}
 use Rattle.wait_model.specs.declared.layout.TheConstants.{ENTRIES, MEMBER_WORDS}
 use Rattle.wait_model.specs.declared.watches.Watch.{Watch}
 use Rattle.wait_model.specs.declared.steps.Step.{Step}
@@ -38,13 +14,7 @@ use Rattle.wait_model.specs.Told.{ends_wake}
 use Rattle.wait_model.specs.Histories.{Lacks, Since, publishes}
 use Rattle.wait_model.specs.Walks.{finds_off_head, looks_anew}
 use Rattle.wait_model.specs.Owed.{Owes}
-use Rattle.wait_model.specs.Scans.{
-  empty_scans,
-  empty_look,
-  EmptyLooksEnd,
-  FoundBitsEndNothing,
-  WorkedScans,
-}
+use Rattle.wait_model.specs.Scans.{empty_scans, empty_look, EmptyLooksEnd, FoundBitsEndNothing, WorkedScans}
 use Rattle.wait_model.proofs.HistoryLaws.PlainReadings.{owes_after}
 use Rattle.wait_model.proofs.HistoryLaws.CalledEntries.{off_seen}
 use Rattle.wait_model.proofs.HistoryLaws.HoldBooks.{all_cleared_of}

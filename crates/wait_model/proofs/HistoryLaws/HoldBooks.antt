@@ -6,21 +6,8 @@ use Rattle.wait_model.specs.declared.watches.Watch.{Watch}
 use Rattle.wait_model.specs.declared.steps.Step.{Step}
 use Rattle.wait_model.specs.declared.steps.Step.TheVariants as step
 use Rattle.wait_model.specs.Words.{entry_of}
-use Rattle.wait_model.specs.Views.{
-  View,
-  Walk,
-  Hold,
-  blank,
-  Look,
-  unseen,
-  off,
-  shown,
-  passed,
-  all_below,
-  all_passed,
-  all_cleared,
-  look_at,
-}
+use Rattle.wait_model.specs.Views.{View, Walk, Hold, blank, Look, unseen, off, shown, passed, all_below, all_passed}
+use Rattle.wait_model.specs.Views.{all_cleared, look_at}
 use Rattle.wait_model.specs.Fold.{after, after_all, view_of}
 use Rattle.wait_model.specs.Histories.{Lacks, Since, takes_any_lock, turns_lock}
 use Rattle.wait_model.specs.Walks.{WalkHold, tells}

@@ -11,34 +11,14 @@ use Rattle.wait_model.specs.declared.steps.Step.TheVariants as step
 use Rattle.wait_model.specs.Tasks.{meets}
 use Rattle.wait_model.specs.Watches.{same, head_of, is_woken, is_simple, is_page, mask_of}
 use Rattle.wait_model.specs.Words.{entry_of}
-use Rattle.wait_model.specs.Views.{
-  View,
-  Walk,
-  Look,
-  unseen,
-  elsewhere,
-  shown,
-  blank,
-  no_hold,
-  concerns,
-  gone,
-  passed,
-  all_passed,
-  look_at,
-}
+use Rattle.wait_model.specs.Views.{View, Walk, Look, unseen, elsewhere, shown, blank, no_hold, concerns, gone, passed}
+use Rattle.wait_model.specs.Views.{all_passed, look_at}
 use Rattle.wait_model.specs.Fold.{after, after_all, after_unlock, begun, begun_anew, paused, view_of}
 use Rattle.wait_model.specs.Histories.{Lacks, Since, UnlocksHeld, is_mark, marks}
 use Rattle.wait_model.specs.Walks.{WalkHold, tells, entry_of_head, shown_by, IsPast, CalledNow, HasPassed, leaves, GoneIn, GoneBy}
 use Rattle.wait_model.proofs.HistoryLaws.Stretches.{lacks_append, lacks_left, append_split}
-use Rattle.wait_model.proofs.HistoryLaws.HoldWalks.{
-  IsForWalk,
-  Locked,
-  HasWalk,
-  locked_of,
-  locked_for,
-  locked_held,
-  mark_kept,
-}
+use Rattle.wait_model.proofs.HistoryLaws.HoldWalks.{IsForWalk, Locked, HasWalk, locked_of, locked_for, locked_held}
+use Rattle.wait_model.proofs.HistoryLaws.HoldWalks.{mark_kept}
 use Rattle.wait_model.proofs.HistoryLaws.HoldLooks.{after_snoc}
 use Rattle.wait_model.proofs.Sameness.{same_trans}
 use Rattle.wait_model.proofs.HistoryLaws.CalledEntries.{both, same_sym, hold_walk, aims, hold_for, called_now}

@@ -1,26 +1,7 @@
 -- No wakeup is lost, in the words of histories.
 use Rattle.std.proofs.Common.{refl, sym, ◌∙◌, ap, subst, arith, inl, inr}
-use Rattle.std.specs.Prelude.{
-  ℕ,
-  ◌≡◌,
-  ◌<◌,
-  ◌⊎◌,
-  ◌-◌,
-  ◌^◌,
-  Some,
-  None,
-  Bool,
-  true,
-  false,
-  cond,
-  ◌==◌,
-  List,
-  [],
-  ◌∷◌,
-  ◌||◌,
-  ◌&&◌,
-  not,
-}
+use Rattle.std.specs.Prelude.{ℕ, ◌≡◌, ◌<◌, ◌⊎◌, ◌-◌, ◌^◌, Some, None, Bool, true, false, cond, ◌==◌, List, [], ◌∷◌}
+use Rattle.std.specs.Prelude.{◌||◌, ◌&&◌, not}
 use Rattle.wait_model.specs.declared.watches.Watch.{Watch}
 use Rattle.wait_model.specs.declared.watches.Watch.TheVariants as watch
 use Rattle.wait_model.specs.declared.watches.Entry.{Entry}
@@ -33,17 +14,8 @@ use Rattle.wait_model.specs.Views.{View, Checks, blank, checked, covers}
 use Rattle.wait_model.specs.Fold.{after, after_all, view_of}
 use Rattle.wait_model.specs.Tables.{Table, met}
 use Rattle.wait_model.specs.Laws.{Waits, Covered, Spent, TryingBy, Trying, Tried, NoLostWake}
-use Rattle.wait_model.specs.Readings.{
-  fails,
-  clears_flag,
-  reads_no,
-  outdates,
-  UnheardLoad,
-  ZeroLoad,
-  FailedBy,
-  finds_set,
-  queues,
-}
+use Rattle.wait_model.specs.Readings.{fails, clears_flag, reads_no, outdates, UnheardLoad, ZeroLoad, FailedBy}
+use Rattle.wait_model.specs.Readings.{finds_set, queues}
 use Rattle.wait_model.specs.Readings.{before_load}
 use Rattle.wait_model.specs.Histories.{Lacks, Since, takes_lock, spent_found, LockFound, LastFound}
 use Rattle.wait_model.specs.Wakes.{Sleeps, IsCovered, UsedUp, IsTried, NoWakeIsLost, NoRunLosesWake}

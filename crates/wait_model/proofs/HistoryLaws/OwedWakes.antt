@@ -18,15 +18,8 @@ use Rattle.wait_model.proofs.HistoryLaws.HoldLooks.{after_snoc}
 use Rattle.wait_model.proofs.HistoryLaws.PlainReadings.{owing_told}
 use Rattle.wait_model.proofs.HistoryLaws.CalledEntries.{both, hold_walk, seen_off, off_seen, aims, hold_for}
 use Rattle.wait_model.proofs.HistoryLaws.HoldBooks.{all_cleared_of, passed_at, cleared_at}
-use Rattle.wait_model.proofs.HistoryLaws.LeftWalks.{
-  WalksLocked,
-  GoesOn,
-  walks_locked,
-  locked_left,
-  has_passed,
-  gone_before,
-  goes_on,
-}
+use Rattle.wait_model.proofs.HistoryLaws.LeftWalks.{WalksLocked, GoesOn, walks_locked, locked_left, has_passed}
+use Rattle.wait_model.proofs.HistoryLaws.LeftWalks.{gone_before, goes_on}
 use Rattle.wait_model.proofs.HistoryLaws.PassedPlaces.{concerned, all_past, IsBehind, gone_by}
 
 -- a wake that has ended by the history has ended by the view

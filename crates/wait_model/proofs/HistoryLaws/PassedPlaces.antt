@@ -1,30 +1,7 @@
 -- The places that a walk has gone by, by the fold and by the history.
 use Rattle.std.proofs.Common.{refl, sym, ◌∙◌, ap, subst, arith, inl, inr}
-use Rattle.std.specs.Prelude.{
-  ℕ,
-  zero,
-  suc,
-  ◌≡◌,
-  ◌<◌,
-  ◌≤◌,
-  ◌⊎◌,
-  Option,
-  Some,
-  None,
-  Bool,
-  true,
-  false,
-  not,
-  ◌&&◌,
-  ◌||◌,
-  ◌==◌,
-  List,
-  [],
-  ◌∷◌,
-  nat_le,
-  nat_lt,
-  if◌then◌else◌,
-}
+use Rattle.std.specs.Prelude.{ℕ, zero, suc, ◌≡◌, ◌<◌, ◌≤◌, ◌⊎◌, Option, Some, None, Bool, true, false, not, ◌&&◌, ◌||◌}
+use Rattle.std.specs.Prelude.{◌==◌, List, [], ◌∷◌, nat_le, nat_lt, if◌then◌else◌}
 use Rattle.wait_model.specs.declared.layout.TheConstants.{ENTRIES}
 use Rattle.wait_model.specs.declared.watches.Watch.{Watch}
 use Rattle.wait_model.specs.declared.watches.Entry.{Entry}
@@ -34,20 +11,8 @@ use Rattle.wait_model.specs.declared.steps.Step.TheVariants as step
 use Rattle.wait_model.specs.Tasks.{meets}
 use Rattle.wait_model.specs.Watches.{same, head_of, is_simple, mask_of}
 use Rattle.wait_model.specs.Words.{entry_of}
-use Rattle.wait_model.specs.Views.{
-  View,
-  Walk,
-  Look,
-  elsewhere,
-  shown,
-  no_hold,
-  concerns,
-  gone,
-  ahead,
-  passed,
-  all_passed,
-  look_at,
-}
+use Rattle.wait_model.specs.Views.{View, Walk, Look, elsewhere, shown, no_hold, concerns, gone, ahead, passed}
+use Rattle.wait_model.specs.Views.{all_passed, look_at}
 use Rattle.wait_model.specs.Fold.{after, after_all, after_unlock, view_of, paused, begun}
 use Rattle.wait_model.specs.Histories.{Lacks, Since, publishes, is_mark, marks}
 use Rattle.wait_model.specs.Walks.{WalkHold, tells, entry_of_head, shown_by, IsPast, HasPassed, leaves, GoneIn, GoneBy}

@@ -1,29 +1,8 @@
 -- What locks, loads and stores of a count leave of a hold's debt.
 use Rattle.std.proofs.Common.{refl, sym, ◌∙◌, ap, subst, arith, inl, inr}
 use Rattle.std.proofs.lemmas.Bool.Decides.{eqb_tells, nat_tests}
-use Rattle.std.specs.Prelude.{
-  ℕ,
-  zero,
-  suc,
-  ◌≡◌,
-  ◌≢◌,
-  ◌+◌,
-  ◌-◌,
-  ◌≤◌,
-  ◌⊎◌,
-  Bool,
-  true,
-  false,
-  not,
-  ◌&&◌,
-  ◌||◌,
-  ◌==◌,
-  nat_le,
-  if◌then◌else◌,
-  Option,
-  Some,
-  ◌∷◌,
-}
+use Rattle.std.specs.Prelude.{ℕ, zero, suc, ◌≡◌, ◌≢◌, ◌+◌, ◌-◌, ◌≤◌, ◌⊎◌, Bool, true, false, not, ◌&&◌, ◌||◌, ◌==◌}
+use Rattle.std.specs.Prelude.{nat_le, if◌then◌else◌, Option, Some, ◌∷◌}
 use Rattle.wait_model.specs.declared.layout.TheConstants.{ALL_DONE, ENTRIES}
 use Rattle.wait_model.specs.declared.steps.Step.TheVariants as step
 use Rattle.wait_model.specs.declared.watches.Aim.{Aim}
@@ -33,17 +12,8 @@ use Rattle.wait_model.specs.declared.watches.Watch.TheVariants as watch
 use Rattle.wait_model.specs.Counts.{raised_done, taken_done}
 use Rattle.wait_model.specs.Fold.{after}
 use Rattle.wait_model.specs.Functions.{put}
-use Rattle.wait_model.specs.Permits.{
-  Dealt,
-  after_read,
-  after_store,
-  deals,
-  deals_all,
-  done_head,
-  finds_handed,
-  is_in,
-  is_seen,
-}
+use Rattle.wait_model.specs.Permits.{Dealt, after_read, after_store, deals, deals_all, done_head, finds_handed, is_in}
+use Rattle.wait_model.specs.Permits.{is_seen}
 use Rattle.wait_model.specs.PermitPlaces.{AllHandOn}
 use Rattle.wait_model.specs.Programs.{done_in, is_at_end}
 use Rattle.wait_model.specs.Runs.{is_publishing, looks, looks_below, all_peeks, peeks_below, set_step}

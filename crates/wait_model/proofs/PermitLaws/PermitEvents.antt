@@ -1,29 +1,8 @@
 -- Each event of a call about a completion meets the conditions on permits, and leads to the next place.
 use Rattle.std.proofs.Common.{refl, sym, ◌∙◌, ap, subst, arith, inl, inr}
 use Rattle.std.proofs.lemmas.Bool.Decides.{eqb_tells}
-use Rattle.std.specs.Prelude.{
-  ℕ,
-  ◌≡◌,
-  ◌≢◌,
-  ◌+◌,
-  ◌<◌,
-  ◌≤◌,
-  ◌⊎◌,
-  Bool,
-  true,
-  false,
-  not,
-  ◌&&◌,
-  ◌==◌,
-  if◌then◌else◌,
-  is_some,
-  Option,
-  Some,
-  None,
-  List,
-  [],
-  ◌∷◌,
-}
+use Rattle.std.specs.Prelude.{ℕ, ◌≡◌, ◌≢◌, ◌+◌, ◌<◌, ◌≤◌, ◌⊎◌, Bool, true, false, not, ◌&&◌, ◌==◌, if◌then◌else◌}
+use Rattle.std.specs.Prelude.{is_some, Option, Some, None, List, [], ◌∷◌}
 use Rattle.wait_model.specs.declared.layout.TheConstants.{TASKS, ENTRIES, ALL_DONE}
 use Rattle.wait_model.specs.declared.calls.Call.{Call}
 use Rattle.wait_model.specs.declared.calls.Call.TheVariants as calls
@@ -45,60 +24,18 @@ use Rattle.wait_model.specs.declared.watches.Entry.{Entry}
 use Rattle.wait_model.specs.declared.watches.Watch.TheVariants as watch
 use Rattle.wait_model.specs.Counts.{taken_done}
 use Rattle.wait_model.specs.Facts.{Agrees}
-use Rattle.wait_model.specs.Permits.{
-  Dealt,
-  HandsOnOf,
-  after_read,
-  after_store,
-  deals,
-  deals_all,
-  done_head,
-  is_in,
-  shows_at,
-  ShowsNobody,
-}
+use Rattle.wait_model.specs.Permits.{Dealt, HandsOnOf, after_read, after_store, deals, deals_all, done_head, is_in}
+use Rattle.wait_model.specs.Permits.{shows_at, ShowsNobody}
 use Rattle.wait_model.specs.PermitFacts.{IsAccounted, dealt_in}
 use Rattle.wait_model.specs.PermitPlaces.{AllHandOn, DealtAt, IsDealt, Selects, Settles, is_about}
-use Rattle.wait_model.specs.Points.{
-  call_head,
-  call_number,
-  call_watch,
-  count_of,
-  form_of,
-  given_at,
-  head_at,
-  is_await,
-  is_bit_wait,
-  state_in,
-}
-use Rattle.wait_model.specs.Programs.{
-  await_after,
-  completed,
-  count_from,
-  done_in,
-  ends_with,
-  go,
-  is_at_end,
-  prepared_at,
-  select_from,
-  signalled,
-  signalled_at,
-  slept_at,
-  zero_answer,
-}
+use Rattle.wait_model.specs.Points.{call_head, call_number, call_watch, count_of, form_of, given_at, head_at, is_await}
+use Rattle.wait_model.specs.Points.{is_bit_wait, state_in}
+use Rattle.wait_model.specs.Programs.{await_after, completed, count_from, done_in, ends_with, go, is_at_end}
+use Rattle.wait_model.specs.Programs.{prepared_at, select_from, signalled, signalled_at, slept_at, zero_answer}
 use Rattle.wait_model.specs.Queues.{place_for}
 use Rattle.wait_model.specs.Reached.{IsHome, IsPlaced, IsSound, absent, holds}
-use Rattle.wait_model.specs.Runs.{
-  State,
-  entry_for,
-  event_steps,
-  is_publishing,
-  looks,
-  own,
-  planned,
-  progress_at,
-  set_step,
-}
+use Rattle.wait_model.specs.Runs.{State, entry_for, event_steps, is_publishing, looks, own, planned, progress_at}
+use Rattle.wait_model.specs.Runs.{set_step}
 use Rattle.wait_model.specs.Tables.{next, steps, value_of}
 use Rattle.wait_model.specs.Tasks.{looks_in, pending, state_mask}
 use Rattle.wait_model.specs.Views.{Look, View, off, elsewhere, shown, unseen}
@@ -109,19 +46,8 @@ use Rattle.wait_model.specs.Words.{flag, head_word}
 use Rattle.wait_model.proofs.HistoryLaws.HoldLooks.{looks_same}
 use Rattle.wait_model.proofs.RunLaws.FineEvents.{none_there}
 use Rattle.wait_model.proofs.WordLaws.CondWords.{set_rest}
-use Rattle.wait_model.proofs.PermitLaws.CountDebts.{
-  IsLocked,
-  at_end_large,
-  load_about,
-  locked,
-  looks_hand,
-  raised_most,
-  read_debt,
-  read_end,
-  set_about,
-  stored_debt,
-  taken_one,
-}
+use Rattle.wait_model.proofs.PermitLaws.CountDebts.{IsLocked, at_end_large, load_about, locked, looks_hand, raised_most}
+use Rattle.wait_model.proofs.PermitLaws.CountDebts.{read_debt, read_end, set_about, stored_debt, taken_one}
 use Rattle.wait_model.proofs.PermitLaws.OwnTurns.{clash, flag_small, held_is}
 
 -- a book that shows an entry at the head tells that it stands there

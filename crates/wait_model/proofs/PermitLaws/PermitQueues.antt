@@ -18,18 +18,8 @@ use Rattle.wait_model.specs.Views.{View, Look, off, shown}
 use Rattle.wait_model.specs.Watches.{owner, head_of, stands_at}
 use Rattle.wait_model.specs.Words.{flag}
 use Rattle.wait_model.proofs.Functions.{put_at, put_same, put_other}
-use Rattle.wait_model.proofs.PermitLaws.OwnTurns.{
-  flag_small,
-  held_is,
-  clash,
-  turn_exact,
-  at_own,
-  at_other,
-  out,
-  own_worth,
-  other_worth,
-  other_dealt,
-}
+use Rattle.wait_model.proofs.PermitLaws.OwnTurns.{flag_small, held_is, clash, turn_exact, at_own, at_other, out}
+use Rattle.wait_model.proofs.PermitLaws.OwnTurns.{own_worth, other_worth, other_dealt}
 use Rattle.wait_model.proofs.PermitLaws.PermitTurns.{due, due_settled, due_standing, same_turn, no_debt, unsettled}
 use Rattle.wait_model.proofs.PermitLaws.Sums.{sum_shift}
 use Rattle.wait_model.proofs.HistoryLaws.StepTotals.{sum_same}

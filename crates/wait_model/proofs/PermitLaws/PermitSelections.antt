@@ -1,25 +1,8 @@
 -- Each event of a selection at a completion's head, and of a look at its count, hands permits on.
 use Rattle.std.proofs.Common.{refl, sym, ◌∙◌, ap, subst, arith, inl, inr}
 use Rattle.std.proofs.lemmas.Bool.Decides.{eqb_tells, nat_tests}
-use Rattle.std.specs.Prelude.{
-  ℕ,
-  ◌≡◌,
-  ◌+◌,
-  ◌-◌,
-  ◌<◌,
-  ◌≤◌,
-  Bool,
-  true,
-  false,
-  not,
-  ◌&&◌,
-  ◌==◌,
-  if◌then◌else◌,
-  nat_lt,
-  Option,
-  Some,
-  None,
-}
+use Rattle.std.specs.Prelude.{ℕ, ◌≡◌, ◌+◌, ◌-◌, ◌<◌, ◌≤◌, Bool, true, false, not, ◌&&◌, ◌==◌, if◌then◌else◌, nat_lt}
+use Rattle.std.specs.Prelude.{Option, Some, None}
 use Rattle.wait_model.specs.declared.layout.TheConstants.{TASKS, ENTRIES}
 use Rattle.wait_model.specs.declared.calls.Call.{Call}
 use Rattle.wait_model.specs.declared.calls.Event.TheVariants as event
@@ -43,21 +26,8 @@ use Rattle.wait_model.specs.Permits.{Dealt, after_read, deals, done_head, is_in,
 use Rattle.wait_model.specs.PermitFacts.{IsAccounted, dealt_in}
 use Rattle.wait_model.specs.PermitPlaces.{DealtAt, IsDealt, Selected, Selects, is_about}
 use Rattle.wait_model.specs.Points.{call_head, called_task, call_number, call_watch, count_of, head_at, is_await}
-use Rattle.wait_model.specs.Programs.{
-  completed,
-  count_from,
-  done_in,
-  ends_with,
-  go,
-  is_at_end,
-  is_enough,
-  select_ends,
-  select_from,
-  select_next,
-  selected_answer,
-  takes,
-  zero_answer,
-}
+use Rattle.wait_model.specs.Programs.{completed, count_from, done_in, ends_with, go, is_at_end, is_enough, select_ends}
+use Rattle.wait_model.specs.Programs.{select_from, select_next, selected_answer, takes, zero_answer}
 use Rattle.wait_model.specs.Queues.{IsIn, entry_from, is_entry}
 use Rattle.wait_model.specs.Reached.{IsCallSound, IsPlaced, IsSound, holds}
 use Rattle.wait_model.specs.Runs.{State, called_as, called_by, own, planned, progress_at}
@@ -75,31 +45,10 @@ use Rattle.wait_model.proofs.QueueLaws.MemberStands.{member_is}
 use Rattle.wait_model.proofs.QueueLaws.PlacesApart.{entry_inside}
 use Rattle.wait_model.proofs.QueueLaws.QueueOrder.{IsFirstFrom, first_is}
 use Rattle.wait_model.proofs.PermitLaws.OwnTurns.{clash, known_is}
-use Rattle.wait_model.proofs.PermitLaws.PermitEvents.{
-  Leaves,
-  agrees,
-  at_place,
-  await_leaves,
-  bare,
-  completes,
-  count_begins,
-  count_cases,
-  ends,
-  flipped,
-  head_is,
-  held,
-  loads,
-  locks,
-  out_debt,
-  prepare_leaves,
-  select_begins,
-  shows_none,
-  sleep_leaves,
-  still,
-  stores,
-  to,
-  unlock_ends,
-}
+use Rattle.wait_model.proofs.PermitLaws.PermitEvents.{Leaves, agrees, at_place, await_leaves, bare, completes}
+use Rattle.wait_model.proofs.PermitLaws.PermitEvents.{count_begins, count_cases, ends, flipped, head_is, held, loads}
+use Rattle.wait_model.proofs.PermitLaws.PermitEvents.{locks, out_debt, prepare_leaves, select_begins, shows_none}
+use Rattle.wait_model.proofs.PermitLaws.PermitEvents.{sleep_leaves, still, stores, to, unlock_ends}
 
 module _ (s : State) (n me : ℕ) (call : Call) (d : ℕ) (sound : IsSound s n) (mine : me < TASKS)
     (acc : IsAccounted s.table) (is : call_watch call ≡ watch.Done d) (about : is_about d call ≡ true) where

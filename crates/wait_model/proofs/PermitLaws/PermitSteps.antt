@@ -8,16 +8,8 @@ use Rattle.wait_model.specs.declared.steps.Step.TheVariants as step
 use Rattle.wait_model.specs.declared.watches.Watch.TheVariants as watch
 use Rattle.wait_model.specs.Facts.{Kept}
 use Rattle.wait_model.specs.Permits.{done_head, is_in, is_handed, is_seen, HandsOnOf, MayGiveBack}
-use Rattle.wait_model.specs.PermitFacts.{
-  AccountedAreHanded,
-  AreViewsTold,
-  IsExact,
-  PermitsStartAccounted,
-  PermitsStayAccounted,
-  dealt_in,
-  is_settled,
-  worth,
-}
+use Rattle.wait_model.specs.PermitFacts.{AccountedAreHanded, AreViewsTold, IsExact, PermitsStartAccounted}
+use Rattle.wait_model.specs.PermitFacts.{PermitsStayAccounted, dealt_in, is_settled, worth}
 use Rattle.wait_model.specs.Rows.{Allowed}
 use Rattle.wait_model.specs.Runs.{own}
 use Rattle.wait_model.specs.Tables.{Table, next}
@@ -27,16 +19,8 @@ use Rattle.wait_model.proofs.HistoryLaws.HoldLooks.{told_next}
 use Rattle.wait_model.proofs.HistoryLaws.StepTotals.{sum_same}
 use Rattle.wait_model.proofs.PermitLaws.OwnTurns.{Turn, clash, in_is, nothing_known, turn_exact}
 use Rattle.wait_model.proofs.PermitLaws.PermitQueues.{queue_exact, unqueue_exact}
-use Rattle.wait_model.proofs.PermitLaws.PermitTurns.{
-  due,
-  quiet,
-  lock_turn,
-  other_unlock,
-  own_unlock,
-  saw_turn,
-  load_turn,
-  store_turn,
-}
+use Rattle.wait_model.proofs.PermitLaws.PermitTurns.{due, quiet, lock_turn, other_unlock, own_unlock, saw_turn}
+use Rattle.wait_model.proofs.PermitLaws.PermitTurns.{load_turn, store_turn}
 
 module _ (s : Table) (a : ℕ) (d : ℕ) (told : AreViewsTold s) (lt : a < TASKS) (k : Kept s) (x : IsExact s d) where
   turns : (e : Step) → Turn s a e d told → IsExact (next s a e) d

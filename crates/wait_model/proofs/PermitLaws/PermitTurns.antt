@@ -1,28 +1,8 @@
 -- Each step that takes nobody off at a completion's head and queues nobody there, as a turn.
 use Rattle.std.proofs.Common.{refl, sym, ◌∙◌, ap, subst, arith, inl, inr}
 use Rattle.std.proofs.lemmas.Bool.Decides.{eqb_tells, nat_tests}
-use Rattle.std.specs.Prelude.{
-  ℕ,
-  ◌≡◌,
-  ◌≢◌,
-  ◌+◌,
-  ◌-◌,
-  ◌<◌,
-  ◌≤◌,
-  ◌⊎◌,
-  Bool,
-  true,
-  false,
-  not,
-  ◌&&◌,
-  ◌||◌,
-  nat_le,
-  ◌==◌,
-  if◌then◌else◌,
-  Option,
-  Some,
-  None,
-}
+use Rattle.std.specs.Prelude.{ℕ, ◌≡◌, ◌≢◌, ◌+◌, ◌-◌, ◌<◌, ◌≤◌, ◌⊎◌, Bool, true, false, not, ◌&&◌, ◌||◌, nat_le, ◌==◌}
+use Rattle.std.specs.Prelude.{if◌then◌else◌, Option, Some, None}
 use Rattle.wait_model.specs.declared.layout.TheConstants.{TASKS, ENTRIES, ALL_DONE}
 use Rattle.wait_model.specs.declared.steps.Step.{Step}
 use Rattle.wait_model.specs.declared.steps.Step.TheVariants as step
@@ -32,19 +12,8 @@ use Rattle.wait_model.specs.declared.watches.Watch.TheVariants as watch
 use Rattle.wait_model.specs.Facts.{Kept, Agrees}
 use Rattle.wait_model.specs.Fold.{after, holding, after_unlock}
 use Rattle.wait_model.specs.Functions.{put}
-use Rattle.wait_model.specs.Permits.{
-  Dealt,
-  done_head,
-  shows_at,
-  is_in,
-  is_seen,
-  after_read,
-  after_store,
-  deals,
-  finds_handed,
-  MayGiveBack,
-  ShowsNobody,
-}
+use Rattle.wait_model.specs.Permits.{Dealt, done_head, shows_at, is_in, is_seen, after_read, after_store, deals}
+use Rattle.wait_model.specs.Permits.{finds_handed, MayGiveBack, ShowsNobody}
 use Rattle.wait_model.specs.PermitFacts.{is_settled, dealt_in, IsExact, AreViewsTold}
 use Rattle.wait_model.specs.Rows.{Allowed}
 use Rattle.wait_model.specs.Runs.{own}
@@ -53,15 +22,7 @@ use Rattle.wait_model.specs.Views.{View, Hold, Look, no_hold, unseen, off, elsew
 use Rattle.wait_model.specs.Watches.{head_of, stands_at}
 use Rattle.wait_model.specs.Words.{flag, entry_of}
 use Rattle.wait_model.proofs.Functions.{put_same, put_other}
-use Rattle.wait_model.proofs.PermitLaws.OwnTurns.{
-  Turn,
-  flag_small,
-  held_is,
-  in_is,
-  clash,
-  nothing_known,
-  known_is,
-}
+use Rattle.wait_model.proofs.PermitLaws.OwnTurns.{Turn, flag_small, held_is, in_is, clash, nothing_known, known_is}
 use Rattle.wait_model.proofs.StepLaws.UnlockSteps.{unlock_hold}
 
 -- one permit of a task that was handed it and whose hold has not seen it

@@ -1,27 +1,8 @@
 -- Entries, bookmarks and queues keep agreeing after each event that changes them.
 use Rattle.std.proofs.lemmas.Bool.Decides.{nat_tests}
 use Rattle.std.proofs.Common.{refl, sym, ◌∙◌, ap, subst, arith}
-use Rattle.std.specs.Prelude.{
-  ℕ,
-  ◌≡◌,
-  ◌≢◌,
-  ◌+◌,
-  ◌-◌,
-  ◌*◌,
-  ◌<◌,
-  ◌≤◌,
-  nat_lt,
-  ◌&&◌,
-  not,
-  if◌then◌else◌,
-  Option,
-  Some,
-  None,
-  Bool,
-  true,
-  false,
-  List,
-}
+use Rattle.std.specs.Prelude.{ℕ, ◌≡◌, ◌≢◌, ◌+◌, ◌-◌, ◌*◌, ◌<◌, ◌≤◌, nat_lt, ◌&&◌, not, if◌then◌else◌, Option, Some}
+use Rattle.std.specs.Prelude.{None, Bool, true, false, List}
 use Rattle.wait_model.specs.declared.layout.TheConstants.{TASKS, ENTRIES, HEADS, PLACES, INDEXES, EVENTS}
 use Rattle.wait_model.specs.declared.watches.Entry.{Entry}
 use Rattle.wait_model.specs.declared.queues.Member.{Member}
@@ -34,34 +15,14 @@ use Rattle.wait_model.specs.Watches.{head_of, bare, is_var, is_for, is_simple}
 use Rattle.wait_model.specs.Words.{entry_word, Suited, entry_of}
 use Rattle.wait_model.specs.declared.queues.Form.{Form}
 use Rattle.wait_model.specs.declared.points.Given.{Given}
-use Rattle.wait_model.specs.Queues.{
-  stand_by,
-  stand_of,
-  rank,
-  rank_at,
-  members_from,
-  mark_place,
-  mark_add,
-  place_for,
-  add_to,
-  is_exclusive,
-  is_priority,
-  is_entry,
-  without,
-  IsIn,
-}
+use Rattle.wait_model.specs.Queues.{stand_by, stand_of, rank, rank_at, members_from, mark_place, mark_add, place_for}
+use Rattle.wait_model.specs.Queues.{add_to, is_exclusive, is_priority, is_entry, without, IsIn}
 use Rattle.wait_model.specs.Functions.{put}
 use Rattle.wait_model.proofs.QueueLaws.Arrivals.{from_in, arrives_in}
 use Rattle.wait_model.proofs.QueueLaws.QueueMarks.{marked_in, mark_in, unmarked_in, order_marked}
 use Rattle.wait_model.proofs.QueueLaws.QueuePlaces.{Adds, IsPlaceOfForm, form_adds}
-use Rattle.wait_model.proofs.QueueLaws.MemberStands.{
-  ordered_later,
-  ordered_added,
-  ordered_removed,
-  entry_stands,
-  mark_stands,
-  some_stands,
-}
+use Rattle.wait_model.proofs.QueueLaws.MemberStands.{ordered_later, ordered_added, ordered_removed, entry_stands}
+use Rattle.wait_model.proofs.QueueLaws.MemberStands.{mark_stands, some_stands}
 use Rattle.wait_model.proofs.WordLaws.DecodedWords.{entry_read, none_read}
 use Rattle.wait_model.proofs.Functions.{put_at, put_same, put_other}
 

@@ -1,24 +1,8 @@
 -- What stands at a head and its queue keep agreeing where a member is put in and where one is taken out.
 use Rattle.std.proofs.lemmas.Bool.Decides.{nat_tests}
 use Rattle.std.proofs.Common.{refl, sym, ◌∙◌, ap, subst, arith, inl, inr}
-use Rattle.std.specs.Prelude.{
-  ℕ,
-  ◌≡◌,
-  ◌≢◌,
-  ◌+◌,
-  ◌-◌,
-  ◌<◌,
-  ◌⊎◌,
-  Bool,
-  true,
-  false,
-  nat_lt,
-  if◌then◌else◌,
-  Option,
-  Some,
-  None,
-  List,
-}
+use Rattle.std.specs.Prelude.{ℕ, ◌≡◌, ◌≢◌, ◌+◌, ◌-◌, ◌<◌, ◌⊎◌, Bool, true, false, nat_lt, if◌then◌else◌, Option, Some}
+use Rattle.std.specs.Prelude.{None, List}
 use Rattle.wait_model.specs.declared.layout.TheConstants.{ENTRIES, INDEXES}
 use Rattle.wait_model.specs.declared.watches.Entry.{Entry}
 use Rattle.wait_model.specs.declared.queues.Member.{Member}

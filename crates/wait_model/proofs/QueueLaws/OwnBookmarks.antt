@@ -30,20 +30,8 @@ use Rattle.wait_model.specs.Words.{head_word}
 use Rattle.wait_model.specs.Tasks.{meets}
 use Rattle.wait_model.specs.Watches.{mask_of}
 use Rattle.wait_model.specs.Points.{call_aim, call_head, mode_of, given_at}
-use Rattle.wait_model.specs.Programs.{
-  program_start,
-  go,
-  load,
-  call_fails,
-  past,
-  onward,
-  wake_off_event,
-  tests,
-  call_entry,
-  call_next,
-  reached,
-  hands_event,
-}
+use Rattle.wait_model.specs.Programs.{program_start, go, load, call_fails, past, onward, wake_off_event, tests}
+use Rattle.wait_model.specs.Programs.{call_entry, call_next, reached, hands_event}
 use Rattle.wait_model.proofs.HistoryLaws.HoldLooks.{looks_same}
 use Rattle.wait_model.proofs.HistoryLaws.UnlockedLooks.{peeks_same}
 use Rattle.wait_model.proofs.WordLaws.CondWords.{set_rest}

@@ -2,16 +2,8 @@
 use Rattle.std.proofs.lemmas.Bool.Decides.{nat_tests}
 use Rattle.std.proofs.Common.{refl, sym, ◌∙◌, ap, subst, arith, inl, inr}
 use Rattle.std.specs.Prelude.{ℕ, ◌≡◌, ◌≢◌, ◌<◌, ◌≤◌, Option, Some, None, true, List, nat_lt}
-use Rattle.wait_model.specs.declared.layout.TheConstants.{
-  TASKS,
-  ENTRIES,
-  PLACES,
-  MIDDLE,
-  FIRST_PRIORITY,
-  FIRST_PLACE,
-  INDEXES,
-  EVENTS,
-}
+use Rattle.wait_model.specs.declared.layout.TheConstants.{TASKS, ENTRIES, PLACES, MIDDLE, FIRST_PRIORITY, FIRST_PLACE}
+use Rattle.wait_model.specs.declared.layout.TheConstants.{INDEXES, EVENTS}
 use Rattle.wait_model.specs.declared.calls.Event.{Event}
 use Rattle.wait_model.specs.declared.calls.Event.TheVariants as event
 use Rattle.wait_model.specs.declared.points.Given.{Given}
@@ -25,19 +17,8 @@ use Rattle.wait_model.specs.Functions.{put}
 use Rattle.wait_model.specs.Watches.{head_of}
 use Rattle.wait_model.specs.Words.{head_word}
 use Rattle.wait_model.specs.Tables.{next, value_of}
-use Rattle.wait_model.specs.Queues.{
-  place_before,
-  place_behind,
-  place_for,
-  rank,
-  rank_at,
-  member_from,
-  last_within,
-  is_entry,
-  entries_of,
-  IsIn,
-  IsInOrder,
-}
+use Rattle.wait_model.specs.Queues.{place_before, place_behind, place_for, rank, rank_at, member_from, last_within}
+use Rattle.wait_model.specs.Queues.{is_entry, entries_of, IsIn, IsInOrder}
 use Rattle.wait_model.specs.Reached.{IsWithinAdds, IsLinked, Joins}
 use Rattle.wait_model.specs.Runs.{State, own, entry_for, after_event}
 use Rattle.wait_model.proofs.Functions.{put_case, put_at}

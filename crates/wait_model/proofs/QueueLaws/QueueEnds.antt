@@ -1,27 +1,8 @@
 -- The last member within places, and an add at the tail.
 use Rattle.std.proofs.lemmas.Bool.Decides.{nat_tests}
 use Rattle.std.proofs.Common.{refl, sym, ◌∙◌, ap, arith, inl, inr}
-use Rattle.std.specs.Prelude.{
-  ℕ,
-  ◌≡◌,
-  ◌<◌,
-  ◌≤◌,
-  ◌⊎◌,
-  Option,
-  Some,
-  None,
-  Bool,
-  true,
-  false,
-  ◌&&◌,
-  nat_le,
-  nat_lt,
-  if◌then◌else◌,
-  List,
-  [],
-  ◌∷◌,
-  ◌++◌,
-}
+use Rattle.std.specs.Prelude.{ℕ, ◌≡◌, ◌<◌, ◌≤◌, ◌⊎◌, Option, Some, None, Bool, true, false, ◌&&◌, nat_le, nat_lt}
+use Rattle.std.specs.Prelude.{if◌then◌else◌, List, [], ◌∷◌, ◌++◌}
 use Rattle.wait_model.specs.declared.queues.Member.{Member}
 use Rattle.wait_model.specs.Queues.{rank, is_entry, entries_of, or_here, last_within, IsIn, IsRisingFrom, IsInOrder}
 use Rattle.wait_model.proofs.QueueLaws.QueueOrder.{before_in, before_all, one_rank}

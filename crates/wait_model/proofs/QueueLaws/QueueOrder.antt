@@ -1,30 +1,8 @@
 -- Queues in order: the first member from a rank on, an add at the front, and a removal.
 use Rattle.std.proofs.lemmas.Bool.Decides.{nat_tests}
 use Rattle.std.proofs.Common.{refl, sym, ◌∙◌, ap, subst, arith, inl, inr}
-use Rattle.std.specs.Prelude.{
-  ℕ,
-  ◌≡◌,
-  ◌≢◌,
-  ◌<◌,
-  ◌≤◌,
-  ◌⊎◌,
-  ◌&&◌,
-  Option,
-  Some,
-  None,
-  Bool,
-  true,
-  false,
-  cond,
-  not,
-  ◌==◌,
-  nat_le,
-  nat_lt,
-  if◌then◌else◌,
-  List,
-  [],
-  ◌∷◌,
-}
+use Rattle.std.specs.Prelude.{ℕ, ◌≡◌, ◌≢◌, ◌<◌, ◌≤◌, ◌⊎◌, ◌&&◌, Option, Some, None, Bool, true, false, cond, not, ◌==◌}
+use Rattle.std.specs.Prelude.{nat_le, nat_lt, if◌then◌else◌, List, [], ◌∷◌}
 use Rattle.wait_model.specs.declared.layout.TheConstants.{MIDDLE, INDEXES}
 use Rattle.wait_model.specs.declared.queues.Member.{Member}
 use Rattle.wait_model.specs.Queues.{rank, first_from, front_add, without, IsIn, IsRisingFrom, IsInOrder}

@@ -6,42 +6,13 @@ use Rattle.wait_model.specs.declared.layout.TheConstants.{PLACES, MIDDLE, FIRST_
 use Rattle.wait_model.specs.declared.queues.Member.{Member}
 use Rattle.wait_model.specs.declared.queues.Form.{Form}
 use Rattle.wait_model.specs.declared.queues.Form.TheVariants as forms
-use Rattle.wait_model.specs.Queues.{
-  place_before,
-  place_behind,
-  place_for,
-  add_to,
-  is_priority,
-  rank,
-  rank_at,
-  member_from,
-  last_within,
-  front_add,
-  mark_add,
-  entries_of,
-  IsIn,
-  IsInOrder,
-}
+use Rattle.wait_model.specs.Queues.{place_before, place_behind, place_for, add_to, is_priority, rank, rank_at}
+use Rattle.wait_model.specs.Queues.{member_from, last_within, front_add, mark_add, entries_of, IsIn, IsInOrder}
 use Rattle.wait_model.specs.Reached.{first_of, IsWithinAdds}
-use Rattle.wait_model.proofs.QueueLaws.QueueOrder.{
-  IsFirstFrom,
-  first_is,
-  added_in,
-  new_in,
-  old_in,
-  GoesBetween,
-  order_added,
-}
-use Rattle.wait_model.proofs.QueueLaws.QueueEnds.{
-  IsLastWithin,
-  last_of,
-  tail_added,
-  tail_new,
-  tail_old,
-  order_tail,
-  entry_in,
-  order_entries,
-}
+use Rattle.wait_model.proofs.QueueLaws.QueueOrder.{IsFirstFrom, first_is, added_in, new_in, old_in, GoesBetween}
+use Rattle.wait_model.proofs.QueueLaws.QueueOrder.{order_added}
+use Rattle.wait_model.proofs.QueueLaws.QueueEnds.{IsLastWithin, last_of, tail_added, tail_new, tail_old, order_tail}
+use Rattle.wait_model.proofs.QueueLaws.QueueEnds.{entry_in, order_entries}
 use Rattle.wait_model.proofs.QueueLaws.QueueMarks.{marked_in, mark_in, unmarked_in, order_marked}
 
 pub near_low : (n p : ℕ) → n < EVENTS → IsWithinAdds n p → p < MIDDLE → (FIRST_PRIORITY ≤ p + 2 * n)

@@ -10,16 +10,8 @@ use Rattle.wait_model.specs.declared.points.Next.{Next}
 use Rattle.wait_model.specs.declared.points.Planned.{Planned}
 use Rattle.wait_model.specs.declared.points.Point.{Point}
 use Rattle.wait_model.specs.declared.watches.Watch.{Watch}
-use Rattle.wait_model.specs.Points.{
-  call_watch,
-  is_await,
-  is_bit_wait,
-  is_lock,
-  call_number,
-  call_head,
-  state_in,
-  given_at,
-}
+use Rattle.wait_model.specs.Points.{call_watch, is_await, is_bit_wait, is_lock, call_number, call_head, state_in}
+use Rattle.wait_model.specs.Points.{given_at}
 use Rattle.wait_model.specs.Programs.{go, ends_with, zero_answer, sleep_event, active_event, no_walk}
 use Rattle.wait_model.specs.Reached.{IsPlaced, IsSoundCall, IsCallSound, IsSound, KeepsCleared}
 use Rattle.wait_model.specs.Runs.{State, own, seen_by, planned, progress_at}

@@ -1,38 +1,10 @@
 -- The facts and the laws hold in every state that a run reaches.
 use Rattle.std.proofs.lemmas.Bool.Decides.{nat_tests, eqb_tells}
 use Rattle.std.proofs.Common.{refl, sym, ◌∙◌, ap, subst, arith, inl, inr}
-use Rattle.std.specs.Prelude.{
-  ℕ,
-  ◌≡◌,
-  ◌≢◌,
-  ◌+◌,
-  ◌<◌,
-  ◌≤◌,
-  Option,
-  Some,
-  None,
-  Bool,
-  true,
-  false,
-  not,
-  ◌&&◌,
-  nat_lt,
-  if◌then◌else◌,
-  List,
-  [],
-  ◌∷◌,
-  ◌++◌,
-}
-use Rattle.wait_model.specs.declared.layout.TheConstants.{
-  TASKS,
-  ENTRIES,
-  PLAIN_CONDITIONS,
-  FIRST_SIMPLE,
-  BIT_WORDS,
-  WORD_BITS,
-  HEADS,
-  EVENTS,
-}
+use Rattle.std.specs.Prelude.{ℕ, ◌≡◌, ◌≢◌, ◌+◌, ◌<◌, ◌≤◌, Option, Some, None, Bool, true, false, not, ◌&&◌, nat_lt}
+use Rattle.std.specs.Prelude.{if◌then◌else◌, List, [], ◌∷◌, ◌++◌}
+use Rattle.wait_model.specs.declared.layout.TheConstants.{TASKS, ENTRIES, PLAIN_CONDITIONS, FIRST_SIMPLE, BIT_WORDS}
+use Rattle.wait_model.specs.declared.layout.TheConstants.{WORD_BITS, HEADS, EVENTS}
 use Rattle.wait_model.specs.declared.calls.Call.{Call}
 use Rattle.wait_model.specs.declared.calls.Event.{Event}
 use Rattle.wait_model.specs.declared.calls.Ran.{Ran}
@@ -40,61 +12,15 @@ use Rattle.wait_model.specs.declared.points.Point.{Point}
 use Rattle.wait_model.specs.declared.points.Progress.{Progress}
 use Rattle.wait_model.specs.declared.watches.Entry.{Entry}
 use Rattle.wait_model.specs.declared.steps.Step.{Step}
-use Rattle.wait_model.specs.Runs.{
-  State,
-  given_by,
-  own,
-  event_steps,
-  planned,
-  progress_after,
-  happens,
-  start_state,
-  state_after,
-  state_of,
-  is_open,
-  after_event,
-  busy_head,
-  Continues,
-  IsItem,
-  IsRunFrom,
-  IsRun,
-  made_in,
-}
-use Rattle.wait_model.specs.Admission.{
-  is_in_range,
-  lacks_bit,
-  is_queued_twice,
-  lacks_entry,
-  is_listed,
-  IsListed,
-  admits,
-}
-use Rattle.wait_model.specs.Reached.{
-  Rests,
-  HasLookedAtAll,
-  OwnStored,
-  KeepsCleared,
-  CountedAt,
-  CountedBy,
-  IsCallSound,
-  free,
-  IsHome,
-  HomeAt,
-  taken_off,
-  flagged,
-  held_at,
-  is_preparing,
-  IsPlaced,
-  IsWalkSound,
-  IsFitted,
-  IsSoundCall,
-  mark_head,
-  marked_at,
-  IsSound,
-  Allows,
-  Joins,
-  HandsAt,
-}
+use Rattle.wait_model.specs.Runs.{State, given_by, own, event_steps, planned, progress_after, happens, start_state}
+use Rattle.wait_model.specs.Runs.{state_after, state_of, is_open, after_event, busy_head, Continues, IsItem, IsRunFrom}
+use Rattle.wait_model.specs.Runs.{IsRun, made_in}
+use Rattle.wait_model.specs.Admission.{is_in_range, lacks_bit, is_queued_twice, lacks_entry, is_listed, IsListed}
+use Rattle.wait_model.specs.Admission.{admits}
+use Rattle.wait_model.specs.Reached.{Rests, HasLookedAtAll, OwnStored, KeepsCleared, CountedAt, CountedBy, IsCallSound}
+use Rattle.wait_model.specs.Reached.{free, IsHome, HomeAt, taken_off, flagged, held_at, is_preparing, IsPlaced}
+use Rattle.wait_model.specs.Reached.{IsWalkSound, IsFitted, IsSoundCall, mark_head, marked_at, IsSound, Allows, Joins}
+use Rattle.wait_model.specs.Reached.{HandsAt}
 use Rattle.wait_model.specs.Views.{View}
 use Rattle.wait_model.specs.Fold.{after_all}
 use Rattle.wait_model.specs.Tables.{Table, steps}

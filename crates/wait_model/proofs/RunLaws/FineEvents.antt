@@ -15,37 +15,10 @@ use Rattle.wait_model.specs.declared.points.Given.{Given}
 use Rattle.wait_model.specs.declared.watches.Entry.{Entry}
 use Rattle.wait_model.specs.declared.queues.Mark.{Mark}
 use Rattle.wait_model.specs.declared.steps.Step.{Step}
-use Rattle.wait_model.specs.Runs.{
-  State,
-  own,
-  entry_for,
-  looks,
-  set_step,
-  event_steps,
-  progress_at,
-  busy_head,
-}
-use Rattle.wait_model.specs.Reached.{
-  is_amid_function,
-  stands_between,
-  flagged_by,
-  holds,
-  held_at,
-  HomeAt,
-  is_preparing,
-  taken_by,
-  IsTaken,
-  IsFlagged,
-  aimed_by,
-  IsPlaced,
-  IsSoundCall,
-  IsCallSound,
-  IsWalkSound,
-  IsFitted,
-  IsSound,
-  Allows,
-  Joins,
-}
+use Rattle.wait_model.specs.Runs.{State, own, entry_for, looks, set_step, event_steps, progress_at, busy_head}
+use Rattle.wait_model.specs.Reached.{is_amid_function, stands_between, flagged_by, holds, held_at, HomeAt, is_preparing}
+use Rattle.wait_model.specs.Reached.{taken_by, IsTaken, IsFlagged, aimed_by, IsPlaced, IsSoundCall, IsCallSound}
+use Rattle.wait_model.specs.Reached.{IsWalkSound, IsFitted, IsSound, Allows, Joins}
 use Rattle.wait_model.specs.Views.{Hold, View, Look, look_at}
 use Rattle.wait_model.specs.Fold.{after_unlock, after, after_all}
 use Rattle.wait_model.specs.declared.watches.Watch.{Watch}
@@ -54,32 +27,14 @@ use Rattle.wait_model.specs.Watches.{bare, is_bit, IsThere, is_page}
 use Rattle.wait_model.specs.Locations.{word_in, cond_at}
 use Rattle.wait_model.specs.Tables.{next, steps, value_of}
 use Rattle.wait_model.specs.Words.{entry_word, entry_of, head_word, Suited}
-use Rattle.wait_model.specs.Points.{
-  call_watch,
-  call_number,
-  call_head,
-  form_of,
-  head_at,
-  aim_at,
-  kind_at,
-  given_at,
-}
+use Rattle.wait_model.specs.Points.{call_watch, call_number, call_head, form_of, head_at, aim_at, kind_at, given_at}
 use Rattle.wait_model.specs.Programs.{go}
 use Rattle.wait_model.specs.Queues.{place_for}
 use Rattle.wait_model.specs.Functions.{put}
 use Rattle.wait_model.specs.Rows.{AimsAt, MaySpend, Allowed, AllAllowed}
 use Rattle.wait_model.proofs.WordLaws.DecodedWords.{spent_read, owner_own}
-use Rattle.wait_model.proofs.WordLaws.CondWords.{
-  head_of_bare,
-  head_below,
-  number_below,
-  suits_of,
-  var_shared,
-  set_rest,
-  set_head,
-  tas_step,
-  clear_step,
-}
+use Rattle.wait_model.proofs.WordLaws.CondWords.{head_of_bare, head_below, number_below, suits_of, var_shared, set_rest}
+use Rattle.wait_model.proofs.WordLaws.CondWords.{set_head, tas_step, clear_step}
 use Rattle.wait_model.proofs.HistoryLaws.UnlockedLooks.{peeks_same, peeks_allowed, peeks_hold}
 use Rattle.wait_model.proofs.RunLaws.OthersEvents.{placed_same, IsGone, Changes}
 use Rattle.wait_model.proofs.HistoryLaws.HoldLooks.{looks_same, looks_allowed, looks_head, looks_book}

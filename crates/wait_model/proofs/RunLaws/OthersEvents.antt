@@ -12,25 +12,8 @@ use Rattle.wait_model.specs.declared.watches.Watch.{Watch}
 use Rattle.wait_model.specs.declared.watches.Kind.{Kind}
 use Rattle.wait_model.specs.Runs.{State, own, entry_for, after_event}
 use Rattle.wait_model.specs.Admission.{IsStandingKind, IsGoing}
-use Rattle.wait_model.specs.Reached.{
-  Zone,
-  absent,
-  waits,
-  free,
-  stands,
-  parts,
-  IsHome,
-  HomeAt,
-  held_at,
-  is_preparing,
-  IsTaken,
-  IsFlagged,
-  aimed_by,
-  IsPlaced,
-  seated,
-  zone,
-  pages,
-}
+use Rattle.wait_model.specs.Reached.{Zone, absent, waits, free, stands, parts, IsHome, HomeAt, held_at, is_preparing}
+use Rattle.wait_model.specs.Reached.{IsTaken, IsFlagged, aimed_by, IsPlaced, seated, zone, pages}
 use Rattle.wait_model.specs.Facts.{Facts}
 use Rattle.wait_model.specs.Views.{View}
 use Rattle.wait_model.specs.Watches.{head_of, is_page}

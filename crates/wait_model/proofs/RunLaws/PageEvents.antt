@@ -17,33 +17,11 @@ use Rattle.wait_model.specs.Tasks.{pending, state_mask, looks_in}
 use Rattle.wait_model.specs.Watches.{IsThere, bare, is_bit, page, word_of, bit_of, misses, head_of}
 use Rattle.wait_model.specs.Words.{Suited, done_word}
 use Rattle.wait_model.proofs.RunLaws.BitEvents.{take_fine, taking}
-use Rattle.wait_model.proofs.RunLaws.FineEvents.{
-  Fine,
-  inside,
-  outside,
-  still_fine,
-  lock_fine,
-  unlock_fine,
-  queue_fine,
-  unqueue_fine,
-  none_there,
-  one_there,
-  read,
-  unflag_fine,
-}
+use Rattle.wait_model.proofs.RunLaws.FineEvents.{Fine, inside, outside, still_fine, lock_fine, unlock_fine, queue_fine}
+use Rattle.wait_model.proofs.RunLaws.FineEvents.{unqueue_fine, none_there, one_there, read, unflag_fine}
 use Rattle.wait_model.proofs.RunLaws.OthersEvents.{IsGone}
-use Rattle.wait_model.proofs.RunLaws.WaitEvents.{
-  own_read,
-  no_spend,
-  to,
-  head_small,
-  state_fine,
-  mask_state,
-  gone_home,
-  off_free,
-  none_absent,
-  is_off,
-}
+use Rattle.wait_model.proofs.RunLaws.WaitEvents.{own_read, no_spend, to, head_small, state_fine, mask_state, gone_home}
+use Rattle.wait_model.proofs.RunLaws.WaitEvents.{off_free, none_absent, is_off}
 use Rattle.wait_model.proofs.WordLaws.CondWords.{head_of_bare}
 use Rattle.wait_model.proofs.WordLaws.DecodedWords.{owner_own, done_read_back}
 use Rattle.wait_model.specs.declared.calls.Event.TheVariants as event

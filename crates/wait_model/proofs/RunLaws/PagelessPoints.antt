@@ -38,44 +38,12 @@ use Rattle.wait_model.specs.declared.watches.Mode.TheVariants as mode
 use Rattle.wait_model.specs.Tasks.{meets, pending, state_mask}
 use Rattle.wait_model.specs.Watches.{mask_of}
 use Rattle.wait_model.specs.Points.{is_lock, state_in, call_aim, mode_of}
-use Rattle.wait_model.specs.Programs.{
-  worn_next,
-  program,
-  go,
-  call_fails,
-  load,
-  exchange,
-  ask,
-  publishing_event,
-  signalled_at,
-  prepared_at,
-  slept_at,
-  finished,
-  acted,
-  prepare_event,
-  leave_event,
-  finish_event,
-  bit_event,
-  active_event,
-  add_event,
-  remove_event,
-  woken_event,
-  is_at_end,
-  is_enough,
-  select_next,
-  select_event,
-  await_ends,
-  await_after,
-  await_event,
-  count_event,
-  call_entry,
-  call_next,
-  walk_event,
-  onward,
-  past,
-  wake_off_event,
-  reached,
-}
+use Rattle.wait_model.specs.Programs.{worn_next, program, go, call_fails, load, exchange, ask, publishing_event}
+use Rattle.wait_model.specs.Programs.{signalled_at, prepared_at, slept_at, finished, acted, prepare_event, leave_event}
+use Rattle.wait_model.specs.Programs.{finish_event, bit_event, active_event, add_event, remove_event, woken_event}
+use Rattle.wait_model.specs.Programs.{is_at_end, is_enough, select_next, select_event, await_ends, await_after}
+use Rattle.wait_model.specs.Programs.{await_event, count_event, call_entry, call_next, walk_event, onward, past}
+use Rattle.wait_model.specs.Programs.{wake_off_event, reached}
 use Rattle.wait_model.specs.declared.points.PagePoint.TheVariants as paging
 use Rattle.wait_model.specs.declared.queues.Walking.{Walking}
 use Rattle.wait_model.specs.declared.watches.Kind.{Kind}

@@ -1,23 +1,7 @@
 -- While the entry of a task for whom a page was taken is queued, a walk is about to take it off.
 use Rattle.std.proofs.Common.{refl, sym, ◌∙◌, ap, subst, inl, inr}
-use Rattle.std.specs.Prelude.{
-  ℕ,
-  ◌≡◌,
-  ◌≢◌,
-  Option,
-  Some,
-  None,
-  Bool,
-  true,
-  false,
-  ◌⊎◌,
-  if◌then◌else◌,
-  nat_lt,
-  is_some,
-  cond,
-  not,
-  ◌+◌,
-}
+use Rattle.std.specs.Prelude.{ℕ, ◌≡◌, ◌≢◌, Option, Some, None, Bool, true, false, ◌⊎◌, if◌then◌else◌, nat_lt, is_some}
+use Rattle.std.specs.Prelude.{cond, not, ◌+◌}
 use Rattle.wait_model.specs.declared.calls.Call.{Call}
 use Rattle.wait_model.specs.declared.calls.Event.{Event}
 use Rattle.wait_model.specs.declared.calls.Ran.TheVariants as ran
@@ -26,45 +10,12 @@ use Rattle.wait_model.specs.declared.points.Progress.{Progress}
 use Rattle.wait_model.specs.declared.points.Progress.TheVariants as now
 use Rattle.wait_model.specs.declared.watches.Entry.{Entry}
 use Rattle.wait_model.specs.Facts.{Facts}
-use Rattle.wait_model.specs.Programs.{
-  program_start,
-  page_event,
-  page_finish_event,
-  page_queue,
-  page_last,
-  go,
-  ends_with,
-  zero_answer,
-  exchange,
-  call_fails,
-  past,
-}
-use Rattle.wait_model.specs.Reached.{
-  ArePagesHanded,
-  HandsAt,
-  handed_by,
-  IsPlaced,
-  IsSoundCall,
-  IsHome,
-  absent,
-  IsFitted,
-  CountedBy,
-}
-use Rattle.wait_model.specs.Runs.{
-  State,
-  own,
-  is_open,
-  happens,
-  Continues,
-  event_steps,
-  is_publishing,
-  entry_for,
-  progress_at,
-  given_by,
-  progress_after,
-  planned,
-  seen_by,
-}
+use Rattle.wait_model.specs.Programs.{program_start, page_event, page_finish_event, page_queue, page_last, go}
+use Rattle.wait_model.specs.Programs.{ends_with, zero_answer, exchange, call_fails, past}
+use Rattle.wait_model.specs.Reached.{ArePagesHanded, HandsAt, handed_by, IsPlaced, IsSoundCall, IsHome, absent}
+use Rattle.wait_model.specs.Reached.{IsFitted, CountedBy}
+use Rattle.wait_model.specs.Runs.{State, own, is_open, happens, Continues, event_steps, is_publishing, entry_for}
+use Rattle.wait_model.specs.Runs.{progress_at, given_by, progress_after, planned, seen_by}
 use Rattle.wait_model.proofs.Functions.{put_at, put_case, put_same}
 use Rattle.wait_model.specs.declared.layout.TheConstants.{FIRST_SIMPLE}
 use Rattle.wait_model.specs.declared.queues.Form.{Form}

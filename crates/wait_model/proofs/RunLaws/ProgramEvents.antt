@@ -19,21 +19,8 @@ use Rattle.wait_model.proofs.RunLaws.BitEvents.{bit_fine, publish_fine, members_
 use Rattle.wait_model.proofs.WordLaws.CondWords.{plain_store, take_store}
 use Rattle.wait_model.proofs.WordLaws.DecodedWords.{task_read}
 use Rattle.wait_model.proofs.RunLaws.FineEvents.{Fine, outside, still_fine, store_fine}
-use Rattle.wait_model.proofs.RunLaws.WaitEvents.{
-  own_read,
-  to,
-  loads,
-  load_small,
-  first_fine,
-  prepare_fine,
-  test_fine,
-  sleep_fine,
-  leave_fine,
-  finish_fine,
-  add_fine,
-  remove_fine,
-  woken_fine,
-}
+use Rattle.wait_model.proofs.RunLaws.WaitEvents.{own_read, to, loads, load_small, first_fine, prepare_fine, test_fine}
+use Rattle.wait_model.proofs.RunLaws.WaitEvents.{sleep_fine, leave_fine, finish_fine, add_fine, remove_fine, woken_fine}
 use Rattle.wait_model.specs.declared.points.Next.TheVariants as next
 use Rattle.wait_model.specs.declared.points.Point.TheVariants as at
 use Rattle.wait_model.specs.declared.points.Progress.TheVariants as now

@@ -1,21 +1,7 @@
 -- What each event of a program does to the state of its task, and that no event leads to a publish.
 use Rattle.std.proofs.Common.{refl, sym, ◌∙◌, inl, inr}
-use Rattle.std.specs.Prelude.{
-  ℕ,
-  ◌≡◌,
-  ◌⊎◌,
-  Bool,
-  true,
-  false,
-  not,
-  ◌&&◌,
-  if◌then◌else◌,
-  is_some,
-  Option,
-  Some,
-  None,
-  ◌==◌,
-}
+use Rattle.std.specs.Prelude.{ℕ, ◌≡◌, ◌⊎◌, Bool, true, false, not, ◌&&◌, if◌then◌else◌, is_some, Option, Some, None}
+use Rattle.std.specs.Prelude.{◌==◌}
 use Rattle.wait_model.specs.declared.queues.CalledEntry.{CalledEntry}
 use Rattle.wait_model.specs.declared.queues.Walking.{Walking}
 use Rattle.wait_model.specs.declared.watches.Kind.{Kind}
@@ -40,45 +26,12 @@ use Rattle.wait_model.specs.Reached.{stirs, IsFitted}
 use Rattle.wait_model.specs.Tasks.{meets, pending, state_mask, looks_in}
 use Rattle.wait_model.specs.Watches.{mask_of}
 use Rattle.wait_model.specs.Points.{call_aim, call_head, is_bit_wait, is_lock, state_in, mode_of}
-use Rattle.wait_model.specs.Programs.{
-  worn_next,
-  program,
-  go,
-  call_fails,
-  load,
-  signalled_at,
-  prepared_at,
-  slept_at,
-  prepare_event,
-  leave_event,
-  finished,
-  finish_event,
-  exchange,
-  ask,
-  bit_event,
-  publishing_event,
-  active_event,
-  past,
-  onward,
-  reached,
-  call_entry,
-  call_next,
-  walk_event,
-  is_at_end,
-  is_enough,
-  select_next,
-  select_event,
-  await_ends,
-  await_after,
-  await_event,
-  count_event,
-  add_event,
-  remove_event,
-  woken_event,
-  page_event,
-  page_finish_event,
-  hands_event,
-}
+use Rattle.wait_model.specs.Programs.{worn_next, program, go, call_fails, load, signalled_at, prepared_at, slept_at}
+use Rattle.wait_model.specs.Programs.{prepare_event, leave_event, finished, finish_event, exchange, ask, bit_event}
+use Rattle.wait_model.specs.Programs.{publishing_event, active_event, past, onward, reached, call_entry, call_next}
+use Rattle.wait_model.specs.Programs.{walk_event, is_at_end, is_enough, select_next, select_event, await_ends}
+use Rattle.wait_model.specs.Programs.{await_after, await_event, count_event, add_event, remove_event, woken_event}
+use Rattle.wait_model.specs.Programs.{page_event, page_finish_event, hands_event}
 use Rattle.wait_model.specs.declared.calls.Call.TheVariants as calls
 use Rattle.wait_model.specs.declared.calls.Event.TheVariants as event
 use Rattle.wait_model.specs.declared.points.Point.TheVariants as at

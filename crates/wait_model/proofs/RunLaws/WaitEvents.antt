@@ -1,30 +1,10 @@
 -- Each event of a wait, and of a call on an entry that stands, is fine.
-use Rattle.wait_model.specs.declared.layout.TheConstants.{
-  TASKS,
-  PLAIN_CONDITIONS,
-  FIRST_SIMPLE,
-  CONDITIONS,
-  FIRST_PLAIN_HEAD,
-  HEADS,
-}
+use Rattle.wait_model.specs.declared.layout.TheConstants.{TASKS, PLAIN_CONDITIONS, FIRST_SIMPLE, CONDITIONS}
+use Rattle.wait_model.specs.declared.layout.TheConstants.{FIRST_PLAIN_HEAD, HEADS}
 use Rattle.wait_model.specs.Reached.{is_amid_function}
 use Rattle.std.proofs.Common.{refl, sym, ◌∙◌, ap, subst, arith, inl, inr}
-use Rattle.std.specs.Prelude.{
-  ℕ,
-  ◌≡◌,
-  ◌<◌,
-  ◌+◌,
-  Option,
-  Some,
-  None,
-  Bool,
-  true,
-  false,
-  not,
-  ◌&&◌,
-  if◌then◌else◌,
-  is_some,
-}
+use Rattle.std.specs.Prelude.{ℕ, ◌≡◌, ◌<◌, ◌+◌, Option, Some, None, Bool, true, false, not, ◌&&◌, if◌then◌else◌}
+use Rattle.std.specs.Prelude.{is_some}
 use Rattle.wait_model.specs.declared.calls.Call.{Call}
 use Rattle.wait_model.specs.declared.points.Point.{Point}
 use Rattle.wait_model.specs.declared.points.PreparePoint.{PreparePoint}
@@ -42,84 +22,25 @@ use Rattle.wait_model.specs.declared.watches.Entry.{Entry}
 use Rattle.wait_model.specs.declared.tasks.SleepState.{SleepState}
 use Rattle.wait_model.specs.Runs.{State, own, planned, progress_at}
 use Rattle.wait_model.specs.Admission.{is_standing, IsStandingKind}
-use Rattle.wait_model.specs.Reached.{
-  Zone,
-  absent,
-  waits,
-  free,
-  stands,
-  parts,
-  IsHome,
-  HomeAt,
-  holds,
-  zone,
-  held_at,
-  stands_between,
-  IsPlaced,
-  IsSoundCall,
-  IsCallSound,
-  IsWalkSound,
-  IsFitted,
-  is_preparing,
-  IsSound,
-}
+use Rattle.wait_model.specs.Reached.{Zone, absent, waits, free, stands, parts, IsHome, HomeAt, holds, zone, held_at}
+use Rattle.wait_model.specs.Reached.{stands_between, IsPlaced, IsSoundCall, IsCallSound, IsWalkSound, IsFitted}
+use Rattle.wait_model.specs.Reached.{is_preparing, IsSound}
 use Rattle.wait_model.specs.Tasks.{IsState, pending, state_mask, looks_in, task_word, task_of}
 use Rattle.wait_model.specs.Words.{Suited}
 use Rattle.wait_model.specs.Watches.{head_of, IsThere, misses, counted, is_page}
-use Rattle.wait_model.specs.Points.{
-  call_watch,
-  call_number,
-  is_bit_wait,
-  is_lock,
-  call_head,
-  state_in,
-  form_of,
-  head_at,
-  given_at,
-}
-use Rattle.wait_model.specs.Programs.{
-  go,
-  ends_with,
-  zero_answer,
-  signalled,
-  interrupted,
-  finished,
-  look_event,
-  signalled_at,
-  prepared_at,
-  slept_at,
-  plain_cond,
-  cond_in,
-}
+use Rattle.wait_model.specs.Points.{call_watch, call_number, is_bit_wait, is_lock, call_head, state_in, form_of}
+use Rattle.wait_model.specs.Points.{head_at, given_at}
+use Rattle.wait_model.specs.Programs.{go, ends_with, zero_answer, signalled, interrupted, finished, look_event}
+use Rattle.wait_model.specs.Programs.{signalled_at, prepared_at, slept_at, plain_cond, cond_in}
 use Rattle.wait_model.specs.Rows.{MaySpend, Reads}
 use Rattle.wait_model.specs.Tables.{value_of}
 use Rattle.wait_model.specs.Functions.{put}
 use Rattle.wait_model.proofs.WordLaws.DecodedWords.{task_read, head_plain, done_read_back, owner_own}
-use Rattle.wait_model.proofs.WordLaws.CondWords.{
-  head_of_bare,
-  head_below,
-  number_below,
-  head_counted,
-  reads_value,
-  waits_suited,
-}
-use Rattle.wait_model.proofs.RunLaws.FineEvents.{
-  Fine,
-  Leads,
-  goes,
-  inside,
-  outside,
-  still_fine,
-  still_on,
-  lock_fine,
-  unlock_fine,
-  queue_fine,
-  unqueue_fine,
-  none_there,
-  one_there,
-  read,
-  unflag_fine,
-}
+use Rattle.wait_model.proofs.WordLaws.CondWords.{head_of_bare, head_below, number_below, head_counted, reads_value}
+use Rattle.wait_model.proofs.WordLaws.CondWords.{waits_suited}
+use Rattle.wait_model.proofs.RunLaws.FineEvents.{Fine, Leads, goes, inside, outside, still_fine, still_on, lock_fine}
+use Rattle.wait_model.proofs.RunLaws.FineEvents.{unlock_fine, queue_fine, unqueue_fine, none_there, one_there, read}
+use Rattle.wait_model.proofs.RunLaws.FineEvents.{unflag_fine}
 use Rattle.wait_model.proofs.RunLaws.OthersEvents.{IsGone}
 use Rattle.wait_model.proofs.Functions.{put_same, both_left}
 use Rattle.wait_model.specs.declared.calls.Call.TheVariants as calls

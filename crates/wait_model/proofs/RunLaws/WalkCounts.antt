@@ -1,24 +1,7 @@
 -- What a walk knows of its count: at each event that its task makes, and at each of another task.
 use Rattle.std.proofs.Common.{refl, sym, ◌∙◌, ap, subst, arith, inl, inr}
-use Rattle.std.specs.Prelude.{
-  ℕ,
-  zero,
-  suc,
-  ◌≡◌,
-  ◌≢◌,
-  ◌<◌,
-  Bool,
-  true,
-  false,
-  not,
-  ◌&&◌,
-  ◌||◌,
-  ◌==◌,
-  if◌then◌else◌,
-  Option,
-  Some,
-  None,
-}
+use Rattle.std.specs.Prelude.{ℕ, zero, suc, ◌≡◌, ◌≢◌, ◌<◌, Bool, true, false, not, ◌&&◌, ◌||◌, ◌==◌, if◌then◌else◌}
+use Rattle.std.specs.Prelude.{Option, Some, None}
 use Rattle.wait_model.specs.declared.layout.TheConstants.{TASKS, ENTRIES}
 use Rattle.wait_model.specs.declared.watches.Watch.{Watch}
 use Rattle.wait_model.specs.declared.watches.Watch.TheVariants as watch
@@ -45,78 +28,24 @@ use Rattle.wait_model.specs.declared.points.Progress.{Progress}
 use Rattle.wait_model.specs.declared.points.Progress.TheVariants as now
 use Rattle.wait_model.specs.declared.steps.Step.TheVariants as step
 use Rattle.wait_model.specs.Functions.{put}
-use Rattle.wait_model.specs.Runs.{
-  called_of,
-  State,
-  own,
-  entry_for,
-  called_by,
-  looks_below,
-  looks,
-  seen_by,
-  event_steps,
-  planned,
-  progress_at,
-  after_event,
-  busy_head,
-}
-use Rattle.wait_model.specs.Reached.{
-  free,
-  IsHome,
-  held_at,
-  taken_by,
-  IsQueued,
-  IsTaken,
-  IsFlagged,
-  IsPlaced,
-  IsCallSound,
-  WalksFor,
-  IsSelecting,
-  MayEndSpent,
-  CountedAt,
-  CountedBy,
-  IsSound,
-}
+use Rattle.wait_model.specs.Runs.{called_of, State, own, entry_for, called_by, looks_below, looks, seen_by, event_steps}
+use Rattle.wait_model.specs.Runs.{planned, progress_at, after_event, busy_head}
+use Rattle.wait_model.specs.Reached.{free, IsHome, held_at, taken_by, IsQueued, IsTaken, IsFlagged, IsPlaced}
+use Rattle.wait_model.specs.Reached.{IsCallSound, WalksFor, IsSelecting, MayEndSpent, CountedAt, CountedBy, IsSound}
 use Rattle.wait_model.specs.Admission.{is_standing, IsStandingKind}
 use Rattle.wait_model.specs.declared.tasks.TaskRecord.{TaskRecord}
 use Rattle.wait_model.specs.Facts.{Agrees, Facts}
 use Rattle.wait_model.specs.Tasks.{meets}
-use Rattle.wait_model.specs.Watches.{
-  same,
-  head_of,
-  counted,
-  is_bit,
-  is_var,
-  mask_of,
-  owner,
-  is_page,
-  page,
-  word_of,
-  bit_of,
-  misses,
-  was_clear,
-}
+use Rattle.wait_model.specs.Watches.{same, head_of, counted, is_bit, is_var, mask_of, owner, is_page, page, word_of}
+use Rattle.wait_model.specs.Watches.{bit_of, misses, was_clear}
 use Rattle.wait_model.specs.Words.{entry_word, head_word, Suited, bit_at, flag}
 use Rattle.wait_model.specs.Views.{View, Walk, Look, unseen, off, elsewhere, shown}
 use Rattle.wait_model.specs.Fold.{begun, is_off, picks, after, after_all}
 use Rattle.wait_model.specs.Tables.{steps, value_of}
 use Rattle.wait_model.specs.Tables as tables
 use Rattle.wait_model.specs.Points.{call_aim, call_watch, call_head, mode_of, called_task, given_at}
-use Rattle.wait_model.specs.Programs.{
-  go,
-  load,
-  call_fails,
-  past,
-  onward,
-  reached,
-  resumed,
-  wake_event,
-  wake_off_event,
-  tests,
-  call_entry,
-  call_next,
-  tests_page,
-}
+use Rattle.wait_model.specs.Programs.{go, load, call_fails, past, onward, reached, resumed, wake_event, wake_off_event}
+use Rattle.wait_model.specs.Programs.{tests, call_entry, call_next, tests_page}
 use Rattle.wait_model.specs.Queues.{place_for, Arrival}
 use Rattle.wait_model.proofs.QueueLaws.FoundEntries.{IsFoundEntry, reach, walk_case}
 use Rattle.wait_model.proofs.QueueLaws.OutsideWalks.{IsOutside, goes_away, program_away}

@@ -1,23 +1,7 @@
 -- Each event of a walk is fine, and so is each event of each program.
 use Rattle.std.proofs.Common.{refl, sym, ◌∙◌, ap, subst, arith, inl, inr}
-use Rattle.std.specs.Prelude.{
-  ℕ,
-  ◌≡◌,
-  ◌+◌,
-  ◌-◌,
-  ◌<◌,
-  ◌≤◌,
-  ◌⊎◌,
-  Option,
-  Some,
-  None,
-  Bool,
-  true,
-  false,
-  ◌&&◌,
-  ◌==◌,
-  if◌then◌else◌,
-}
+use Rattle.std.specs.Prelude.{ℕ, ◌≡◌, ◌+◌, ◌-◌, ◌<◌, ◌≤◌, ◌⊎◌, Option, Some, None, Bool, true, false, ◌&&◌, ◌==◌}
+use Rattle.std.specs.Prelude.{if◌then◌else◌}
 use Rattle.wait_model.specs.declared.layout.TheConstants.{TASKS, HEADS, PLACES, BREAK}
 use Rattle.wait_model.specs.declared.queues.Walking.{Walking}
 use Rattle.wait_model.specs.declared.queues.CalledEntry.{CalledEntry}
@@ -30,78 +14,28 @@ use Rattle.wait_model.specs.declared.watches.Kind.{Kind}
 use Rattle.wait_model.specs.declared.watches.Entry.{Entry}
 use Rattle.wait_model.specs.declared.points.Seen.{Seen}
 use Rattle.wait_model.specs.Runs.{State, own, called_by, seen_by, planned}
-use Rattle.wait_model.specs.Reached.{
-  HomeAt,
-  holds,
-  is_amid_function,
-  IsTaken,
-  IsFlagged,
-  IsPlaced,
-  IsCounted,
-  CountedAt,
-  WalksFor,
-  MayEndSpent,
-  KeepsCleared,
-  Rests,
-  IsCallSound,
-  IsWalkSound,
-  mark_head,
-  marked_at,
-  IsSound,
-  HandsAt,
-  taken_by,
-}
+use Rattle.wait_model.specs.Reached.{HomeAt, holds, is_amid_function, IsTaken, IsFlagged, IsPlaced, IsCounted}
+use Rattle.wait_model.specs.Reached.{CountedAt, WalksFor, MayEndSpent, KeepsCleared, Rests, IsCallSound, IsWalkSound}
+use Rattle.wait_model.specs.Reached.{mark_head, marked_at, IsSound, HandsAt, taken_by}
 use Rattle.wait_model.specs.Tasks.{meets, task_word, task_of}
 use Rattle.wait_model.specs.declared.watches.Watch.{Watch}
 use Rattle.wait_model.specs.declared.watches.Watch.TheVariants as watch
-use Rattle.wait_model.specs.Watches.{
-  same,
-  head_of,
-  counted,
-  is_bit,
-  is_var,
-  IsThere,
-  mask_of,
-  page,
-  word_of,
-  bit_of,
-  is_page,
-  misses,
-}
+use Rattle.wait_model.specs.Watches.{same, head_of, counted, is_bit, is_var, IsThere, mask_of, page, word_of, bit_of}
+use Rattle.wait_model.specs.Watches.{is_page, misses}
 use Rattle.wait_model.specs.Words.{Suited, bit_at, flag}
 use Rattle.wait_model.specs.Views.{View}
 use Rattle.wait_model.specs.Rows.{MaySpend, Reads, Allowed}
 use Rattle.wait_model.specs.Points.{call_aim, call_watch, call_head, mode_of, count_of, called_task, head_at, given_at}
-use Rattle.wait_model.specs.Programs.{
-  go,
-  load,
-  call_fails,
-  past,
-  reached,
-  wake_event,
-  wake_off_event,
-  call_entry,
-  call_next,
-  again,
-  resumed,
-}
+use Rattle.wait_model.specs.Programs.{go, load, call_fails, past, reached, wake_event, wake_off_event, call_entry}
+use Rattle.wait_model.specs.Programs.{call_next, again, resumed}
 use Rattle.wait_model.specs.Queues.{Arrival}
 use Rattle.wait_model.specs.Functions.{put}
 use Rattle.wait_model.proofs.QueueLaws.FoundEntries.{IsFoundEntry, reach, reach_calls, walk_case}
 use Rattle.wait_model.proofs.Sameness.{same_bit, same_bit_is}
 use Rattle.wait_model.proofs.WordLaws.DecodedWords.{task_read}
 use Rattle.wait_model.proofs.WordLaws.CondWords.{head_below, number_below, reads_value, going_kind}
-use Rattle.wait_model.proofs.RunLaws.FineEvents.{
-  Fine,
-  Leads,
-  inside,
-  still_fine,
-  lock_fine,
-  unlock_fine,
-  unqueue_fine,
-  mark_fine,
-  unmark_fine,
-}
+use Rattle.wait_model.proofs.RunLaws.FineEvents.{Fine, Leads, inside, still_fine, lock_fine, unlock_fine, unqueue_fine}
+use Rattle.wait_model.proofs.RunLaws.FineEvents.{mark_fine, unmark_fine}
 use Rattle.wait_model.proofs.RunLaws.WaitEvents.{no_spend}
 use Rattle.wait_model.proofs.RunLaws.ProgramEvents.{plain_fine}
 use Rattle.wait_model.proofs.RunLaws.CompletionEvents.{select_fine, await_fine, count_fine}

@@ -1,36 +1,12 @@
 -- A hold has looked at every entry word, and the entries that a task has stored are its own.
 use Rattle.std.proofs.Common.{refl, sym, ◌∙◌, ap}
-use Rattle.std.specs.Prelude.{
-  ℕ,
-  zero,
-  suc,
-  ◌≡◌,
-  ◌≢◌,
-  ◌<◌,
-  Bool,
-  true,
-  false,
-  ◌==◌,
-  if◌then◌else◌,
-  Option,
-  Some,
-  None,
-}
+use Rattle.std.specs.Prelude.{ℕ, zero, suc, ◌≡◌, ◌≢◌, ◌<◌, Bool, true, false, ◌==◌, if◌then◌else◌, Option, Some, None}
 use Rattle.wait_model.specs.declared.layout.TheConstants.{ENTRIES}
 use Rattle.wait_model.specs.declared.calls.Event.{Event}
 use Rattle.wait_model.specs.declared.points.Given.{Given}
 use Rattle.wait_model.specs.declared.watches.Entry.{Entry}
-use Rattle.wait_model.specs.Runs.{
-  State,
-  own,
-  entry_for,
-  looks_below,
-  looks,
-  peeks_below,
-  all_peeks,
-  is_publishing,
-  event_steps,
-}
+use Rattle.wait_model.specs.Runs.{State, own, entry_for, looks_below, looks, peeks_below, all_peeks, is_publishing}
+use Rattle.wait_model.specs.Runs.{event_steps}
 use Rattle.wait_model.specs.Reached.{HasLookedAtAll, OwnStored}
 use Rattle.wait_model.specs.Views.{View, Hold, Bits, Look, unseen, off, elsewhere, shown, blank, look_at}
 use Rattle.wait_model.specs.Fold.{is_off, forgotten, after_unlock, after, after_all}

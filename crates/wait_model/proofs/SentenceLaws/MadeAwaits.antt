@@ -1,25 +1,7 @@
 -- The program of a `waitfor` makes whatever follows its sentence.
 use Rattle.std.proofs.Common.{refl, sym, ap, ◌∙◌, subst}
-use Rattle.std.specs.Prelude.{
-  ℕ,
-  zero,
-  suc,
-  ◌≡◌,
-  ◌≤◌,
-  ◌==◌,
-  ◌-◌,
-  Bool,
-  true,
-  false,
-  not,
-  List,
-  [],
-  ◌∷◌,
-  Option,
-  Some,
-  None,
-  if◌then◌else◌,
-}
+use Rattle.std.specs.Prelude.{ℕ, zero, suc, ◌≡◌, ◌≤◌, ◌==◌, ◌-◌, Bool, true, false, not, List, [], ◌∷◌, Option, Some}
+use Rattle.std.specs.Prelude.{None, if◌then◌else◌}
 use Rattle.wait_model.specs.declared.layout.TheConstants.{ALL_DONE}
 use Rattle.wait_model.specs.declared.calls.Call.{Call}
 use Rattle.wait_model.specs.declared.calls.Call.TheVariants as calls
@@ -40,19 +22,8 @@ use Rattle.wait_model.specs.Counts.{taken_done}
 use Rattle.wait_model.specs.Tasks.{looks_in}
 use Rattle.wait_model.specs.Watches.{head_of, number_of}
 use Rattle.wait_model.specs.Programs.{program, program_start, go, ends_with, zero_answer, await_ends, await_after}
-use Rattle.wait_model.specs.Phrases.{
-  Rest,
-  gives,
-  finds,
-  when◌then◌otherwise◌,
-  turns,
-  repeat,
-  ends,
-  repeats,
-  leaves,
-  ◌>>=◌,
-  ◌>>◌,
-}
+use Rattle.wait_model.specs.Phrases.{Rest, gives, finds, when◌then◌otherwise◌, turns, repeat, ends, repeats, leaves}
+use Rattle.wait_model.specs.Phrases.{◌>>=◌, ◌>>◌}
 use Rattle.wait_model.specs.SentenceSteps.{number, unlocks, stores, takes_off}
 use Rattle.wait_model.specs.SentenceCounts.{await_end, lowers, by_signal, by_count}
 use Rattle.wait_model.specs.Sentences.{Follows}
@@ -60,17 +31,8 @@ use Rattle.wait_model.specs.Making.{goes_to, Makes}
 use Rattle.wait_model.specs.Findings.{Noted, none_noted, notes, MayFind}
 use Rattle.wait_model.proofs.SentenceLaws.SentenceAwaits.{await_rest, shown_count}
 use Rattle.wait_model.proofs.SentenceLaws.SentenceAwaits as awaits
-use Rattle.wait_model.proofs.SentenceLaws.MadeFindings.{
-  sees,
-  fair,
-  standing,
-  fresh,
-  same_count,
-  same_standing,
-  some_entry,
-  looking,
-  sleeping,
-}
+use Rattle.wait_model.proofs.SentenceLaws.MadeFindings.{sees, fair, standing, fresh, same_count, same_standing}
+use Rattle.wait_model.proofs.SentenceLaws.MadeFindings.{some_entry, looking, sleeping}
 use Rattle.wait_model.proofs.SentenceLaws.MadeEvents.{all_made}
 
 module _ (me d : ℕ) (st : SleepState) where

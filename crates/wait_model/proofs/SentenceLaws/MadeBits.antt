@@ -21,18 +21,8 @@ use Rattle.wait_model.specs.Tasks.{looks_in}
 use Rattle.wait_model.specs.Words.{bit_at, flag}
 use Rattle.wait_model.specs.Watches.{number_of, misses}
 use Rattle.wait_model.specs.Programs.{program_start, go, ends_with, zero_answer, interrupted}
-use Rattle.wait_model.specs.Phrases.{
-  Rest,
-  ◌>>◌,
-  gives,
-  finds,
-  when◌then◌otherwise◌,
-  turns,
-  repeat,
-  ends,
-  repeats,
-  leaves,
-}
+use Rattle.wait_model.specs.Phrases.{Rest, ◌>>◌, gives, finds, when◌then◌otherwise◌, turns, repeat, ends, repeats}
+use Rattle.wait_model.specs.Phrases.{leaves}
 use Rattle.wait_model.specs.SentenceSteps.{number, minus_4, acts, enters, finishes}
 use Rattle.wait_model.specs.Sentences.{Follows}
 use Rattle.wait_model.specs.Making.{Makes}

@@ -1,24 +1,7 @@
 -- The programs of selections make whatever follows their sentences.
 use Rattle.std.proofs.Common.{refl, sym, ap, ◌∙◌, subst}
-use Rattle.std.specs.Prelude.{
-  ℕ,
-  pos,
-  zero,
-  suc,
-  ◌≡◌,
-  ◌≤◌,
-  ◌+◌,
-  ◌==◌,
-  ◌-◌,
-  Bool,
-  true,
-  false,
-  List,
-  [],
-  ◌∷◌,
-  Some,
-  if◌then◌else◌,
-}
+use Rattle.std.specs.Prelude.{ℕ, pos, zero, suc, ◌≡◌, ◌≤◌, ◌+◌, ◌==◌, ◌-◌, Bool, true, false, List, [], ◌∷◌, Some}
+use Rattle.std.specs.Prelude.{if◌then◌else◌}
 use Rattle.wait_model.specs.declared.layout.TheConstants.{ALL_DONE}
 use Rattle.wait_model.specs.declared.calls.Call.{Call}
 use Rattle.wait_model.specs.declared.calls.Call.TheVariants as calls
@@ -42,17 +25,8 @@ use Rattle.wait_model.specs.Sentences.{Follows}
 use Rattle.wait_model.specs.Making.{Makes}
 use Rattle.wait_model.specs.Findings.{Noted, none_noted, notes}
 use Rattle.wait_model.proofs.SentenceLaws.SentenceAwaits.{shown_count}
-use Rattle.wait_model.proofs.SentenceLaws.SentenceCounts.{
-  select_rest,
-  one_rest,
-  count_rest,
-  tries_taking,
-  over_by,
-  more,
-  more_by,
-  less_by,
-  never,
-}
+use Rattle.wait_model.proofs.SentenceLaws.SentenceCounts.{select_rest, one_rest, count_rest, tries_taking, over_by}
+use Rattle.wait_model.proofs.SentenceLaws.SentenceCounts.{more, more_by, less_by, never}
 use Rattle.wait_model.proofs.SentenceLaws.MadeFindings.{sees, fair, fresh, same_count}
 use Rattle.wait_model.proofs.SentenceLaws.MadeEvents.{Leads, MakesFirst, all_made, rousing, a_call}
 

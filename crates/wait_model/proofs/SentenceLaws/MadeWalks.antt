@@ -1,23 +1,7 @@
 -- The program of a walk makes whatever follows its sentence.
 use Rattle.std.proofs.Common.{arith, refl, sym, ◌∙◌, subst}
-use Rattle.std.specs.Prelude.{
-  ℕ,
-  ◌≤◌,
-  zero,
-  suc,
-  ◌≡◌,
-  ◌==◌,
-  Bool,
-  true,
-  false,
-  not,
-  List,
-  [],
-  ◌∷◌,
-  Some,
-  if◌then◌else◌,
-  ◌&&◌,
-}
+use Rattle.std.specs.Prelude.{ℕ, ◌≤◌, zero, suc, ◌≡◌, ◌==◌, Bool, true, false, not, List, [], ◌∷◌, Some, if◌then◌else◌}
+use Rattle.std.specs.Prelude.{◌&&◌}
 use Rattle.wait_model.specs.declared.calls.Call.{Call}
 use Rattle.wait_model.specs.declared.calls.Event.{Event}
 use Rattle.wait_model.specs.declared.calls.Event.TheVariants as event
@@ -41,22 +25,8 @@ use Rattle.wait_model.specs.Points.{call_aim, call_watch, call_head, mode_of}
 use Rattle.wait_model.specs.Programs.{go, walk_event, past, onward, reached, call_entry}
 use Rattle.wait_model.specs.Programs.{again as next_hold}
 use Rattle.wait_model.specs.Phrases.{Rest, ◌>>◌, makes, gives, when◌then◌otherwise◌, repeats, leaves}
-use Rattle.wait_model.specs.SentenceWalks.{
-  tallied,
-  walked,
-  wakes_off,
-  hands_over,
-  takes_page,
-  calls_function,
-  WalkTally,
-  Ahead,
-  a_break,
-  the_end,
-  an_entry,
-  comes_to,
-  passes,
-  shares_head,
-}
+use Rattle.wait_model.specs.SentenceWalks.{tallied, walked, wakes_off, hands_over, takes_page, calls_function}
+use Rattle.wait_model.specs.SentenceWalks.{WalkTally, Ahead, a_break, the_end, an_entry, comes_to, passes, shares_head}
 use Rattle.wait_model.specs.Findings.{Noted, MayFind}
 use Rattle.wait_model.proofs.SentenceLaws.SentenceWalks as walks
 use Rattle.wait_model.proofs.SentenceLaws.SentenceWalks.{walk_rest, tally}

@@ -1,24 +1,7 @@
 -- What is left of the sentence of a `waitfor` at each point of its program.
 use Rattle.std.proofs.Common.{refl, sym, ◌∙◌, subst, arith}
-use Rattle.std.specs.Prelude.{
-  ◌≤◌,
-  Option,
-  Some,
-  None,
-  ℕ,
-  zero,
-  suc,
-  ◌≡◌,
-  ◌==◌,
-  ◌-◌,
-  Bool,
-  true,
-  false,
-  not,
-  List,
-  is_some,
-  if◌then◌else◌,
-}
+use Rattle.std.specs.Prelude.{◌≤◌, Option, Some, None, ℕ, zero, suc, ◌≡◌, ◌==◌, ◌-◌, Bool, true, false, not, List}
+use Rattle.std.specs.Prelude.{is_some, if◌then◌else◌}
 use Rattle.wait_model.specs.declared.layout.TheConstants.{ALL_DONE}
 use Rattle.wait_model.specs.declared.calls.Call.{Call}
 use Rattle.wait_model.specs.declared.calls.Call.TheVariants as calls
@@ -41,24 +24,8 @@ use Rattle.wait_model.specs.Counts.{taken_done}
 use Rattle.wait_model.specs.Tasks.{state_mask, looks_in, pending, sleep_of}
 use Rattle.wait_model.specs.Watches.{head_of, number_of}
 use Rattle.wait_model.specs.Programs.{program, go, ends_with, zero_answer, await_ends, await_after, done_in}
-use Rattle.wait_model.specs.Phrases.{
-  Rest,
-  Phrase,
-  ◌>>=◌,
-  ◌>>◌,
-  gives,
-  makes,
-  finds,
-  when◌then◌otherwise◌,
-  first_is,
-  Turn,
-  repeats,
-  leaves,
-  after_turn,
-  turns,
-  repeat,
-  ends,
-}
+use Rattle.wait_model.specs.Phrases.{Rest, Phrase, ◌>>=◌, ◌>>◌, gives, makes, finds, when◌then◌otherwise◌, first_is}
+use Rattle.wait_model.specs.Phrases.{Turn, repeats, leaves, after_turn, turns, repeat, ends}
 use Rattle.wait_model.specs.declared.watches.Entry.{Entry}
 use Rattle.wait_model.specs.SentenceSteps.{minus_512, number, locks, unlocks, sleeps, takes_off, enters, stores}
 use Rattle.wait_model.specs.SentenceCounts.{counts, Left, by_signal, by_count, by_wear, await_turn, await_end, lowers}

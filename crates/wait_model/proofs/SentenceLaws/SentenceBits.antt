@@ -1,22 +1,7 @@
 -- What is left of the sentence of a wait for a bit at each point of its program.
 use Rattle.std.proofs.Common.{refl, sym, subst}
-use Rattle.std.specs.Prelude.{
-  ℕ,
-  zero,
-  suc,
-  ◌≡◌,
-  Bool,
-  true,
-  false,
-  not,
-  List,
-  Option,
-  Some,
-  None,
-  is_some,
-  if◌then◌else◌,
-  ◌&&◌,
-}
+use Rattle.std.specs.Prelude.{ℕ, zero, suc, ◌≡◌, Bool, true, false, not, List, Option, Some, None, is_some}
+use Rattle.std.specs.Prelude.{if◌then◌else◌, ◌&&◌}
 use Rattle.wait_model.specs.declared.calls.Call.{Call}
 use Rattle.wait_model.specs.declared.calls.Call.TheVariants as calls
 use Rattle.wait_model.specs.declared.calls.Event.{Event}
@@ -40,24 +25,8 @@ use Rattle.wait_model.specs.Tasks.{state_mask, looks_in, pending, sleep_of}
 use Rattle.wait_model.specs.Words.{bit_at, flag}
 use Rattle.wait_model.specs.Watches.{head_of, number_of, misses}
 use Rattle.wait_model.specs.Programs.{program, go, ends_with, zero_answer, interrupted, finished}
-use Rattle.wait_model.specs.Phrases.{
-  Rest,
-  Phrase,
-  ◌>>=◌,
-  ◌>>◌,
-  gives,
-  makes,
-  finds,
-  when◌then◌otherwise◌,
-  first_is,
-  Turn,
-  repeats,
-  leaves,
-  after_turn,
-  turns,
-  repeat,
-  ends,
-}
+use Rattle.wait_model.specs.Phrases.{Rest, Phrase, ◌>>=◌, ◌>>◌, gives, makes, finds, when◌then◌otherwise◌, first_is}
+use Rattle.wait_model.specs.Phrases.{Turn, repeats, leaves, after_turn, turns, repeat, ends}
 use Rattle.wait_model.specs.SentenceSteps.{nothing, number, minus_4, unlocks, is_met, acts, enters, finishes}
 use Rattle.wait_model.specs.SentenceBits.{ends_worn, tries, bit_turn, lock_turn}
 use Rattle.wait_model.specs.Findings.{Noted}

@@ -27,18 +27,8 @@ use Rattle.wait_model.specs.Tasks.{sleep_of, taken_of, meets, raise_mask}
 use Rattle.wait_model.specs.Words.{bit_at, flag}
 use Rattle.wait_model.specs.Watches.{head_of, mask_of}
 use Rattle.wait_model.specs.Points.{call_watch, count_of, mode_of}
-use Rattle.wait_model.specs.Programs.{
-  program,
-  program_start,
-  go,
-  ends_with,
-  woken_event,
-  remove_event,
-  active_event,
-  taken_answer,
-  kicked,
-  cond_in,
-}
+use Rattle.wait_model.specs.Programs.{program, program_start, go, ends_with, woken_event, remove_event, active_event}
+use Rattle.wait_model.specs.Programs.{taken_answer, kicked, cond_in}
 use Rattle.wait_model.specs.Phrases.{Rest, makes, finds, when◌then◌otherwise◌, ends}
 use Rattle.wait_model.specs.Sentences.{sentence, Follows}
 use Rattle.wait_model.specs.SentenceSteps.{puts_in, nothing, number, sleeps, unlocks}

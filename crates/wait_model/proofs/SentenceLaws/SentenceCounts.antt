@@ -1,25 +1,7 @@
 -- What is left of the sentence of a selection and of a call that counts at each point of its program.
 use Rattle.std.proofs.Common.{refl, ◌∙◌, ap, subst}
-use Rattle.std.specs.Prelude.{
-  ℕ,
-  zero,
-  suc,
-  ◌≡◌,
-  ◌==◌,
-  ◌≤◌,
-  ◌+◌,
-  ◌-◌,
-  Bool,
-  true,
-  false,
-  not,
-  List,
-  Option,
-  Some,
-  None,
-  if◌then◌else◌,
-  ◌&&◌,
-}
+use Rattle.std.specs.Prelude.{ℕ, zero, suc, ◌≡◌, ◌==◌, ◌≤◌, ◌+◌, ◌-◌, Bool, true, false, not, List, Option, Some, None}
+use Rattle.std.specs.Prelude.{if◌then◌else◌, ◌&&◌}
 use Rattle.wait_model.specs.declared.layout.TheConstants.{ALL_DONE}
 use Rattle.wait_model.specs.declared.calls.Call.{Call}
 use Rattle.wait_model.specs.declared.calls.Call.TheVariants as calls
@@ -42,32 +24,10 @@ use Rattle.wait_model.specs.Counts.{taken_done, raised_done}
 use Rattle.wait_model.specs.Tasks.{meets}
 use Rattle.wait_model.specs.Watches.{head_of, number_of, mask_of}
 use Rattle.wait_model.specs.Points.{call_watch, count_of}
-use Rattle.wait_model.specs.Programs.{
-  go,
-  ends_with,
-  zero_answer,
-  is_enough,
-  selected_answer,
-  select_ends,
-  select_next,
-  select_event,
-  count_event,
-}
-use Rattle.wait_model.specs.Phrases.{
-  Rest,
-  Phrase,
-  ◌>>=◌,
-  ◌>>◌,
-  gives,
-  makes,
-  when◌then◌otherwise◌,
-  first_is,
-  Turn,
-  repeats,
-  leaves,
-  turns,
-  ends,
-}
+use Rattle.wait_model.specs.Programs.{go, ends_with, zero_answer, is_enough, selected_answer, select_ends, select_next}
+use Rattle.wait_model.specs.Programs.{select_event, count_event}
+use Rattle.wait_model.specs.Phrases.{Rest, Phrase, ◌>>=◌, ◌>>◌, gives, makes, when◌then◌otherwise◌, first_is, Turn}
+use Rattle.wait_model.specs.Phrases.{repeats, leaves, turns, ends}
 use Rattle.wait_model.specs.Sentences.{sentence}
 use Rattle.wait_model.specs.SentenceSteps.{nothing, number, yes_or_no, locks, unlocks, stores}
 use Rattle.wait_model.specs.SentenceCounts.{counts, lowers}

@@ -29,18 +29,8 @@ use Rattle.wait_model.specs.Tasks.{state_mask}
 use Rattle.wait_model.specs.Watches.{head_of, number_of, word_of, bit_of, misses}
 use Rattle.wait_model.specs.Points.{call_watch, call_head, count_of}
 use Rattle.wait_model.specs.Programs.{no_walk, again as next_hold}
-use Rattle.wait_model.specs.Phrases.{
-  makes,
-  ◌>>◌,
-  gives,
-  finds,
-  when◌then◌otherwise◌,
-  first_is,
-  turns,
-  ends,
-  leaves,
-  repeats,
-}
+use Rattle.wait_model.specs.Phrases.{makes, ◌>>◌, gives, finds, when◌then◌otherwise◌, first_is, turns, ends, leaves}
+use Rattle.wait_model.specs.Phrases.{repeats}
 use Rattle.wait_model.specs.SentenceSteps.{nothing, number, yes_or_no, unlocks, stores}
 use Rattle.wait_model.specs.SentenceWalks.{WalkTally, the_end, walked, tallied, wakes_off, wakes_one, hands_over}
 use Rattle.wait_model.specs.declared.queues.End.TheVariants as end_as

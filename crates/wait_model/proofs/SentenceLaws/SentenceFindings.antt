@@ -1,28 +1,8 @@
 -- In every state of a run a task knows what the sentence of its call needs of what it finds.
 use Rattle.std.proofs.lemmas.Bool.Decides.{eqb_tells, nat_tests}
 use Rattle.std.proofs.Common.{refl, sym, ap, ◌∙◌, subst, arith, inl, inr}
-use Rattle.std.specs.Prelude.{
-  ℕ,
-  ◌≡◌,
-  ◌≢◌,
-  ◌==◌,
-  ◌+◌,
-  ◌<◌,
-  ◌≤◌,
-  nat_lt,
-  Bool,
-  true,
-  false,
-  ◌&&◌,
-  if◌then◌else◌,
-  List,
-  [],
-  ◌∷◌,
-  Option,
-  Some,
-  None,
-  is_some,
-}
+use Rattle.std.specs.Prelude.{ℕ, ◌≡◌, ◌≢◌, ◌==◌, ◌+◌, ◌<◌, ◌≤◌, nat_lt, Bool, true, false, ◌&&◌, if◌then◌else◌, List}
+use Rattle.std.specs.Prelude.{[], ◌∷◌, Option, Some, None, is_some}
 use Rattle.wait_model.specs.declared.layout.TheConstants.{BREAK, ALL_DONE, EVENTS}
 use Rattle.wait_model.specs.declared.calls.Call.{Call}
 use Rattle.wait_model.specs.declared.calls.Call.TheVariants as calls
@@ -55,25 +35,9 @@ use Rattle.wait_model.proofs.QueueLaws.MemberStands.{member_is}
 use Rattle.wait_model.specs.Queues.{IsIn, Arrival, arrive, is_entry, members_from, rank_at}
 use Rattle.wait_model.specs.Reached.{IsMember, IsLinked, IsSoundCall, IsSound, HomeAt, held_at}
 use Rattle.wait_model.specs.Rows.{Reads, Allowed, AllAllowed}
-use Rattle.wait_model.specs.Runs.{
-  State,
-  own,
-  given_by,
-  event_steps,
-  planned,
-  seen_by,
-  happens,
-  arrives_from,
-  progress_at,
-  progress_after,
-  called_by,
-  Continues,
-  IsItem,
-  IsRunFrom,
-  IsRun,
-  made_in,
-  start_state,
-}
+use Rattle.wait_model.specs.Runs.{State, own, given_by, event_steps, planned, seen_by, happens, arrives_from}
+use Rattle.wait_model.specs.Runs.{progress_at, progress_after, called_by, Continues, IsItem, IsRunFrom, IsRun, made_in}
+use Rattle.wait_model.specs.Runs.{start_state}
 use Rattle.wait_model.specs.Fold.{after}
 use Rattle.wait_model.specs.Words.{head_word, Suited}
 use Rattle.wait_model.specs.Tables.{Table, Words, value_of, next as step_to, steps}

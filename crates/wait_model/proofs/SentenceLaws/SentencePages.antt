@@ -21,32 +21,10 @@ use Rattle.wait_model.specs.declared.points.PagePoint.TheVariants as paging
 use Rattle.wait_model.specs.Tasks.{looks_in, pending, sleep_of, state_mask}
 use Rattle.wait_model.specs.Words.{bit_at, flag}
 use Rattle.wait_model.specs.Watches.{head_of, page}
-use Rattle.wait_model.specs.Programs.{
-  program,
-  go,
-  ends_with,
-  zero_answer,
-  page_event,
-  page_queue,
-  page_last,
-  page_finish_event,
-}
-use Rattle.wait_model.specs.Phrases.{
-  Rest,
-  Phrase,
-  ◌>>=◌,
-  ◌>>◌,
-  gives,
-  makes,
-  finds,
-  when◌then◌otherwise◌,
-  Turn,
-  repeats,
-  leaves,
-  after_turn,
-  turns,
-  ends,
-}
+use Rattle.wait_model.specs.Programs.{program, go, ends_with, zero_answer, page_event, page_queue, page_last}
+use Rattle.wait_model.specs.Programs.{page_finish_event}
+use Rattle.wait_model.specs.Phrases.{Rest, Phrase, ◌>>=◌, ◌>>◌, gives, makes, finds, when◌then◌otherwise◌, Turn}
+use Rattle.wait_model.specs.Phrases.{repeats, leaves, after_turn, turns, ends}
 use Rattle.wait_model.specs.SentenceSteps.{number, minus_4, locks, unlocks, looks, sleeps, puts_in, finishes}
 use Rattle.wait_model.specs.SentenceBits.{tries, page_turn, awaits_page}
 use Rattle.wait_model.specs.Findings.{Noted}

@@ -1,23 +1,7 @@
 -- What is left of the sentence of a `wait`, a `swait` and a `waitvar` at each point of its program.
 use Rattle.std.proofs.Common.{refl, sym, subst}
-use Rattle.std.specs.Prelude.{
-  ℕ,
-  zero,
-  suc,
-  ◌≡◌,
-  Bool,
-  true,
-  false,
-  not,
-  List,
-  ◌∷◌,
-  is_some,
-  Option,
-  Some,
-  None,
-  if◌then◌else◌,
-  ◌&&◌,
-}
+use Rattle.std.specs.Prelude.{ℕ, zero, suc, ◌≡◌, Bool, true, false, not, List, ◌∷◌, is_some, Option, Some, None}
+use Rattle.std.specs.Prelude.{if◌then◌else◌, ◌&&◌}
 use Rattle.wait_model.specs.declared.calls.Call.{Call}
 use Rattle.wait_model.specs.declared.calls.Event.{Event}
 use Rattle.wait_model.specs.declared.calls.Event.TheVariants as event
@@ -39,57 +23,12 @@ use Rattle.wait_model.specs.Tasks.{state_mask, looks_in, pending, sleep_of}
 use Rattle.wait_model.specs.Watches.{is_done, head_of, misses, number_of}
 use Rattle.wait_model.specs.Points.{call_watch, call_head, state_in, form_of, is_lock, is_bit_wait}
 use Rattle.wait_model.specs.declared.points.BitPoint.TheVariants as biting
-use Rattle.wait_model.specs.Programs.{
-  worn_next,
-  exchange,
-  program,
-  go,
-  ends_with,
-  zero_answer,
-  signalled,
-  interrupted,
-  finished,
-  finish_event,
-  prepared_at,
-  slept_at,
-  signalled_at,
-}
-use Rattle.wait_model.specs.Phrases.{
-  Rest,
-  Phrase,
-  ◌>>=◌,
-  ◌>>◌,
-  gives,
-  makes,
-  finds,
-  when◌then◌otherwise◌,
-  first_is,
-  Turn,
-  leaves,
-  after_turn,
-  turns,
-  repeat,
-  ends,
-}
-use Rattle.wait_model.specs.SentenceSteps.{
-  puts_in,
-  Prepared,
-  is_ready,
-  is_signalled,
-  is_worn,
-  stands,
-  nothing,
-  number,
-  minus_4,
-  locks,
-  is_met,
-  looks,
-  queues,
-  takes_off,
-  enters,
-  finishes,
-  unlocks,
-}
+use Rattle.wait_model.specs.Programs.{worn_next, exchange, program, go, ends_with, zero_answer, signalled, interrupted}
+use Rattle.wait_model.specs.Programs.{finished, finish_event, prepared_at, slept_at, signalled_at}
+use Rattle.wait_model.specs.Phrases.{Rest, Phrase, ◌>>=◌, ◌>>◌, gives, makes, finds, when◌then◌otherwise◌, first_is}
+use Rattle.wait_model.specs.Phrases.{Turn, leaves, after_turn, turns, repeat, ends}
+use Rattle.wait_model.specs.SentenceSteps.{puts_in, Prepared, is_ready, is_signalled, is_worn, stands, nothing, number}
+use Rattle.wait_model.specs.SentenceSteps.{minus_4, locks, is_met, looks, queues, takes_off, enters, finishes, unlocks}
 use Rattle.wait_model.specs.SentenceWaits.{turn, may_stand, goes_on}
 use Rattle.wait_model.specs.declared.queues.Form.{Form}
 use Rattle.wait_model.specs.declared.watches.Watch.{Watch}

@@ -1,25 +1,7 @@
 -- What is left of the sentence of a walk at each point of its program.
 use Rattle.std.proofs.Common.{refl, subst}
-use Rattle.std.specs.Prelude.{
-  ℕ,
-  zero,
-  suc,
-  ◌≡◌,
-  ◌==◌,
-  ◌≤◌,
-  ◌<◌,
-  Bool,
-  true,
-  false,
-  not,
-  List,
-  Option,
-  Some,
-  None,
-  is_some,
-  if◌then◌else◌,
-  ◌&&◌,
-}
+use Rattle.std.specs.Prelude.{ℕ, zero, suc, ◌≡◌, ◌==◌, ◌≤◌, ◌<◌, Bool, true, false, not, List, Option, Some, None}
+use Rattle.std.specs.Prelude.{is_some, if◌then◌else◌, ◌&&◌}
 use Rattle.wait_model.specs.declared.layout.TheConstants.{BREAK}
 use Rattle.wait_model.specs.declared.calls.Call.{Call}
 use Rattle.wait_model.specs.declared.calls.Event.{Event}
@@ -44,42 +26,12 @@ use Rattle.wait_model.specs.Watches.{number_of, mask_of, misses, is_page, word_o
 use Rattle.wait_model.specs.Points.{call_aim, call_watch, call_head, count_of, mode_of}
 use Rattle.wait_model.specs.Programs.{go, walk_event, past, onward, reached, resumed, call_next, call_entry}
 use Rattle.wait_model.specs.Programs.{again as next_hold}
-use Rattle.wait_model.specs.Phrases.{
-  Rest,
-  Phrase,
-  ◌>>◌,
-  gives,
-  makes,
-  finds,
-  when◌then◌otherwise◌,
-  first_is,
-  Turn,
-  repeats,
-  leaves,
-  after_turn,
-  turns,
-  ends,
-}
+use Rattle.wait_model.specs.Phrases.{Rest, Phrase, ◌>>◌, gives, makes, finds, when◌then◌otherwise◌, first_is, Turn}
+use Rattle.wait_model.specs.Phrases.{repeats, leaves, after_turn, turns, ends}
 use Rattle.wait_model.specs.SentenceSteps.{locks, unlocks}
-use Rattle.wait_model.specs.SentenceWalks.{
-  WalkTally,
-  tallied,
-  walked,
-  wakes_off,
-  hands_over,
-  takes_page,
-  at_stop,
-  calls_function,
-  Ahead,
-  a_break,
-  the_end,
-  an_entry,
-  comes_to,
-  passes,
-  shares_head,
-  walk_turn,
-  walks,
-}
+use Rattle.wait_model.specs.SentenceWalks.{WalkTally, tallied, walked, wakes_off, hands_over, takes_page, at_stop}
+use Rattle.wait_model.specs.SentenceWalks.{calls_function, Ahead, a_break, the_end, an_entry, comes_to, passes}
+use Rattle.wait_model.specs.SentenceWalks.{shares_head, walk_turn, walks}
 use Rattle.wait_model.specs.Findings.{Noted, MayComeTo}
 use Rattle.wait_model.proofs.SentenceLaws.SentenceRests.{Says, Some_turns, first_more}
 use Rattle.wait_model.specs.Words.{flag, bit_at}

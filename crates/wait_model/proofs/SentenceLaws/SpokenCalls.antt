@@ -13,20 +13,8 @@ use Rattle.wait_model.specs.declared.points.Progress.TheVariants as now
 use Rattle.wait_model.specs.declared.points.Next.{Next}
 use Rattle.wait_model.specs.declared.points.Next.TheVariants as next
 use Rattle.wait_model.specs.declared.points.Point.{Point}
-use Rattle.wait_model.specs.Runs.{
-  State,
-  planned,
-  seen_by,
-  happens,
-  state_after,
-  state_of,
-  start_state,
-  progress_at,
-  progress_after,
-  Continues,
-  IsItem,
-  IsRunFrom,
-}
+use Rattle.wait_model.specs.Runs.{State, planned, seen_by, happens, state_after, state_of, start_state, progress_at}
+use Rattle.wait_model.specs.Runs.{progress_after, Continues, IsItem, IsRunFrom}
 use Rattle.wait_model.specs.Programs.{program_start}
 use Rattle.wait_model.specs.Sentences.{Follows, Begins}
 use Rattle.wait_model.specs.Spoken.{said_by, said_after, said_in, CallsFollowSentences, OpenCallsBegin}

@@ -21,33 +21,10 @@ use Rattle.wait_model.specs.declared.calls.Answer.TheVariants as answer
 use Rattle.wait_model.specs.Tasks.{state_mask, looks_in}
 use Rattle.wait_model.specs.Watches.{head_of}
 use Rattle.wait_model.specs.Points.{call_watch, call_head, state_in, form_of}
-use Rattle.wait_model.specs.Phrases.{
-  Rest,
-  makes,
-  ◌>>◌,
-  gives,
-  finds,
-  when◌then◌otherwise◌,
-  repeat,
-  repeats,
-  leaves,
-  turns,
-  ends,
-}
-use Rattle.wait_model.specs.SentenceSteps.{
-  Prepared,
-  is_ready,
-  is_signalled,
-  is_worn,
-  number,
-  minus_4,
-  enters,
-  takes_off,
-  unlocks,
-  looks,
-  acts,
-  finishes,
-}
+use Rattle.wait_model.specs.Phrases.{Rest, makes, ◌>>◌, gives, finds, when◌then◌otherwise◌, repeat, repeats, leaves}
+use Rattle.wait_model.specs.Phrases.{turns, ends}
+use Rattle.wait_model.specs.SentenceSteps.{Prepared, is_ready, is_signalled, is_worn, number, minus_4, enters}
+use Rattle.wait_model.specs.SentenceSteps.{takes_off, unlocks, looks, acts, finishes}
 use Rattle.wait_model.specs.SentenceWaits.{may_stand}
 use Rattle.wait_model.specs.SentenceCounts.{counts, by_signal, by_count}
 use Rattle.wait_model.specs.Findings.{Noted}

@@ -1,23 +1,6 @@
 -- The law of no lost flag, step by step, but for publish and unlock.
 use Rattle.std.proofs.Common.{refl, sym, ◌∙◌, ap, subst, arith, inl, inr}
-use Rattle.std.specs.Prelude.{
-  ℕ,
-  ◌≡◌,
-  ◌≢◌,
-  ◌-◌,
-  ◌^◌,
-  ◌<◌,
-  ◌⊎◌,
-  Option,
-  Some,
-  None,
-  Bool,
-  true,
-  false,
-  not,
-  ◌&&◌,
-  IsTrue,
-}
+use Rattle.std.specs.Prelude.{ℕ, ◌≡◌, ◌≢◌, ◌-◌, ◌^◌, ◌<◌, ◌⊎◌, Option, Some, None, Bool, true, false, not, ◌&&◌, IsTrue}
 use Rattle.wait_model.specs.declared.layout.TheConstants.{ENTRIES}
 use Rattle.wait_model.specs.declared.watches.Watch.{Watch}
 use Rattle.wait_model.specs.declared.watches.Entry.{Entry}

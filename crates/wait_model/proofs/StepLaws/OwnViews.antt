@@ -1,23 +1,6 @@
 -- What the stepping task's view tells after a step, group by group.
 use Rattle.std.proofs.Common.{refl, sym, ◌∙◌, ap, subst, arith, inl, inr}
-use Rattle.std.specs.Prelude.{
-  ℕ,
-  ◌≡◌,
-  ◌≢◌,
-  ◌≤◌,
-  ◌⊎◌,
-  Option,
-  Some,
-  None,
-  Bool,
-  true,
-  false,
-  cond,
-  not,
-  ◌&&◌,
-  ◌||◌,
-  ◌==◌,
-}
+use Rattle.std.specs.Prelude.{ℕ, ◌≡◌, ◌≢◌, ◌≤◌, ◌⊎◌, Option, Some, None, Bool, true, false, cond, not, ◌&&◌, ◌||◌, ◌==◌}
 use Rattle.wait_model.specs.declared.watches.Watch.{Watch}
 use Rattle.wait_model.specs.declared.watches.Entry.{Entry}
 use Rattle.wait_model.specs.declared.watches.Aim.{Aim}
@@ -29,14 +12,8 @@ use Rattle.wait_model.specs.Tables.{Words, met, publish, consume}
 use Rattle.wait_model.specs.Words.{entry_of, spent_of}
 use Rattle.wait_model.specs.Functions.{put}
 use Rattle.wait_model.specs.Rows.{Reads, Lowers, AimsAt}
-use Rattle.wait_model.proofs.Sameness.{
-  same_head,
-  publish_other,
-  consume_sets_none,
-  failing_unmet,
-  tas_unmet,
-  same_bit_is,
-}
+use Rattle.wait_model.proofs.Sameness.{same_head, publish_other, consume_sets_none, failing_unmet, tas_unmet}
+use Rattle.wait_model.proofs.Sameness.{same_bit_is}
 use Rattle.wait_model.proofs.Functions.{put_at, put_same, put_other, bool_or}
 use Rattle.wait_model.specs.declared.steps.Step.TheVariants as step
 

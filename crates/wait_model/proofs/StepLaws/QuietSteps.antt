@@ -1,25 +1,7 @@
 -- What the steps do to a part of the law that set no watch and make no load that failed.
 use Rattle.std.proofs.Common.{refl, sym, ap, subst, arith, ◌∙◌, false, inl, inr}
-use Rattle.std.specs.Prelude.{
-  ℕ,
-  ◌≡◌,
-  ◌≢◌,
-  ◌-◌,
-  ◌^◌,
-  ◌<◌,
-  ◌⊎◌,
-  Option,
-  Some,
-  Bool,
-  true,
-  IsTrue,
-  false,
-  not,
-  ◌&&◌,
-  ◌||◌,
-  cond,
-  None,
-}
+use Rattle.std.specs.Prelude.{ℕ, ◌≡◌, ◌≢◌, ◌-◌, ◌^◌, ◌<◌, ◌⊎◌, Option, Some, Bool, true, IsTrue, false, not, ◌&&◌, ◌||◌}
+use Rattle.std.specs.Prelude.{cond, None}
 use Rattle.wait_model.specs.declared.watches.Watch.{Watch}
 use Rattle.wait_model.specs.declared.watches.Entry.{Entry}
 use Rattle.wait_model.specs.declared.steps.Step.{Step}
@@ -27,18 +9,8 @@ use Rattle.wait_model.specs.declared.tasks.TaskRecord.{TaskRecord}
 use Rattle.wait_model.specs.Tasks.{raised, accepted}
 use Rattle.wait_model.specs.Views.{View, checked, covers, Walk, gone, ahead}
 use Rattle.wait_model.specs.Fold.{after, is_for_page, after_tas_for}
-use Rattle.wait_model.specs.Watches.{
-  head_of,
-  owner,
-  is_bit,
-  same,
-  page,
-  is_woken,
-  is_page,
-  is_done,
-  is_simple,
-  was_clear,
-}
+use Rattle.wait_model.specs.Watches.{head_of, owner, is_bit, same, page, is_woken, is_page, is_done, is_simple}
+use Rattle.wait_model.specs.Watches.{was_clear}
 use Rattle.wait_model.specs.Tables.{Words, Table, met, next, consume}
 use Rattle.wait_model.specs.Laws.{Waits}
 use Rattle.wait_model.specs.Rows.{Lowers}

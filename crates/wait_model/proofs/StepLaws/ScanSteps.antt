@@ -1,24 +1,8 @@
 -- A load of a member word without the lock: where it clears an entry that stands at the head, the owner has not tested
 -- a watch yet, or it covers the entry itself.
 use Rattle.std.proofs.Common.{refl, ap, arith, inl, inr}
-use Rattle.std.specs.Prelude.{
-  ℕ,
-  ◌≡◌,
-  ◌<◌,
-  ◌⊎◌,
-  Option,
-  Some,
-  None,
-  Bool,
-  true,
-  false,
-  not,
-  ◌&&◌,
-  ◌||◌,
-  IsTrue,
-  ◌==◌,
-  if◌then◌else◌,
-}
+use Rattle.std.specs.Prelude.{ℕ, ◌≡◌, ◌<◌, ◌⊎◌, Option, Some, None, Bool, true, false, not, ◌&&◌, ◌||◌, IsTrue, ◌==◌}
+use Rattle.std.specs.Prelude.{if◌then◌else◌}
 use Rattle.wait_model.specs.declared.layout.TheConstants.{ENTRIES}
 use Rattle.wait_model.specs.declared.watches.Watch.{Watch}
 use Rattle.wait_model.specs.declared.watches.Entry.{Entry}

@@ -1,21 +1,6 @@
 -- The stores of the own state and entry, and the load of the own flag.
 use Rattle.std.proofs.Common.{refl, sym, ◌∙◌, ap, subst, arith, inl, inr}
-use Rattle.std.specs.Prelude.{
-  ℕ,
-  ◌≡◌,
-  ◌≢◌,
-  ◌⊎◌,
-  Option,
-  Some,
-  None,
-  Bool,
-  true,
-  false,
-  not,
-  ◌&&◌,
-  ◌||◌,
-  IsTrue,
-}
+use Rattle.std.specs.Prelude.{ℕ, ◌≡◌, ◌≢◌, ◌⊎◌, Option, Some, None, Bool, true, false, not, ◌&&◌, ◌||◌, IsTrue}
 use Rattle.wait_model.specs.declared.watches.Watch.{Watch}
 use Rattle.wait_model.specs.declared.watches.Entry.{Entry}
 use Rattle.wait_model.specs.declared.steps.Step.{Step}
@@ -29,16 +14,8 @@ use Rattle.wait_model.specs.Words.{flag_of}
 use Rattle.wait_model.specs.Laws.{Unheard}
 use Rattle.wait_model.specs.Rows.{Allowed}
 use Rattle.wait_model.proofs.StepLaws.QuietSteps.{back_waits}
-use Rattle.wait_model.proofs.StepLaws.UntouchedParts.{
-  Free,
-  Moves,
-  framed,
-  own_view,
-  own_now,
-  at_view,
-  Outcome,
-  back_view,
-}
+use Rattle.wait_model.proofs.StepLaws.UntouchedParts.{Free, Moves, framed, own_view, own_now, at_view, Outcome}
+use Rattle.wait_model.proofs.StepLaws.UntouchedParts.{back_view}
 use Rattle.wait_model.proofs.Sameness.{same_bit, same_done_is, not_both}
 use Rattle.wait_model.proofs.Functions.{put_case, put_at, bool_or}
 use Rattle.wait_model.specs.declared.steps.Step.TheVariants as step

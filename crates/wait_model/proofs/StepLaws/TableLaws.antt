@@ -9,18 +9,8 @@ use Rattle.wait_model.specs.Facts.{Kept}
 use Rattle.wait_model.specs.Reached.{IsSound}
 use Rattle.wait_model.specs.Rows.{Allowed, AllAllowed}
 use Rattle.wait_model.specs.Tables.{Table, next, start, steps}
-use Rattle.wait_model.specs.Runs.{
-  State,
-  given_by,
-  event_steps,
-  happens,
-  start_state,
-  state_after,
-  state_of,
-  IsRunFrom,
-  IsRun,
-  made_in,
-}
+use Rattle.wait_model.specs.Runs.{State, given_by, event_steps, happens, start_state, state_after, state_of, IsRunFrom}
+use Rattle.wait_model.specs.Runs.{IsRun, made_in}
 use Rattle.wait_model.proofs.RunLaws.EveryRun.{made_of, made_sound, opened_sound, start_sound}
 use Rattle.wait_model.proofs.StepLaws.KeptLaws.{step_keeps}
 use Rattle.wait_model.proofs.HistoryLaws.HoldLooks.{IsLookTold, told_next}

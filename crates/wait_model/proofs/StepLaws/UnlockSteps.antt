@@ -1,44 +1,12 @@
 -- An unlock keeps the law.
 use Rattle.std.proofs.Common.{refl, sym, ◌∙◌, ap, subst, arith, inl, inr}
-use Rattle.std.specs.Prelude.{
-  ℕ,
-  ◌≡◌,
-  ◌-◌,
-  ◌^◌,
-  ◌<◌,
-  ◌≤◌,
-  ◌⊎◌,
-  Option,
-  Some,
-  None,
-  Bool,
-  true,
-  false,
-  cond,
-  not,
-  ◌&&◌,
-  ◌||◌,
-  IsTrue,
-  nat_le,
-  if◌then◌else◌,
-}
+use Rattle.std.specs.Prelude.{ℕ, ◌≡◌, ◌-◌, ◌^◌, ◌<◌, ◌≤◌, ◌⊎◌, Option, Some, None, Bool, true, false, cond, not, ◌&&◌}
+use Rattle.std.specs.Prelude.{◌||◌, IsTrue, nat_le, if◌then◌else◌}
 use Rattle.wait_model.specs.declared.watches.Watch.{Watch}
 use Rattle.wait_model.specs.declared.watches.Entry.{Entry}
 use Rattle.wait_model.specs.Facts.{Facts, Kept}
-use Rattle.wait_model.specs.Views.{
-  Walk,
-  Hold,
-  Checks,
-  View,
-  no_hold,
-  checked,
-  concerns,
-  gone,
-  ahead,
-  covers,
-  warns,
-  all_passed,
-}
+use Rattle.wait_model.specs.Views.{Walk, Hold, Checks, View, no_hold, checked, concerns, gone, ahead, covers, warns}
+use Rattle.wait_model.specs.Views.{all_passed}
 use Rattle.wait_model.specs.Fold.{paused, after_unlock}
 use Rattle.wait_model.specs.Watches.{same, head_of, is_done, is_bit, is_woken, is_simple, owner, is_page}
 use Rattle.wait_model.specs.Tables.{Table, raised_spent, next}

@@ -2,24 +2,8 @@
 use Rattle.wait_model.specs.Admission.{IsGoing}
 use Rattle.std.proofs.lemmas.List.{append_assoc}
 use Rattle.std.proofs.Common.{refl, sym, ◌∙◌, ap, subst, arith}
-use Rattle.std.specs.Prelude.{
-  ℕ,
-  ◌≡◌,
-  ◌≢◌,
-  ◌⊎◌,
-  Bool,
-  true,
-  false,
-  ◌==◌,
-  if◌then◌else◌,
-  Option,
-  Some,
-  None,
-  List,
-  [],
-  ◌∷◌,
-  ◌++◌,
-}
+use Rattle.std.specs.Prelude.{ℕ, ◌≡◌, ◌≢◌, ◌⊎◌, Bool, true, false, ◌==◌, if◌then◌else◌, Option, Some, None, List, []}
+use Rattle.std.specs.Prelude.{◌∷◌, ◌++◌}
 use Rattle.wait_model.specs.declared.watches.Watch.{Watch}
 use Rattle.wait_model.specs.declared.watches.Kind.{Kind}
 use Rattle.wait_model.specs.declared.watches.Kind.TheVariants as kind

@@ -4,26 +4,8 @@ use Rattle.wait_model.specs.Tables.{value_of}
 use Rattle.wait_model.specs.Counts.{taken_done}
 use Rattle.std.proofs.lemmas.Bool.Decides.{nat_tests}
 use Rattle.std.proofs.Common.{refl, sym, ◌∙◌, ap, subst, arith, inl, inr}
-use Rattle.std.specs.Prelude.{
-  ℕ,
-  ◌≡◌,
-  ◌≢◌,
-  Bool,
-  true,
-  false,
-  not,
-  ◌&&◌,
-  ◌==◌,
-  if◌then◌else◌,
-  is_some,
-  Option,
-  Some,
-  None,
-  List,
-  [],
-  ◌∷◌,
-  ◌++◌,
-}
+use Rattle.std.specs.Prelude.{ℕ, ◌≡◌, ◌≢◌, Bool, true, false, not, ◌&&◌, ◌==◌, if◌then◌else◌, is_some, Option, Some}
+use Rattle.std.specs.Prelude.{None, List, [], ◌∷◌, ◌++◌}
 use Rattle.wait_model.specs.declared.watches.Watch.{Watch}
 use Rattle.wait_model.specs.declared.watches.Watch.TheVariants as watch
 use Rattle.wait_model.specs.declared.watches.Entry.{Entry}
@@ -68,76 +50,21 @@ use Rattle.wait_model.specs.Functions.{put}
 use Rattle.wait_model.specs.Tasks.{IsLawful, sleep_of, meets, pending, woken, slept, task_word, state_mask, looks_in}
 use Rattle.wait_model.specs.Watches.{head_of, bare, mask_of, misses, failing, word_of, bit_of, is_page}
 use Rattle.wait_model.specs.Readings.{FailedLoad}
-use Rattle.wait_model.specs.Points.{
-  call_number,
-  is_bit_wait,
-  is_lock,
-  call_watch,
-  call_head,
-  form_of,
-  state_in,
-  mode_of,
-  called_task,
-  given_at,
-}
-use Rattle.wait_model.specs.Programs.{
-  signalled_at,
-  prepared_at,
-  slept_at,
-  signalled,
-  finished,
-  exchange,
-  ask,
-  publishing_event,
-  active_event,
-  is_enough,
-  is_at_end,
-  done_in,
-  select_from,
-  select_next,
-  reached,
-  go,
-  ends_with,
-  zero_answer,
-  load,
-  look_event,
-  past,
-}
+use Rattle.wait_model.specs.Points.{call_number, is_bit_wait, is_lock, call_watch, call_head, form_of, state_in}
+use Rattle.wait_model.specs.Points.{mode_of, called_task, given_at}
+use Rattle.wait_model.specs.Programs.{signalled_at, prepared_at, slept_at, signalled, finished, exchange, ask}
+use Rattle.wait_model.specs.Programs.{publishing_event, active_event, is_enough, is_at_end, done_in, select_from}
+use Rattle.wait_model.specs.Programs.{select_next, reached, go, ends_with, zero_answer, load, look_event, past}
 use Rattle.wait_model.specs.Queues.{place_for}
 use Rattle.wait_model.specs.Runs.{State, own, entry_for, called_at, seen_by, planned}
 use Rattle.wait_model.specs.Reached.{held_at, taken_off, HomeAt, IsHome, pages}
 use Rattle.wait_model.proofs.Functions.{put_same}
 use Rattle.wait_model.proofs.RunLaws.OthersEvents.{goes_not_stands}
 use Rattle.wait_model.proofs.WaitLaws.OutsideStages.{unset}
-use Rattle.wait_model.proofs.WaitLaws.LeavingStages.{
-  failed_more,
-  slept_down,
-  then_by,
-  Takes,
-  Stores,
-  IsGood,
-  calm,
-  either,
-  onward_good,
-  off_good,
-  next_good,
-  awake_good,
-}
-use Rattle.wait_model.proofs.WaitLaws.WaitStages.{
-  Stage,
-  outside,
-  tested,
-  dozing,
-  stage,
-  IsTested,
-  IsAt,
-  IsStaged,
-  FitsStage,
-  IsAwake,
-  own_up,
-  napping,
-  low_woken,
-}
+use Rattle.wait_model.proofs.WaitLaws.LeavingStages.{failed_more, slept_down, then_by, Takes, Stores, IsGood, calm}
+use Rattle.wait_model.proofs.WaitLaws.LeavingStages.{either, onward_good, off_good, next_good, awake_good}
+use Rattle.wait_model.proofs.WaitLaws.WaitStages.{Stage, outside, tested, dozing, stage, IsTested, IsAt, IsStaged}
+use Rattle.wait_model.proofs.WaitLaws.WaitStages.{FitsStage, IsAwake, own_up, napping, low_woken}
 use Rattle.wait_model.specs.declared.points.PagePoint.{PagePoint}
 use Rattle.wait_model.specs.declared.points.PageStage.{PageStage}
 use Rattle.wait_model.specs.declared.points.PageStage.TheVariants as staging

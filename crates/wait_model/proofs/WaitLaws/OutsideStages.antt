@@ -31,19 +31,8 @@ use Rattle.wait_model.specs.Tasks.{meets}
 use Rattle.wait_model.specs.Watches.{mask_of, misses}
 use Rattle.wait_model.specs.Points.{is_lock, call_aim, call_watch, mode_of}
 use Rattle.wait_model.specs.Tables.{value_of}
-use Rattle.wait_model.specs.Programs.{
-  go,
-  ends_with,
-  past,
-  onward,
-  reached,
-  call_entry,
-  call_next,
-  active_event,
-  select_next,
-  is_at_end,
-  is_enough,
-}
+use Rattle.wait_model.specs.Programs.{go, ends_with, past, onward, reached, call_entry, call_next, active_event}
+use Rattle.wait_model.specs.Programs.{select_next, is_at_end, is_enough}
 use Rattle.wait_model.specs.Runs.{State, own, seen_by, planned}
 use Rattle.wait_model.specs.declared.points.PageStage.TheVariants as staging
 use Rattle.wait_model.specs.declared.points.PagePoint.TheVariants as paging

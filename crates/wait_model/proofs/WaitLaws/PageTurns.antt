@@ -2,23 +2,8 @@
 -- and whoever sleeps has found the page set since its entry was queued.
 use Rattle.std.proofs.lemmas.Bool.Decides.{nat_tests}
 use Rattle.std.proofs.Common.{refl, sym, ◌∙◌, ap, subst, arith, inl, inr}
-use Rattle.std.specs.Prelude.{
-  ℕ,
-  ◌≡◌,
-  ◌≢◌,
-  ◌⊎◌,
-  Bool,
-  true,
-  false,
-  not,
-  ◌||◌,
-  ◌==◌,
-  if◌then◌else◌,
-  is_some,
-  Option,
-  Some,
-  None,
-}
+use Rattle.std.specs.Prelude.{ℕ, ◌≡◌, ◌≢◌, ◌⊎◌, Bool, true, false, not, ◌||◌, ◌==◌, if◌then◌else◌, is_some, Option}
+use Rattle.std.specs.Prelude.{Some, None}
 use Rattle.wait_model.specs.declared.watches.Watch.{Watch}
 use Rattle.wait_model.specs.declared.watches.Mode.TheVariants as mode
 use Rattle.wait_model.specs.declared.watches.Entry.{Entry}
@@ -56,28 +41,11 @@ use Rattle.wait_model.specs.Fold.{after_all, found_set}
 use Rattle.wait_model.specs.Tables.{Table, value_of}
 use Rattle.wait_model.specs.Tables as tables
 use Rattle.wait_model.specs.Points.{call_watch, call_head, state_in, given_at}
-use Rattle.wait_model.specs.Programs.{
-  go,
-  ends_with,
-  exchange,
-  zero_answer,
-  interrupted,
-  page_event,
-  page_queue,
-  call_fails,
-}
+use Rattle.wait_model.specs.Programs.{go, ends_with, exchange, zero_answer, interrupted, page_event, page_queue}
+use Rattle.wait_model.specs.Programs.{call_fails}
 use Rattle.wait_model.specs.Reached.{handed_by, HomeAt, IsHome, pages, seated, zone}
-use Rattle.wait_model.specs.Runs.{
-  State,
-  own,
-  planned,
-  seen_by,
-  progress_at,
-  event_steps,
-  is_publishing,
-  after_event,
-  entry_for,
-}
+use Rattle.wait_model.specs.Runs.{State, own, planned, seen_by, progress_at, event_steps, is_publishing, after_event}
+use Rattle.wait_model.specs.Runs.{entry_for}
 use Rattle.wait_model.specs.Queues.{place_for}
 use Rattle.wait_model.specs.Selections.{is_page_lock}
 use Rattle.wait_model.proofs.Functions.{put_at, put_case, put_same}

@@ -1,23 +1,8 @@
 -- In every run whoever waits for a page is told of it before its entry is taken off.
 use Rattle.std.proofs.lemmas.Bool.Decides.{eqb_tells}
 use Rattle.std.proofs.Common.{refl, sym, ◌∙◌, ap, subst, arith, inl, inr}
-use Rattle.std.specs.Prelude.{
-  ℕ,
-  ◌≡◌,
-  ◌≢◌,
-  ◌+◌,
-  ◌≤◌,
-  Bool,
-  true,
-  false,
-  if◌then◌else◌,
-  Option,
-  Some,
-  None,
-  List,
-  [],
-  ◌∷◌,
-}
+use Rattle.std.specs.Prelude.{ℕ, ◌≡◌, ◌≢◌, ◌+◌, ◌≤◌, Bool, true, false, if◌then◌else◌, Option, Some, None, List, []}
+use Rattle.std.specs.Prelude.{◌∷◌}
 use Rattle.wait_model.specs.declared.layout.TheConstants.{EVENTS}
 use Rattle.wait_model.specs.declared.watches.Mode.TheVariants as mode
 use Rattle.wait_model.specs.declared.watches.Entry.{Entry}
@@ -50,25 +35,9 @@ use Rattle.wait_model.specs.Tables.{Table, value_of}
 use Rattle.wait_model.specs.Points.{call_watch, given_at}
 use Rattle.wait_model.specs.Programs.{program_start, past}
 use Rattle.wait_model.specs.Reached.{held_at, handed_by, HomeAt, IsTaken, IsSound, IsSoundCall, pages, zone}
-use Rattle.wait_model.specs.Runs.{
-  State,
-  own,
-  given_by,
-  planned,
-  seen_by,
-  progress_at,
-  progress_after,
-  event_steps,
-  happens,
-  start_state,
-  state_after,
-  state_of,
-  Continues,
-  IsItem,
-  IsRunFrom,
-  IsRun,
-  made_in,
-}
+use Rattle.wait_model.specs.Runs.{State, own, given_by, planned, seen_by, progress_at, progress_after, event_steps}
+use Rattle.wait_model.specs.Runs.{happens, start_state, state_after, state_of, Continues, IsItem, IsRunFrom, IsRun}
+use Rattle.wait_model.specs.Runs.{made_in}
 use Rattle.wait_model.proofs.Functions.{put_at, put_same, put_other}
 use Rattle.wait_model.proofs.HistoryLaws.HoldLooks.{steps_own, steps_other}
 use Rattle.wait_model.proofs.RunLaws.OthersEvents.{Changes}
@@ -77,58 +46,14 @@ use Rattle.wait_model.proofs.RunLaws.PagelessPoints.{IsElsewhere, IsApart, progr
 use Rattle.wait_model.proofs.RunLaws.PagesHanded.{IsHanding, handing_of, standing_plain}
 use Rattle.wait_model.proofs.WaitLaws.WaitStages.{FitsStage, IsRoused, others_roused, own_up, roused_up}
 use Rattle.wait_model.proofs.WaitLaws.WaitStages.{low_woken}
-use Rattle.wait_model.proofs.WaitLaws.Waiters.{
-  TakesAt,
-  IsAlert,
-  IsTurn,
-  turn_of,
-  made_alert,
-  opened_alert,
-  start_alert,
-  closed_up,
-  page_zone,
-}
-use Rattle.wait_model.proofs.WaitLaws.PageTurns.{
-  A,
-  X,
-  N,
-  B,
-  V,
-  Lands,
-  told_by,
-  roused_by,
-  has_asked,
-  is_turning,
-  IsUp,
-  FoundSet,
-  IsPaged,
-  is_paging,
-  ArePagesTold,
-  told_hands,
-  roused_told,
-  apart_told,
-  paging_locks,
-  turning_paging,
-  any_paging,
-  no_zone,
-  elsewhere_paging,
-  flag_stays,
-  went,
-  up_still,
-  page_lands,
-  lands_paged,
-  lands_untold,
-  moved_paged,
-  unlocked_paged,
-  turn_off,
-  leads_to_turn,
-  page_found,
-  up_next,
-  awake_event,
-  turning_page,
-  hands_not,
-  woken_runs,
-}
+use Rattle.wait_model.proofs.WaitLaws.Waiters.{TakesAt, IsAlert, IsTurn, turn_of, made_alert, opened_alert, start_alert}
+use Rattle.wait_model.proofs.WaitLaws.Waiters.{closed_up, page_zone}
+use Rattle.wait_model.proofs.WaitLaws.PageTurns.{A, X, N, B, V, Lands, told_by, roused_by, has_asked, is_turning, IsUp}
+use Rattle.wait_model.proofs.WaitLaws.PageTurns.{FoundSet, IsPaged, is_paging, ArePagesTold, told_hands, roused_told}
+use Rattle.wait_model.proofs.WaitLaws.PageTurns.{apart_told, paging_locks, turning_paging, any_paging, no_zone}
+use Rattle.wait_model.proofs.WaitLaws.PageTurns.{elsewhere_paging, flag_stays, went, up_still, page_lands, lands_paged}
+use Rattle.wait_model.proofs.WaitLaws.PageTurns.{lands_untold, moved_paged, unlocked_paged, turn_off, leads_to_turn}
+use Rattle.wait_model.proofs.WaitLaws.PageTurns.{page_found, up_next, awake_event, turning_page, hands_not, woken_runs}
 
 -- one event of a run
 module _ (s : State) (n me : ℕ) (e : Event) (found : ℕ) (sound : IsSound s n)

@@ -38,13 +38,7 @@ use Rattle.wait_model.proofs.HistoryLaws.NoLostWake.{no_run_loses_wake, tas_told
 use Rattle.wait_model.proofs.HistoryLaws.ZeroLoads.{zero_told}
 use Rattle.wait_model.proofs.WaitLaws.WaitStages.{dozing, stage, IsTested, IsListening}
 use Rattle.wait_model.proofs.WaitLaws.Waiters.{IsDownInWait, down_of}
-use Rattle.wait_model.proofs.WaitLaws.PageTurns.{
-  ArePagesTold,
-  FoundSet,
-  IsPaged,
-  is_paging,
-  is_turning,
-}
+use Rattle.wait_model.proofs.WaitLaws.PageTurns.{ArePagesTold, FoundSet, IsPaged, is_paging, is_turning}
 use Rattle.wait_model.proofs.WaitLaws.PageWaiters.{told_of}
 use Rattle.wait_model.proofs.WaitLaws.ZeroCounts.{IsZero, ZeroAt, zero_of}
 use Rattle.wait_model.proofs.RunLaws.PagesHanded.{kind_plain}

@@ -6,27 +6,8 @@ use Rattle.wait_model.proofs.WordLaws.CondWords.{head_of_bare, set_rest}
 use Rattle.wait_model.specs.Watches.{bare, kind_for, is_page}
 use Rattle.std.proofs.lemmas.Bool.Decides.{eqb_tells}
 use Rattle.std.proofs.Common.{refl, sym, ◌∙◌, ap, subst, arith, inl, inr}
-use Rattle.std.specs.Prelude.{
-  ℕ,
-  ◌≡◌,
-  ◌≢◌,
-  ◌+◌,
-  ◌≤◌,
-  ◌⊎◌,
-  Bool,
-  true,
-  false,
-  ◌==◌,
-  if◌then◌else◌,
-  is_some,
-  Option,
-  Some,
-  None,
-  List,
-  [],
-  ◌∷◌,
-  ◌++◌,
-}
+use Rattle.std.specs.Prelude.{ℕ, ◌≡◌, ◌≢◌, ◌+◌, ◌≤◌, ◌⊎◌, Bool, true, false, ◌==◌, if◌then◌else◌, is_some, Option, Some}
+use Rattle.std.specs.Prelude.{None, List, [], ◌∷◌, ◌++◌}
 use Rattle.wait_model.specs.declared.watches.Entry.{Entry}
 use Rattle.wait_model.specs.declared.tasks.TaskRecord.{TaskRecord}
 use Rattle.wait_model.specs.declared.steps.Step.{Step}
@@ -57,71 +38,20 @@ use Rattle.wait_model.specs.Watches.{head_of}
 use Rattle.wait_model.specs.Tables.{Table, next, steps}
 use Rattle.wait_model.specs.Points.{call_watch}
 use Rattle.wait_model.specs.Programs.{program_start}
-use Rattle.wait_model.specs.Runs.{
-  State,
-  given_by,
-  own,
-  event_steps,
-  planned,
-  progress_after,
-  after_event,
-  happens,
-  start_state,
-  state_after,
-  state_of,
-  is_open,
-  Continues,
-  IsItem,
-  IsRunFrom,
-  IsRun,
-  made_in,
-}
-use Rattle.wait_model.specs.Reached.{
-  held_at,
-  taken_by,
-  HomeAt,
-  IsTaken,
-  IsPlaced,
-  IsSound,
-  handed_by,
-  Zone,
-  absent,
-  waits,
-  free,
-  stands,
-  parts,
-  pages,
-  seated,
-  zone,
-  IsHome,
-}
+use Rattle.wait_model.specs.Runs.{State, given_by, own, event_steps, planned, progress_after, after_event, happens}
+use Rattle.wait_model.specs.Runs.{start_state, state_after, state_of, is_open, Continues, IsItem, IsRunFrom, IsRun}
+use Rattle.wait_model.specs.Runs.{made_in}
+use Rattle.wait_model.specs.Reached.{held_at, taken_by, HomeAt, IsTaken, IsPlaced, IsSound, handed_by, Zone, absent}
+use Rattle.wait_model.specs.Reached.{waits, free, stands, parts, pages, seated, zone, IsHome}
 use Rattle.wait_model.proofs.Functions.{put_at, put_case, put_same, put_other}
 use Rattle.wait_model.proofs.HistoryLaws.HoldLooks.{looks_same}
 use Rattle.wait_model.proofs.HistoryLaws.UnlockedLooks.{peeks_same}
 use Rattle.wait_model.proofs.RunLaws.OthersEvents.{own_one, Changes}
 use Rattle.wait_model.proofs.RunLaws.FineEvents.{one_there}
 use Rattle.wait_model.proofs.RunLaws.EveryRun.{IsMade, made_of, opened_sound, made_sound, start_sound}
-use Rattle.wait_model.proofs.WaitLaws.WaitStages.{
-  Stage,
-  outside,
-  inside,
-  testing,
-  tested,
-  dozing,
-  napping,
-  stage,
-  IsTested,
-  IsAt,
-  IsStaged,
-  IsListening,
-  FitsStage,
-  IsUpInStage,
-  IsRoused,
-  IsLeftStage,
-  roused_up,
-  staged_still,
-  others_roused,
-}
+use Rattle.wait_model.proofs.WaitLaws.WaitStages.{Stage, outside, inside, testing, tested, dozing, napping, stage}
+use Rattle.wait_model.proofs.WaitLaws.WaitStages.{IsTested, IsAt, IsStaged, IsListening, FitsStage, IsUpInStage}
+use Rattle.wait_model.proofs.WaitLaws.WaitStages.{IsRoused, IsLeftStage, roused_up, staged_still, others_roused}
 use Rattle.wait_model.proofs.WaitLaws.LeavingStages.{stage_in, Takes, Stores, IsGood}
 use Rattle.wait_model.proofs.WaitLaws.NextStages.{good}
 use Rattle.wait_model.specs.declared.points.PagePoint.TheVariants as paging

@@ -2,27 +2,8 @@
 -- store of a state.
 use Rattle.std.proofs.lemmas.Bool.Decides.{nat_tests}
 use Rattle.std.proofs.Common.{refl, sym, ◌∙◌, ap, subst, arith}
-use Rattle.std.specs.Prelude.{
-  ℕ,
-  ◌≡◌,
-  ◌+◌,
-  ◌≤◌,
-  Bool,
-  true,
-  false,
-  not,
-  ◌&&◌,
-  ◌||◌,
-  ◌==◌,
-  if◌then◌else◌,
-  is_some,
-  Option,
-  Some,
-  None,
-  List,
-  [],
-  ◌∷◌,
-}
+use Rattle.std.specs.Prelude.{ℕ, ◌≡◌, ◌+◌, ◌≤◌, Bool, true, false, not, ◌&&◌, ◌||◌, ◌==◌, if◌then◌else◌, is_some}
+use Rattle.std.specs.Prelude.{Option, Some, None, List, [], ◌∷◌}
 use Rattle.wait_model.specs.declared.layout.TheConstants.{EVENTS}
 use Rattle.wait_model.specs.declared.calls.Call.{Call}
 use Rattle.wait_model.specs.declared.calls.Call.TheVariants as calls
@@ -46,36 +27,12 @@ use Rattle.wait_model.specs.Watches.{head_of, misses, failing}
 use Rattle.wait_model.specs.Tables.{value_of, steps}
 use Rattle.wait_model.specs.Views.{View, Walk, all_passed}
 use Rattle.wait_model.specs.Fold.{after_all, after_unlock, holding}
-use Rattle.wait_model.specs.Points.{
-  call_watch,
-  call_head,
-  call_number,
-  is_await,
-  is_bit_wait,
-  is_lock,
-  state_in,
-  given_at,
-}
+use Rattle.wait_model.specs.Points.{call_watch, call_head, call_number, is_await, is_bit_wait, is_lock, state_in}
+use Rattle.wait_model.specs.Points.{given_at}
 use Rattle.wait_model.specs.Programs.{program_start, signalled_at, prepared_at, slept_at, ask, acted, finished}
 use Rattle.wait_model.specs.Programs.{look_event}
-use Rattle.wait_model.specs.Runs.{
-  State,
-  own,
-  given_by,
-  seen_by,
-  event_steps,
-  planned,
-  progress_at,
-  progress_after,
-  happens,
-  start_state,
-  state_after,
-  state_of,
-  Continues,
-  IsRunFrom,
-  IsRun,
-  made_in,
-}
+use Rattle.wait_model.specs.Runs.{State, own, given_by, seen_by, event_steps, planned, progress_at, progress_after}
+use Rattle.wait_model.specs.Runs.{happens, start_state, state_after, state_of, Continues, IsRunFrom, IsRun, made_in}
 use Rattle.wait_model.specs.Reached.{IsFitted, IsSoundCall, IsSound, held_at}
 use Rattle.wait_model.proofs.Functions.{put_at}
 use Rattle.wait_model.proofs.HistoryLaws.HoldLooks.{steps_own, steps_other}

@@ -3,47 +3,12 @@ use Rattle.std.proofs.Common.{refl, sym, ◌∙◌, ap, subst, arith, inl, inr, 
 use Rattle.std.proofs.lemmas.Bool.{cases_lt}
 use Rattle.std.proofs.lemmas.Bool.Decides.{eqb_tells}
 use Rattle.std.proofs.lemmas.Nat.{one_shl, or_lt, and_le_l, pow_pos, pow_below}
-use Rattle.std.proofs.lemmas.Nat.Bits.{
-  bit_at_or,
-  bit_at_and,
-  bit_at-pow_same,
-  bit_at-pow_other,
-  bit_at-lt,
-  bit_at_above,
-  bit_at_not,
-  bit_at_cat_low,
-  bit_at_cat_high,
-  shr_and_one,
-  and_pow,
-  same_from_bits_below,
-}
+use Rattle.std.proofs.lemmas.Nat.Bits.{bit_at_or, bit_at_and, bit_at-pow_same, bit_at-pow_other, bit_at-lt}
+use Rattle.std.proofs.lemmas.Nat.Bits.{bit_at_above, bit_at_not, bit_at_cat_low, bit_at_cat_high, shr_and_one, and_pow}
+use Rattle.std.proofs.lemmas.Nat.Bits.{same_from_bits_below}
 use Rattle.std.specs.Int as int
-use Rattle.std.specs.Prelude.{
-  ℕ,
-  zero,
-  suc,
-  ◌≡◌,
-  ◌≢◌,
-  ◌<◌,
-  ◌≤◌,
-  ◌⊎◌,
-  ◌+◌,
-  ◌-◌,
-  ◌*◌,
-  ◌/◌,
-  ◌%◌,
-  ◌^◌,
-  Bool,
-  true,
-  false,
-  not,
-  ◌==◌,
-  if◌then◌else◌,
-  bit_and,
-  bit_or,
-  min,
-  max,
-}
+use Rattle.std.specs.Prelude.{ℕ, zero, suc, ◌≡◌, ◌≢◌, ◌<◌, ◌≤◌, ◌⊎◌, ◌+◌, ◌-◌, ◌*◌, ◌/◌, ◌%◌, ◌^◌, Bool, true, false}
+use Rattle.std.specs.Prelude.{not, ◌==◌, if◌then◌else◌, bit_and, bit_or, min, max}
 use Rattle.wait_model.specs.declared.layout.TheConstants.{WORD_BITS}
 use Rattle.wait_model.specs.declared.watches.Watch.TheVariants as watch
 use Rattle.wait_model.specs.Functions.{put}

@@ -1,59 +1,19 @@
 -- The words of conditions by their numbers, and what a store of one leaves.
 use Rattle.std.proofs.lemmas.Bool.Decides.{nat_tests}
 use Rattle.std.proofs.Common.{refl, ap, arith, inl, inr}
-use Rattle.std.specs.Prelude.{
-  ℕ,
-  ◌≡◌,
-  ◌+◌,
-  ◌-◌,
-  ◌*◌,
-  ◌<◌,
-  Bool,
-  true,
-  false,
-  ◌||◌,
-  ◌==◌,
-  nat_lt,
-  if◌then◌else◌,
-  Some,
-  None,
-}
-use Rattle.wait_model.specs.declared.layout.TheConstants.{
-  PLAIN_CONDITIONS,
-  FIRST_SIMPLE,
-  COMPLETIONS,
-  BIT_WORDS,
-  WORD_BITS,
-  VARIABLES,
-  FIRST_DONE,
-  FIRST_BIT_WORD,
-  FIRST_VARIABLE,
-  CONDITIONS,
-  HASHED_HEADS,
-  HEADS,
-  CONDITION_AT,
-  ALL_DONE,
-}
+use Rattle.std.specs.Prelude.{ℕ, ◌≡◌, ◌+◌, ◌-◌, ◌*◌, ◌<◌, Bool, true, false, ◌||◌, ◌==◌, nat_lt, if◌then◌else◌, Some}
+use Rattle.std.specs.Prelude.{None}
+use Rattle.wait_model.specs.declared.layout.TheConstants.{PLAIN_CONDITIONS, FIRST_SIMPLE, COMPLETIONS, BIT_WORDS}
+use Rattle.wait_model.specs.declared.layout.TheConstants.{WORD_BITS, VARIABLES, FIRST_DONE, FIRST_BIT_WORD}
+use Rattle.wait_model.specs.declared.layout.TheConstants.{FIRST_VARIABLE, CONDITIONS, HASHED_HEADS, HEADS, CONDITION_AT}
+use Rattle.wait_model.specs.declared.layout.TheConstants.{ALL_DONE}
 use Rattle.wait_model.specs.declared.watches.Watch.{Watch}
 use Rattle.wait_model.specs.declared.watches.Watch.TheVariants as watch
 use Rattle.wait_model.specs.declared.watches.Kind.{Kind}
 use Rattle.wait_model.specs.declared.watches.Kind.TheVariants as kind
 use Rattle.wait_model.specs.declared.steps.Step.TheVariants as step
-use Rattle.wait_model.specs.Watches.{
-  hashed,
-  head_of,
-  IsThere,
-  number_of,
-  bare,
-  kind_for,
-  counted,
-  is_done,
-  is_bit,
-  is_var,
-  is_woken,
-  is_simple,
-  is_page,
-}
+use Rattle.wait_model.specs.Watches.{hashed, head_of, IsThere, number_of, bare, kind_for, counted, is_done, is_bit}
+use Rattle.wait_model.specs.Watches.{is_var, is_woken, is_simple, is_page}
 use Rattle.wait_model.specs.declared.calls.Call.{Call}
 use Rattle.wait_model.specs.declared.calls.Call.TheVariants as calls
 use Rattle.wait_model.specs.Points.{call_watch, is_await, form_of}

@@ -1,36 +1,9 @@
 -- Words are read back to what they were made of.
 use Rattle.std.proofs.Common.{refl, sym, ◌∙◌, ap, subst, arith, inl, inr}
-use Rattle.std.specs.Prelude.{
-  ℕ,
-  ◌≡◌,
-  ◌+◌,
-  ◌-◌,
-  ◌*◌,
-  ◌/◌,
-  ◌%◌,
-  ◌^◌,
-  ◌<◌,
-  ◌⊎◌,
-  Some,
-  None,
-  Bool,
-  true,
-  false,
-  ◌==◌,
-  nat_lt,
-  if◌then◌else◌,
-  ◌||◌,
-}
-use Rattle.wait_model.specs.declared.layout.TheConstants.{
-  PLAIN_CONDITIONS,
-  WORD_BITS,
-  FIRST_PLAIN_HEAD,
-  PLACES,
-  STATES,
-  RUNNABLE,
-  SIGNAL,
-  FATAL,
-}
+use Rattle.std.specs.Prelude.{ℕ, ◌≡◌, ◌+◌, ◌-◌, ◌*◌, ◌/◌, ◌%◌, ◌^◌, ◌<◌, ◌⊎◌, Some, None, Bool, true, false, ◌==◌}
+use Rattle.std.specs.Prelude.{nat_lt, if◌then◌else◌, ◌||◌}
+use Rattle.wait_model.specs.declared.layout.TheConstants.{PLAIN_CONDITIONS, WORD_BITS, FIRST_PLAIN_HEAD, PLACES, STATES}
+use Rattle.wait_model.specs.declared.layout.TheConstants.{RUNNABLE, SIGNAL, FATAL}
 use Rattle.wait_model.specs.declared.watches.Watch.{Watch}
 use Rattle.wait_model.specs.declared.watches.Kind.{Kind}
 use Rattle.wait_model.specs.declared.watches.Entry.{Entry}
@@ -41,23 +14,8 @@ use Rattle.wait_model.specs.Watches.{head_of, owner}
 use Rattle.wait_model.specs.declared.queues.Mark.{Mark}
 use Rattle.wait_model.specs.Tables.{mark_of}
 use Rattle.wait_model.specs.Locations.{mark_word}
-use Rattle.wait_model.specs.Words.{
-  flag,
-  kind_code,
-  kind_numbered,
-  key_of,
-  watch_at,
-  entry_word,
-  Suited,
-  IsLawfulEntry,
-  entry_of,
-  head_word,
-  held_of,
-  spent_of,
-  flag_of,
-  flag_word,
-  done_word,
-}
+use Rattle.wait_model.specs.Words.{flag, kind_code, kind_numbered, key_of, watch_at, entry_word, Suited, IsLawfulEntry}
+use Rattle.wait_model.specs.Words.{entry_of, head_word, held_of, spent_of, flag_of, flag_word, done_word}
 use Rattle.wait_model.specs.declared.watches.Watch.TheVariants as watch
 use Rattle.wait_model.specs.declared.watches.Kind.TheVariants as kind
 

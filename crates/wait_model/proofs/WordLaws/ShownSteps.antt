@@ -1,52 +1,10 @@
 -- The words show the table after an event, where they showed the one before it.
 use Rattle.std.proofs.lemmas.Bool.Decides.{eqb_tells}
-use Rattle.std.proofs.Common.{
-  refl,
-  sym,
-  ◌∙◌,
-  ap,
-  subst,
-  arith,
-  inl,
-  inr,
-  get_or-set_other,
-  get_or-set_same,
-  length-set,
-}
-use Rattle.std.specs.Prelude.{
-  ℕ,
-  zero,
-  suc,
-  ◌≡◌,
-  ◌≢◌,
-  ◌+◌,
-  ◌*◌,
-  ◌<◌,
-  ◌≤◌,
-  ◌⊎◌,
-  Option,
-  Bool,
-  true,
-  false,
-  ◌==◌,
-  List,
-  length,
-  slice_set,
-  slice_index,
-  if◌then◌else◌,
-}
-use Rattle.wait_model.specs.declared.layout.TheConstants.{
-  TASKS,
-  SLOTS,
-  BIT_WORDS,
-  WORD_BITS,
-  FIRST_BIT_WORD,
-  TASK_AT,
-  ENTRY_AT,
-  CONDITION_AT,
-  WORDS,
-  RUNNABLE,
-}
+use Rattle.std.proofs.Common.{refl, sym, ◌∙◌, ap, subst, arith, inl, inr, get_or-set_other, get_or-set_same, length-set}
+use Rattle.std.specs.Prelude.{ℕ, zero, suc, ◌≡◌, ◌≢◌, ◌+◌, ◌*◌, ◌<◌, ◌≤◌, ◌⊎◌, Option, Bool, true, false, ◌==◌, List}
+use Rattle.std.specs.Prelude.{length, slice_set, slice_index, if◌then◌else◌}
+use Rattle.wait_model.specs.declared.layout.TheConstants.{TASKS, SLOTS, BIT_WORDS, WORD_BITS, FIRST_BIT_WORD, TASK_AT}
+use Rattle.wait_model.specs.declared.layout.TheConstants.{ENTRY_AT, CONDITION_AT, WORDS, RUNNABLE}
 use Rattle.wait_model.specs.declared.calls.Event.{Event}
 use Rattle.wait_model.specs.declared.points.Given.{Given}
 use Rattle.wait_model.specs.declared.watches.Entry as entries
@@ -60,32 +18,9 @@ use Rattle.wait_model.specs.Reached.{Allows, Joins}
 use Rattle.wait_model.specs.Tasks.{task_word}
 use Rattle.wait_model.specs.Tables.{Words, Table, next, value_of, publish, consume, start}
 use Rattle.wait_model.specs.Words.{entry_word, head_word, bit_word, done_word}
-use Rattle.wait_model.specs.Locations.{
-  Location,
-  Base,
-  Task,
-  Entry,
-  Flag,
-  Bookmark,
-  Head,
-  Plain,
-  Done,
-  Bits,
-  Var,
-  Tally,
-  Cell,
-  Claim,
-  Member,
-  Next,
-  Serving,
-  IsLocation,
-  position_of,
-  word_in,
-  location_of,
-  cond_at,
-  mark_word,
-  Shows,
-}
+use Rattle.wait_model.specs.Locations.{Location, Base, Task, Entry, Flag, Bookmark, Head, Plain, Done, Bits, Var, Tally}
+use Rattle.wait_model.specs.Locations.{Cell, Claim, Member, Next, Serving, IsLocation, position_of, word_in}
+use Rattle.wait_model.specs.Locations.{location_of, cond_at, mark_word, Shows}
 use Rattle.wait_model.specs.Views.{View}
 use Rattle.wait_model.specs.Functions.{put}
 use Rattle.wait_model.proofs.HistoryLaws.HoldLooks.{SameWords, looks_same}

@@ -1,13 +1,8 @@
 -- Worked scripts of setters that are followed through time, computed.
 use Rattle.std.proofs.Common.{refl}
 use Rattle.std.specs.Prelude.{◌≡◌, ◌+◌, ◌&&◌, Bool, true, false, pos, List, [], ◌∷◌, ◌++◌, take, drop}
-use Rattle.wait_model.specs.declared.layout.TheConstants.{
-  FIRST_PLACE,
-  FIRST_PLAIN_HEAD,
-  FIRST_DONE_HEAD,
-  FIRST_DONE,
-  ALL_DONE,
-}
+use Rattle.wait_model.specs.declared.layout.TheConstants.{FIRST_PLACE, FIRST_PLAIN_HEAD, FIRST_DONE_HEAD, FIRST_DONE}
+use Rattle.wait_model.specs.declared.layout.TheConstants.{ALL_DONE}
 use Rattle.wait_model.specs.declared.watches.Watch.{Watch}
 use Rattle.wait_model.specs.declared.watches.Watch.TheVariants as watch
 use Rattle.wait_model.specs.declared.watches.Mode.TheVariants as modes
@@ -27,15 +22,8 @@ use Rattle.wait_model.specs.Words.{bit_at, bit_word, entry_of}
 use Rattle.wait_model.specs.Tasks.{meets}
 use Rattle.wait_model.specs.Followed.{StaysMet, IsFollowed}
 use Rattle.wait_model.specs.Worked.{replay}
-use Rattle.wait_model.specs.WorkedFollowed.{
-  cleared_alone,
-  completed_for_all,
-  set_and_woken,
-  until_set,
-  until_woken,
-  whole_run,
-  WorkedFollowed,
-}
+use Rattle.wait_model.specs.WorkedFollowed.{cleared_alone, completed_for_all, set_and_woken, until_set, until_woken}
+use Rattle.wait_model.specs.WorkedFollowed.{whole_run, WorkedFollowed}
 use Rattle.wait_model.proofs.Functions.{both_left, both_right}
 
 -- the watch is set all the while

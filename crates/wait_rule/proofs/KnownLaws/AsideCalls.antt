@@ -19,64 +19,25 @@ use Rattle.wait_model.proofs.PermitLaws.OwnTurns.{deals_snoc}
 use Rattle.wait_rule.specs.declared.journal.Item.{Item}
 use Rattle.wait_rule.specs.declared.journal.Item.TheVariants as item
 use Rattle.wait_rule.specs.declared.journal.Journal.{Journal}
-use Rattle.wait_rule.specs.Aside.{
-  CallsGrowAside,
-  GrowsAside,
-  IsAsideStep,
-  ItemsStayOff,
-  WalksGrowAside,
-  raised_by,
-  signals_of,
-}
+use Rattle.wait_rule.specs.Aside.{CallsGrowAside, GrowsAside, IsAsideStep, ItemsStayOff, WalksGrowAside, raised_by}
+use Rattle.wait_rule.specs.Aside.{signals_of}
 use Rattle.wait_rule.specs.LeftEntries.{LeftOff}
 use Rattle.wait_rule.specs.Items.{AddsNone, steps_of}
 use Rattle.wait_rule.specs.Journals.{pushed}
 use Rattle.wait_rule.specs.Known.{Known}
-use Rattle.wait_rule.specs.Pipes.{
-  End,
-  after_end_look,
-  after_end_publish,
-  end_from,
-  end_of,
-  end_step,
-  if_mine,
-  if_unclosed,
-  no_end,
-  other_end,
-}
+use Rattle.wait_rule.specs.Pipes.{End, after_end_look, after_end_publish, end_from, end_of, end_step, if_mine}
+use Rattle.wait_rule.specs.Pipes.{if_unclosed, no_end, other_end}
 use Rattle.wait_rule.specs.Says.{added, history_of}
 use Rattle.wait_rule.specs.Tallies.{amounts_of}
-use Rattle.wait_rule.specs.Transitions.{
-  AreLooks,
-  AreScansOf,
-  Goes,
-  IsMadeFor,
-  IsStepFor,
-  OnlyLooks,
-  Program,
-  StepOrLook,
-  Transition,
-  after_step_or_look,
-  after_transition,
-  by_look,
-  by_step,
-  call_program,
-  walk_point,
-  walk_program,
-  with_lock,
-}
+use Rattle.wait_rule.specs.Transitions.{AreLooks, AreScansOf, Goes, IsMadeFor, IsStepFor, OnlyLooks, Program}
+use Rattle.wait_rule.specs.Transitions.{StepOrLook, Transition, after_step_or_look, after_transition, by_look, by_step}
+use Rattle.wait_rule.specs.Transitions.{call_program, walk_point, walk_program, with_lock}
 use Rattle.wait_rule.proofs.KnownLaws.CalledPermits.{order_as}
 use Rattle.wait_rule.proofs.KnownLaws.CarriedEnds.{looks_ends, scans_ends}
 use Rattle.wait_rule.proofs.KnownLaws.CountedTallies.{amounts_none, looks_add, scans_add}
 use Rattle.wait_rule.proofs.KnownLaws.HandedSteps.{order_front}
 use Rattle.wait_rule.proofs.KnownLaws.PipeItems.{end_append}
-use Rattle.wait_rule.proofs.KnownLaws.SilentCalls.{
-  GoesElsewhere,
-  IsSilent,
-  goes_elsewhere,
-  program_quiet,
-  walk_quiet,
-}
+use Rattle.wait_rule.proofs.KnownLaws.SilentCalls.{GoesElsewhere, IsSilent, goes_elsewhere, program_quiet, walk_quiet}
 use Rattle.wait_rule.proofs.KnownLaws.TallySteps.{amounts_append}
 use Rattle.wait_rule.proofs.TableSteps.ItemLists.{steps_append}
 

@@ -16,33 +16,12 @@ use Rattle.wait_rule.specs.declared.journal.Item.{Item}
 use Rattle.wait_rule.specs.declared.journal.Item.TheVariants as item
 use Rattle.wait_rule.specs.Items.{Difference, nothing, at_entry, at_mark, page_taken, page_told, steps_of}
 use Rattle.wait_rule.specs.MemberWords.{index_named}
-use Rattle.wait_rule.specs.Asked.{
-  Asked,
-  nothing_asked,
-  waits_for,
-  was_given,
-  given_if,
-  ask_step,
-  after_item,
-  asked_from,
-  asked_by_items,
-  all_asked,
-  is_asking,
-}
+use Rattle.wait_rule.specs.Asked.{Asked, nothing_asked, waits_for, was_given, given_if, ask_step, after_item}
+use Rattle.wait_rule.specs.Asked.{asked_from, asked_by_items, all_asked, is_asking}
 use Rattle.wait_rule.specs.Known.{Known}
 use Rattle.wait_rule.specs.Pages.{taken_entry, IsHandedBy, ArePageStates}
-use Rattle.wait_rule.specs.Says.{
-  AsksNoPage,
-  Debts,
-  Obligation,
-  Excuse,
-  added,
-  asks_for,
-  excuses,
-  has_duty,
-  no_excuse,
-  page_asked,
-}
+use Rattle.wait_rule.specs.Says.{AsksNoPage, Debts, Obligation, Excuse, added, asks_for, excuses, has_duty, no_excuse}
+use Rattle.wait_rule.specs.Says.{page_asked}
 use Rattle.wait_rule.proofs.KnownLaws.PageStates.{none_some, IsSameAt, hands_still, state_still}
 use Rattle.wait_rule.proofs.KnownLaws.MemberSteps.{put_again}
 

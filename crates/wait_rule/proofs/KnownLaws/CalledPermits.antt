@@ -12,23 +12,9 @@ use Rattle.wait_rule.specs.LeftEntries.{LeftOff, Order, OrderOf, ShowsNoOwn}
 use Rattle.wait_rule.specs.Interleavings.{table_of}
 use Rattle.wait_rule.specs.Known.{Known}
 use Rattle.wait_rule.specs.Says.{history_of, told_of}
-use Rattle.wait_rule.proofs.KnownLaws.HandedSteps.{
-  AddsLow,
-  AllAddLow,
-  IsAwayAt,
-  away_all,
-  order_front,
-  order_step,
-}
-use Rattle.wait_rule.proofs.KnownLaws.HeldPermits.{
-  AreInside,
-  IsInside,
-  Owing,
-  owed_by,
-  owes_none,
-  owing_all,
-  owing_lock,
-}
+use Rattle.wait_rule.proofs.KnownLaws.HandedSteps.{AddsLow, AllAddLow, IsAwayAt, away_all, order_front, order_step}
+use Rattle.wait_rule.proofs.KnownLaws.HeldPermits.{AreInside, IsInside, Owing, owed_by, owes_none, owing_all}
+use Rattle.wait_rule.proofs.KnownLaws.HeldPermits.{owing_lock}
 use Rattle.wait_rule.proofs.KnownLaws.Moments.{moment_of}
 
 -- who holds no lock sees no entry

@@ -1,27 +1,7 @@
 -- What stays of the ends of pipes over calls that go through programs.
 use Rattle.std.proofs.Common.{refl, sym, ◌∙◌, ap, subst, arith}
-use Rattle.std.specs.Prelude.{
-  ℕ,
-  ◌≡◌,
-  ◌≢◌,
-  ◌+◌,
-  ◌-◌,
-  ◌/◌,
-  ◌%◌,
-  ◌==◌,
-  ◌&&◌,
-  not,
-  if◌then◌else◌,
-  Bool,
-  true,
-  false,
-  Option,
-  Some,
-  None,
-  List,
-  [],
-  ◌∷◌,
-}
+use Rattle.std.specs.Prelude.{ℕ, ◌≡◌, ◌≢◌, ◌+◌, ◌-◌, ◌/◌, ◌%◌, ◌==◌, ◌&&◌, not, if◌then◌else◌, Bool, true, false}
+use Rattle.std.specs.Prelude.{Option, Some, None, List, [], ◌∷◌}
 use Rattle.std.proofs.lemmas.Bool.Decides.{nat_tests}
 use Rattle.wait_model.specs.declared.layout.TheConstants.{PIPE_ENDS}
 use Rattle.wait_model.specs.declared.calls.Event.{Event}
@@ -49,45 +29,17 @@ use Rattle.wait_model.specs.Programs.{call_entry, call_next, hands_event, walk_e
 use Rattle.wait_rule.specs.declared.journal.Item.{Item}
 use Rattle.wait_rule.specs.declared.journal.Item.TheVariants as item
 use Rattle.wait_rule.specs.Known.{Known}
-use Rattle.wait_rule.specs.Pipes.{
-  End,
-  after_end_look,
-  after_end_publish,
-  end_from,
-  end_step,
-  if_mine,
-  if_unclosed,
-  no_end,
-  other_end,
-}
+use Rattle.wait_rule.specs.Pipes.{End, after_end_look, after_end_publish, end_from, end_step, if_mine, if_unclosed}
+use Rattle.wait_rule.specs.Pipes.{no_end, other_end}
 use Rattle.wait_rule.specs.Aside.{ProgramsLeaveEnds}
 use Rattle.wait_rule.specs.PipeSays.{KeepsEnd, end_at}
 use Rattle.wait_rule.specs.PipeLaws.{ProgramsKeepEnds, WalksKeepEnds}
 use Rattle.wait_rule.specs.Says.{added}
-use Rattle.wait_rule.specs.Transitions.{
-  AreLooks,
-  AreScansOf,
-  Goes,
-  IsMadeFor,
-  IsStepFor,
-  OnlyLooks,
-  Program,
-  StepOrLook,
-  Transition,
-  after_step_or_look,
-  after_transition,
-  by_look,
-  by_step,
-  walk_point,
-  walk_program,
-  with_lock,
-}
-use Rattle.wait_rule.proofs.KnownLaws.PipeItems.{
-  end_append,
-}
-use Rattle.wait_rule.proofs.KnownLaws.PipeWords.{
-  test_off,
-}
+use Rattle.wait_rule.specs.Transitions.{AreLooks, AreScansOf, Goes, IsMadeFor, IsStepFor, OnlyLooks, Program}
+use Rattle.wait_rule.specs.Transitions.{StepOrLook, Transition, after_step_or_look, after_transition, by_look, by_step}
+use Rattle.wait_rule.specs.Transitions.{walk_point, walk_program, with_lock}
+use Rattle.wait_rule.proofs.KnownLaws.PipeItems.{end_append}
+use Rattle.wait_rule.proofs.KnownLaws.PipeWords.{test_off}
 
 -- looks tell nothing of ends
 pub looks_ends : (k : ℕ) (e : End) (xs : List Item) → AreLooks xs → end_from k e xs ≡ e

@@ -19,36 +19,10 @@ use Rattle.wait_rule.specs.Items.{Book, after_awake, after_sleep, steps_of}
 use Rattle.wait_rule.specs.Known.{Known}
 use Rattle.wait_rule.specs.Notes.{tell}
 use Rattle.wait_rule.specs.Queues.{at_head, index}
-use Rattle.wait_rule.specs.Says.{
-  Debts,
-  Obligation,
-  Excuse,
-  IsOutBut,
-  OwesBut,
-  added,
-  asks_for,
-  end_unclosed,
-  excuses,
-  has_duty,
-  has_end,
-  is_excused,
-  page_asked,
-  told_of,
-  wake_of,
-}
-use Rattle.wait_rule.specs.Stays.{
-  Carries,
-  StaysOwing,
-  give_change,
-  lock_change,
-  rise_change,
-  sleep_change,
-  ticket_change,
-  unchanged,
-  with_bit,
-  with_bits,
-  with_page,
-}
+use Rattle.wait_rule.specs.Says.{Debts, Obligation, Excuse, IsOutBut, OwesBut, added, asks_for, end_unclosed, excuses}
+use Rattle.wait_rule.specs.Says.{has_duty, has_end, is_excused, page_asked, told_of, wake_of}
+use Rattle.wait_rule.specs.Stays.{Carries, StaysOwing, give_change, lock_change, rise_change, sleep_change}
+use Rattle.wait_rule.specs.Stays.{ticket_change, unchanged, with_bit, with_bits, with_page}
 use Rattle.wait_rule.specs.Tickets.{Ticket, after_serving, drawn, given, no_ticket, taken}
 use Rattle.wait_model.specs.Fold.{after, view_of}
 use Rattle.wait_rule.proofs.KnownLaws.AfterSteps.{told_added}

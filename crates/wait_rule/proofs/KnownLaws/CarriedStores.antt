@@ -15,32 +15,13 @@ use Rattle.wait_rule.specs.Known.{Known}
 use Rattle.wait_rule.specs.Queues.{index, marked}
 use Rattle.wait_rule.specs.Says.{Debts, Obligation, Excuse, IsOutBut, OwesBut, TriesNone, added, asks_for, end_unclosed, excuses, has_duty, is_excused, page_asked, stored_with, told_of, wake_of}
 use Rattle.wait_rule.specs.Asked.{is_asking}
-use Rattle.wait_rule.specs.Stays.{
-  Carries,
-  only,
-  put_change,
-  take_off_change,
-  unchanged,
-  with_entry,
-  with_left_entry,
-  with_page,
-}
+use Rattle.wait_rule.specs.Stays.{Carries, only, put_change, take_off_change, unchanged, with_entry, with_left_entry}
+use Rattle.wait_rule.specs.Stays.{with_page}
 use Rattle.wait_rule.specs.Stores.{StaysOver, StoresEntry, StoresMark, TriesNoBit}
 use Rattle.wait_rule.proofs.KnownLaws.AfterSteps.{told_added}
-use Rattle.wait_rule.proofs.KnownLaws.Debts.{
-  LeavesNone,
-  added_debts,
-  begins_none,
-  end_added,
-  entries_debts,
-  leaves_added,
-  leaves_of,
-  list_debts,
-  queued_left,
-  queues_quiet,
-  step_debts,
-  stored_debts,
-}
+use Rattle.wait_rule.proofs.KnownLaws.Debts.{LeavesNone, added_debts, begins_none, end_added, entries_debts}
+use Rattle.wait_rule.proofs.KnownLaws.Debts.{leaves_added, leaves_of, list_debts, queued_left, queues_quiet, step_debts}
+use Rattle.wait_rule.proofs.KnownLaws.Debts.{stored_debts}
 use Rattle.wait_rule.proofs.KnownLaws.MemberBits.{told_stored}
 use Rattle.wait_rule.proofs.KnownLaws.StayingParts.{owes_also, owes_out}
 

@@ -1,23 +1,7 @@
 -- What calls carry on of a task.
 use Rattle.std.proofs.Common.{◌∙◌, ap, sym, refl, subst, inl, inr, append-nil, eq-eqb}
-use Rattle.std.specs.Prelude.{
-  ℕ,
-  ◌≡◌,
-  ◌<◌,
-  ◌⊎◌,
-  ◌&&◌,
-  ◌||◌,
-  not,
-  Bool,
-  true,
-  false,
-  Option,
-  Some,
-  None,
-  List,
-  ◌++◌,
-  if◌then◌else◌,
-}
+use Rattle.std.specs.Prelude.{ℕ, ◌≡◌, ◌<◌, ◌⊎◌, ◌&&◌, ◌||◌, not, Bool, true, false, Option, Some, None, List, ◌++◌}
+use Rattle.std.specs.Prelude.{if◌then◌else◌}
 use Rattle.wait_model.specs.declared.watches.Watch.{Watch}
 use Rattle.wait_model.specs.declared.watches.Watch.TheVariants as watch
 use Rattle.wait_model.specs.declared.watches.Entry.{Entry}
@@ -39,32 +23,12 @@ use Rattle.wait_rule.specs.Known.{Known}
 use Rattle.wait_rule.specs.Says.{Debts, Excuse, IsAwakeAgain, IsOutBut, OwesBut, added, is_excused, told_of, wake_of}
 use Rattle.wait_rule.proofs.KnownLaws.Debts.{begins_none, publish_debts, step_debts, wakes_after, wakes_debts}
 use Rattle.wait_rule.specs.Queues.{KnewEntry, MayUnqueue, index, saw}
-use Rattle.wait_rule.specs.Stays.{
-  Stays,
-  StaysOwing,
-  no_entries,
-  with_entry,
-  with_wakes,
-  Change,
-  Carries,
-  FindsOwnWord,
-  unchanged,
-  only_looks,
-  publish_change,
-  head_stored,
-  is_on,
-}
+use Rattle.wait_rule.specs.Stays.{Stays, StaysOwing, no_entries, with_entry, with_wakes, Change, Carries, FindsOwnWord}
+use Rattle.wait_rule.specs.Stays.{unchanged, only_looks, publish_change, head_stored, is_on}
 use Rattle.wait_rule.proofs.KnownLaws.AfterSteps.{told_added}
 use Rattle.wait_rule.proofs.TableSteps.ItemLists.{steps_append}
 use Rattle.wait_rule.proofs.KnownLaws.SettledTasks.{owes_after, owes_looks, owes_told}
-use Rattle.wait_rule.proofs.KnownLaws.StayingParts.{
-  stays_bits,
-  stays_same,
-  stays_owing,
-  look_stays,
-  look_out,
-  owes_out,
-}
+use Rattle.wait_rule.proofs.KnownLaws.StayingParts.{stays_bits, stays_same, stays_owing, look_stays, look_out, owes_out}
 
 -- whoever is excused of more wakes owes no more
 covered : (o x y n : Bool) → (x ≡ true → y ≡ true) → (o && not (x || n)) ≡ false → (o && not (y || n)) ≡ false

@@ -20,32 +20,11 @@ use Rattle.wait_rule.specs.Journals.{owns, has_of, items_in, part_in, pushed, jo
 use Rattle.wait_rule.specs.Known.{Known}
 use Rattle.wait_rule.specs.Says.{added}
 use Rattle.wait_rule.specs.Tallies.{amount_of, amounts_of}
-use Rattle.wait_rule.specs.Transitions.{
-  IsLook,
-  AreLooks,
-  OnlyLooks,
-  Program,
-  StepOrLook,
-  by_step,
-  by_look,
-  Transition,
-  with_lock,
-  after_step_or_look,
-  after_transition,
-  IsScanOf,
-  AreScansOf,
-  IsMadeFor,
-  Goes,
-}
-use Rattle.wait_rule.specs.TallyLaws.{
-  tally_in,
-  AddsCount,
-  JoinsCount,
-  NewcomersCountNone,
-  ForksCountNone,
-  ProgramsAddNone,
-  ProgramsKeepNumbers,
-}
+use Rattle.wait_rule.specs.Transitions.{IsLook, AreLooks, OnlyLooks, Program, StepOrLook, by_step, by_look, Transition}
+use Rattle.wait_rule.specs.Transitions.{with_lock, after_step_or_look, after_transition, IsScanOf, AreScansOf}
+use Rattle.wait_rule.specs.Transitions.{IsMadeFor, Goes}
+use Rattle.wait_rule.specs.TallyLaws.{tally_in, AddsCount, JoinsCount, NewcomersCountNone, ForksCountNone}
+use Rattle.wait_rule.specs.TallyLaws.{ProgramsAddNone, ProgramsKeepNumbers}
 use Rattle.wait_rule.proofs.KnownLaws.TallySteps.{amounts_append}
 
 -- sums of sums

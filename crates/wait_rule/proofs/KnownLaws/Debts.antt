@@ -1,28 +1,8 @@
 -- What each step leaves of a task's debts. A further part of `Debts` is shown in this file alone: for each item that a
 -- list may get (`item_debts`), for a publish, and for other excuses of the same task.
 use Rattle.std.proofs.Common.{◌∙◌, ap, sym, refl, subst, append_assoc, append-nil, arith, true≢false}
-use Rattle.std.specs.Prelude.{
-  ℕ,
-  ◌≡◌,
-  ◌==◌,
-  ◌%◌,
-  ◌<◌,
-  ◌++◌,
-  ◌&&◌,
-  ◌||◌,
-  not,
-  Bool,
-  true,
-  false,
-  if◌then◌else◌,
-  nat_lt,
-  Option,
-  Some,
-  None,
-  List,
-  [],
-  ◌∷◌,
-}
+use Rattle.std.specs.Prelude.{ℕ, ◌≡◌, ◌==◌, ◌%◌, ◌<◌, ◌++◌, ◌&&◌, ◌||◌, not, Bool, true, false, if◌then◌else◌, nat_lt}
+use Rattle.std.specs.Prelude.{Option, Some, None, List, [], ◌∷◌}
 use Rattle.std.proofs.lemmas.Bool.Decides.{nat_tests}
 use Rattle.wait_model.specs.declared.layout.TheConstants.{FIRST_DONE_HEAD}
 use Rattle.wait_model.specs.declared.watches.Watch.{Watch}
@@ -46,52 +26,18 @@ use Rattle.wait_rule.specs.Known.{Known}
 use Rattle.wait_rule.specs.LeftEntries.{HasLeftNone, Order, OrderOf, ShowsNoOwn}
 use Rattle.wait_rule.specs.Notes.{tell}
 use Rattle.wait_rule.specs.Asked.{Asked, after_item, ask_step, is_asking}
-use Rattle.wait_rule.specs.Says.{
-  Debts,
-  Obligation,
-  Excuse,
-  added,
-  asks_for,
-  end_unclosed,
-  excuses,
-  grown,
-  has_duty,
-  has_end,
-  history_of,
-  is_excused,
-  page_asked,
-  seen_with,
-  stored_with,
-  told_of,
-  unlocked_with,
-  wake_of,
-}
-use Rattle.wait_rule.specs.Pipes.{
-  End,
-  after_end_look,
-  after_end_publish,
-  claimed,
-  end_item,
-  end_of,
-  end_step,
-  if_mine,
-  new_end,
-  no_end,
-  other_end,
-  with_cell,
-}
+use Rattle.wait_rule.specs.Says.{Debts, Obligation, Excuse, added, asks_for, end_unclosed, excuses, grown, has_duty}
+use Rattle.wait_rule.specs.Says.{has_end, history_of, is_excused, page_asked, seen_with, stored_with, told_of}
+use Rattle.wait_rule.specs.Says.{unlocked_with, wake_of}
+use Rattle.wait_rule.specs.Pipes.{End, after_end_look, after_end_publish, claimed, end_item, end_of, end_step, if_mine}
+use Rattle.wait_rule.specs.Pipes.{new_end, no_end, other_end, with_cell}
 use Rattle.wait_rule.specs.Stays.{with_end, with_left_entry, with_wakes}
 use Rattle.wait_rule.specs.Transitions.{AreLooks, OnlyLooks}
 use Rattle.wait_rule.proofs.KnownLaws.AfterSteps.{told_added}
 use Rattle.wait_rule.proofs.KnownLaws.AskedPages.{asked_added, asks_nothing, asks_nothing_of}
 use Rattle.wait_rule.proofs.KnownLaws.HandedSteps.{AddsLow, AllAddLow, IsAwayAt, away_all, order_front}
-use Rattle.wait_rule.proofs.KnownLaws.PipeItems.{
-  end_append,
-}
-use Rattle.wait_rule.proofs.KnownLaws.PipeWords.{
-  test_on,
-  test_off,
-}
+use Rattle.wait_rule.proofs.KnownLaws.PipeItems.{end_append}
+use Rattle.wait_rule.proofs.KnownLaws.PipeWords.{test_on, test_off}
 use Rattle.wait_rule.proofs.TableSteps.ItemLists.{steps_append}
 
 tested : (a b : ℕ) → (a == b) ≡ true → a ≡ b

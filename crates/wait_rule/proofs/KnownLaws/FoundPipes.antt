@@ -15,20 +15,8 @@ use Rattle.wait_rule.specs.declared.journal.Item.{Item}
 use Rattle.wait_rule.specs.declared.journal.Item.TheVariants as item
 use Rattle.wait_rule.specs.Journals.{has_of}
 use Rattle.wait_rule.specs.Known.{Known}
-use Rattle.wait_rule.specs.Pipes.{
-  Delivers,
-  End,
-  IsPipe,
-  after_end_publish,
-  end_act,
-  end_item,
-  end_of,
-  if_mine,
-  no_end,
-  read_end,
-  was_refused,
-  write_end,
-}
+use Rattle.wait_rule.specs.Pipes.{Delivers, End, IsPipe, after_end_publish, end_act, end_item, end_of, if_mine, no_end}
+use Rattle.wait_rule.specs.Pipes.{read_end, was_refused, write_end}
 use Rattle.wait_rule.specs.PipeSays.{EndBecomes, end_at}
 use Rattle.wait_rule.specs.PipeLaws.{RuleDelivers, RuleRefuses, JoinedDeliver, JoinedRefuse}
 use Rattle.wait_rule.specs.Says.{Debts, Excuse, IsOutBut, OwesBut, added, told_of}
@@ -39,21 +27,10 @@ use Rattle.wait_rule.proofs.KnownLaws.AfterSteps.{told_added}
 use Rattle.wait_rule.proofs.KnownLaws.Debts.{added_debts, close_debts, got_debts, item_begins_none, refused_debts}
 use Rattle.wait_rule.proofs.KnownLaws.LookCounts.{looked_none}
 use Rattle.wait_rule.proofs.KnownLaws.CarriedTasks.{published_carried}
-use Rattle.wait_rule.proofs.KnownLaws.PipeFlows.{
-  delivers,
-}
-use Rattle.wait_rule.proofs.KnownLaws.PipeEnds.{
-  by_side,
-  own_w,
-  own_r,
-}
-use Rattle.wait_rule.proofs.KnownLaws.PipeItems.{
-  end_append,
-}
-use Rattle.wait_rule.proofs.KnownLaws.PipeWords.{
-  test_on,
-  test_off,
-}
+use Rattle.wait_rule.proofs.KnownLaws.PipeFlows.{delivers}
+use Rattle.wait_rule.proofs.KnownLaws.PipeEnds.{by_side, own_w, own_r}
+use Rattle.wait_rule.proofs.KnownLaws.PipeItems.{end_append}
+use Rattle.wait_rule.proofs.KnownLaws.PipeWords.{test_on, test_off}
 
 -- of one pipe
 pipe_delivers : (word : place.Location → ℕ) (items : ℕ → List Item) (p t u : ℕ) → p < PIPES → IsPipe word items p

@@ -15,43 +15,13 @@ use Rattle.wait_model.specs.Rows.{Allowed}
 use Rattle.wait_model.proofs.Functions.{put_case, put_at, put_same, put_other, bool_or}
 use Rattle.wait_rule.specs.Items.{Difference, nothing, page_taken, page_told, after_try, Book, learn_step}
 use Rattle.wait_rule.specs.Asked.{Asked, given_if, took_note, ask_step, waits_at, was_given_at}
-use Rattle.wait_rule.specs.Pages.{
-  taken_entry,
-  IsPageEntry,
-  IsPageless,
-  IsAskedAt,
-  IsPageAtRest,
-  IsHandedBy,
-  IsHandedOver,
-  IsPageState,
-  ArePageStates,
-}
-use Rattle.wait_rule.proofs.KnownLaws.PageStates.{
-  none_some,
-  waits_given_far,
-  given_given_far,
-  given_note_far,
-  waits_note,
-  given_where_waited,
-  given_nowhere,
-  given_note,
-  waits_where_given,
-  asked_given,
-  asked_note,
-  IsSameAt,
-}
-use Rattle.wait_rule.proofs.KnownLaws.PageSteps.{
-  some_same,
-  not_both,
-  no_entry,
-  takes_none,
-  IsSound,
-  same_at,
-  mine_still,
-  quiet_pages,
-  one_touched,
-  others_none,
-}
+use Rattle.wait_rule.specs.Pages.{taken_entry, IsPageEntry, IsPageless, IsAskedAt, IsPageAtRest, IsHandedBy}
+use Rattle.wait_rule.specs.Pages.{IsHandedOver, IsPageState, ArePageStates}
+use Rattle.wait_rule.proofs.KnownLaws.PageStates.{none_some, waits_given_far, given_given_far, given_note_far}
+use Rattle.wait_rule.proofs.KnownLaws.PageStates.{waits_note, given_where_waited, given_nowhere, given_note}
+use Rattle.wait_rule.proofs.KnownLaws.PageStates.{waits_where_given, asked_given, asked_note, IsSameAt}
+use Rattle.wait_rule.proofs.KnownLaws.PageSteps.{some_same, not_both, no_entry, takes_none, IsSound, same_at}
+use Rattle.wait_rule.proofs.KnownLaws.PageSteps.{mine_still, quiet_pages, one_touched, others_none}
 
 module _ (s : Table) (a : ℕ) (b : Book) (differs : ℕ → Difference) (asked : ℕ → Asked)
     (same : differs a ≡ b.differs) (r : ArePageStates s differs asked) (sound : IsSound s) where

@@ -1,42 +1,15 @@
 -- Permits are handed on in each table that meets the rule, and what a step at a completion's head asks of it.
 use Rattle.std.proofs.Common.{refl, sym, ◌∙◌, ap, subst, arith, inl, inr}
-use Rattle.std.specs.Prelude.{
-  ℕ,
-  ◌≡◌,
-  ◌<◌,
-  ◌-◌,
-  ◌&&◌,
-  ◌==◌,
-  Bool,
-  true,
-  false,
-  if◌then◌else◌,
-  Option,
-  Some,
-  None,
-  List,
-  [],
-  ◌∷◌,
-}
+use Rattle.std.specs.Prelude.{ℕ, ◌≡◌, ◌<◌, ◌-◌, ◌&&◌, ◌==◌, Bool, true, false, if◌then◌else◌, Option, Some, None, List}
+use Rattle.std.specs.Prelude.{[], ◌∷◌}
 use Rattle.wait_model.specs.declared.layout.TheConstants.{FIRST_DONE_HEAD}
 use Rattle.wait_model.specs.declared.steps.Step.{Step}
 use Rattle.wait_model.specs.declared.steps.Step.TheVariants as step
 use Rattle.wait_model.specs.declared.watches.Entry.{Entry}
 use Rattle.wait_model.specs.declared.watches.Watch.TheVariants as watch
 use Rattle.wait_model.specs.Fold.{after, after_all, view_of}
-use Rattle.wait_model.specs.Permits.{
-  Dealt,
-  HandsOn,
-  MayGiveBack,
-  PermitsAreHanded,
-  count_after,
-  deals,
-  deals_all,
-  dealt,
-  done_head,
-  is_in,
-  none_dealt,
-}
+use Rattle.wait_model.specs.Permits.{Dealt, HandsOn, MayGiveBack, PermitsAreHanded, count_after, deals, deals_all}
+use Rattle.wait_model.specs.Permits.{dealt, done_head, is_in, none_dealt}
 use Rattle.wait_model.specs.PermitFacts.{IsAccounted}
 use Rattle.wait_model.specs.Runs.{own}
 use Rattle.wait_model.specs.Tables.{Table}

@@ -1,23 +1,7 @@
 -- What a step does to the heads and bookmarks that the lists tell of.
 use Rattle.std.proofs.Common.{refl, sym, ◌∙◌, ap, subst, inl, inr}
-use Rattle.std.specs.Prelude.{
-  ℕ,
-  ◌≡◌,
-  ◌≢◌,
-  ◌⊎◌,
-  Bool,
-  true,
-  false,
-  ◌==◌,
-  if◌then◌else◌,
-  Option,
-  Some,
-  None,
-  List,
-  [],
-  ◌∷◌,
-  ◌++◌,
-}
+use Rattle.std.specs.Prelude.{ℕ, ◌≡◌, ◌≢◌, ◌⊎◌, Bool, true, false, ◌==◌, if◌then◌else◌, Option, Some, None, List, []}
+use Rattle.std.specs.Prelude.{◌∷◌, ◌++◌}
 use mathlib.Core.Path.{fun_ext}
 use Rattle.wait_model.specs.declared.watches.Aim.{Aim}
 use Rattle.wait_model.specs.declared.steps.Step.{Step}
@@ -31,17 +15,8 @@ use Rattle.wait_model.proofs.Functions.{put_case, put_at, put_same, put_other}
 use Rattle.wait_rule.specs.declared.journal.Item.{Item}
 use Rattle.wait_rule.specs.declared.journal.Item.TheVariants as item
 use Rattle.wait_rule.specs.Items.{steps_of}
-use Rattle.wait_rule.specs.Notes.{
-  Notes,
-  Glance,
-  note_step,
-  notes_after_wake,
-  after_noted_call,
-  after_telling,
-  callee,
-  is_for_look,
-  notes_of,
-}
+use Rattle.wait_rule.specs.Notes.{Notes, Glance, note_step, notes_after_wake, after_noted_call, after_telling, callee}
+use Rattle.wait_rule.specs.Notes.{is_for_look, notes_of}
 use Rattle.wait_rule.specs.Members.{MarkAgrees}
 use Rattle.wait_rule.specs.Rule.{AreLinked, all_notes}
 use Rattle.wait_rule.proofs.KnownLaws.AfterSteps.{notes_after}

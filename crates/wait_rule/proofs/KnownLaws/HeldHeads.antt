@@ -11,17 +11,8 @@ use Rattle.wait_model.specs.Fold.{after, after_all, view_of}
 use Rattle.wait_model.proofs.StepLaws.UnlockSteps.{unlock_hold}
 use Rattle.wait_rule.specs.declared.journal.Item.{Item}
 use Rattle.wait_rule.specs.declared.journal.Item.TheVariants as item
-use Rattle.wait_rule.specs.Items.{
-  Book,
-  first_book,
-  after_sleep,
-  after_awake,
-  learn,
-  learn_step,
-  book_from,
-  book_of,
-  steps_of,
-}
+use Rattle.wait_rule.specs.Items.{Book, first_book, after_sleep, after_awake, learn, learn_step, book_from, book_of}
+use Rattle.wait_rule.specs.Items.{steps_of}
 
 asleep_head : (z : Sleep) (b : Book) → (after_sleep z b).head ≡ b.head
 asleep_head sleep.Stay b = refl

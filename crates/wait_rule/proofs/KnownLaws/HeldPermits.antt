@@ -1,45 +1,16 @@
 -- What a hold of a completion's head owes, by the task's own steps in it, and that its unlock hands permits on.
 use Rattle.std.proofs.Common.{refl, sym, ◌∙◌, ap, subst, arith, append_assoc, append-nil, inl, inr}
 use Rattle.std.proofs.lemmas.Bool.Decides.{eqb_tells}
-use Rattle.std.specs.Prelude.{
-  ℕ,
-  ◌≡◌,
-  ◌+◌,
-  ◌-◌,
-  ◌⊎◌,
-  ◌==◌,
-  ◌&&◌,
-  not,
-  Bool,
-  true,
-  false,
-  if◌then◌else◌,
-  Option,
-  Some,
-  List,
-  [],
-  ◌∷◌,
-  ◌++◌,
-}
+use Rattle.std.specs.Prelude.{ℕ, ◌≡◌, ◌+◌, ◌-◌, ◌⊎◌, ◌==◌, ◌&&◌, not, Bool, true, false, if◌then◌else◌, Option, Some}
+use Rattle.std.specs.Prelude.{List, [], ◌∷◌, ◌++◌}
 use Rattle.wait_model.specs.declared.steps.Step.{Step}
 use Rattle.wait_model.specs.declared.steps.Step.TheVariants as step
 use Rattle.wait_model.specs.declared.watches.Aim.{Aim}
 use Rattle.wait_model.specs.declared.watches.Entry.{Entry}
 use Rattle.wait_model.specs.declared.watches.Watch.TheVariants as watch
 use Rattle.wait_model.specs.Fold.{after, view_of}
-use Rattle.wait_model.specs.Permits.{
-  Dealt,
-  MayGiveBack,
-  ShowsNobody,
-  after_read,
-  after_store,
-  dealt,
-  debt_after,
-  done_head,
-  is_in,
-  is_seen,
-  none_dealt,
-}
+use Rattle.wait_model.specs.Permits.{Dealt, MayGiveBack, ShowsNobody, after_read, after_store, dealt, debt_after}
+use Rattle.wait_model.specs.Permits.{done_head, is_in, is_seen, none_dealt}
 use Rattle.wait_model.specs.Runs.{own}
 use Rattle.wait_model.specs.Views.{View, blank}
 use Rattle.wait_model.specs.Watches.{head_of, stands_at}
@@ -52,15 +23,8 @@ use Rattle.wait_rule.specs.Interleavings.{table_of}
 use Rattle.wait_rule.specs.Known.{Known}
 use Rattle.wait_rule.specs.Says.{history_of, told_of}
 use Rattle.wait_rule.proofs.KnownLaws.HandedPermits.{cell_is}
-use Rattle.wait_rule.proofs.KnownLaws.HandedSteps.{
-  AddsLow,
-  IsAwayAt,
-  OrderStep,
-  away_next,
-  off_there,
-  order_step,
-  order_view,
-}
+use Rattle.wait_rule.proofs.KnownLaws.HandedSteps.{AddsLow, IsAwayAt, OrderStep, away_next, off_there, order_step}
+use Rattle.wait_rule.proofs.KnownLaws.HandedSteps.{order_view}
 
 -- In a hold of the head, with so many permits to hand on or to take.
 pub record Owing (d a : ℕ) (front : List Step) (n : ℕ) : Type 0 where

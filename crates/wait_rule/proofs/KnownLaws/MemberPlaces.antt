@@ -1,36 +1,10 @@
 -- What a step does to the places at which members stand.
 use Rattle.std.proofs.Common.{refl, sym, ◌∙◌, ap, subst, arith, inl, inr}
-use Rattle.std.specs.Prelude.{
-  ℕ,
-  ◌≡◌,
-  ◌≢◌,
-  ◌+◌,
-  ◌-◌,
-  ◌%◌,
-  ◌<◌,
-  ◌≤◌,
-  ◌⊎◌,
-  Bool,
-  true,
-  false,
-  nat_lt,
-  if◌then◌else◌,
-  ◌==◌,
-  Option,
-  Some,
-  None,
-  List,
-}
+use Rattle.std.specs.Prelude.{ℕ, ◌≡◌, ◌≢◌, ◌+◌, ◌-◌, ◌%◌, ◌<◌, ◌≤◌, ◌⊎◌, Bool, true, false, nat_lt, if◌then◌else◌, ◌==◌}
+use Rattle.std.specs.Prelude.{Option, Some, None, List}
 use Rattle.std.proofs.lemmas.Bool.Decides.{nat_tests}
-use Rattle.wait_model.specs.declared.layout.TheConstants.{
-  TASKS,
-  ENTRIES,
-  MEMBERS,
-  PLACES,
-  MIDDLE,
-  FIRST_PRIORITY,
-  FIRST_PLACE,
-}
+use Rattle.wait_model.specs.declared.layout.TheConstants.{TASKS, ENTRIES, MEMBERS, PLACES, MIDDLE, FIRST_PRIORITY}
+use Rattle.wait_model.specs.declared.layout.TheConstants.{FIRST_PLACE}
 use Rattle.wait_model.specs.declared.watches.Entry.{Entry}
 use Rattle.wait_model.specs.declared.queues.Mark.{Mark}
 use Rattle.wait_model.specs.declared.steps.Step.{Step}
@@ -52,18 +26,8 @@ use Rattle.wait_rule.specs.declared.journal.Item.{Item}
 use Rattle.wait_rule.specs.Rule.{IsLawfulTable, IsWhole, AreLinked, IsRuled, all_notes}
 use Rattle.wait_rule.specs.Known.{Known}
 use Rattle.wait_rule.specs.Says.{told_of, noted}
-use Rattle.wait_rule.specs.Queues.{
-  place_by,
-  IsWholeBook,
-  StandsIn,
-  IsLowest,
-  IsHighest,
-  IsFrontPlace,
-  IsTailPlace,
-  IsPriorityPlace,
-  IsPlaceFor,
-  IsBefore,
-}
+use Rattle.wait_rule.specs.Queues.{place_by, IsWholeBook, StandsIn, IsLowest, IsHighest, IsFrontPlace, IsTailPlace}
+use Rattle.wait_rule.specs.Queues.{IsPriorityPlace, IsPlaceFor, IsBefore}
 
 -- a step that keeps what is told of places
 abbrev pub KeepsPlaces : Table → ℕ → Step → Type 0

@@ -1,28 +1,7 @@
 -- What a step does to the members that heads know.
 use Rattle.std.proofs.Common.{refl, sym, ◌∙◌, ap, subst, arith, inl, inr}
-use Rattle.std.specs.Prelude.{
-  ℕ,
-  ◌≡◌,
-  ◌≢◌,
-  ◌+◌,
-  ◌-◌,
-  ◌<◌,
-  ◌⊎◌,
-  Bool,
-  true,
-  false,
-  ◌==◌,
-  nat_lt,
-  if◌then◌else◌,
-  Option,
-  Some,
-  None,
-  List,
-  ◌++◌,
-  ◌&&◌,
-  ◌||◌,
-  not,
-}
+use Rattle.std.specs.Prelude.{ℕ, ◌≡◌, ◌≢◌, ◌+◌, ◌-◌, ◌<◌, ◌⊎◌, Bool, true, false, ◌==◌, nat_lt, if◌then◌else◌, Option}
+use Rattle.std.specs.Prelude.{Some, None, List, ◌++◌, ◌&&◌, ◌||◌, not}
 use Rattle.std.proofs.lemmas.Bool.Decides.{eqb_tells, nat_tests}
 use mathlib.Core.Path.{fun_ext}
 use Rattle.wait_model.specs.declared.layout.TheConstants.{ENTRIES}
@@ -45,21 +24,8 @@ use Rattle.wait_model.specs.Rows.{Allowed, IsUntested}
 use Rattle.wait_model.specs.Locations as place
 use Rattle.wait_model.proofs.Functions.{put_case, put_at, put_same, put_other}
 use Rattle.wait_rule.specs.declared.journal.Item.{Item}
-use Rattle.wait_rule.specs.Items.{
-  Difference,
-  nothing,
-  at_entry,
-  at_mark,
-  page_taken,
-  page_told,
-  after_try,
-  Book,
-  first_book,
-  learn_step,
-  after_sleep,
-  book_from,
-  book_of,
-}
+use Rattle.wait_rule.specs.Items.{Difference, nothing, at_entry, at_mark, page_taken, page_told, after_try, Book}
+use Rattle.wait_rule.specs.Items.{first_book, learn_step, after_sleep, book_from, book_of}
 use Rattle.wait_rule.specs.Notes.{is_at}
 use Rattle.wait_rule.specs.Pages.{uses_flag, IsPageless}
 use Rattle.wait_rule.specs.Tickets.{served}

@@ -6,17 +6,8 @@ use Rattle.wait_model.specs.declared.watches.Entry.{Entry}
 use Rattle.wait_model.specs.Watches.{owner}
 use Rattle.wait_model.specs.Tables.{Table}
 use Rattle.wait_rule.specs.Items.{Difference}
-use Rattle.wait_rule.specs.Asked.{
-  Asked,
-  nothing_asked,
-  waits_for,
-  was_given,
-  given_if,
-  took_off,
-  took_note,
-  waits_at,
-  was_given_at,
-}
+use Rattle.wait_rule.specs.Asked.{Asked, nothing_asked, waits_for, was_given, given_if, took_off, took_note, waits_at}
+use Rattle.wait_rule.specs.Asked.{was_given_at}
 use Rattle.wait_rule.specs.Pages.{taken_entry, told_entry, IsPageEntry, IsAskedAt, IsHandedBy, IsHandedOver, IsPageState}
 
 pub none_some : {A : Type 0} (p : ℕ) → ◌≡◌ {A = Option ℕ} None (Some p) → A

@@ -1,25 +1,6 @@
 -- The law of a pipe over claims, cells and publishes of its ends, and what a task knows of its own end.
-use Rattle.std.proofs.Common.{
-  ◌≡◌,
-  ℕ,
-  ◌+◌,
-  ◌/◌,
-  ◌%◌,
-  ◌<◌,
-  ◌≤◌,
-  ◌≢◌,
-  Bool,
-  true,
-  false,
-  List,
-  length,
-  refl,
-  sym,
-  ap,
-  ◌∙◌,
-  subst,
-  arith,
-}
+use Rattle.std.proofs.Common.{◌≡◌, ℕ, ◌+◌, ◌/◌, ◌%◌, ◌<◌, ◌≤◌, ◌≢◌, Bool, true, false, List, length, refl, sym, ap, ◌∙◌}
+use Rattle.std.proofs.Common.{subst, arith}
 use Rattle.std.specs.Prelude.{if◌then◌else◌}
 use mathlib.Core.Logic.{dite}
 use native.Mathlib.Decide.{ℕ_discrete}
@@ -35,64 +16,17 @@ use Rattle.wait_rule.specs.declared.journal.EndAct.{EndAct}
 use Rattle.wait_rule.specs.declared.journal.EndAct.TheVariants as act
 use Rattle.wait_rule.specs.declared.journal.Item.{Item}
 use Rattle.wait_rule.specs.declared.journal.Item.TheVariants as item
-use Rattle.wait_rule.specs.Pipes.{
-  write_end,
-  read_end,
-  cell_of,
-  end_word,
-  IsCell,
-  End,
-  no_end,
-  new_end,
-  with_cell,
-  claimed,
-  after_end_publish,
-  advanced,
-  if_mine,
-  end_act,
-  end_item,
-  end_of,
-  IsFlow,
-  IsPipe,
-}
+use Rattle.wait_rule.specs.Pipes.{write_end, read_end, cell_of, end_word, IsCell, End, no_end, new_end, with_cell}
+use Rattle.wait_rule.specs.Pipes.{claimed, after_end_publish, advanced, if_mine, end_act, end_item, end_of, IsFlow}
+use Rattle.wait_rule.specs.Pipes.{IsPipe}
 use Rattle.wait_rule.specs.PipeSays.{IsSoundEnd}
-use Rattle.wait_rule.proofs.KnownLaws.PipeFlows.{
-  counts,
-  flow_words,
-  get_flow,
-  get_whole,
-  put_flow,
-  publish_w_flow,
-  publish_r_flow,
-  publish_is,
-  open_w_flow,
-  open_r_flow,
-}
-use Rattle.wait_rule.proofs.KnownLaws.PipeItems.{
-  ends_apart,
-  now,
-  others,
-  owner,
-  refuses,
-  begins,
-  pipe_stays,
-  writer_moves,
-  reader_moves,
-  never,
-}
-use Rattle.wait_rule.proofs.KnownLaws.PipeSteps.{
-  other_claim,
-}
-use Rattle.wait_rule.proofs.KnownLaws.PipeWords.{
-  SameWords,
-  var_claim,
-  cell_claim,
-  claims_apart,
-  none_mine,
-  some_mine,
-  test_on,
-  test_off,
-}
+use Rattle.wait_rule.proofs.KnownLaws.PipeFlows.{counts, flow_words, get_flow, get_whole, put_flow, publish_w_flow}
+use Rattle.wait_rule.proofs.KnownLaws.PipeFlows.{publish_r_flow, publish_is, open_w_flow, open_r_flow}
+use Rattle.wait_rule.proofs.KnownLaws.PipeItems.{ends_apart, now, others, owner, refuses, begins, pipe_stays}
+use Rattle.wait_rule.proofs.KnownLaws.PipeItems.{writer_moves, reader_moves, never}
+use Rattle.wait_rule.proofs.KnownLaws.PipeSteps.{other_claim}
+use Rattle.wait_rule.proofs.KnownLaws.PipeWords.{SameWords, var_claim, cell_claim, claims_apart, none_mine, some_mine}
+use Rattle.wait_rule.proofs.KnownLaws.PipeWords.{test_on, test_off}
 
 -- A claim of an end, which leaves 1 in its word.
 module _ (items : ℕ → List Item) (a : ℕ) (one two : Location → ℕ) (p found : ℕ) where

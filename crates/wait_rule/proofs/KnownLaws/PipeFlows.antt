@@ -1,36 +1,7 @@
 -- What each kind of step on a pipe does to its words, its cells and its two ends.
-use Rattle.std.proofs.Common.{
-  ◌≡◌,
-  ℕ,
-  ◌+◌,
-  ◌-◌,
-  ◌%◌,
-  ◌<◌,
-  ◌≤◌,
-  ◌≢◌,
-  Bool,
-  true,
-  false,
-  List,
-  [],
-  ◌∷◌,
-  ◌++◌,
-  length,
-  get_or,
-  refl,
-  sym,
-  ap,
-  ◌∙◌,
-  subst,
-  arith,
-  append-nil,
-  append_assoc,
-  true≢false,
-  take,
-  drop,
-  length-append,
-  take-add,
-}
+use Rattle.std.proofs.Common.{◌≡◌, ℕ, ◌+◌, ◌-◌, ◌%◌, ◌<◌, ◌≤◌, ◌≢◌, Bool, true, false, List, [], ◌∷◌, ◌++◌, length}
+use Rattle.std.proofs.Common.{get_or, refl, sym, ap, ◌∙◌, subst, arith, append-nil, append_assoc, true≢false, take}
+use Rattle.std.proofs.Common.{drop, length-append, take-add}
 use Rattle.std.specs.Prelude.{◌==◌, ◌||◌, if◌then◌else◌}
 use Rattle.std.proofs.Math.Seq.{get_or-append_seam}
 use Rattle.std.proofs.Math.ListN.{get_or-append}
@@ -41,43 +12,12 @@ use native.Mathlib.Decide.{ℕ_discrete}
 use Rattle.wait_model.specs.declared.layout.TheConstants.{PIPES, PIPE_CELLS}
 use Rattle.wait_model.specs.Locations as place
 use Rattle.wait_model.specs.Locations.{Location}
-use Rattle.wait_rule.specs.Pipes.{
-  write_end,
-  read_end,
-  cell_of,
-  end_word,
-  count_on,
-  bytes_in,
-  cell_bytes,
-  IsCell,
-  End,
-  no_end,
-  new_end,
-  with_cell,
-  after_end_look,
-  advanced,
-  after_end_publish,
-  moved_bytes,
-  IsFlow,
-  Delivers,
-}
-use Rattle.wait_rule.proofs.KnownLaws.PipeWords.{
-  claim_cell,
-  claim_var,
-  var_cell,
-  var_claim,
-  cell_claim,
-  cell_var,
-  cells_apart,
-  claims_apart,
-  vars_apart,
-  count_is,
-  odd_is,
-  SameWords,
-  cell_in,
-  write_in,
-  read_in,
-}
+use Rattle.wait_rule.specs.Pipes.{write_end, read_end, cell_of, end_word, count_on, bytes_in, cell_bytes, IsCell, End}
+use Rattle.wait_rule.specs.Pipes.{no_end, new_end, with_cell, after_end_look, advanced, after_end_publish, moved_bytes}
+use Rattle.wait_rule.specs.Pipes.{IsFlow, Delivers}
+use Rattle.wait_rule.proofs.KnownLaws.PipeWords.{claim_cell, claim_var, var_cell, var_claim, cell_claim, cell_var}
+use Rattle.wait_rule.proofs.KnownLaws.PipeWords.{cells_apart, claims_apart, vars_apart, count_is, odd_is, SameWords}
+use Rattle.wait_rule.proofs.KnownLaws.PipeWords.{cell_in, write_in, read_in}
 
 pub flow_words : (one two : Location → ℕ) (p : ℕ) (w r : End) → SameWords p one two → IsFlow one p w r
     → IsFlow two p w r

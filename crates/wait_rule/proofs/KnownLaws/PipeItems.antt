@@ -1,27 +1,6 @@
 -- The ends of a pipe, in a list that gets one item more.
-use Rattle.std.proofs.Common.{
-  ◌≡◌,
-  ℕ,
-  ◌+◌,
-  ◌-◌,
-  ◌%◌,
-  ◌≢◌,
-  Bool,
-  true,
-  false,
-  List,
-  [],
-  ◌∷◌,
-  ◌++◌,
-  refl,
-  sym,
-  ap,
-  ◌∙◌,
-  arith,
-  true≢false,
-  inl,
-  inr,
-}
+use Rattle.std.proofs.Common.{◌≡◌, ℕ, ◌+◌, ◌-◌, ◌%◌, ◌≢◌, Bool, true, false, List, [], ◌∷◌, ◌++◌, refl, sym, ap, ◌∙◌}
+use Rattle.std.proofs.Common.{arith, true≢false, inl, inr}
 use Rattle.std.specs.Prelude.{◌==◌, ◌&&◌, ◌||◌, ◌⊎◌, not, if◌then◌else◌}
 use mathlib.Core.Logic.{dite}
 use native.Mathlib.Decide.{ℕ_discrete}
@@ -36,33 +15,11 @@ use Rattle.wait_rule.specs.declared.journal.EndAct.{EndAct}
 use Rattle.wait_rule.specs.declared.journal.EndAct.TheVariants as act
 use Rattle.wait_rule.specs.declared.journal.Item.{Item}
 use Rattle.wait_rule.specs.declared.journal.Item.TheVariants as item
-use Rattle.wait_rule.specs.Pipes.{
-  write_end,
-  read_end,
-  other_end,
-  End,
-  no_end,
-  new_end,
-  after_end_look,
-  after_end_publish,
-  end_act,
-  end_item,
-  end_step,
-  end_from,
-  end_of,
-  refused_item,
-  was_refused,
-  IsFlow,
-  IsPipe,
-}
-use Rattle.wait_rule.proofs.KnownLaws.PipeFlows.{
-  flow_words,
-}
-use Rattle.wait_rule.proofs.KnownLaws.PipeWords.{
-  SameWords,
-  test_on,
-  test_off,
-}
+use Rattle.wait_rule.specs.Pipes.{write_end, read_end, other_end, End, no_end, new_end, after_end_look}
+use Rattle.wait_rule.specs.Pipes.{after_end_publish, end_act, end_item, end_step, end_from, end_of, refused_item}
+use Rattle.wait_rule.specs.Pipes.{was_refused, IsFlow, IsPipe}
+use Rattle.wait_rule.proofs.KnownLaws.PipeFlows.{flow_words}
+use Rattle.wait_rule.proofs.KnownLaws.PipeWords.{SameWords, test_on, test_off}
 
 pub other_w : (p : ℕ) → other_end (write_end p) ≡ read_end p
 other_w p = ap (λ (b : Bool). if b then write_end p + 1 else write_end p - 1)

@@ -1,22 +1,6 @@
 -- The law of all pipes over steps of the model, and over an item about one of them.
-use Rattle.std.proofs.Common.{
-  ◌≡◌,
-  ℕ,
-  ◌/◌,
-  ◌<◌,
-  ◌≢◌,
-  Bool,
-  true,
-  false,
-  List,
-  refl,
-  sym,
-  ap,
-  ◌∙◌,
-  subst,
-  arith,
-  true≢false,
-}
+use Rattle.std.proofs.Common.{◌≡◌, ℕ, ◌/◌, ◌<◌, ◌≢◌, Bool, true, false, List, refl, sym, ap, ◌∙◌, subst, arith}
+use Rattle.std.proofs.Common.{true≢false}
 use Rattle.std.specs.Prelude.{◌==◌, ◌&&◌, not, if◌then◌else◌}
 use mathlib.Core.Logic.{dite}
 use native.Mathlib.Decide.{ℕ_discrete}
@@ -30,56 +14,14 @@ use Rattle.wait_rule.specs.declared.journal.EndAct.{EndAct}
 use Rattle.wait_rule.specs.declared.journal.EndAct.TheVariants as act
 use Rattle.wait_rule.specs.declared.journal.Item.{Item}
 use Rattle.wait_rule.specs.declared.journal.Item.TheVariants as item
-use Rattle.wait_rule.specs.Pipes.{
-  write_end,
-  read_end,
-  other_end,
-  End,
-  after_end_look,
-  after_end_publish,
-  if_mine,
-  if_unclosed,
-  end_act,
-  end_item,
-  end_of,
-  refused_item,
-  IsFlow,
-  IsPipe,
-  ArePipes,
-}
-use Rattle.wait_rule.proofs.KnownLaws.PipeFlows.{
-  flow_words,
-  look_w_flow,
-  look_r_flow,
-  publish_same,
-}
-use Rattle.wait_rule.proofs.KnownLaws.PipeItems.{
-  other_w,
-  other_r,
-  ends_apart,
-  now,
-  owner,
-  pipe_stays,
-  writer_moves,
-  reader_moves,
-  never,
-}
-use Rattle.wait_rule.proofs.KnownLaws.PipeWords.{
-  SameWords,
-  claim_cell,
-  claim_var,
-  var_cell,
-  var_claim,
-  cell_claim,
-  cell_var,
-  cells_apart,
-  claims_apart,
-  vars_apart,
-  write_in,
-  read_in,
-  test_on,
-  test_off,
-}
+use Rattle.wait_rule.specs.Pipes.{write_end, read_end, other_end, End, after_end_look, after_end_publish, if_mine}
+use Rattle.wait_rule.specs.Pipes.{if_unclosed, end_act, end_item, end_of, refused_item, IsFlow, IsPipe, ArePipes}
+use Rattle.wait_rule.proofs.KnownLaws.PipeFlows.{flow_words, look_w_flow, look_r_flow, publish_same}
+use Rattle.wait_rule.proofs.KnownLaws.PipeItems.{other_w, other_r, ends_apart, now, owner, pipe_stays, writer_moves}
+use Rattle.wait_rule.proofs.KnownLaws.PipeItems.{reader_moves, never}
+use Rattle.wait_rule.proofs.KnownLaws.PipeWords.{SameWords, claim_cell, claim_var, var_cell, var_claim, cell_claim}
+use Rattle.wait_rule.proofs.KnownLaws.PipeWords.{cell_var, cells_apart, claims_apart, vars_apart, write_in, read_in}
+use Rattle.wait_rule.proofs.KnownLaws.PipeWords.{test_on, test_off}
 
 -- a loaded word of an end, and a stored one that was there
 abbrev pub ReadsEnd : (Location → ℕ) → ℕ → Step → Type 0

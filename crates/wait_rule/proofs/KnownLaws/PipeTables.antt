@@ -15,17 +15,9 @@ use Rattle.wait_rule.specs.declared.journal.Item.{Item}
 use Rattle.wait_rule.specs.declared.journal.Item.TheVariants as item
 use Rattle.wait_rule.specs.MemberWords.{word_with}
 use Rattle.wait_rule.specs.Pipes.{write_end, read_end, End, no_end, end_from, end_of, was_refused, IsPipe, ArePipes}
-use Rattle.wait_rule.proofs.KnownLaws.PipeFlows.{
-  flow_words,
-}
-use Rattle.wait_rule.proofs.KnownLaws.PipeSteps.{
-  ReadsEnd,
-  step_pipe,
-}
-use Rattle.wait_rule.proofs.KnownLaws.PipeItems.{
-  end_append,
-  refused_append,
-}
+use Rattle.wait_rule.proofs.KnownLaws.PipeFlows.{flow_words}
+use Rattle.wait_rule.proofs.KnownLaws.PipeSteps.{ReadsEnd, step_pipe}
+use Rattle.wait_rule.proofs.KnownLaws.PipeItems.{end_append, refused_append}
 
 -- items that tell nothing of ends, and are no claims that were refused
 abbrev pub KeepsEnds : List Item → Type 0

@@ -14,54 +14,15 @@ use Rattle.wait_model.specs.Rows.{Allowed}
 use Rattle.wait_model.proofs.Functions.{put_case, put_same, put_other, bool_or}
 use Rattle.wait_rule.specs.Items.{Difference, nothing, Book, learn_step}
 use Rattle.wait_rule.specs.Asked.{Asked, waits_for, given_if, took_off, ask_step, waits_at, was_given_at}
-use Rattle.wait_rule.specs.Pages.{
-  uses_flag,
-  taken_entry,
-  told_entry,
-  IsPageEntry,
-  IsAskedAt,
-  IsPageAtRest,
-  IsWaitingFor,
-  IsHandedBy,
-  IsHandedOver,
-  IsPageState,
-  ArePageStates,
-}
-use Rattle.wait_rule.proofs.KnownLaws.PageStates.{
-  none_some,
-  at_other,
-  found_at,
-  waits_took_far,
-  given_took,
-  waits_took,
-  given_where_waits,
-  asked_took,
-  IsSameAt,
-}
+use Rattle.wait_rule.specs.Pages.{uses_flag, taken_entry, told_entry, IsPageEntry, IsAskedAt, IsPageAtRest}
+use Rattle.wait_rule.specs.Pages.{IsWaitingFor, IsHandedBy, IsHandedOver, IsPageState, ArePageStates}
+use Rattle.wait_rule.proofs.KnownLaws.PageStates.{none_some, at_other, found_at, waits_took_far, given_took, waits_took}
+use Rattle.wait_rule.proofs.KnownLaws.PageStates.{given_where_waits, asked_took, IsSameAt}
 use Rattle.wait_rule.proofs.KnownLaws.MemberSteps.{asleep_differs, AsksNone, MayAsk, IsOrderly}
-use Rattle.wait_rule.proofs.KnownLaws.PageSteps.{
-  some_same,
-  not_both,
-  no_entry,
-  unflagged,
-  at_same,
-  unlock_stored,
-  IsSound,
-  same_at,
-  quiet_pages,
-  one_touched,
-  by_task,
-  others_none,
-}
-use Rattle.wait_rule.proofs.KnownLaws.HandedPages.{
-  clear_stays,
-  free_stays,
-  woken_pages,
-  handed_pages,
-  tried_pages,
-  unflag_pages,
-  looked_pages,
-}
+use Rattle.wait_rule.proofs.KnownLaws.PageSteps.{some_same, not_both, no_entry, unflagged, at_same, unlock_stored}
+use Rattle.wait_rule.proofs.KnownLaws.PageSteps.{IsSound, same_at, quiet_pages, one_touched, by_task, others_none}
+use Rattle.wait_rule.proofs.KnownLaws.HandedPages.{clear_stays, free_stays, woken_pages, handed_pages, tried_pages}
+use Rattle.wait_rule.proofs.KnownLaws.HandedPages.{unflag_pages, looked_pages}
 
 module _ (s : Table) (a : ℕ) (b : Book) (differs : ℕ → Difference) (asked : ℕ → Asked)
     (same : differs a ≡ b.differs) (r : ArePageStates s differs asked) (sound : IsSound s) where

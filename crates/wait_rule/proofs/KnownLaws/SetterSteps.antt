@@ -2,25 +2,8 @@
 -- and no walk of it has called the entry.
 use Rattle.std.proofs.Common.{refl, sym, ◌∙◌, ap, subst, arith, inl, inr}
 use Rattle.std.proofs.lemmas.Bool.Decides.{eqb_tells}
-use Rattle.std.specs.Prelude.{
-  ℕ,
-  ◌≡◌,
-  ◌≢◌,
-  ◌≤◌,
-  ◌⊎◌,
-  not,
-  nat_le,
-  ◌&&◌,
-  ◌||◌,
-  ◌==◌,
-  Bool,
-  true,
-  false,
-  if◌then◌else◌,
-  Option,
-  Some,
-  None,
-}
+use Rattle.std.specs.Prelude.{ℕ, ◌≡◌, ◌≢◌, ◌≤◌, ◌⊎◌, not, nat_le, ◌&&◌, ◌||◌, ◌==◌, Bool, true, false, if◌then◌else◌}
+use Rattle.std.specs.Prelude.{Option, Some, None}
 use Rattle.wait_model.specs.declared.watches.Watch.{Watch}
 use Rattle.wait_model.specs.declared.watches.Entry.{Entry}
 use Rattle.wait_model.specs.declared.steps.Step.{Step}
@@ -36,14 +19,7 @@ use Rattle.wait_model.specs.Laws.{Waits, Unheard}
 use Rattle.wait_model.specs.Rows.{Allowed, IsUntested}
 use Rattle.wait_model.specs.Facts.{Facts, Agrees}
 use Rattle.wait_model.proofs.Functions.{put_at, put_same}
-use Rattle.wait_model.proofs.Sameness.{
-  same_bit,
-  same_bit_is,
-  same_trans,
-  same_of_page,
-  failing_unmet,
-  tas_unmet,
-}
+use Rattle.wait_model.proofs.Sameness.{same_bit, same_bit_is, same_trans, same_of_page, failing_unmet, tas_unmet}
 use Rattle.wait_model.proofs.StepLaws.LoadSteps.{peek_clears}
 use Rattle.wait_model.proofs.StepLaws.PublishSteps.{gone_published}
 use Rattle.wait_model.proofs.StepLaws.UnlockSteps.{unlock_cleared, unlock_flagged, unlock_gone, not_whole}

@@ -2,29 +2,8 @@
 use Rattle.std.proofs.Common.{refl, sym, ◌∙◌, ap, subst, arith, inl, inr}
 use Rattle.std.proofs.lemmas.Bool.Decides.{eqb_tells}
 use Rattle.std.proofs.lemmas.List.{append_assoc}
-use Rattle.std.specs.Prelude.{
-  ℕ,
-  zero,
-  suc,
-  ◌≡◌,
-  ◌≢◌,
-  ◌<◌,
-  ◌≤◌,
-  ◌⊎◌,
-  ◌||◌,
-  Bool,
-  true,
-  false,
-  if◌then◌else◌,
-  ◌==◌,
-  Option,
-  Some,
-  None,
-  List,
-  [],
-  ◌∷◌,
-  ◌++◌,
-}
+use Rattle.std.specs.Prelude.{ℕ, zero, suc, ◌≡◌, ◌≢◌, ◌<◌, ◌≤◌, ◌⊎◌, ◌||◌, Bool, true, false, if◌then◌else◌, ◌==◌}
+use Rattle.std.specs.Prelude.{Option, Some, None, List, [], ◌∷◌, ◌++◌}
 use Rattle.wait_model.specs.declared.layout.TheConstants.{ENTRIES}
 use Rattle.wait_model.specs.declared.watches.Watch.{Watch}
 use Rattle.wait_model.specs.declared.watches.Watch.TheVariants as watch
@@ -34,19 +13,8 @@ use Rattle.wait_model.specs.declared.steps.Step.{Step}
 use Rattle.wait_model.specs.declared.steps.Step.TheVariants as step
 use Rattle.wait_model.specs.Watches.{same, head_of, is_done, is_simple, owner}
 use Rattle.wait_model.specs.Words.{entry_of}
-use Rattle.wait_model.specs.Views.{
-  View,
-  Walk,
-  Hold,
-  unseen,
-  elsewhere,
-  shown,
-  blank,
-  concerns,
-  gone,
-  all_passed,
-  look_at,
-}
+use Rattle.wait_model.specs.Views.{View, Walk, Hold, unseen, elsewhere, shown, blank, concerns, gone, all_passed}
+use Rattle.wait_model.specs.Views.{look_at}
 use Rattle.wait_model.specs.Fold.{after, after_all, view_of, peeks, scanned}
 use Rattle.wait_model.specs.Tables.{Table, met, next}
 use Rattle.wait_model.specs.Laws.{Waits, Unheard}
@@ -74,17 +42,8 @@ use Rattle.wait_model.proofs.FollowedLaws.OldWaiters.{FoundZero, has_store, Befo
 use Rattle.wait_rule.specs.Interleavings.{TaskStep, table_of, AreAllowed}
 use Rattle.wait_rule.specs.Setters.{step_by, uses_up, StaysSet, UsesUpNone, NobodySleeps, StepsWakeAll, StepsSettleAll, RuleWakesAll, RuleSettlesAll}
 use Rattle.wait_rule.proofs.KnownLaws.Moments.{kept_of, views_of}
-use Rattle.wait_rule.proofs.KnownLaws.SetterSteps.{
-  Near,
-  Open,
-  tested,
-  anew_before,
-  near_kept,
-  near_unheard,
-  not_passed,
-  unflagged_kept,
-  open_of,
-}
+use Rattle.wait_rule.proofs.KnownLaws.SetterSteps.{Near, Open, tested, anew_before, near_kept, near_unheard, not_passed}
+use Rattle.wait_rule.proofs.KnownLaws.SetterSteps.{unflagged_kept, open_of}
 
 -- a step that tells what stands in an entry word shows it in the book
 looked_not : (h x : ℕ) (it : Step) → tells x it ≡ true → look_of h it ≡ unseen → ⊥

@@ -13,18 +13,8 @@ use Rattle.wait_model.proofs.Functions.{put_same, put_other}
 use Rattle.wait_model.proofs.HistoryLaws.Stretches.{lacks_left, lacks_right}
 use Rattle.wait_rule.specs.Interleavings.{TaskStep, table_of, AreAllowed}
 use Rattle.wait_rule.specs.TableLaws.{histories_in}
-use Rattle.wait_rule.specs.Setters.{
-  step_by,
-  uses_up,
-  StaysSet,
-  UsesUpNone,
-  NobodySleeps,
-  LeavesSet,
-  AllLeaveSet,
-  SetForGood,
-  RuleSetsForGood,
-  AllSetForGood,
-}
+use Rattle.wait_rule.specs.Setters.{step_by, uses_up, StaysSet, UsesUpNone, NobodySleeps, LeavesSet, AllLeaveSet}
+use Rattle.wait_rule.specs.Setters.{SetForGood, RuleSetsForGood, AllSetForGood}
 use Rattle.wait_rule.proofs.KnownLaws.Setters.{steps_settle_all}
 
 leave_front : (on : Watch) (es fs : List Step) → AllLeaveSet on (es ++ fs) → AllLeaveSet on es

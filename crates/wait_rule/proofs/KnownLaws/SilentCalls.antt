@@ -44,41 +44,12 @@ use Rattle.wait_model.specs.declared.watches.Kind.{Kind}
 use Rattle.wait_model.specs.declared.watches.Kind.TheVariants as kind
 use Rattle.wait_model.specs.Points.{call_aim, is_lock, state_in}
 use Rattle.wait_model.specs.Tasks.{pending, state_mask}
-use Rattle.wait_model.specs.Programs.{
-  active_event,
-  add_event,
-  ask,
-  await_ends,
-  await_event,
-  bit_event,
-  call_entry,
-  call_fails,
-  call_next,
-  count_event,
-  finish_event,
-  finished,
-  hands_event,
-  is_at_end,
-  is_enough,
-  leave_event,
-  onward,
-  page_event,
-  page_finish_event,
-  prepare_event,
-  prepared_at,
-  prepares_from,
-  program,
-  publishing_event,
-  remove_event,
-  select_event,
-  select_next,
-  signalled_at,
-  slept_at,
-  walk_event,
-  woken_event,
-  worn_event,
-  worn_next,
-}
+use Rattle.wait_model.specs.Programs.{active_event, add_event, ask, await_ends, await_event, bit_event, call_entry}
+use Rattle.wait_model.specs.Programs.{call_fails, call_next, count_event, finish_event, finished, hands_event}
+use Rattle.wait_model.specs.Programs.{is_at_end, is_enough, leave_event, onward, page_event, page_finish_event}
+use Rattle.wait_model.specs.Programs.{prepare_event, prepared_at, prepares_from, program, publishing_event}
+use Rattle.wait_model.specs.Programs.{remove_event, select_event, select_next, signalled_at, slept_at, walk_event}
+use Rattle.wait_model.specs.Programs.{woken_event, worn_event, worn_next}
 
 abbrev pub IsSilent : Event → Type 0
 IsSilent (event.Signal who fatal) = ⊥

@@ -13,20 +13,9 @@ use Rattle.wait_model.proofs.HistoryLaws.StepTotals.{sum_same}
 use Rattle.wait_rule.specs.declared.journal.Journal.{Journal}
 use Rattle.wait_rule.specs.Interleavings.{table_of}
 use Rattle.wait_rule.specs.Says.{IsShown}
-use Rattle.wait_rule.specs.TableLaws.{
-  AllBalance,
-  AllLoseNoWake,
-  AllTakeMade,
-  AllTookRaised,
-  HasAll,
-  RuleBalances,
-  RuleInventsNoSignal,
-  RuleKeepsBits,
-  RuleLosesNoWake,
-  RuleTakesMade,
-  StepsLoseNoWake,
-  histories_in,
-}
+use Rattle.wait_rule.specs.TableLaws.{AllBalance, AllLoseNoWake, AllTakeMade, AllTookRaised, HasAll, RuleBalances}
+use Rattle.wait_rule.specs.TableLaws.{RuleInventsNoSignal, RuleKeepsBits, RuleLosesNoWake, RuleTakesMade}
+use Rattle.wait_rule.specs.TableLaws.{StepsLoseNoWake, histories_in}
 use Rattle.wait_rule.proofs.KnownLaws.Moments.{kept_of, views_of}
 
 pub rule_loses_none : RuleLosesNoWake

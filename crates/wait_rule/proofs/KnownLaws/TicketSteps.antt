@@ -1,25 +1,7 @@
 -- What a step does to the tickets that are out.
 use Rattle.std.proofs.Common.{refl, sym, ◌∙◌, ap, subst, arith, inl, inr, add-zero}
-use Rattle.std.specs.Prelude.{
-  ℕ,
-  zero,
-  suc,
-  ◌≡◌,
-  ◌≢◌,
-  ◌+◌,
-  ◌<◌,
-  ◌≤◌,
-  ◌⊎◌,
-  Bool,
-  true,
-  false,
-  ◌==◌,
-  Option,
-  Some,
-  None,
-  List,
-  ◌++◌,
-}
+use Rattle.std.specs.Prelude.{ℕ, zero, suc, ◌≡◌, ◌≢◌, ◌+◌, ◌<◌, ◌≤◌, ◌⊎◌, Bool, true, false, ◌==◌, Option, Some, None}
+use Rattle.std.specs.Prelude.{List, ◌++◌}
 use Rattle.std.proofs.lemmas.Bool.Decides.{nat_tests}
 use mathlib.Core.Path.{fun_ext}
 use Rattle.wait_model.specs.declared.layout.TheConstants.{TASKS}
@@ -40,19 +22,8 @@ use Rattle.wait_model.proofs.Functions.{put_case, put_at, put_same, put_other}
 use Rattle.wait_model.proofs.HistoryLaws.StepTotals.{total_grown, sum_grown, sum_zero}
 use Rattle.wait_model.proofs.StepLaws.UnlockSteps.{unlock_hold}
 use Rattle.wait_rule.specs.declared.journal.Item.{Item}
-use Rattle.wait_rule.specs.Tickets.{
-  Ticket,
-  no_ticket,
-  drawn,
-  served,
-  taken,
-  given,
-  is_ticket_of,
-  is_served,
-  is_given,
-  ShowsNumber,
-  out_below,
-}
+use Rattle.wait_rule.specs.Tickets.{Ticket, no_ticket, drawn, served, taken, given, is_ticket_of, is_served, is_given}
+use Rattle.wait_rule.specs.Tickets.{ShowsNumber, out_below}
 use Rattle.wait_rule.specs.TicketWords.{all_tickets, unlocks_at, unlocked_at, unserved, AreTickets}
 use Rattle.wait_rule.specs.Items.{Book, first_book, learn_step, after_sleep, book_from, book_of}
 use Rattle.wait_rule.specs.Rule.{AreLinked}

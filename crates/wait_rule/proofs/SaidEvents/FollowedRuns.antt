@@ -1,22 +1,7 @@
 -- What a task makes of a call follows the sentence of the call.
 use Rattle.std.proofs.Common.{refl, sym, ◌∙◌, ap, subst, arith, append_assoc}
-use Rattle.std.specs.Prelude.{
-  ℕ,
-  ◌≡◌,
-  ◌<◌,
-  Bool,
-  true,
-  false,
-  if◌then◌else◌,
-  Option,
-  Some,
-  None,
-  is_some,
-  List,
-  [],
-  ◌∷◌,
-  ◌++◌,
-}
+use Rattle.std.specs.Prelude.{ℕ, ◌≡◌, ◌<◌, Bool, true, false, if◌then◌else◌, Option, Some, None, is_some, List, [], ◌∷◌}
+use Rattle.std.specs.Prelude.{◌++◌}
 use Rattle.wait_model.specs.declared.calls.Call.{Call}
 use Rattle.wait_model.specs.declared.calls.Call.TheVariants as calls
 use Rattle.wait_model.specs.declared.calls.Event.{Event}
@@ -57,20 +42,8 @@ use Rattle.wait_rule.specs.Known.{Known}
 use Rattle.wait_rule.specs.Queues.{index}
 use Rattle.wait_rule.specs.Says.{history_of, told_of}
 use Rattle.wait_rule.specs.SaidEvents.{said, is_walking, RunsFollow}
-use Rattle.wait_rule.specs.Transitions.{
-  Finds,
-  FindsAt,
-  Goes,
-  IsMadeFor,
-  IsSeenAs,
-  Program,
-  StepOrLook,
-  Transition,
-  after_transition,
-  by_look,
-  by_step,
-  call_program,
-}
+use Rattle.wait_rule.specs.Transitions.{Finds, FindsAt, Goes, IsMadeFor, IsSeenAs, Program, StepOrLook, Transition}
+use Rattle.wait_rule.specs.Transitions.{after_transition, by_look, by_step, call_program}
 use Rattle.wait_rule.proofs.KnownLaws.Moments.{moment_of, next_step}
 use Rattle.wait_rule.proofs.TableSteps.ItemLists.{steps_append}
 use Rattle.wait_rule.proofs.SaidEvents.OwnFindings.{own_off, peek_off}

@@ -31,18 +31,8 @@ use Rattle.wait_rule.specs.Known.{Known}
 use Rattle.wait_rule.specs.Says.{history_of}
 use Rattle.wait_rule.specs.Shown.{shown_entry, shown_queue}
 use Rattle.wait_rule.specs.SaidEvents.{said, is_walking, MayWalk, WakesFollow}
-use Rattle.wait_rule.specs.Transitions.{
-  Finds,
-  FindsNext,
-  Goes,
-  Program,
-  StepOrLook,
-  Transition,
-  after_transition,
-  by_look,
-  by_step,
-  call_program,
-}
+use Rattle.wait_rule.specs.Transitions.{Finds, FindsNext, Goes, Program, StepOrLook, Transition, after_transition}
+use Rattle.wait_rule.specs.Transitions.{by_look, by_step, call_program}
 use Rattle.wait_rule.proofs.KnownLaws.Moments.{Moment, moment_of}
 use Rattle.wait_rule.proofs.TableSteps.ItemLists.{steps_append}
 use Rattle.wait_rule.proofs.SaidEvents.Fronts.{step_follows, steps_made}

@@ -1,23 +1,7 @@
 -- What a task makes of a walk follows the sentence of a wake.
 use Rattle.std.proofs.Common.{refl, sym, ◌∙◌, ap, subst, append_assoc}
-use Rattle.std.specs.Prelude.{
-  ℕ,
-  ◌≡◌,
-  ◌<◌,
-  ◌≤◌,
-  Bool,
-  true,
-  false,
-  if◌then◌else◌,
-  is_some,
-  Option,
-  Some,
-  None,
-  List,
-  [],
-  ◌∷◌,
-  ◌++◌,
-}
+use Rattle.std.specs.Prelude.{ℕ, ◌≡◌, ◌<◌, ◌≤◌, Bool, true, false, if◌then◌else◌, is_some, Option, Some, None, List, []}
+use Rattle.std.specs.Prelude.{◌∷◌, ◌++◌}
 use Rattle.wait_model.specs.declared.layout.TheConstants.{BREAK, PLAIN_CONDITIONS}
 use Rattle.wait_model.specs.declared.calls.Call.{Call}
 use Rattle.wait_model.specs.declared.calls.Call.TheVariants as calls
@@ -49,16 +33,7 @@ use Rattle.wait_model.specs.Words.{bit_at, flag}
 use Rattle.wait_model.specs.Watches.{head_of, mask_of, misses, number_of, word_of, bit_of}
 use Rattle.wait_model.specs.Views.{View as Told, Hold, blank}
 use Rattle.wait_model.specs.Fold.{after, after_all, view_of}
-use Rattle.wait_model.specs.Programs.{
-  call_entry,
-  call_next,
-  go,
-  hands_event,
-  past,
-  onward,
-  reached,
-  walk_event,
-}
+use Rattle.wait_model.specs.Programs.{call_entry, call_next, go, hands_event, past, onward, reached, walk_event}
 use Rattle.wait_model.specs.Findings.{Noted, none_noted, notes, MayComeTo}
 use Rattle.wait_model.specs.Runs.{arrives_from}
 use Rattle.wait_model.proofs.WaitLaws.OutsideStages.{either}
@@ -74,24 +49,9 @@ use Rattle.wait_rule.specs.Known.{Known}
 use Rattle.wait_rule.specs.Says.{history_of, told_of}
 use Rattle.wait_rule.specs.Shown.{shown_entry, shown_queue}
 use Rattle.wait_rule.specs.SaidEvents.{plain_aim, said, WalksFollow}
-use Rattle.wait_rule.specs.Transitions.{
-  AreLooks,
-  AreScansOf,
-  Finds,
-  FindsNext,
-  Goes,
-  IsMadeFor,
-  IsStepFor,
-  OnlyLooks,
-  Program,
-  StepOrLook,
-  Transition,
-  after_step_or_look,
-  after_transition,
-  by_look,
-  by_step,
-  walk_program,
-}
+use Rattle.wait_rule.specs.Transitions.{AreLooks, AreScansOf, Finds, FindsNext, Goes, IsMadeFor, IsStepFor, OnlyLooks}
+use Rattle.wait_rule.specs.Transitions.{Program, StepOrLook, Transition, after_step_or_look, after_transition, by_look}
+use Rattle.wait_rule.specs.Transitions.{by_step, walk_program}
 use Rattle.wait_rule.proofs.KnownLaws.Moments.{Moment, moment_of}
 use Rattle.wait_rule.proofs.TableSteps.ItemLists.{steps_append}
 use Rattle.wait_rule.proofs.SaidEvents.Fronts.{looks_history, step_follows, step_history, steps_made}

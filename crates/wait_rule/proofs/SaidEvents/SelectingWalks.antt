@@ -1,29 +1,8 @@
 -- What a walk has woken and selected so far, at each point of its program.
 use Rattle.std.proofs.lemmas.Bool.Decides.{nat_tests}
 use Rattle.std.proofs.Common.{refl, sym, ◌∙◌, subst, arith, inl, inr}
-use Rattle.std.specs.Prelude.{
-  ℕ,
-  zero,
-  suc,
-  ◌≡◌,
-  ◌+◌,
-  ◌-◌,
-  ◌<◌,
-  ◌≤◌,
-  ◌⊎◌,
-  ◌==◌,
-  ◌&&◌,
-  Bool,
-  true,
-  false,
-  if◌then◌else◌,
-  Option,
-  Some,
-  None,
-  List,
-  [],
-  ◌∷◌,
-}
+use Rattle.std.specs.Prelude.{ℕ, zero, suc, ◌≡◌, ◌+◌, ◌-◌, ◌<◌, ◌≤◌, ◌⊎◌, ◌==◌, ◌&&◌, Bool, true, false, if◌then◌else◌}
+use Rattle.std.specs.Prelude.{Option, Some, None, List, [], ◌∷◌}
 use Rattle.wait_model.specs.declared.calls.Call.{Call}
 use Rattle.wait_model.specs.declared.calls.Call.TheVariants as calls
 use Rattle.wait_model.specs.declared.calls.Event.{Event}
@@ -58,14 +37,7 @@ use Rattle.wait_model.proofs.WaitLaws.OutsideStages.{either}
 use Rattle.wait_model.proofs.SentenceLaws.MadeCalls.{sentences_are_made}
 use Rattle.wait_rule.specs.Known.{Known}
 use Rattle.wait_rule.specs.SaidEvents.{said}
-use Rattle.wait_rule.specs.Selecting.{
-  IsTallied,
-  RunsSelect,
-  WordsSelect,
-  tells_page,
-  yes_by,
-  yes_from,
-}
+use Rattle.wait_rule.specs.Selecting.{IsTallied, RunsSelect, WordsSelect, tells_page, yes_by, yes_from}
 use Rattle.wait_rule.specs.Transitions.{Goes, Program, Transition, after_transition, walk_program}
 
 -- a walk that goes on, and one that used up its count, of a count n after `done` wakes

@@ -18,18 +18,8 @@ use Rattle.wait_model.specs.declared.points.LeavePoint.TheVariants as leaving
 use Rattle.wait_model.specs.declared.points.FinishPoint.TheVariants as finishing
 use Rattle.wait_model.specs.Tasks.{pending, state_mask, looks_in, sleep_of}
 use Rattle.wait_model.specs.Points.{call_head, is_bit_wait, is_lock, state_in}
-use Rattle.wait_model.specs.Programs.{
-  program,
-  program_start,
-  call_fails,
-  ends_with,
-  go,
-  load,
-  look_event,
-  signalled,
-  worn_next,
-  zero_answer,
-}
+use Rattle.wait_model.specs.Programs.{program, program_start, call_fails, ends_with, go, load, look_event, signalled}
+use Rattle.wait_model.specs.Programs.{worn_next, zero_answer}
 use Rattle.wait_model.specs.Findings.{Noted, none_noted, notes}
 use Rattle.wait_model.specs.Making.{Makes, goes_to}
 use Rattle.wait_model.specs.Selections.{IsSignalledTurn}

@@ -20,15 +20,7 @@ use Rattle.wait_model.proofs.WordLaws.CondWords.{suits_of}
 use Rattle.wait_model.proofs.WordLaws.DecodedWords.{entry_read, none_read}
 use Rattle.wait_model.proofs.Functions.{put_at, put_same, put_other}
 use Rattle.wait_rule.specs.declared.journal.Item.{Item}
-use Rattle.wait_rule.specs.Items.{
-  Difference,
-  nothing,
-  at_entry,
-  page_told,
-  Book,
-  with_difference,
-  Fits,
-}
+use Rattle.wait_rule.specs.Items.{Difference, nothing, at_entry, page_told, Book, with_difference, Fits}
 use Rattle.wait_rule.specs.Members.{IsStanding, IsOwnKind, IsEntryWord}
 use Rattle.wait_rule.specs.Asked.{nothing_asked, all_asked}
 use Rattle.wait_rule.specs.Pages.{uses_flag}

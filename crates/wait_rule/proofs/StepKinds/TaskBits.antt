@@ -1,15 +1,8 @@
 -- What the bits of masks make of a task's word. Each fact is tried at every state and every flag.
 use Rattle.std.proofs.Common.{refl, sym, subst, arith, inl, inr, bit_or, eqb-true}
 use Rattle.std.specs.Prelude.{◌*◌, ℕ, ◌≡◌, ◌+◌, ◌<◌, ◌⊎◌, Bool, true, false, ◌&&◌, ◌==◌, bit_and}
-use Rattle.wait_model.specs.declared.layout.TheConstants.{
-  RUNNING,
-  INTERRUPTIBLE,
-  UNINTERRUPTIBLE,
-  KILLABLE,
-  RUNNABLE,
-  SIGNAL,
-  FATAL,
-}
+use Rattle.wait_model.specs.declared.layout.TheConstants.{RUNNING, INTERRUPTIBLE, UNINTERRUPTIBLE, KILLABLE, RUNNABLE}
+use Rattle.wait_model.specs.declared.layout.TheConstants.{SIGNAL, FATAL}
 use Rattle.wait_model.specs.declared.tasks.TaskRecord.{TaskRecord}
 use Rattle.wait_model.specs.Tasks.{task_word, IsLawful, raised, accepted, bit, IsLawfulWord}
 use Rattle.wait_model.proofs.WordLaws.DecodedWords.{task_read}

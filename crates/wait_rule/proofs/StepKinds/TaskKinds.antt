@@ -6,19 +6,8 @@ use Rattle.wait_model.specs.declared.steps.Step.TheVariants as step
 use Rattle.wait_model.specs.declared.tasks.TaskRecord.{TaskRecord}
 use Rattle.wait_model.specs.declared.tasks.Sleep.TheVariants as sleep
 use Rattle.wait_model.specs.Functions.{put}
-use Rattle.wait_model.specs.Tasks.{
-  IsLawful,
-  IsLawfulWord,
-  task_of,
-  task_word,
-  woken,
-  slept,
-  sleep_of,
-  raised,
-  accepted,
-  meets,
-  pending,
-}
+use Rattle.wait_model.specs.Tasks.{IsLawful, IsLawfulWord, task_of, task_word, woken, slept, sleep_of, raised, accepted}
+use Rattle.wait_model.specs.Tasks.{meets, pending}
 use Rattle.wait_model.specs.Views.{View}
 use Rattle.wait_model.specs.Tables.{Table, next}
 use Rattle.wait_model.specs.Locations as place

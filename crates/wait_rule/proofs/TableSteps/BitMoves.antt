@@ -1,34 +1,7 @@
 -- What a store of a member bit asks of the table of words.
 use Rattle.std.proofs.Common.{refl, sym, ◌∙◌, ap, subst, arith, inl, inr}
-use Rattle.std.specs.Prelude.{
-  ℕ,
-  zero,
-  suc,
-  ◌≡◌,
-  ◌≢◌,
-  ◌+◌,
-  ◌-◌,
-  ◌*◌,
-  ◌/◌,
-  ◌%◌,
-  ◌^◌,
-  ◌<◌,
-  ◌⊎◌,
-  Bool,
-  true,
-  false,
-  ◌==◌,
-  if◌then◌else◌,
-  Option,
-  Some,
-  List,
-  [],
-  ◌∷◌,
-  bit_and,
-  bit_or,
-  slice_set,
-  slice_index,
-}
+use Rattle.std.specs.Prelude.{ℕ, zero, suc, ◌≡◌, ◌≢◌, ◌+◌, ◌-◌, ◌*◌, ◌/◌, ◌%◌, ◌^◌, ◌<◌, ◌⊎◌, Bool, true, false, ◌==◌}
+use Rattle.std.specs.Prelude.{if◌then◌else◌, Option, Some, List, [], ◌∷◌, bit_and, bit_or, slice_set, slice_index}
 use Rattle.std.proofs.lemmas.Bool.Decides.{eqb_tells}
 use mathlib.Core.Option.{none}
 use Rattle.atomic_table.specs.Table.{step as move, Allows}
@@ -47,16 +20,8 @@ use Rattle.wait_rule.specs.declared.journal.Item.{Item}
 use Rattle.wait_rule.specs.declared.journal.Item.TheVariants as item
 use Rattle.wait_rule.specs.Items.{Difference, nothing, at_entry, first_book, steps_of, book_of, Fits}
 use Rattle.wait_rule.specs.Journals.{Scene, moved}
-use Rattle.wait_rule.specs.MemberWords.{
-  word_with,
-  ShowsWith,
-  names,
-  index_named,
-  is_put,
-  member_word,
-  all_differences,
-  AreMembers,
-}
+use Rattle.wait_rule.specs.MemberWords.{word_with, ShowsWith, names, index_named, is_put, member_word, all_differences}
+use Rattle.wait_rule.specs.MemberWords.{AreMembers}
 use Rattle.wait_rule.specs.Tickets.{Ticket}
 use Rattle.wait_rule.specs.TicketWords.{all_tickets, AreTickets}
 use Rattle.wait_rule.specs.Rule.{Law, Holds}

@@ -1,44 +1,7 @@
 -- A task that is cut in two or joined leaves the state that is seen as it was.
-use Rattle.std.proofs.Common.{
-  ◌≡◌,
-  ℕ,
-  zero,
-  suc,
-  ◌+◌,
-  ◌-◌,
-  ◌<◌,
-  ◌≤◌,
-  ◌≢◌,
-  cond,
-  eqb,
-  ltb,
-  leb,
-  ◌&&◌,
-  Bool,
-  true,
-  false,
-  List,
-  [],
-  ◌∷◌,
-  ◌++◌,
-  set,
-  refl,
-  sym,
-  ap,
-  ◌∙◌,
-  subst,
-  arith,
-  eq-eqb,
-  ne_eqb,
-  append-nil,
-  append_assoc,
-  le-leb,
-  lt-ltb,
-  leb-true,
-  ltb-true,
-  le-ltb,
-  lt_of_not-le,
-}
+use Rattle.std.proofs.Common.{◌≡◌, ℕ, zero, suc, ◌+◌, ◌-◌, ◌<◌, ◌≤◌, ◌≢◌, cond, eqb, ltb, leb, ◌&&◌, Bool, true, false}
+use Rattle.std.proofs.Common.{List, [], ◌∷◌, ◌++◌, set, refl, sym, ap, ◌∙◌, subst, arith, eq-eqb, ne_eqb, append-nil}
+use Rattle.std.proofs.Common.{append_assoc, le-leb, lt-ltb, leb-true, ltb-true, le-ltb, lt_of_not-le}
 use mathlib.Core.Logic.{dite}
 use mathlib.Core.Option.{some, some-injective, some-ne-none}
 use lib.ListN.{get_elem?}
@@ -51,23 +14,8 @@ use Rattle.wait_rule.specs.declared.journal.Item.{Item}
 use Rattle.wait_rule.specs.declared.journal.Part.{Part}
 use Rattle.wait_rule.specs.declared.journal.Journal.{Journal}
 use Rattle.wait_rule.specs.Rule.{Holds}
-use Rattle.wait_rule.specs.Journals.{
-  Scene,
-  one_within,
-  times_in,
-  owns,
-  sum_over,
-  items_in,
-  has_of,
-  list_of,
-  part_in,
-  seen_as,
-  left_with,
-  handed_over,
-  joined_with,
-  nobody,
-  fresh,
-}
+use Rattle.wait_rule.specs.Journals.{Scene, one_within, times_in, owns, sum_over, items_in, has_of, list_of, part_in}
+use Rattle.wait_rule.specs.Journals.{seen_as, left_with, handed_over, joined_with, nobody, fresh}
 use Rattle.wait_rule.proofs.TableSteps.StateLaws.{at_most}
 use Rattle.wait_rule.proofs.TableSteps.SeenStates.{total_set, total_at, set_at, list_set, none_in, has_none, list_sole}
 

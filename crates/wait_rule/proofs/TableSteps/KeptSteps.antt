@@ -1,20 +1,6 @@
 -- From "this step keeps the law" to what a step of the table of words asks.
-use Rattle.std.proofs.Common.{
-  refl,
-  sym,
-  ◌∙◌,
-  ap,
-  subst,
-  arith,
-  append-nil,
-  eq-eqb,
-  ne_eqb,
-  inl,
-  inr,
-  get_or-set_other,
-  get_or-set_same,
-  length-set,
-}
+use Rattle.std.proofs.Common.{refl, sym, ◌∙◌, ap, subst, arith, append-nil, eq-eqb, ne_eqb, inl, inr, get_or-set_other}
+use Rattle.std.proofs.Common.{get_or-set_same, length-set}
 use Rattle.std.proofs.lemmas.Bool.Decides.{eqb_tells, nat_tests}
 use Rattle.std.specs.Prelude.{ℕ, ◌≡◌, ◌≢◌, ◌<◌, ◌⊎◌, Bool, true, false, cond, eqb, ◌==◌, if◌then◌else◌}
 use Rattle.std.specs.Prelude.{length, List, [], ◌∷◌, ◌++◌, slice_set, slice_index}
@@ -45,16 +31,7 @@ use Rattle.wait_rule.specs.Tickets.{Ticket}
 use Rattle.wait_rule.specs.Pipes.{ArePipes}
 use Rattle.wait_rule.specs.TicketWords.{all_tickets, AreTickets}
 use Rattle.wait_rule.specs.Journals.{Scene, moved, pushed}
-use Rattle.wait_rule.specs.Rule.{
-  IsLawfulTable,
-  IsWhole,
-  AreLinked,
-  all_notes,
-  is_stepped,
-  IsRuled,
-  Law,
-  Holds,
-}
+use Rattle.wait_rule.specs.Rule.{IsLawfulTable, IsWhole, AreLinked, all_notes, is_stepped, IsRuled, Law, Holds}
 use Rattle.wait_rule.specs.Asked.{all_asked}
 use Rattle.wait_rule.specs.Pages.{ArePageStates}
 use Rattle.wait_rule.specs.Plays.{Sat, seat_with, seat_tried}

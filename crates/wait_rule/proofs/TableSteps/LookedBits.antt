@@ -1,33 +1,7 @@
 -- What a load of a member word in a hold tells: looks at the words of all its bits.
 use Rattle.std.proofs.Common.{refl, sym, ◌∙◌, ap, subst, arith, inl, inr, append-nil}
-use Rattle.std.specs.Prelude.{
-  ℕ,
-  zero,
-  suc,
-  ◌≡◌,
-  ◌≢◌,
-  ◌+◌,
-  ◌-◌,
-  ◌*◌,
-  ◌/◌,
-  ◌%◌,
-  ◌<◌,
-  ◌≤◌,
-  ◌⊎◌,
-  Bool,
-  true,
-  false,
-  nat_lt,
-  if◌then◌else◌,
-  Option,
-  Some,
-  List,
-  [],
-  ◌∷◌,
-  ◌++◌,
-  slice_index,
-  slice_set,
-}
+use Rattle.std.specs.Prelude.{ℕ, zero, suc, ◌≡◌, ◌≢◌, ◌+◌, ◌-◌, ◌*◌, ◌/◌, ◌%◌, ◌<◌, ◌≤◌, ◌⊎◌, Bool, true, false, nat_lt}
+use Rattle.std.specs.Prelude.{if◌then◌else◌, Option, Some, List, [], ◌∷◌, ◌++◌, slice_index, slice_set}
 use Rattle.std.proofs.lemmas.Bool.Decides.{nat_tests}
 use mathlib.Core.Path.{fun_ext}
 use mathlib.Core.Option.{none}
@@ -63,27 +37,15 @@ use Rattle.wait_rule.proofs.TableSteps.ItemLists.{book_append}
 use Rattle.wait_rule.proofs.TableSteps.StateLaws.{allows_some}
 use Rattle.wait_rule.proofs.KnownLaws.AfterSteps.{notes_after}
 use Rattle.wait_rule.proofs.KnownLaws.HeadLinks.{same_links}
-use Rattle.wait_rule.proofs.KnownLaws.MemberSteps.{
-  differences_next,
-  differences_same,
-  members_next,
-  nothing_named,
-  entry_names,
-}
+use Rattle.wait_rule.proofs.KnownLaws.MemberSteps.{differences_next, differences_same, members_next, nothing_named}
+use Rattle.wait_rule.proofs.KnownLaws.MemberSteps.{entry_names}
 use Rattle.wait_rule.specs.Tickets.{Ticket}
 use Rattle.wait_rule.specs.TicketWords.{AreTickets}
 use Rattle.wait_rule.proofs.KnownLaws.TicketSteps.{tickets_same}
 use Rattle.wait_rule.proofs.KnownLaws.TallySteps.{tallies_same}
 use Rattle.wait_rule.proofs.KnownLaws.PipeTables.{pipes_next, pipes_rest}
-use Rattle.wait_rule.proofs.TableSteps.KeptSteps.{
-  ChangesNone,
-  tickets_on,
-  KeepsLaw,
-  IsOwn,
-  ruled_next,
-  ruled_seen,
-  written,
-}
+use Rattle.wait_rule.proofs.TableSteps.KeptSteps.{ChangesNone, tickets_on, KeepsLaw, IsOwn, ruled_next, ruled_seen}
+use Rattle.wait_rule.proofs.TableSteps.KeptSteps.{written}
 use Rattle.wait_rule.proofs.TableSteps.MemberMoves.{knew_entry, knew_mark, seen_links}
 use Rattle.wait_rule.proofs.TableSteps.QueueMoves.{head_seen}
 use Rattle.wait_rule.proofs.StepKinds.EntryKinds.{reads, sees, is_entry}

@@ -1,48 +1,14 @@
 -- What each step on an entry, a flag, a bookmark or a condition asks of the table of words, by the law of its kind.
 use Rattle.std.proofs.Common.{refl, sym, ◌∙◌, ap, subst, arith, inl, inr, append-nil}
-use Rattle.std.specs.Prelude.{
-  ℕ,
-  ◌≡◌,
-  ◌≢◌,
-  ◌+◌,
-  ◌-◌,
-  ◌*◌,
-  ◌<◌,
-  ◌≤◌,
-  ◌⊎◌,
-  Bool,
-  true,
-  false,
-  ◌==◌,
-  nat_lt,
-  if◌then◌else◌,
-  Option,
-  Some,
-  None,
-  List,
-  [],
-  ◌∷◌,
-  ◌++◌,
-  slice_index,
-}
+use Rattle.std.specs.Prelude.{ℕ, ◌≡◌, ◌≢◌, ◌+◌, ◌-◌, ◌*◌, ◌<◌, ◌≤◌, ◌⊎◌, Bool, true, false, ◌==◌, nat_lt, if◌then◌else◌}
+use Rattle.std.specs.Prelude.{Option, Some, None, List, [], ◌∷◌, ◌++◌, slice_index}
 use Rattle.std.proofs.lemmas.Bool.Decides.{nat_tests}
 use mathlib.Core.Option.{none}
 use Rattle.atomic_table.specs.Seated.{TableId}
 use Rattle.atomic_table.specs.Table.{step as move, Allows}
-use Rattle.wait_model.specs.declared.layout.TheConstants.{
-  TASKS,
-  SLOTS,
-  ENTRIES,
-  PLAIN_CONDITIONS,
-  CLAIMS,
-  FIRST_DONE,
-  FIRST_BIT_WORD,
-  FIRST_VARIABLE,
-  ENTRY_AT,
-  FLAG_AT,
-  BOOKMARK_AT,
-  CONDITION_AT,
-}
+use Rattle.wait_model.specs.declared.layout.TheConstants.{TASKS, SLOTS, ENTRIES, PLAIN_CONDITIONS, CLAIMS, FIRST_DONE}
+use Rattle.wait_model.specs.declared.layout.TheConstants.{FIRST_BIT_WORD, FIRST_VARIABLE, ENTRY_AT, FLAG_AT}
+use Rattle.wait_model.specs.declared.layout.TheConstants.{BOOKMARK_AT, CONDITION_AT}
 use Rattle.wait_model.specs.declared.watches.Watch.{Watch}
 use Rattle.wait_model.specs.declared.watches.Watch.TheVariants as watch
 use Rattle.wait_model.specs.declared.watches.Entry.{Entry}
@@ -73,31 +39,11 @@ use Rattle.wait_rule.specs.HandedPermits.{FoundNoPermit}
 use Rattle.wait_rule.specs.Known.{known}
 use Rattle.wait_rule.specs.Rule.{IsRuled, is_stepped, AreLinked, all_notes, Law, Holds}
 use Rattle.wait_rule.specs.Says.{told_of, noted}
-use Rattle.wait_rule.specs.Queues.{
-  index,
-  saw,
-  marked,
-  KnewEntry,
-  KnewMark,
-  IsPublic,
-  IsWholeBook,
-  IsPlaceFor,
-  IsBefore,
-  MayStoreMark,
-}
+use Rattle.wait_rule.specs.Queues.{index, saw, marked, KnewEntry, KnewMark, IsPublic, IsWholeBook, IsPlaceFor, IsBefore}
+use Rattle.wait_rule.specs.Queues.{MayStoreMark}
 use Rattle.wait_rule.specs.Plays.{Sat, seat_with}
-use Rattle.wait_rule.specs.QueuePlays.{
-  entry_seen_play,
-  kept_entry_play,
-  mark_seen_play,
-  queued_play,
-  unqueued_play,
-  flag_set_play,
-  mark_stored_play,
-  cond_loaded_play,
-  published_play,
-  consumed_play,
-}
+use Rattle.wait_rule.specs.QueuePlays.{entry_seen_play, kept_entry_play, mark_seen_play, queued_play, unqueued_play}
+use Rattle.wait_rule.specs.QueuePlays.{flag_set_play, mark_stored_play, cond_loaded_play, published_play, consumed_play}
 use Rattle.wait_rule.proofs.TableSteps.ItemLists.{book_append}
 use Rattle.wait_rule.proofs.KnownLaws.AfterSteps.{notes_after}
 use Rattle.wait_rule.proofs.KnownLaws.HandedPermits.{queue_on}

@@ -4,16 +4,8 @@ use Rattle.std.specs.Prelude.{ℕ, ◌≡◌, ◌<◌, ◌+◌, ◌-◌, Bool, t
 use mathlib.Core.Option.{none}
 use Rattle.atomic_table.specs.Seated.{TableId}
 use Rattle.atomic_table.specs.Table.{step as move, Allows}
-use Rattle.wait_model.specs.declared.layout.TheConstants.{
-  BIT_WORDS,
-  WORD_BITS,
-  ENTRIES,
-  CONDITION_AT,
-  FIRST_BIT_WORD,
-  ENTRY_AT,
-  FLAG_AT,
-  HANDED,
-}
+use Rattle.wait_model.specs.declared.layout.TheConstants.{BIT_WORDS, WORD_BITS, ENTRIES, CONDITION_AT, FIRST_BIT_WORD}
+use Rattle.wait_model.specs.declared.layout.TheConstants.{ENTRY_AT, FLAG_AT, HANDED}
 use Rattle.wait_model.specs.declared.watches.Entry.{Entry}
 use Rattle.wait_model.specs.declared.steps.Step.TheVariants as step
 use Rattle.wait_model.specs.Watches.{is_page, owner, page}
@@ -29,15 +21,8 @@ use Rattle.wait_rule.specs.Known.{known}
 use Rattle.wait_rule.specs.Asked.{asked_by_items, was_given_at}
 use Rattle.wait_rule.specs.Pages.{IsPageless}
 use Rattle.wait_rule.specs.Quiet.{is_quiet_at, is_told}
-use Rattle.wait_rule.specs.PageCalls.{
-  IsFlagWord,
-  ShowsGiven,
-  ShowsNoFlag,
-  tried_for_play,
-  told_play,
-  flag_word_play,
-  noted_play,
-}
+use Rattle.wait_rule.specs.PageCalls.{IsFlagWord, ShowsGiven, ShowsNoFlag, tried_for_play, told_play, flag_word_play}
+use Rattle.wait_rule.specs.PageCalls.{noted_play}
 use Rattle.wait_rule.specs.QueuePlays.{unqueued_play}
 use Rattle.wait_rule.specs.Says.{told_of}
 use Rattle.wait_rule.specs.Rule.{Holds, Law}

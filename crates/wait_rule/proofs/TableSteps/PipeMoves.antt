@@ -1,24 +1,7 @@
 -- What the steps on words of pipes ask of the table of words.
 use Rattle.std.proofs.Common.{refl, sym, ◌∙◌, ap, subst, arith}
-use Rattle.std.specs.Prelude.{
-  ℕ,
-  ◌≡◌,
-  ◌≢◌,
-  ◌+◌,
-  ◌-◌,
-  ◌/◌,
-  ◌<◌,
-  ◌≤◌,
-  if◌then◌else◌,
-  Bool,
-  true,
-  None,
-  List,
-  [],
-  ◌∷◌,
-  length,
-  slice_index,
-}
+use Rattle.std.specs.Prelude.{ℕ, ◌≡◌, ◌≢◌, ◌+◌, ◌-◌, ◌/◌, ◌<◌, ◌≤◌, if◌then◌else◌, Bool, true, None, List, [], ◌∷◌}
+use Rattle.std.specs.Prelude.{length, slice_index}
 use mathlib.Core.Option.{none}
 use Rattle.atomic_table.specs.Table.{step as move, Allows}
 use Rattle.wait_model.specs.declared.layout.TheConstants.{TASKS, PIPES, PIPE_ENDS, PIPE_CELLS, CLAIMS, CLAIM_AT}
@@ -41,44 +24,17 @@ use Rattle.wait_rule.specs.MemberWords.{is_beside, word_with}
 use Rattle.wait_rule.specs.TicketWords.{all_tickets, AreTickets}
 use Rattle.wait_rule.specs.Pipes.{ArePipes, End, IsCell, cell_of, end_of, end_word, read_end, write_end}
 use Rattle.wait_rule.specs.PipeSays.{IsSoundEnd}
-use Rattle.wait_rule.specs.PipePlays.{
-  cell_pipe,
-  cell_loaded_play,
-  cell_stored_play,
-  claimed_play,
-  end_load_play,
-  end_published_play,
-  var_end,
-}
+use Rattle.wait_rule.specs.PipePlays.{cell_pipe, cell_loaded_play, cell_stored_play, claimed_play, end_load_play}
+use Rattle.wait_rule.specs.PipePlays.{end_published_play, var_end}
 use Rattle.wait_rule.specs.Rule.{Law, Holds}
 use Rattle.wait_rule.specs.Plays.{Sat, seat_with}
 use Rattle.wait_rule.proofs.TableSteps.ItemLists.{book_append}
 use Rattle.wait_rule.proofs.KnownLaws.AfterSteps.{notes_after}
-use Rattle.wait_rule.proofs.KnownLaws.PipeWords.{
-  cell_in,
-  read_in,
-  write_in,
-}
-use Rattle.wait_rule.proofs.KnownLaws.PipeSteps.{
-  all_pipes,
-  cell_words,
-  claim_words,
-  no_words,
-  piped_dumb,
-  publish_dumb,
-  var_words,
-}
-use Rattle.wait_rule.proofs.KnownLaws.PipeEnds.{
-  claims,
-  gets,
-  got_cell,
-  knows_end,
-  publishes,
-  puts,
-}
-use Rattle.wait_rule.proofs.KnownLaws.PipeItems.{
-  now,
-}
+use Rattle.wait_rule.proofs.KnownLaws.PipeWords.{cell_in, read_in, write_in}
+use Rattle.wait_rule.proofs.KnownLaws.PipeSteps.{all_pipes, cell_words, claim_words, no_words, piped_dumb, publish_dumb}
+use Rattle.wait_rule.proofs.KnownLaws.PipeSteps.{var_words}
+use Rattle.wait_rule.proofs.KnownLaws.PipeEnds.{claims, gets, got_cell, knows_end, publishes, puts}
+use Rattle.wait_rule.proofs.KnownLaws.PipeItems.{now}
 use Rattle.wait_rule.proofs.KnownLaws.TicketSteps.{beside_tickets, tickets_next, tickets_same}
 use Rattle.wait_rule.proofs.KnownLaws.TallySteps.{tallies_same}
 use Rattle.wait_rule.proofs.StepKinds.CondKinds.{var_publishes}

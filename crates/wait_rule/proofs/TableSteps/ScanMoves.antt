@@ -1,30 +1,7 @@
 -- What a load of a member word without the lock asks of the table of words.
 use Rattle.std.proofs.Common.{refl, sym, ◌∙◌, ap, subst, arith, inl, inr}
-use Rattle.std.specs.Prelude.{
-  ℕ,
-  zero,
-  suc,
-  ◌≡◌,
-  ◌≢◌,
-  ◌+◌,
-  ◌-◌,
-  ◌*◌,
-  ◌/◌,
-  ◌%◌,
-  ◌<◌,
-  ◌⊎◌,
-  Bool,
-  true,
-  false,
-  ◌==◌,
-  Option,
-  Some,
-  None,
-  List,
-  [],
-  ◌∷◌,
-  slice_index,
-}
+use Rattle.std.specs.Prelude.{ℕ, zero, suc, ◌≡◌, ◌≢◌, ◌+◌, ◌-◌, ◌*◌, ◌/◌, ◌%◌, ◌<◌, ◌⊎◌, Bool, true, false, ◌==◌}
+use Rattle.std.specs.Prelude.{Option, Some, None, List, [], ◌∷◌, slice_index}
 use Rattle.std.proofs.lemmas.Bool.Decides.{eqb_tells}
 use mathlib.Core.Option.{none}
 use Rattle.atomic_table.specs.Table.{step as move, Allows}
@@ -41,18 +18,8 @@ use Rattle.wait_model.specs.Locations.{Location, IsLocation, position_of, word_i
 use Rattle.wait_model.proofs.WordLaws.BitWords.{bit_read}
 use Rattle.wait_rule.specs.declared.journal.Item.{Item}
 use Rattle.wait_rule.specs.declared.journal.Item.TheVariants as item
-use Rattle.wait_rule.specs.Items.{
-  Difference,
-  nothing,
-  at_entry,
-  at_mark,
-  page_taken,
-  page_told,
-  Book,
-  steps_of,
-  book_of,
-  Fits,
-}
+use Rattle.wait_rule.specs.Items.{Difference, nothing, at_entry, at_mark, page_taken, page_told, Book, steps_of}
+use Rattle.wait_rule.specs.Items.{book_of, Fits}
 use Rattle.wait_rule.specs.Journals.{Scene, moved}
 use Rattle.wait_rule.specs.MemberWords.{names, index_named, is_put, all_differences, AreMembers}
 use Rattle.wait_rule.specs.Rule.{IsRuled, Law, Holds}

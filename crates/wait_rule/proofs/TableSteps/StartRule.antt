@@ -1,35 +1,7 @@
 -- The rule holds of the words at the start, with task 0 alone.
 use Rattle.std.proofs.Common.{refl, sym, ◌∙◌, ap, subst, arith, inl, inr, le-ltb, lt-ltb, lt_of_not-le}
-use Rattle.std.specs.Prelude.{
-  ◌-◌,
-  ◌+◌,
-  ◌%◌,
-  ◌^◌,
-  ℕ,
-  zero,
-  suc,
-  ◌≡◌,
-  ◌<◌,
-  ◌≤◌,
-  ◌&&◌,
-  Bool,
-  true,
-  false,
-  cond,
-  eqb,
-  ltb,
-  nat_lt,
-  if◌then◌else◌,
-  Option,
-  Some,
-  None,
-  List,
-  [],
-  ◌∷◌,
-  ◌++◌,
-  length,
-  slice_index,
-}
+use Rattle.std.specs.Prelude.{◌-◌, ◌+◌, ◌%◌, ◌^◌, ℕ, zero, suc, ◌≡◌, ◌<◌, ◌≤◌, ◌&&◌, Bool, true, false, cond, eqb, ltb}
+use Rattle.std.specs.Prelude.{nat_lt, if◌then◌else◌, Option, Some, None, List, [], ◌∷◌, ◌++◌, length, slice_index}
 use native.Mathlib.Decide.{dec_le}
 use Rattle.atomic_table.specs.Table.{opening}
 use Rattle.wait_model.specs.declared.layout.TheConstants.{TASKS, ENTRIES, WORD_BITS, ENTRY_AT, RUNNABLE}

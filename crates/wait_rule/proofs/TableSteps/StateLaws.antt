@@ -1,29 +1,6 @@
 -- From a law on states to what a step of the table asks.
-use Rattle.std.proofs.Common.{
-  ◌≡◌,
-  ℕ,
-  ◌+◌,
-  ◌<◌,
-  ◌≤◌,
-  ◌≡◌,
-  ltb,
-  Bool,
-  true,
-  false,
-  List,
-  [],
-  slice_index,
-  set,
-  refl,
-  sym,
-  ap,
-  ◌∙◌,
-  subst,
-  arith,
-  append-nil,
-  le-ltb,
-  ltb-true,
-}
+use Rattle.std.proofs.Common.{◌≡◌, ℕ, ◌+◌, ◌<◌, ◌≤◌, ◌≡◌, ltb, Bool, true, false, List, [], slice_index, set, refl, sym}
+use Rattle.std.proofs.Common.{ap, ◌∙◌, subst, arith, append-nil, le-ltb, ltb-true}
 use lib.ListN.{get_elem?}
 use mathlib.Core.Option.{some}
 use Rattle.atomic_table.specs.Table.{keeps, Allows}

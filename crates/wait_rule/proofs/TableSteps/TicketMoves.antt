@@ -1,32 +1,7 @@
 -- What the steps on tickets ask of the table of words.
 use Rattle.std.proofs.Common.{refl, sym, ◌∙◌, ap, subst, arith, inl, inr, add-zero}
-use Rattle.std.specs.Prelude.{
-  ℕ,
-  zero,
-  suc,
-  ◌≡◌,
-  ◌≢◌,
-  ◌+◌,
-  ◌-◌,
-  ◌%◌,
-  ◌^◌,
-  ◌<◌,
-  ◌≤◌,
-  ◌⊎◌,
-  ◌&&◌,
-  Bool,
-  true,
-  false,
-  ◌==◌,
-  if◌then◌else◌,
-  Some,
-  List,
-  [],
-  ◌∷◌,
-  ◌++◌,
-  slice_set,
-  slice_index,
-}
+use Rattle.std.specs.Prelude.{ℕ, zero, suc, ◌≡◌, ◌≢◌, ◌+◌, ◌-◌, ◌%◌, ◌^◌, ◌<◌, ◌≤◌, ◌⊎◌, ◌&&◌, Bool, true, false, ◌==◌}
+use Rattle.std.specs.Prelude.{if◌then◌else◌, Some, List, [], ◌∷◌, ◌++◌, slice_set, slice_index}
 use Rattle.std.proofs.lemmas.Bool.Decides.{eqb_tells}
 use mathlib.Core.Option.{none}
 use Rattle.atomic_table.specs.Table.{step as move, Allows}
@@ -40,20 +15,8 @@ use Rattle.wait_model.proofs.Functions.{put_case, put_at, put_same, put_other, b
 use Rattle.wait_model.proofs.HistoryLaws.StepTotals.{sum_same, sum_grown}
 use Rattle.wait_rule.specs.declared.journal.Item.{Item}
 use Rattle.wait_rule.specs.declared.journal.Item.TheVariants as item
-use Rattle.wait_rule.specs.Tickets.{
-  Ticket,
-  no_ticket,
-  drawn,
-  served,
-  taken,
-  given,
-  after_serving,
-  is_ticket_of,
-  is_served,
-  is_given,
-  ShowsNumber,
-  out_below,
-}
+use Rattle.wait_rule.specs.Tickets.{Ticket, no_ticket, drawn, served, taken, given, after_serving, is_ticket_of}
+use Rattle.wait_rule.specs.Tickets.{is_served, is_given, ShowsNumber, out_below}
 use Rattle.wait_rule.specs.TicketWords.{all_tickets, unlocked_at, unserved, AreTickets}
 use Rattle.wait_rule.specs.Items.{Difference, first_book, steps_of, book_from, book_of, Fits}
 use Rattle.wait_rule.specs.Notes.{notes_of}
@@ -68,17 +31,8 @@ use Rattle.wait_rule.proofs.TableSteps.ItemLists.{book_append}
 use Rattle.wait_rule.proofs.KnownLaws.AfterSteps.{notes_after}
 use Rattle.wait_rule.proofs.KnownLaws.HeadLinks.{both_at, same_links}
 use Rattle.wait_rule.proofs.KnownLaws.MemberSteps.{differences_same}
-use Rattle.wait_rule.proofs.KnownLaws.TicketSteps.{
-  tickets_next,
-  same_line,
-  unserved_put,
-  one_unserved,
-  as_many,
-  from_test,
-  to_test,
-  test_off,
-  none_out,
-}
+use Rattle.wait_rule.proofs.KnownLaws.TicketSteps.{tickets_next, same_line, unserved_put, one_unserved, as_many}
+use Rattle.wait_rule.proofs.KnownLaws.TicketSteps.{from_test, to_test, test_off, none_out}
 use Rattle.wait_rule.proofs.TableSteps.StateLaws.{allows, learns_more}
 use Rattle.wait_rule.proofs.KnownLaws.TallySteps.{tallies_same}
 use Rattle.wait_rule.specs.Pipes.{ArePipes}

@@ -2,14 +2,7 @@
 -- pages makes them.
 use Rattle.std.proofs.Common.{refl, sym, ◌∙◌, ap, arith, inr}
 use Rattle.std.specs.Prelude.{ℕ, ◌≡◌, ◌*◌, ◌+◌, ◌<◌, Bool, false, if◌then◌else◌, Option, Some, None}
-use Rattle.wait_model.specs.declared.layout.TheConstants.{
-  TASKS,
-  ENTRIES,
-  HEADS,
-  PAGES,
-  WORD_BITS,
-  FIRST_DONE_HEAD,
-}
+use Rattle.wait_model.specs.declared.layout.TheConstants.{TASKS, ENTRIES, HEADS, PAGES, WORD_BITS, FIRST_DONE_HEAD}
 use Rattle.wait_model.specs.declared.watches.Aim.{Aim}
 use Rattle.wait_model.specs.declared.watches.Entry.{Entry}
 use Rattle.wait_model.specs.declared.watches.Watch.{Watch}

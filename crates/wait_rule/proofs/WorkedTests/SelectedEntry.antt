@@ -14,20 +14,8 @@ use Rattle.wait_model.specs.Words.{entry_word, entry_of, IsLawfulEntry}
 use Rattle.wait_model.proofs.Functions.{put_same, put_at}
 use Rattle.wait_model.specs.Functions.{put}
 use Rattle.wait_rule.specs.declared.journal.Item.TheVariants as item
-use Rattle.wait_rule.specs.Notes.{
-  Notes,
-  note_step,
-  notes_after_wake,
-  after_noted_call,
-  callee,
-  first_due,
-  is_due,
-  is_for_look,
-  is_ahead,
-  is_exclusive_look,
-  is_sooner,
-  look_place,
-}
+use Rattle.wait_rule.specs.Notes.{Notes, note_step, notes_after_wake, after_noted_call, callee, first_due, is_due}
+use Rattle.wait_rule.specs.Notes.{is_for_look, is_ahead, is_exclusive_look, is_sooner, look_place}
 use Rattle.wait_rule.specs.Known.{Known}
 use Rattle.wait_rule.specs.Says.{added, told_of, noted}
 use Rattle.wait_rule.specs.Queues.{index, MayQueue, MayRise}

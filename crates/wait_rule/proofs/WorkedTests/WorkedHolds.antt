@@ -12,13 +12,7 @@ use Rattle.wait_model.specs.Words.{entry_of}
 use Rattle.wait_model.specs.Views.{View as Told, Walk, no_hold, blank, concerns, all_below, all_passed}
 use Rattle.wait_model.specs.Fold.{after_unlock, view_of}
 use Rattle.wait_model.proofs.HistoryLaws.HoldLooks.{after_snoc}
-use Rattle.wait_rule.specs.WorkedHolds.{
-  woke_simple,
-  woke_done,
-  SimpleHolds,
-  CallsRightly,
-  PausesRightly,
-}
+use Rattle.wait_rule.specs.WorkedHolds.{woke_simple, woke_done, SimpleHolds, CallsRightly, PausesRightly}
 
 -- the hold shows that its walk has passed all
 simple_passed : all_passed (view_of woke_simple) (record { watch = watch.Plain FIRST_SIMPLE; mask = NORMAL; from = 0 })

@@ -20,18 +20,8 @@ use Rattle.wait_rule.specs.Setters.{step_by, uses_up, StaysSet, UsesUpNone, Ends
 use Rattle.wait_model.specs.declared.watches.Watch.{Watch}
 use Rattle.wait_model.specs.declared.watches.Entry.{Entry}
 use Rattle.wait_rule.specs.WorkedHolds.{aim_for}
-use Rattle.wait_rule.specs.WorkedSetters.{
-  WorkedSetters,
-  the_set,
-  finds_none,
-  set_and_looked,
-  the_sleeper,
-  put_asleep,
-  set_for_it,
-  sees_others,
-  walk_of_one,
-  set_and_walked,
-}
+use Rattle.wait_rule.specs.WorkedSetters.{WorkedSetters, the_set, finds_none, set_and_looked, the_sleeper, put_asleep}
+use Rattle.wait_rule.specs.WorkedSetters.{set_for_it, sees_others, walk_of_one, set_and_walked}
 
 abbrev is_set : List TaskStep
 is_set = step_by 1 (step.Publish the_set 1 0) ∷ []

@@ -1,22 +1,7 @@
 -- A head at which no place is left has had very many adds.
 use Rattle.std.proofs.Common.{refl, ◌∙◌, ap, arith, inl, inr}
-use Rattle.std.specs.Prelude.{
-  ℕ,
-  ◌≡◌,
-  ◌+◌,
-  ◌%◌,
-  ◌<◌,
-  ◌≤◌,
-  ◌⊎◌,
-  Bool,
-  true,
-  false,
-  nat_lt,
-  if◌then◌else◌,
-  Some,
-  None,
-  List,
-}
+use Rattle.std.specs.Prelude.{ℕ, ◌≡◌, ◌+◌, ◌%◌, ◌<◌, ◌≤◌, ◌⊎◌, Bool, true, false, nat_lt, if◌then◌else◌, Some, None}
+use Rattle.std.specs.Prelude.{List}
 use Rattle.std.proofs.lemmas.Bool.Decides.{nat_tests}
 use Rattle.wait_model.specs.declared.layout.TheConstants.{PLACES, MIDDLE, FIRST_PRIORITY, FIRST_PLACE}
 use Rattle.wait_model.specs.Watches.{head_of}

@@ -1,17 +1,8 @@
 use Rattle.std.proofs.Common.{inl, inr}
 use Rattle.wait_rule.specs.HandedPermits.{OwesNoPermit}
 use Rattle.wait_rule.specs.Queues.{IsAgreed, IsLocked}
-use Rattle.completion_cell.proofs.AwaitTakes.{
-  counted,
-  ended_may,
-  ended_owes,
-  ended_turned,
-  off_agreed,
-  off_locked,
-  over_falls,
-  take_falls,
-  taken_turned,
-}
+use Rattle.completion_cell.proofs.AwaitTakes.{counted, ended_may, ended_owes, ended_turned, off_agreed, off_locked}
+use Rattle.completion_cell.proofs.AwaitTakes.{over_falls, take_falls, taken_turned}
 use Rattle.std.proofs.Common.{◌∙◌, ◌-◌, false, subst}
 use Rattle.wait_model.specs.declared.layout.TheConstants.{HEADS}
 use Rattle.wait_rule.specs.Known.{Known}

@@ -3,11 +3,8 @@ use Rattle.std.specs.Prelude.{true, false}
 use Rattle.copy_plan.specs.Plans.{fatal_of}
 use Rattle.copy_plan.proofs.DueParts.{due_kills, due_passed, due_sent, few_kills, few_sent}
 use Rattle.copy_plan.proofs.plan.count_due.Goals as goal
-use Rattle.copy_plan.proofs.plan.count_due.Goals.{
-  then-planned-to+then-planned,
-  then-planned-to+else-planned,
-  else-planned-to,
-}
+use Rattle.copy_plan.proofs.plan.count_due.Goals.{then-planned-to+then-planned, then-planned-to+else-planned}
+use Rattle.copy_plan.proofs.plan.count_due.Goals.{else-planned-to}
 
 pub overflow_add-sent : goal.overflow_add-sent
 overflow_add-sent c =

@@ -1,13 +1,8 @@
 use Rattle.std.proofs.Common.{◌∙◌, sym}
 use Rattle.std.specs.Prelude.{◌≡◌}
 use Rattle.wait_model.specs.Tasks.{task_of, taken_of}
-use Rattle.copy_turns.proofs.Frames.{
-  accepted_apart,
-  accepted_kill,
-  accepted_own_kill,
-  accepted_own_none,
-  accepted_spared,
-}
+use Rattle.copy_turns.proofs.Frames.{accepted_apart, accepted_kill, accepted_own_kill, accepted_own_none}
+use Rattle.copy_turns.proofs.Frames.{accepted_spared}
 use Rattle.copy_turns.proofs.signals.is_killed.Goals as goal
 
 pub returns-in-Fatal : goal.returns-in-Fatal

@@ -6,12 +6,9 @@ use Rattle.copy_turns.specs.Raises.{sent_to}
 use Rattle.copy_turns.specs.Transfers.{SendsEach}
 use Rattle.copy_turns.proofs.Sends.{sends_before, sends_behind, sends_due}
 use Rattle.copy_turns.proofs.signals.send_due.Goals as goal
-use Rattle.copy_turns.proofs.signals.send_due.Goals.{
-  then-from-planned+then-planned-to,
-  else-from-planned,
-  else-from-planned-via-then-from-planned+else-planned-to,
-  else-from-planned-via-else-from-planned,
-}
+use Rattle.copy_turns.proofs.signals.send_due.Goals.{then-from-planned+then-planned-to, else-from-planned}
+use Rattle.copy_turns.proofs.signals.send_due.Goals.{else-from-planned-via-then-from-planned+else-planned-to}
+use Rattle.copy_turns.proofs.signals.send_due.Goals.{else-from-planned-via-else-from-planned}
 
 pub loop-planned-preserved : goal.loop-planned-preserved
 loop-planned-preserved g c = elim c.if-from-planned.branch [

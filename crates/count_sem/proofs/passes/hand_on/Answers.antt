@@ -11,24 +11,9 @@ use Rattle.count_sem.specs.declared.downs.DownOutcome.TheVariants as outcome
 use Rattle.count_sem.proofs.DownLeaving.{ends_until, on_way_clean}
 use Rattle.count_sem.proofs.DownPasses.{passed_down}
 use Rattle.count_sem.proofs.FoundWaiters.{nobody_in, waiter_in}
-use Rattle.count_sem.proofs.HandingOn.{
-  alone_owes,
-  given_holds,
-  given_owes,
-  given_rises,
-  kept_alone,
-  looking_counted,
-  looking_holds,
-  looking_some,
-  looking_up,
-  lowered_head,
-  lowered_holds,
-  lowered_up,
-  pass_head,
-  pass_high,
-  pass_holds,
-  passed_on,
-}
+use Rattle.count_sem.proofs.HandingOn.{alone_owes, given_holds, given_owes, given_rises, kept_alone, looking_counted}
+use Rattle.count_sem.proofs.HandingOn.{looking_holds, looking_some, looking_up, lowered_head, lowered_holds, lowered_up}
+use Rattle.count_sem.proofs.HandingOn.{pass_head, pass_high, pass_holds, passed_on}
 use Rattle.count_sem.proofs.passes.hand_on.Goals as goal
 
 pub finds_waiter-requires-clause-up : goal.finds_waiter-requires-clause-up

@@ -1,15 +1,6 @@
 use Rattle.completion_cell.proofs.Completing.{rise_none}
-use Rattle.count_sem.proofs.Raising.{
-  found_counted,
-  full_carried,
-  full_off,
-  full_owes,
-  has_raised,
-  has_refused,
-  raised_carried,
-  raised_off,
-  raised_owes,
-}
+use Rattle.count_sem.proofs.Raising.{found_counted, full_carried, full_off, full_owes, has_raised, has_refused}
+use Rattle.count_sem.proofs.Raising.{raised_carried, raised_off, raised_owes}
 use Rattle.count_sem.proofs.ups.raise.Goals as goal
 
 pub unlock-requires-clause-rise : goal.unlock-requires-clause-rise

@@ -2,14 +2,8 @@ use Rattle.std.proofs.Common.{◌<◌, ℕ, refl, subst, sym}
 use Rattle.wait_model.specs.declared.layout.TheConstants.{HEADS}
 use Rattle.completion_cell.proofs.Completing.{rise_none}
 use Rattle.completion_cell.proofs.Ground.{head_there}
-use Rattle.count_sem.proofs.TakingPermits.{
-  has_taken_permit,
-  permit_carried,
-  permit_counted,
-  permit_holds,
-  permit_off,
-  permit_owes,
-}
+use Rattle.count_sem.proofs.TakingPermits.{has_taken_permit, permit_carried, permit_counted, permit_holds, permit_off}
+use Rattle.count_sem.proofs.TakingPermits.{permit_owes}
 use Rattle.count_sem.proofs.ups.try_down.Goals as goal
 
 pub lock-requires-clause-head : goal.lock-requires-clause-head

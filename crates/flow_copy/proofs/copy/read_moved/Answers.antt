@@ -1,13 +1,6 @@
 use Rattle.std.proofs.Common.{true, false}
-use Rattle.flow_copy.proofs.Awaits.{
-  added_aside,
-  aside_then,
-  cleared_aside,
-  read_tally,
-  tried_aside,
-  tries_more,
-  tries_none,
-}
+use Rattle.flow_copy.proofs.Awaits.{added_aside, aside_then, cleared_aside, read_tally, tried_aside, tries_more}
+use Rattle.flow_copy.proofs.Awaits.{tries_none}
 use Rattle.flow_copy.proofs.copy.read_moved.Goals as goal
 
 pub loop-init : goal.loop-init

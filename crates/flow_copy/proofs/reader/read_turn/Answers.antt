@@ -3,16 +3,8 @@ use Rattle.std.specs.Prelude.{◌+◌, Some}
 use Rattle.copy_plan.specs.declared.stop.Stop.{Stop}
 use Rattle.copy_plan.specs.declared.stop.Stop.TheVariants as stop
 use Rattle.copy_turns.specs.Turns.{Reading}
-use Rattle.copy_turns.proofs.ReaderTurns.{
-  given_length,
-  given_none,
-  prepend_none,
-  read_halted,
-  read_long,
-  read_nothing,
-  read_on,
-  source_ended,
-}
+use Rattle.copy_turns.proofs.ReaderTurns.{given_length, given_none, prepend_none, read_halted, read_long, read_nothing}
+use Rattle.copy_turns.proofs.ReaderTurns.{read_on, source_ended}
 use Rattle.flow_copy.specs.Workers.{ReaderTurn, reader_killed, source_ended as ended, source_failed}
 use Rattle.flow_copy.proofs.Words.{gave_halted, gave_long, gave_none, gave_nothing, gave_piece}
 use Rattle.flow_copy.proofs.reader.read_turn.Goals as goal

@@ -6,15 +6,8 @@ use Rattle.copy_plan.specs.declared.stop.Stop.{Stop}
 use Rattle.copy_plan.specs.declared.stop.Stop.TheVariants as stop
 use Rattle.copy_turns.specs.Turns.{CountedAll, Writing}
 use Rattle.copy_turns.proofs.Shown.{is_piece}
-use Rattle.copy_turns.proofs.Writes.{
-  counted_risen,
-  write_ended,
-  write_fault,
-  write_goes_on,
-  write_halted,
-  write_killed,
-  write_stopped,
-}
+use Rattle.copy_turns.proofs.Writes.{counted_risen, write_ended, write_fault, write_goes_on, write_halted, write_killed}
+use Rattle.copy_turns.proofs.Writes.{write_stopped}
 use Rattle.std.specs.Prelude.{None, Ok, Err}
 use Rattle.wait_rule.specs.Pipes.{read_end}
 use Rattle.flow_copy.specs.Workers.{SinksPiece, getter_gets, getter_killed, got_piece, sink_failed, sink_wanted}

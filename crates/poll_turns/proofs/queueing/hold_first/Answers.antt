@@ -2,17 +2,8 @@ use Rattle.std.proofs.Common.{Err, subst}
 use Rattle.wait_model.specs.Watches.{head_of}
 use Rattle.wq_head.specs.LockTurns.{AwaitsLock, FindsOther}
 use Rattle.poll_turns.specs.PollSteps.{JoinsFirst}
-use Rattle.poll_turns.proofs.Holding.{
-  awaits_as,
-  first_head,
-  first_home,
-  first_low,
-  first_may,
-  first_queued,
-  first_worn,
-  low_head,
-  took_as,
-}
+use Rattle.poll_turns.proofs.Holding.{awaits_as, first_head, first_home, first_low, first_may, first_queued, first_worn}
+use Rattle.poll_turns.proofs.Holding.{low_head, took_as}
 use Rattle.poll_turns.specs.declared.stages.PollStage.TheVariants as stage
 use Rattle.poll_turns.proofs.Showing.{hold_again, hold_waits, join_first_awake}
 use Rattle.poll_turns.proofs.queueing.hold_first.Goals as goal

@@ -1,15 +1,7 @@
 use Rattle.std.proofs.Common.{◌∙◌, None, Ok, Some, refl, sym}
 use Rattle.poll_wait.proofs.Sides.{stays_beside}
-use Rattle.poll_wait.proofs.Turning.{
-  done_carried,
-  done_idle,
-  ends_poll,
-  first_turn,
-  loads_carried,
-  loads_idle,
-  loads_out,
-  loads_second,
-}
+use Rattle.poll_wait.proofs.Turning.{done_carried, done_idle, ends_poll, first_turn, loads_carried, loads_idle}
+use Rattle.poll_wait.proofs.Turning.{loads_out, loads_second}
 use Rattle.poll_wait.proofs.polls.poll_two.Goals as goal
 
 pub load_both-loads-requires-clause-poll : goal.load_both-loads-requires-clause-poll

@@ -1,15 +1,7 @@
 use Rattle.std.proofs.Common.{false, ◌∙◌, sym, inl, inr, refl}
 use Rattle.wait_model.specs.declared.layout.TheConstants.{HEADS}
-use Rattle.wait_class.proofs.Entries.{
-  gives_advances,
-  gives_falls,
-  pare_holds,
-  pare_may,
-  pare_owes,
-  pare_stops,
-  takes_advances,
-  takes_falls,
-}
+use Rattle.wait_class.proofs.Entries.{gives_advances, gives_falls, pare_holds, pare_may, pare_owes, pare_stops}
+use Rattle.wait_class.proofs.Entries.{takes_advances, takes_falls}
 use Rattle.wait_model.specs.declared.steps.Step.TheVariants as step
 use Rattle.wait_rule.specs.Queues.{index}
 use Rattle.wait_class.proofs.Handed.{given_as, given_on, given_seen, given_stored, given_unlocked}

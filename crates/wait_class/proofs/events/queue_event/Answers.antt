@@ -1,21 +1,8 @@
 use Rattle.std.proofs.Common.{false, ◌∙◌, ap, inl, inr, refl}
 use Rattle.wait_model.specs.Tasks.{state_mask}
 use Rattle.wait_model.specs.declared.layout.TheConstants.{HEADS}
-use Rattle.wait_class.proofs.Queues.{
-  join_advances,
-  join_falls,
-  mid_holds,
-  queue_at,
-  queue_may,
-  queue_out,
-  queue_seen,
-  stay_advances,
-  stay_falls,
-  worn_advances,
-  worn_falls,
-  worn_owes,
-  worn_stops,
-}
+use Rattle.wait_class.proofs.Queues.{join_advances, join_falls, mid_holds, queue_at, queue_may, queue_out, queue_seen}
+use Rattle.wait_class.proofs.Queues.{stay_advances, stay_falls, worn_advances, worn_falls, worn_owes, worn_stops}
 use Rattle.wait_model.specs.declared.steps.Step.TheVariants as step
 use Rattle.wait_class.proofs.Handed.{given_as, given_joined, given_on, given_seen, given_member_looks, given_step, given_unlocked}
 use Rattle.wait_class.proofs.AwakeSteps.{awake_joined, awake_looked, awake_seen, awake_step, awake_unlocked, sleeps_not_on}

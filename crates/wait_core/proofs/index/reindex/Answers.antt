@@ -5,16 +5,8 @@ use Rattle.wait_model.specs.Functions.{put}
 use Rattle.wait_model.specs.Locations.{Entry, Bookmark, position_of}
 use Rattle.wait_core.specs.Scan.{shown_stand}
 use Rattle.wait_core.specs.Index.{IsClass}
-use Rattle.wait_core.proofs.IndexChanges.{
-  entry_changed,
-  mark_changed,
-  entry_stood,
-  mark_stood,
-  emptied,
-  entry_class,
-  mark_class,
-  untouched,
-}
+use Rattle.wait_core.proofs.IndexChanges.{entry_changed, mark_changed, entry_stood, mark_stood, emptied, entry_class}
+use Rattle.wait_core.proofs.IndexChanges.{mark_class, untouched}
 use Rattle.wait_core.proofs.index.reindex.Goals as goal
 
 pub put_in-requires-clause-index : goal.put_in-requires-clause-index

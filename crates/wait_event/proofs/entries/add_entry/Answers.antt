@@ -8,16 +8,8 @@ use Rattle.wq_head.proofs.AskedHolds.{stays_unasked}
 use Rattle.wq_head.proofs.LockWaits.{locked_stays}
 use Rattle.wq_head.proofs.PermitHeads.{owes_low}
 use Rattle.wait_event.proofs.PermitHeads.{cond_low}
-use Rattle.wait_event.proofs.Entering.{
-  add_carries,
-  add_stands,
-  add_woken,
-  ends_add,
-  lock_at,
-  lock_carries,
-  own_for,
-  worn_carries,
-}
+use Rattle.wait_event.proofs.Entering.{add_carries, add_stands, add_woken, ends_add, lock_at, lock_carries, own_for}
+use Rattle.wait_event.proofs.Entering.{worn_carries}
 use Rattle.wait_class.proofs.EntryForms.{for_by}
 use Rattle.wait_class.proofs.WatchHeads.{head_fits}
 use Rattle.wait_model.specs.declared.watches.Watch.TheVariants as watch

@@ -1,11 +1,4 @@
-use Rattle.wait_event.proofs.Removing.{
-  head_fit,
-  may_take,
-  removed_carried,
-  removed_out,
-  removed_own,
-  taken_owes,
-}
+use Rattle.wait_event.proofs.Removing.{head_fit, may_take, removed_carried, removed_out, removed_own, taken_owes}
 use Rattle.wait_event.proofs.entries.remove_entry.Goals as goal
 
 pub lock-requires-clause-head : goal.lock-requires-clause-head

@@ -1,13 +1,6 @@
 use Rattle.wait_event.proofs.PartWords.{finishes_follow, prepares_follow}
-use Rattle.wait_event.proofs.Words.{
-  adds_follow,
-  removes_follow,
-  sets_follow,
-  takes_follow,
-  waits_follow,
-  waits_say,
-  wokens_follow,
-}
+use Rattle.wait_event.proofs.Words.{adds_follow, removes_follow, sets_follow, takes_follow, waits_follow, waits_say}
+use Rattle.wait_event.proofs.Words.{wokens_follow}
 use Rattle.wait_event.proofs.laws.calls_follow_sentences.Goals as goal
 
 pub returns-clause-waits : goal.returns-clause-waits

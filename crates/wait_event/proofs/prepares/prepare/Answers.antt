@@ -6,22 +6,9 @@ use Rattle.wq_head.proofs.AskedHolds.{stays_unasked}
 use Rattle.wq_head.proofs.LockWaits.{locked_stays}
 use Rattle.wait_event.specs.Prepares.{EndsPart}
 use Rattle.wait_event.proofs.Conditions.{low_fits, suits_low}
-use Rattle.wait_event.proofs.Preparing.{
-  begins_owing,
-  carried_as,
-  ends_again,
-  ends_carried,
-  ends_keeps,
-  ends_may,
-  join_ends,
-  lock_as,
-  prepare_at,
-  prepare_home,
-  prepare_low,
-  prepare_may,
-  prepare_stands,
-  signal_ends,
-}
+use Rattle.wait_event.proofs.Preparing.{begins_owing, carried_as, ends_again, ends_carried, ends_keeps, ends_may}
+use Rattle.wait_event.proofs.Preparing.{join_ends, lock_as, prepare_at, prepare_home, prepare_low, prepare_may}
+use Rattle.wait_event.proofs.Preparing.{prepare_stands, signal_ends}
 use Rattle.wait_event.proofs.PartSteps.{joins_at, pares_at}
 use Rattle.wait_event.proofs.prepares.prepare.Goals as goal
 

@@ -6,15 +6,7 @@ use Rattle.wait_rule.specs.Pipes.{End, word_counts}
 use Rattle.wait_pipe.specs.Pieces.{HasSeen}
 use Rattle.wait_pipe.specs.PipeStates.{OnlyLooked}
 use Rattle.wait_pipe.specs.declared.looks.Look.{Look}
-use Rattle.wait_pipe.proofs.Looking.{
-  free_agreed,
-  loaded_own,
-  look_loads,
-  look_only,
-  look_seen,
-  other_is,
-  pipe_is,
-}
+use Rattle.wait_pipe.proofs.Looking.{free_agreed, loaded_own, look_loads, look_only, look_seen, other_is, pipe_is}
 use Rattle.wait_pipe.proofs.looks.load_over.Goals as goal
 
 pub cond_load-word-requires-clause-agreed : goal.cond_load-word-requires-clause-agreed

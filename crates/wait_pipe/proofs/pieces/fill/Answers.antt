@@ -8,23 +8,11 @@ use Rattle.wait_rule.specs.Stays.{Carries, publish_change}
 use Rattle.wait_event.proofs.Setting.{set_idle}
 use Rattle.wait_pipe.specs.Pieces.{LeavesAside}
 use Rattle.wait_pipe.proofs.Asides.{quiet_on, quiet_publish}
-use Rattle.wait_pipe.proofs.Fills.{
-  advanced_write,
-  fill_begins,
-  fill_cells,
-  fill_ended,
-  fill_ends,
-  fill_full,
-  fill_goes,
-  fill_stores,
-}
+use Rattle.wait_pipe.proofs.Fills.{advanced_write, fill_begins, fill_cells, fill_ended, fill_ends, fill_full, fill_goes}
+use Rattle.wait_pipe.proofs.Fills.{fill_stores}
 use Rattle.wait_pipe.proofs.PieceChanges.{idle_still, leaves_made, still_publishes}
-use Rattle.wait_pipe.proofs.pieces.fill.Goals.{
-  then-bytes-done-lt7,
-  else-bytes-done-lt7,
-  then-loop-left-test+else-done-bytes,
-  else-loop-left-test,
-}
+use Rattle.wait_pipe.proofs.pieces.fill.Goals.{then-bytes-done-lt7, else-bytes-done-lt7}
+use Rattle.wait_pipe.proofs.pieces.fill.Goals.{then-loop-left-test+else-done-bytes, else-loop-left-test}
 use Rattle.wait_pipe.proofs.pieces.fill.Goals as goal
 
 pub loop-left-init : goal.loop-left-init

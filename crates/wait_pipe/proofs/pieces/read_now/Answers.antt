@@ -4,27 +4,11 @@ use Rattle.wait_model.specs.declared.layout.TheConstants.{HEADS}
 use Rattle.wait_model.specs.declared.watches.Watch.TheVariants as watch
 use Rattle.wait_rule.specs.Pipes.{read_end}
 use Rattle.wait_class.proofs.WatchHeads.{watch_fits}
-use Rattle.wait_pipe.proofs.Fills.{
-  at_end,
-  count_place,
-  look_shows,
-  none_there,
-  there_is,
-  other_below,
-  own_below,
-  waited_settled,
-  word_ended,
-}
+use Rattle.wait_pipe.proofs.Fills.{at_end, count_place, look_shows, none_there, there_is, other_below, own_below}
+use Rattle.wait_pipe.proofs.Fills.{waited_settled, word_ended}
 use Rattle.wait_pipe.proofs.PieceChanges.{idle_still}
 use Rattle.wait_pipe.proofs.Rousing.{roused_none, roused_some}
-use Rattle.wait_pipe.proofs.Turns.{
-  got_drained,
-  got_end,
-  read_none,
-  read_some,
-  saw_closed,
-  then_rests,
-}
+use Rattle.wait_pipe.proofs.Turns.{got_drained, got_end, read_none, read_some, saw_closed, then_rests}
 use Rattle.wait_pipe.proofs.pieces.read_now.Goals as goal
 
 pub look_over-look-requires-clause-of : goal.look_over-look-requires-clause-of

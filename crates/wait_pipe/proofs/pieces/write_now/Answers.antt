@@ -4,26 +4,11 @@ use Rattle.wait_model.specs.declared.layout.TheConstants.{HEADS}
 use Rattle.wait_model.specs.declared.watches.Watch.TheVariants as watch
 use Rattle.wait_rule.specs.Pipes.{write_end}
 use Rattle.wait_class.proofs.WatchHeads.{watch_fits}
-use Rattle.wait_pipe.proofs.Fills.{
-  count_place,
-  free_is,
-  look_shows,
-  none_free,
-  other_below,
-  own_below,
-  waited_settled,
-  word_ended,
-  word_open,
-}
+use Rattle.wait_pipe.proofs.Fills.{count_place, free_is, look_shows, none_free, other_below, own_below, waited_settled}
+use Rattle.wait_pipe.proofs.Fills.{word_ended, word_open}
 use Rattle.wait_pipe.proofs.PieceChanges.{idle_still}
 use Rattle.wait_pipe.proofs.Rousing.{roused_none, roused_some}
-use Rattle.wait_pipe.proofs.Turns.{
-  put_broken,
-  put_filled,
-  saw_closed,
-  then_rests,
-  wrote_some,
-}
+use Rattle.wait_pipe.proofs.Turns.{put_broken, put_filled, saw_closed, then_rests, wrote_some}
 use Rattle.wait_pipe.proofs.pieces.write_now.Goals as goal
 
 pub look_to_write-look-requires-clause-of : goal.look_to_write-look-requires-clause-of

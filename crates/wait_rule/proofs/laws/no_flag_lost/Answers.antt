@@ -1,9 +1,4 @@
-use Rattle.wait_rule.proofs.KnownLaws.FlagLaws.{
-  flags_come_first,
-  rule_loses_no_flag,
-  steps_lose_no_flag,
-  worked_flags,
-}
+use Rattle.wait_rule.proofs.KnownLaws.FlagLaws.{flags_come_first, rule_loses_no_flag, steps_lose_no_flag, worked_flags}
 use Rattle.wait_rule.proofs.laws.no_flag_lost.Goals as goal
 
 pub returns-clause-rule : goal.returns-clause-rule

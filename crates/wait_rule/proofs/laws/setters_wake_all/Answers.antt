@@ -1,9 +1,4 @@
-use Rattle.wait_rule.proofs.KnownLaws.Setters.{
-  rule_settles_all,
-  rule_wakes_all,
-  steps_settle_all,
-  steps_wake_all,
-}
+use Rattle.wait_rule.proofs.KnownLaws.Setters.{rule_settles_all, rule_wakes_all, steps_settle_all, steps_wake_all}
 use Rattle.wait_rule.proofs.KnownLaws.SettersFound.{all_set_for_good, rule_sets_for_good}
 use Rattle.wait_rule.proofs.WorkedTests.WorkedSetters.{worked_setters}
 use Rattle.wait_rule.proofs.laws.setters_wake_all.Goals as goal

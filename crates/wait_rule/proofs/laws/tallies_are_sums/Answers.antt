@@ -1,12 +1,6 @@
 use Rattle.wait_rule.proofs.KnownLaws.FoundTallies.{rule_sums_tallies, all_sum_tallies}
-use Rattle.wait_rule.proofs.KnownLaws.CountedTallies.{
-  adds_count,
-  joins_count,
-  newcomers_count_none,
-  forks_count_none,
-  programs_add_none,
-  programs_keep_numbers,
-}
+use Rattle.wait_rule.proofs.KnownLaws.CountedTallies.{adds_count, joins_count, newcomers_count_none, forks_count_none}
+use Rattle.wait_rule.proofs.KnownLaws.CountedTallies.{programs_add_none, programs_keep_numbers}
 use Rattle.wait_rule.proofs.laws.tallies_are_sums.Goals as goal
 
 pub returns-clause-rule : goal.returns-clause-rule

@@ -15,9 +15,7 @@ use Rattle.wait_rule.specs.Plays.{seat_with}
 use Rattle.wait_rule.proofs.TableSteps.PipeMoves.{end_moves}
 use Rattle.wait_rule.proofs.KnownLaws.AfterSteps.{known_after}
 use Rattle.wait_rule.proofs.KnownLaws.CarriedTasks.{published_carried}
-use Rattle.wait_rule.proofs.KnownLaws.PipeFlows.{
-  publish_is,
-}
+use Rattle.wait_rule.proofs.KnownLaws.PipeFlows.{publish_is}
 use Rattle.wait_rule.proofs.KnownLaws.FoundPipes.{becomes_as, publish_becomes}
 use Rattle.wait_rule.proofs.pipes.advance.Goals as goal
 

@@ -14,12 +14,8 @@ use Rattle.wait_rule.specs.PipeSays.{IsOpen, IsSoundEnd, end_at}
 use Rattle.wait_rule.specs.Plays.{seat_with}
 use Rattle.wait_rule.proofs.TableSteps.PipeMoves.{end_moves}
 use Rattle.wait_rule.proofs.KnownLaws.AfterSteps.{known_after}
-use Rattle.wait_rule.proofs.KnownLaws.PipeWords.{
-  odd_is,
-}
-use Rattle.wait_rule.proofs.KnownLaws.PipeFlows.{
-  publish_is,
-}
+use Rattle.wait_rule.proofs.KnownLaws.PipeWords.{odd_is}
+use Rattle.wait_rule.proofs.KnownLaws.PipeFlows.{publish_is}
 use Rattle.wait_rule.proofs.KnownLaws.FoundPipes.{becomes_as, closed_carried, publish_becomes}
 use Rattle.wait_rule.proofs.pipes.shut.Goals as goal
 

@@ -9,15 +9,9 @@ use Rattle.bit_wait.proofs.BitLaws.{bit_lawful}
 use Rattle.bit_wait.proofs.LockLaws.{lock_lawful}
 use Rattle.page_lock.specs.PageTables.{page_table}
 use Rattle.page_lock.proofs.PageLaws.{page_lawful}
-use Rattle.waiter_laws.proofs.Stretches.{
-  awaiters_are_kept,
-  bit_lockers_are_kept,
-  bit_waiters_are_kept,
-  page_waiters_are_kept,
-  sleep_is_last_of_all,
-  stretches_are_one,
-  waiters_are_kept,
-}
+use Rattle.waiter_laws.proofs.Stretches.{awaiters_are_kept, bit_lockers_are_kept, bit_waiters_are_kept}
+use Rattle.waiter_laws.proofs.Stretches.{page_waiters_are_kept, sleep_is_last_of_all, stretches_are_one}
+use Rattle.waiter_laws.proofs.Stretches.{waiters_are_kept}
 use Rattle.waiter_laws.proofs.laws.no_stretch_loses_waiters.Goals as goal
 
 pub returns-clause-waits : goal.returns-clause-waits

@@ -7,17 +7,8 @@ use Rattle.wait_rule.specs.Members.{IsStanding}
 use Rattle.wait_rule.specs.Queues.{IsPriorityPlace, IsPlaceFor, index}
 use Rattle.wq_head.specs.Adds.{priority_entry}
 use Rattle.wq_head.proofs.PermitHeads.{added_there, found_low, looks_found, plain_low}
-use Rattle.wq_head.proofs.AddedEntries.{
-  priority_placed,
-  priority_worn,
-  priority_low,
-  priority_below,
-  priority_stands,
-  first_index,
-  plain_tries,
-  added_at,
-  added_holds,
-}
+use Rattle.wq_head.proofs.AddedEntries.{priority_placed, priority_worn, priority_low, priority_below, priority_stands}
+use Rattle.wq_head.proofs.AddedEntries.{first_index, plain_tries, added_at, added_holds}
 use Rattle.wait_rule.proofs.KnownLaws.AskedPages.{asks_no_page}
 use Rattle.wq_head.proofs.AskedHolds.{flag_woken, looks_unasked, no_page}
 use Rattle.wq_head.proofs.OneMoreLook.{holding_on}

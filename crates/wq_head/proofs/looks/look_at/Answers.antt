@@ -4,16 +4,8 @@ use Rattle.wait_rule.specs.Ends.{place_in}
 use Rattle.wait_rule.specs.Says.{told_of, noted}
 use Rattle.wait_rule.specs.Queues.{index}
 use Rattle.wq_head.specs.Looks.{IsLow, entry_place, bookmark_place, is_seen_member}
-use Rattle.wq_head.proofs.OneMoreLook.{
-  entry_low,
-  mark_low,
-  saw_looks,
-  saw_is_seen,
-  saw_is_placed,
-  mark_looks,
-  mark_is_seen,
-  mark_is_placed,
-}
+use Rattle.wq_head.proofs.OneMoreLook.{entry_low, mark_low, saw_looks, saw_is_seen, saw_is_placed, mark_looks}
+use Rattle.wq_head.proofs.OneMoreLook.{mark_is_seen, mark_is_placed}
 use Rattle.wq_head.proofs.MemberStands.{few, far, saw_stands, mark_stands, saw_book, entry_reads, mark_reads}
 use Rattle.wq_head.specs.Members.{IsShownMember, IsWordOf}
 use Rattle.wait_rule.specs.Known.{Known}

@@ -23,22 +23,11 @@ use Rattle.wq_head.specs.Roused.{IsRousing, tasks_in}
 use Rattle.wq_head.proofs.KeptHolds.{hold_carried, hold_holds, hold_on, hold_simple}
 use Rattle.wq_head.proofs.OneMoreLook.{looks_on}
 use Rattle.wq_head.proofs.RousedTasks.{none_looked, rousing_none, rousing_on}
-use Rattle.wq_head.proofs.SelectingHold.{
-  InSelection,
-  selection_starts,
-  first_here,
-  passes_mark,
-  takes_entry,
-  selection_is,
-  selection_rises,
-  none_left,
-  queue_few,
-}
+use Rattle.wq_head.proofs.SelectingHold.{InSelection, selection_starts, first_here, passes_mark, takes_entry}
+use Rattle.wq_head.proofs.SelectingHold.{selection_is, selection_rises, none_left, queue_few}
 use Rattle.wq_head.proofs.selects.select_tries.Goals as goal
-use Rattle.wq_head.proofs.selects.select_tries.Goals.{
-  then-stand-lt-ENTRIES+in_ok-take_first+else-selected-most,
-  else-stand-lt-ENTRIES,
-}
+use Rattle.wq_head.proofs.selects.select_tries.Goals.{then-stand-lt-ENTRIES+in_ok-take_first+else-selected-most}
+use Rattle.wq_head.proofs.selects.select_tries.Goals.{else-stand-lt-ENTRIES}
 
 -- where nobody is queued
 pub returns-in-Empty : goal.returns-in-Empty

@@ -10,18 +10,8 @@ use Rattle.wq_head.specs.Turns.{InWalk}
 use Rattle.wq_head.specs.Walking.{with_left}
 use Rattle.wq_head.proofs.FullHeads.{head_small}
 use Rattle.wq_head.proofs.RousedTasks.{none_added, none_marked}
-use Rattle.wq_head.proofs.WakeTurns.{
-  not_next,
-  begins_turn,
-  begins_up,
-  begins_resumes,
-  begins_walks,
-  goes_turn,
-  goes_up,
-  goes_resumes,
-  goes_takes,
-  goes_walks,
-}
+use Rattle.wq_head.proofs.WakeTurns.{not_next, begins_turn, begins_up, begins_resumes, begins_walks, goes_turn, goes_up}
+use Rattle.wq_head.proofs.WakeTurns.{goes_resumes, goes_takes, goes_walks}
 use Rattle.wq_head.proofs.wakes.begin_hold.Goals as goal
 
 -- behind a break

@@ -18,10 +18,8 @@ use Rattle.wq_head.specs.Walking.{IsStarting, HoldKeeps, IsHoldOver, rest_of}
 use Rattle.wq_head.proofs.CallingHold.{InHold, IsGoneOver, hold_starts, seen_next, next_here, hold_passes, hold_on}
 use Rattle.wq_head.proofs.CallingHold.{hold_halts, hold_spends, hold_ends, hold_empty}
 use Rattle.wq_head.proofs.walks.walk_sole.Goals as goal
-use Rattle.wq_head.proofs.walks.walk_sole.Goals.{
-  then-stand-walk-via-then-stand-walk,
-  then-stand-walk-via-else-stand-walk+then-stand-ge-ENTRIES,
-}
+use Rattle.wq_head.proofs.walks.walk_sole.Goals.{then-stand-walk-via-then-stand-walk}
+use Rattle.wq_head.proofs.walks.walk_sole.Goals.{then-stand-walk-via-else-stand-walk+then-stand-ge-ENTRIES}
 
 -- the hold before the call of its only member, and behind it
 module _ (a : Aim) (full : IsFull a.watch) (start now : Known) (w : Walking) (s : ShownMember)

@@ -1,21 +1,5 @@
-use Rattle.std.proofs.Common.{
-  refl,
-  arith,
-  sym,
-  ◌∙◌,
-  ap,
-  subst,
-  ◌≡◌,
-  ℕ,
-  ◌<◌,
-  ◌↔◌,
-  List,
-  Some,
-  slice_get,
-  slice_index_or,
-  is_some,
-  false,
-}
+use Rattle.std.proofs.Common.{refl, arith, sym, ◌∙◌, ap, subst, ◌≡◌, ℕ, ◌<◌, ◌↔◌, List, Some, slice_get, slice_index_or}
+use Rattle.std.proofs.Common.{is_some, false}
 use Rattle.wait_model.specs.declared.layout.TheConstants.{TASKS}
 use Rattle.std.proofs.lemmas.Option.{get_or_from_slice_get}
 use Rattle.wait_model.specs.declared.calls.Ran.{Ran}

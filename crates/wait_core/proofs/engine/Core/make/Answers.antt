@@ -6,26 +6,9 @@ use Rattle.wait_model.specs.Programs.{program}
 use Rattle.wait_model.specs.declared.points.Planned.{Planned}
 use Rattle.wait_model.specs.Runs.{busy_head}
 use Rattle.wait_core.proofs.KeptCore.{sound}
-use Rattle.wait_core.proofs.StepAnswers.{
-  standing,
-  awake_in,
-  found_in,
-  opened_again,
-  shown_in,
-  busy,
-  full,
-  made,
-  stepped_core,
-  stepped_keepers,
-  stepped_taken,
-  grown_run,
-  room_left,
-  plan_allowed,
-  plan_joins,
-  plan_located,
-  plan_marked,
-  plan_in_range,
-}
+use Rattle.wait_core.proofs.StepAnswers.{standing, awake_in, found_in, opened_again, shown_in, busy, full, made}
+use Rattle.wait_core.proofs.StepAnswers.{stepped_core, stepped_keepers, stepped_taken, grown_run, room_left}
+use Rattle.wait_core.proofs.StepAnswers.{plan_allowed, plan_joins, plan_located, plan_marked, plan_in_range}
 use Rattle.wait_core.proofs.KeptBits.{page_small}
 use Rattle.wait_core.proofs.FollowedRuns.{left_by, left_now}
 use Rattle.wait_core.proofs.engine.Core.make.Goals as goal

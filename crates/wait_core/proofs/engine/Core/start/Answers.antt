@@ -3,18 +3,8 @@ use Rattle.wait_model.specs.declared.layout.TheConstants.{TASKS}
 use Rattle.wait_model.specs.Runs.{state_of}
 use Rattle.wait_core.specs.Keepers.{keeps_shown}
 use Rattle.wait_core.proofs.KeptCore.{sound}
-use Rattle.wait_core.proofs.StepAnswers.{
-  shown_in,
-  room_to_open,
-  queued_refused,
-  lacking_refused,
-  may_open,
-  loose_refused,
-  started_core,
-  started_keepers,
-  started_taken,
-  started_ok,
-}
+use Rattle.wait_core.proofs.StepAnswers.{shown_in, room_to_open, queued_refused, lacking_refused, may_open}
+use Rattle.wait_core.proofs.StepAnswers.{loose_refused, started_core, started_keepers, started_taken, started_ok}
 use Rattle.wait_core.proofs.engine.Core.start.Goals as goal
 
 pub log-requires : goal.log-requires

@@ -3,16 +3,8 @@ use Rattle.wait_model.specs.declared.layout.TheConstants.{TASKS, EVENTS}
 use Rattle.std.proofs.Common.{arith, sym, subst, append-nil}
 use Rattle.wait_model.specs.Runs.{state_of}
 use Rattle.wait_core.proofs.KeptCore.{sound}
-use Rattle.wait_core.proofs.StepAnswers.{
-  read_progress,
-  opened_at,
-  may_step,
-  shown_in,
-  stopped,
-  running,
-  no_call,
-  asleep,
-}
+use Rattle.wait_core.proofs.StepAnswers.{read_progress, opened_at, may_step, shown_in, stopped, running, no_call}
+use Rattle.wait_core.proofs.StepAnswers.{asleep}
 use Rattle.wait_core.proofs.SpokenCalls.{ended_well}
 use Rattle.wait_core.proofs.FollowedRuns.{left_now}
 use Rattle.wait_core.proofs.engine.Core.step.Goals as goal

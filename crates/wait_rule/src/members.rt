@@ -54,6 +54,7 @@ pub fn member_store(domain: &Domain, task: &mut Task, head: u16, index: u16, on:
 /// bit. Each bit stands for a look at the entry or bookmark of its index, which found it naming the head exactly where
 /// the bit is set: it enters what the hold shows, and what the hold has shown before still stands. It is no event, and
 /// one look.
+#[inline(always)]
 pub fn held_member_load(domain: &Domain, task: &mut Task, i: u8) -> u64
     requires of { task.old.domain ≡ domain.now }
     requires word { i < MEMBER_WORDS }
@@ -70,6 +71,7 @@ pub fn held_member_load(domain: &Domain, task: &mut Task, i: u8) -> u64
 /// none (`waitqueue_active` is a look at all of them). Where such a look finds no bit in any word, the task owes no
 /// wake of a watch of the head any more (`wait_model::laws::empty_looks_end`): who is not seen has tested no watch yet.
 /// A bit that is set ends nothing. One look.
+#[inline(always)]
 pub fn member_load(domain: &Domain, task: &mut Task, head: u16, i: u8) -> u64
     requires of { task.old.domain ≡ domain.now }
     requires up { IsUp task.old }

@@ -3,8 +3,6 @@
 #![tactic(auto)]
 
 #[cfg(test)]
-mod bad_lines;
-#[cfg(test)]
 mod bit_tests;
 #[cfg(test)]
 mod completion_tests;
@@ -13,8 +11,10 @@ mod core_tests;
 #[cfg(test)]
 mod drill_tests;
 #[cfg(test)]
+mod lines;
+#[cfg(test)]
 mod page_tests;
 #[cfg(test)]
-mod test_steps;
+mod steps;
 #[cfg(test)]
 mod text_tests;

@@ -1,12 +1,10 @@
-use crate::test_steps::{goes, has, made, opens, runs, shows};
+use crate::steps::{Row, Step, plays_all};
 use std::test::Fail;
-use wait_core::{Core, StartFault};
-use wait_model::calls::{Call, Event};
+use wait_model::calls::Call;
 use wait_model::layout::{CONDITION_AT, ENTRY_AT, FIRST_BIT_WORD, FLAG_AT, HANDED};
-use wait_model::queues::Form;
 use wait_model::tasks::SleepState;
 
-/// The last page, and its word.
+/// The last page, whose head is 158, and its word.
 const TRY: Call = Call::TryBit { word: 127, bit: 0 };
 
 const CLEAR: Call = Call::ClearBit { word: 127, bit: 0 };
@@ -23,180 +21,97 @@ const ENTRY: u32 = ENTRY_AT + 4;
 
 const FLAG: u32 = FLAG_AT + 4;
 
-#[test]
-fn a_free_page_is_locked_by_its_first_exchange(rt: HostRuntime) -> Result<(), Fail> {
-    let mut core = Core::new(rt.alloc())?;
-    runs(&rt, &mut core, 2, LOCK, (1, Some(0)));
-    has(&rt, &core, WORD, 1);
-    runs(&rt, &mut core, 2, CLEAR, (2, None));
-    has(&rt, &core, WORD, 0);
-    Ok(())
-}
+const RAISE: Call = Call::Signal {
+    who: 2,
+    fatal: false,
+};
+
+const ROWS: &[Row] = &[
+    Row {
+        name: "a_free_page_is_locked_by_its_first_exchange",
+        steps: &[
+            Step::Runs(2, LOCK, 1, Some(0)),
+            Step::Has(WORD, 1),
+            Step::Runs(2, CLEAR, 2, None),
+            Step::Has(WORD, 0),
+        ],
+    },
+    Row {
+        name: "a_page_is_handed_to_the_task_that_waits_for_it",
+        steps: &[
+            Step::Runs(1, TRY, 1, Some(1)),
+            Step::Runs(2, LOCK, 10, None),
+            Step::Opens(1, CLEAR),
+            Step::Writes(1, "t1 clear b127.0\n"),
+            Step::Writes(1, "t1 active h158 yes\n"),
+            Step::Writes(1, "t1 lock h158\n"),
+            Step::Writes(1, "t1 load b127 0\n"),
+            Step::Writes(1, "t1 tas b127.0 0 t2\n"),
+            Step::Has(WORD, 1),
+            Step::Has(FLAG, 0),
+            Step::Writes(1, "t1 handed t2\n"),
+            Step::Has(FLAG, HANDED),
+            Step::Writes(1, "t1 wake t2 yes\n"),
+            Step::Writes(1, "t1 unqueue t2\n"),
+            Step::Has(ENTRY, 0),
+            Step::Goes(1, 1, None),
+            Step::Refuses(1, CLEAR, "t1 refused 4\n"),
+            Step::Refuses(2, CLEAR, "t2 refused 2\n"),
+            Step::Goes(2, 6, Some(0)),
+            Step::Has(FLAG, 0),
+            Step::Has(WORD, 1),
+            Step::Runs(2, CLEAR, 2, None),
+            Step::Has(WORD, 0),
+        ],
+    },
+    Row {
+        name: "a_page_is_tried_again_after_the_entry_is_queued",
+        steps: &[
+            Step::Runs(1, TRY, 1, Some(1)),
+            Step::Opens(2, LOCK),
+            Step::Writes(2, "t2 tas b127.0 1\n"),
+            Step::Writes(2, "t2 unflag\n"),
+            Step::Writes(2, "t2 lock h158\n"),
+            Step::Writes(2, "t2 queue h158 tail\n"),
+            Step::Opens(1, CLEAR),
+            Step::Writes(1, "t1 clear b127.0\n"),
+            Step::Writes(2, "t2 tas b127.0 0\n"),
+            Step::Writes(2, "t2 unqueue t2\n"),
+            Step::Goes(2, 1, Some(0)),
+            Step::Goes(1, 1, None),
+            Step::Runs(2, CLEAR, 2, None),
+        ],
+    },
+    Row {
+        name: "a_signal_ends_a_wait_for_a_page",
+        steps: &[
+            Step::Runs(1, TRY, 1, Some(1)),
+            Step::Runs(2, LOCK, 10, None),
+            Step::Runs(3, RAISE, 2, Some(0)),
+            Step::Goes(2, 9, Some(-4)),
+            Step::Has(ENTRY, 0),
+            Step::Refuses(2, CLEAR, "t2 refused 4\n"),
+            Step::Runs(1, CLEAR, 2, None),
+        ],
+    },
+    Row {
+        name: "a_walk_stops_at_a_page_that_is_set",
+        steps: &[
+            Step::Runs(1, TRY, 1, Some(1)),
+            Step::Runs(2, LOCK, 10, None),
+            Step::Runs(3, LOCK, 10, None),
+            Step::Opens(1, CLEAR),
+            Step::Writes(1, "t1 clear b127.0\n"),
+            Step::Runs(4, TRY, 1, Some(1)),
+            Step::Goes(1, 4, None),
+            Step::HasSome(ENTRY),
+            Step::Runs(4, CLEAR, 9, None),
+            Step::Goes(2, 6, Some(0)),
+        ],
+    },
+];
 
 #[test]
-fn a_page_is_handed_to_the_task_that_waits_for_it(rt: HostRuntime) -> Result<(), Fail> {
-    let mut core = Core::new(rt.alloc())?;
-    runs(&rt, &mut core, 1, TRY, (1, Some(1)));
-    runs(&rt, &mut core, 2, LOCK, (10, None));
-    opens(&rt, &mut core, 1, CLEAR);
-    shows(
-        &rt,
-        4,
-        matches!(made(&mut core, 1), Some(Event::Clear { word: 127, bit: 0 })),
-    );
-    shows(
-        &rt,
-        5,
-        matches!(made(&mut core, 1), Some(Event::Active { yes: true, .. })),
-    );
-    shows(
-        &rt,
-        6,
-        matches!(made(&mut core, 1), Some(Event::Lock { .. })),
-    );
-    shows(
-        &rt,
-        7,
-        matches!(made(&mut core, 1), Some(Event::Load { value: 0, .. })),
-    );
-    let taken = made(&mut core, 1);
-    shows(
-        &rt,
-        8,
-        matches!(
-            taken,
-            Some(Event::TasFor {
-                word: 127,
-                who: 2,
-                found: 0
-            })
-        ),
-    );
-    has(&rt, &core, WORD, 1);
-    has(&rt, &core, FLAG, 0);
-    shows(
-        &rt,
-        11,
-        matches!(made(&mut core, 1), Some(Event::Handed { who: 2 })),
-    );
-    has(&rt, &core, FLAG, HANDED);
-    shows(
-        &rt,
-        13,
-        matches!(made(&mut core, 1), Some(Event::Wake { who: 2, yes: true })),
-    );
-    shows(
-        &rt,
-        14,
-        matches!(made(&mut core, 1), Some(Event::Unqueue { who: 2 })),
-    );
-    has(&rt, &core, ENTRY, 0);
-    goes(&rt, &mut core, 1, (1, None));
-    shows(
-        &rt,
-        17,
-        matches!(core.start(1, CLEAR), Err(StartFault::NotHeld)),
-    );
-    shows(
-        &rt,
-        18,
-        matches!(core.start(2, CLEAR), Err(StartFault::CallOpen)),
-    );
-    goes(&rt, &mut core, 2, (6, Some(0)));
-    has(&rt, &core, FLAG, 0);
-    has(&rt, &core, WORD, 1);
-    runs(&rt, &mut core, 2, CLEAR, (2, None));
-    has(&rt, &core, WORD, 0);
-    Ok(())
-}
-
-#[test]
-fn a_page_is_tried_again_after_the_entry_is_queued(rt: HostRuntime) -> Result<(), Fail> {
-    let mut core = Core::new(rt.alloc())?;
-    runs(&rt, &mut core, 1, TRY, (1, Some(1)));
-    opens(&rt, &mut core, 2, LOCK);
-    shows(
-        &rt,
-        3,
-        matches!(made(&mut core, 2), Some(Event::Tas { found: 1, .. })),
-    );
-    shows(&rt, 4, matches!(made(&mut core, 2), Some(Event::Unflag)));
-    shows(
-        &rt,
-        5,
-        matches!(made(&mut core, 2), Some(Event::Lock { .. })),
-    );
-    let queued = made(&mut core, 2);
-    shows(
-        &rt,
-        6,
-        matches!(
-            queued,
-            Some(Event::Queue {
-                form: Form::Tail,
-                ..
-            })
-        ),
-    );
-    opens(&rt, &mut core, 1, CLEAR);
-    shows(
-        &rt,
-        8,
-        matches!(made(&mut core, 1), Some(Event::Clear { .. })),
-    );
-    shows(
-        &rt,
-        9,
-        matches!(made(&mut core, 2), Some(Event::Tas { found: 0, .. })),
-    );
-    shows(
-        &rt,
-        10,
-        matches!(made(&mut core, 2), Some(Event::Unqueue { who: 2 })),
-    );
-    goes(&rt, &mut core, 2, (1, Some(0)));
-    goes(&rt, &mut core, 1, (1, None));
-    runs(&rt, &mut core, 2, CLEAR, (2, None));
-    Ok(())
-}
-
-#[test]
-fn a_signal_ends_a_wait_for_a_page(rt: HostRuntime) -> Result<(), Fail> {
-    let mut core = Core::new(rt.alloc())?;
-    let raise = Call::Signal {
-        who: 2,
-        fatal: false,
-    };
-    runs(&rt, &mut core, 1, TRY, (1, Some(1)));
-    runs(&rt, &mut core, 2, LOCK, (10, None));
-    runs(&rt, &mut core, 3, raise, (2, Some(0)));
-    goes(&rt, &mut core, 2, (9, Some(-4)));
-    has(&rt, &core, ENTRY, 0);
-    shows(
-        &rt,
-        6,
-        matches!(core.start(2, CLEAR), Err(StartFault::NotHeld)),
-    );
-    runs(&rt, &mut core, 1, CLEAR, (2, None));
-    Ok(())
-}
-
-#[test]
-fn a_walk_stops_at_a_page_that_is_set(rt: HostRuntime) -> Result<(), Fail> {
-    let mut core = Core::new(rt.alloc())?;
-    runs(&rt, &mut core, 1, TRY, (1, Some(1)));
-    runs(&rt, &mut core, 2, LOCK, (10, None));
-    runs(&rt, &mut core, 3, LOCK, (10, None));
-    opens(&rt, &mut core, 1, CLEAR);
-    shows(
-        &rt,
-        5,
-        matches!(made(&mut core, 1), Some(Event::Clear { .. })),
-    );
-    runs(&rt, &mut core, 4, TRY, (1, Some(1)));
-    goes(&rt, &mut core, 1, (4, None));
-    shows(&rt, 8, core.word_at(ENTRY) != 0);
-    runs(&rt, &mut core, 4, CLEAR, (9, None));
-    goes(&rt, &mut core, 2, (6, Some(0)));
-    Ok(())
+fn pages_are_handed_on(rt: HostRuntime) -> Result<(), Fail> {
+    plays_all(&rt, rt.alloc(), ROWS)
 }

@@ -1,4 +1,4 @@
-//! Lines that are bad, for the tests.
+//! Lines that are bad, and lines that are good, for the tests.
 
 /// Lines that are bad in version 1, each after its first reason and a space.
 pub const BAD_LINES: &str = "\
@@ -147,3 +147,60 @@ pub const BAD_LINES_OF_VERSION_2: &str = "\
 9 call 1 lockpage b int\n\
 9 call 1 lockpage v0 kill\n\
 9 call 63 add c99 woken prio";
+
+/// A line of each call.
+pub const CALLS: &str = "\
+call 0 wait c0 plain\n\
+call 0 wait c0 int\n\
+call 0 wait c0 kill\n\
+call 0 wait c0 int-ex\n\
+call 0 set c63 18446744073709551615\n\
+call 0 take c63\n\
+call 0 read c63\n\
+call 0 wake c47 normal 0\n\
+call 63 add c47 default front\n\
+call 63 add c47 woken tail\n\
+call 63 add c47 default prio\n\
+call 0 remove\n\
+call 0 woken plain\n\
+call 0 woken int\n\
+call 0 woken kill\n\
+call 127 add c0 woken tail\n\
+call 0 signal 127 plain\n\
+call 0 signal 127 fatal\n\
+call 127 accept\n\
+call 0 kick 127\n\
+call 0 swait c48 plain\n\
+call 0 swait c63 int\n\
+call 0 swake c48 one\n\
+call 0 swake c63 all\n\
+call 0 complete d63\n\
+call 0 completeall d63\n\
+call 0 reinit d63\n\
+call 0 waitfor d0 plain\n\
+call 0 waitfor d0 kill\n\
+call 0 trywait d0\n\
+call 0 isdone d0\n\
+call 0 trybit b127.63\n\
+call 0 waitbit b0.0 int\n\
+call 0 lockbit b0.0 plain\n\
+call 0 clearbit b127.0\n\
+call 0 waitvar v127 18446744073709551615 kill\n\
+call 0 setvar v0 0";
+
+/// Lines that lock pages.
+pub const PAGES: &str = "\
+call 0 lockpage b0 plain\n\
+call 127 lockpage b127 int\n\
+call 9 lockpage b64 kill";
+
+/// Lines with greater numbers than version 1 takes.
+pub const GREATER: &str = "\
+step 128 1\n\
+step 255 1000000\n\
+call 255 accept\n\
+call 128 add c0 default front\n\
+call 0 wake c0 normal 128\n\
+call 0 wake c0 int 255\n\
+call 0 signal 255 fatal\n\
+call 0 kick 128";

@@ -1,0 +1,212 @@
+//! Rows of steps on a core, and what plays them. A test plays a table of rows, since the proof of a test takes as long as
+//! it has calls and branches, and that of a table as long as its text.
+
+ghost use Rattle.std.specs.Prelude.{IsTrue};
+ghost use Rattle.wait_model.specs.Admission.{IsListed};
+
+use edge_io::MemSink;
+use std::alloc::{AllocError, Global};
+use std::process::Abort;
+use std::test::Fail;
+use wait_core::{Core, Stepped};
+use wait_model::calls::{Answer, Call, Event, Ran};
+use wait_model::layout::WORDS;
+use wait_model::queues::Form;
+use wait_model::tasks::{Sleep, SleepState};
+use wait_model::watches::Kind;
+use wait_script::{write_refused, write_step};
+
+/// What a task does, and what is to be seen of it. A task's number comes first.
+#[derive(Clone, Copy)]
+pub enum Step {
+    /// It opens a call.
+    Opens(u8, Call),
+    /// It opens a call and makes its events until the call ends or sleeps: how many, and the number that it answers.
+    Runs(u8, Call, u32, Option<i32>),
+    /// It goes on with its open call to the end or to a sleep: how many events it makes, and the number that it answers.
+    Goes(u8, u32, Option<i32>),
+    /// The same, and more than so many events are made.
+    GoesOn(u8, u32, Option<i32>),
+    /// It makes so many events of its open call, which goes on after them.
+    Makes(u8, u32),
+    /// It makes one event: its text, with that of what the call answers if it ends there.
+    Writes(u8, &'static str),
+    /// A call is not opened: the text of that.
+    Refuses(u8, Call, &'static str),
+    /// All tasks below the number add an entry at the front of condition 0, one after another.
+    Adds(u8),
+    /// What the word at a position is.
+    Has(u32, u64),
+    /// The word at a position is not 0.
+    HasSome(u32),
+    /// How many items the run has.
+    Ran(usize),
+    /// What the last look for members in the run found in its word, and what it answered.
+    Looked(u64, bool),
+}
+
+/// Steps, in their order, on a new core.
+#[derive(Clone, Copy)]
+pub struct Row {
+    pub name: &'static str,
+    pub steps: &'static [Step],
+}
+
+/// Whether a call has one of the forms that there are.
+fn is_listed(call: Call) -> bool
+    ensures { IsTrue result → IsListed call }
+{
+    match call {
+        Call::Wait { how, .. } => !how.exclusive || how.state.looks(),
+        Call::Add { kind, .. } => matches!(kind, Kind::Default | Kind::Woken),
+        Call::SimpleWait { state, .. } => !matches!(state, SleepState::Killable),
+        _ => true,
+    }
+}
+
+/// Opens a call, and answers whether it is open then.
+fn opens(core: &mut Core, task: u8, call: Call) -> bool {
+    is_listed(call) && core.start(task, call).is_ok()
+}
+
+/// Makes up to `most` events of a task, to the end of its call or a sleep: how many there were, and the number that the
+/// call answered.
+fn goes(core: &mut Core, task: u8, most: u32) -> (u32, Option<i32>) {
+    for before in 0..most {
+        match core.step(task) {
+            Stepped::Made {
+                ended: Some(Answer::Number(number)),
+                ..
+            } => return (before + 1, Some(number)),
+            Stepped::Made { ended: Some(_), .. } => return (before + 1, None),
+            Stepped::Made {
+                event: Event::Sleep {
+                    sleep: Sleep::Asleep,
+                },
+                ..
+            } => return (before + 1, None),
+            Stepped::Made { .. } => {}
+            _ => return (before, None),
+        }
+    }
+    (most, None)
+}
+
+/// Whether one event of a task has this text.
+fn writes(alloc: Global, core: &mut Core, task: u8, text: &str) -> Result<bool, AllocError> {
+    let mut out = MemSink::new(alloc, &[])?;
+    let stepped = core.step(task);
+    Ok(write_step(&mut out, task, &stepped).is_ok() && out.bytes() == text.as_bytes())
+}
+
+/// Whether a call is refused by this text.
+fn refuses(
+    alloc: Global,
+    core: &mut Core,
+    task: u8,
+    call: Call,
+    text: &str,
+) -> Result<bool, AllocError> {
+    if !is_listed(call) {
+        return Ok(false);
+    }
+    let Err(fault) = core.start(task, call) else {
+        return Ok(false);
+    };
+    let mut out = MemSink::new(alloc, &[])?;
+    Ok(write_refused(&mut out, task, fault).is_ok() && out.bytes() == text.as_bytes())
+}
+
+/// All tasks below a number add an entry at the front of condition 0. Whether each did.
+fn adds(core: &mut Core, count: u8) -> bool {
+    let call = Call::Add {
+        cond: 0,
+        kind: Kind::Default,
+        form: Form::Front,
+    };
+    let mut have_all = true;
+    for task in 0..count {
+        have_all = have_all && opens(core, task, call) && goes(core, task, 99) == (3, Some(0));
+    }
+    have_all
+}
+
+/// What the last look for members in a run found in its word, and what it answered.
+fn last_look(run: &[Ran]) -> Option<(u64, bool)> {
+    let mut last = None;
+    for item in run {
+        if let Ran::Made {
+            event: Event::Active { yes, .. },
+            found,
+            ..
+        } = *item
+        {
+            last = Some((found, yes));
+        }
+    }
+    last
+}
+
+/// The word at a position, where there is one.
+fn word(core: &Core, at: u32) -> Option<u64> {
+    if (at as usize) < WORDS {
+        Some(core.word_at(at))
+    } else {
+        None
+    }
+}
+
+/// Plays a step that makes no text, and answers whether what is seen is what is to be seen.
+fn is_made(core: &mut Core, step: Step) -> bool {
+    match step {
+        Step::Opens(task, call) => opens(core, task, call),
+        Step::Runs(task, call, events, answer) => {
+            opens(core, task, call) && goes(core, task, 99) == (events, answer)
+        }
+        Step::Goes(task, events, answer) => goes(core, task, 999) == (events, answer),
+        Step::GoesOn(task, least, wanted) => {
+            let (events, answer) = goes(core, task, 99);
+            events > least && answer == wanted
+        }
+        Step::Makes(task, events) => goes(core, task, events) == (events, None),
+        Step::Adds(count) => adds(core, count),
+        Step::Has(at, wanted) => word(core, at) == Some(wanted),
+        Step::HasSome(at) => word(core, at).is_some_and(|word| word != 0),
+        Step::Ran(items) => core.ran().len() == items,
+        Step::Looked(found, yes) => last_look(core.ran()) == Some((found, yes)),
+        _ => false,
+    }
+}
+
+/// Plays a step, and answers whether what is seen is what is to be seen.
+fn is_so(alloc: Global, core: &mut Core, step: Step) -> Result<bool, AllocError> {
+    match step {
+        Step::Writes(task, text) => writes(alloc, core, task, text),
+        Step::Refuses(task, call, text) => refuses(alloc, core, task, call, text),
+        _ => Ok(is_made(core, step)),
+    }
+}
+
+/// Wants a step of a row to be so. Steps are counted from 1.
+fn wants(rt: &impl Abort, name: &str, step: u64, is_so: bool) {
+    assert!(rt; is_so, "{name}: step {step}");
+}
+
+/// Plays a row on a new core.
+fn plays(rt: &impl Abort, alloc: Global, row: &Row) -> Result<(), Fail> {
+    let mut core = Core::new(alloc)?;
+    let mut at: u64 = 0;
+    for step in row.steps {
+        at = at.saturating_add(1);
+        wants(rt, row.name, at, is_so(alloc, &mut core, *step)?);
+    }
+    Ok(())
+}
+
+/// Plays each row of a table.
+pub fn plays_all(rt: &impl Abort, alloc: Global, rows: &[Row]) -> Result<(), Fail> {
+    for row in rows {
+        plays(rt, alloc, row)?;
+    }
+    Ok(())
+}

@@ -3,8 +3,8 @@
 
 mod alone;
 mod calls;
-mod full_pieces;
+pub(crate) mod full_pieces;
 mod left_calls;
 mod left_streams;
 mod looks;
-mod streams;
+pub(crate) mod streams;

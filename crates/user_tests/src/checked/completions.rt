@@ -1,237 +1,308 @@
 //! Completions, simple queues and signals: two tasks on one thread.
 
-use super::{accepted, begins, doze, finish, has_waited, refuses, start_two};
-use crate::wants::all_so;
+use super::scripts::{
+    Alone, DEEP, Deed, End, KILLABLE, SHARED, Script, Told, Who, play, play_alone,
+};
+use super::{BUSY, OUT};
 use completion_cell::cell_turns::CellCall;
 use std::test::Fail;
-use wait_event::wait_events::WaitEnd;
-use wait_model::heads::head_of;
 use wait_model::layout::{COMPLETIONS, FIRST_SIMPLE};
-use wait_model::tasks::{How, SleepState, Taken};
+use wait_model::tasks::Taken;
 use wait_model::watches::Watch;
-use wq_checked::calls::{Answer, Call, Progress};
-use wq_checked::reasons::Refused;
-use wq_checked::tasks::CheckedTask;
-use wq_head::Rousing;
+use wq_checked::calls::Call;
 
-/// A call about a completion.
-fn on_cell(cell: u8, call: CellCall) -> Call {
-    Call::Cell { call, cell }
-}
+/// The calls about completion 3.
+const COMPLETES: Deed = Deed::Begins(
+    Call::Cell {
+        call: CellCall::Complete,
+        cell: 3,
+    },
+    Told::Begun,
+);
 
-/// Goes on to the end of a call about a completion: whether it told this.
-fn tells(task: &mut CheckedTask, wanted: bool) -> bool {
-    match finish(task) {
-        Some(Answer::Cell(hit)) => hit == wanted,
-        _ => false,
-    }
-}
+const COMPLETES_ALL: Deed = Deed::Begins(
+    Call::Cell {
+        call: CellCall::CompleteAll,
+        cell: 3,
+    },
+    Told::Begun,
+);
 
-/// A completion that is waited for is made, and taken by who waited.
-fn make_one(maker: &mut CheckedTask, waiter: &mut CheckedTask) -> [bool; 7] {
-    [
-        begins(
-            waiter,
+const REINITS: Deed = Deed::Begins(
+    Call::Cell {
+        call: CellCall::Reinit,
+        cell: 3,
+    },
+    Told::Begun,
+);
+
+const TRIES: Deed = Deed::Begins(
+    Call::Cell {
+        call: CellCall::TryWait,
+        cell: 3,
+    },
+    Told::Begun,
+);
+
+const ASKS: Deed = Deed::Begins(
+    Call::Cell {
+        call: CellCall::IsDone,
+        cell: 3,
+    },
+    Told::Begun,
+);
+
+/// A completion that is not there, and the first condition with a simple head.
+const NONE: u8 = COMPLETIONS as u8;
+
+const SIMPLE: u8 = FIRST_SIMPLE as u8;
+
+const WAITED_FOR_AND_MADE: Script = &[
+    (
+        Who::First,
+        Deed::Begins(
             Call::WaitFor {
                 cell: 3,
-                state: SleepState::Uninterruptible,
+                state: DEEP,
             },
+            Told::Begun,
         ),
-        doze(waiter),
-        begins(maker, on_cell(3, CellCall::IsDone)),
-        tells(maker, false),
-        begins(maker, on_cell(3, CellCall::Complete)),
-        tells(maker, true),
-        has_waited(finish(waiter)),
-    ]
-}
+    ),
+    (Who::First, Deed::Dozes),
+    (Who::Other, ASKS),
+    (Who::Other, Deed::Ends(End::Cell(false))),
+    (Who::Other, COMPLETES),
+    (Who::Other, Deed::Ends(End::Cell(true))),
+    (Who::First, Deed::Ends(End::Waited)),
+    (Who::Other, TRIES),
+    (Who::Other, Deed::Ends(End::Cell(false))),
+    (Who::Other, COMPLETES_ALL),
+    (Who::Other, Deed::Ends(End::Cell(true))),
+    (Who::First, TRIES),
+    (Who::First, Deed::Ends(End::Cell(true))),
+    (Who::First, REINITS),
+    (Who::First, Deed::Ends(End::Cell(true))),
+    (Who::First, ASKS),
+    (Who::First, Deed::Ends(End::Cell(false))),
+];
 
-/// All that are made are taken again and again, until they are begun anew.
-fn make_all(maker: &mut CheckedTask, waiter: &mut CheckedTask) -> [bool; 10] {
-    [
-        begins(maker, on_cell(3, CellCall::TryWait)),
-        tells(maker, false),
-        begins(maker, on_cell(3, CellCall::CompleteAll)),
-        tells(maker, true),
-        begins(waiter, on_cell(3, CellCall::TryWait)),
-        tells(waiter, true),
-        begins(waiter, on_cell(3, CellCall::Reinit)),
-        tells(waiter, true),
-        begins(waiter, on_cell(3, CellCall::IsDone)),
-        tells(waiter, false),
-    ]
-}
-
+/// A completion that is waited for is made, and taken by who waited; and all that are made are taken again and again,
+/// until they are begun anew.
 #[test]
 fn a_completion_is_waited_for_and_made(rt: HostRuntime) -> Result<(), Fail> {
-    let (mut waiter, mut maker) = start_two(&rt, rt.alloc())?;
-    all_so(&rt, &make_one(&mut maker, &mut waiter));
-    all_so(&rt, &make_all(&mut maker, &mut waiter));
-    Ok(())
+    play(&rt, rt.alloc(), WAITED_FOR_AND_MADE)
 }
 
-/// Goes on to the end of a wake in a simple queue: whether it selected so many.
-fn selects(task: &mut CheckedTask, wanted: u32) -> bool {
-    match finish(task) {
-        Some(Answer::Selected(selected)) => selected == wanted,
-        _ => false,
-    }
-}
-
-/// One advance: the head whose lock it gave back.
-fn passed(task: &mut CheckedTask) -> Option<u16> {
-    let mut rousing = Rousing::new();
-    let mut passed = None;
-    let _ = task.advance(&mut rousing, &mut passed);
-    rousing.hand_on();
-    rousing.end();
-    passed
-}
+const GIVEN_BACK: Alone = &[
+    COMPLETES,
+    Deed::Passes(Some(Watch::Done { cell: 3 })),
+    Deed::Begins(
+        Call::WaitFor {
+            cell: 3,
+            state: DEEP,
+        },
+        Told::Begun,
+    ),
+    Deed::Passes(Some(Watch::Done { cell: 3 })),
+    TRIES,
+    Deed::Passes(None),
+    Deed::Begins(
+        Call::WaitBit {
+            word: 3,
+            bit: 4,
+            state: DEEP,
+        },
+        Told::Begun,
+    ),
+    Deed::Passes(None),
+];
 
 #[test]
 fn a_lock_that_was_given_back_is_told(rt: HostRuntime) -> Result<(), Fail> {
-    let head = head_of(Watch::Done { cell: 3 });
-    let mut task = CheckedTask::start(rt.alloc())?;
-    task.begin(on_cell(3, CellCall::Complete))?;
-    assert_eq!(rt; passed(&mut task), Some(head));
-    task.begin(Call::WaitFor {
-        cell: 3,
-        state: SleepState::Uninterruptible,
-    })?;
-    assert_eq!(rt; passed(&mut task), Some(head));
-    task.begin(on_cell(3, CellCall::TryWait))?;
-    assert_eq!(rt; passed(&mut task), None);
-    task.begin(Call::WaitBit {
-        word: 3,
-        bit: 4,
-        state: SleepState::Uninterruptible,
-    })?;
-    assert_eq!(rt; passed(&mut task), None);
-    Ok(())
+    play_alone(&rt, rt.alloc(), GIVEN_BACK)
 }
 
-#[test]
-fn a_simple_queue_is_woken(rt: HostRuntime) -> Result<(), Fail> {
-    let cond = FIRST_SIMPLE as u8;
-    let (mut waiter, mut waker) = start_two(&rt, rt.alloc())?;
-    let seen = [
-        begins(
-            &mut waiter,
+const SIMPLE_WOKEN: Script = &[
+    (
+        Who::First,
+        Deed::Begins(
             Call::SimpleWait {
-                cond,
-                state: SleepState::Uninterruptible,
+                cond: SIMPLE,
+                state: DEEP,
             },
+            Told::Begun,
         ),
-        doze(&mut waiter),
-        begins(
-            &mut waker,
+    ),
+    (Who::First, Deed::Dozes),
+    (
+        Who::Other,
+        Deed::Begins(
             Call::SetAndSimpleWake {
-                cond,
+                cond: SIMPLE,
                 value: 1,
                 all: false,
             },
+            Told::Begun,
         ),
-        selects(&mut waker, 1),
-        has_waited(finish(&mut waiter)),
-        begins(&mut waker, Call::SimpleWake { cond, all: true }),
-        selects(&mut waker, 0),
-    ];
-    all_so(&rt, &seen);
-    Ok(())
+    ),
+    (Who::Other, Deed::Ends(End::Selected(1))),
+    (Who::First, Deed::Ends(End::Waited)),
+    (
+        Who::Other,
+        Deed::Begins(
+            Call::SimpleWake {
+                cond: SIMPLE,
+                all: true,
+            },
+            Told::Begun,
+        ),
+    ),
+    (Who::Other, Deed::Ends(End::Selected(0))),
+];
+
+#[test]
+fn a_simple_queue_is_woken(rt: HostRuntime) -> Result<(), Fail> {
+    play(&rt, rt.alloc(), SIMPLE_WOKEN)
 }
 
-/// Whether a signal ended a wait for a condition.
-fn is_signalled(answer: Option<Answer>) -> bool {
-    matches!(answer, Some(Answer::Waited(Err(WaitEnd::Signal { .. }))))
-}
-
-/// Raises a signal at the first task: whether that told to rouse this one, or nobody.
-fn raises(sender: &mut CheckedTask, fatal: bool, wanted: Option<u8>) -> bool {
-    match sender.begin(Call::Signal { who: 0, fatal }) {
-        Ok(Progress::Done(Answer::Raised(roused))) => roused == wanted,
-        _ => false,
-    }
-}
+const SIGNALLED: Script = &[
+    (Who::First, Deed::HasNumber(0)),
+    (
+        Who::First,
+        Deed::Begins(
+            Call::Wait {
+                cond: 1,
+                how: SHARED,
+            },
+            Told::Begun,
+        ),
+    ),
+    (Who::First, Deed::Dozes),
+    (
+        Who::Other,
+        Deed::Begins(
+            Call::Signal {
+                who: 0,
+                fatal: false,
+            },
+            Told::Raised(Some(0)),
+        ),
+    ),
+    (Who::First, Deed::Ends(End::Signalled)),
+    (
+        Who::First,
+        Deed::Begins(Call::Accept, Told::Accepted(Taken::Plain)),
+    ),
+    (
+        Who::First,
+        Deed::Begins(Call::Accept, Told::Accepted(Taken::Nothing)),
+    ),
+    (
+        Who::Other,
+        Deed::Begins(
+            Call::Signal {
+                who: 0,
+                fatal: true,
+            },
+            Told::Raised(None),
+        ),
+    ),
+    (
+        Who::First,
+        Deed::Begins(Call::Accept, Told::Accepted(Taken::Fatal)),
+    ),
+];
 
 #[test]
 fn a_signal_ends_a_wait(rt: HostRuntime) -> Result<(), Fail> {
-    let how = How {
-        state: SleepState::Interruptible,
-        exclusive: false,
-    };
-    let (mut waiter, mut other) = start_two(&rt, rt.alloc())?;
-    assert!(rt; waiter.number() == 0);
-    let seen = [
-        begins(&mut waiter, Call::Wait { cond: 1, how }),
-        doze(&mut waiter),
-        raises(&mut other, false, Some(0)),
-        is_signalled(finish(&mut waiter)),
-        matches!(accepted(&mut waiter), Some(Taken::Plain)),
-        matches!(accepted(&mut waiter), Some(Taken::Nothing)),
-        raises(&mut other, true, None),
-        matches!(accepted(&mut waiter), Some(Taken::Fatal)),
-    ];
-    all_so(&rt, &seen);
-    Ok(())
+    play(&rt, rt.alloc(), SIGNALLED)
 }
 
-/// Calls whose numbers are not below their ends.
-fn refuse_numbers(task: &mut CheckedTask) -> [bool; 8] {
-    let cell = COMPLETIONS as u8;
-    let out = Refused::OutOfRange;
-    [
-        refuses(
-            task.begin(Call::WaitFor {
-                cell,
-                state: SleepState::Killable,
-            }),
-            out,
-        ),
-        refuses(task.begin(on_cell(cell, CellCall::Complete)), out),
-        refuses(task.begin(on_cell(cell, CellCall::CompleteAll)), out),
-        refuses(task.begin(on_cell(cell, CellCall::Reinit)), out),
-        refuses(task.begin(on_cell(cell, CellCall::TryWait)), out),
-        refuses(task.begin(on_cell(cell, CellCall::IsDone)), out),
-        refuses(task.begin(Call::SimpleWake { cond: 0, all: true }), out),
-        refuses(
-            task.begin(Call::SetAndSimpleWake {
-                cond: 64,
-                value: 1,
-                all: true,
-            }),
-            out,
-        ),
-    ]
-}
-
-/// What is asked of a task while a call of it is under way.
-fn refuse_busy(task: &mut CheckedTask) -> [bool; 5] {
-    let simple = FIRST_SIMPLE as u8;
-    [
-        begins(task, on_cell(0, CellCall::Complete)),
-        refuses(task.begin(on_cell(0, CellCall::Complete)), Refused::Busy),
-        refuses(
-            task.begin(Call::SimpleWake {
-                cond: simple,
-                all: true,
-            }),
-            Refused::Busy,
-        ),
-        matches!(
-            task.begin(Call::Signal {
-                who: 0,
-                fatal: false
-            }),
-            Err(Refused::Busy)
-        ),
-        matches!(task.begin(Call::Accept), Err(Refused::Busy)),
-    ]
-}
+/// Calls whose numbers are not below their ends; and what is asked of a task while a call of it is under way.
+const WRONG_NUMBERS: Alone = &[
+    Deed::Begins(
+        Call::WaitFor {
+            cell: NONE,
+            state: KILLABLE,
+        },
+        OUT,
+    ),
+    Deed::Begins(
+        Call::Cell {
+            call: CellCall::Complete,
+            cell: NONE,
+        },
+        OUT,
+    ),
+    Deed::Begins(
+        Call::Cell {
+            call: CellCall::CompleteAll,
+            cell: NONE,
+        },
+        OUT,
+    ),
+    Deed::Begins(
+        Call::Cell {
+            call: CellCall::Reinit,
+            cell: NONE,
+        },
+        OUT,
+    ),
+    Deed::Begins(
+        Call::Cell {
+            call: CellCall::TryWait,
+            cell: NONE,
+        },
+        OUT,
+    ),
+    Deed::Begins(
+        Call::Cell {
+            call: CellCall::IsDone,
+            cell: NONE,
+        },
+        OUT,
+    ),
+    Deed::Begins(Call::SimpleWake { cond: 0, all: true }, OUT),
+    Deed::Begins(
+        Call::SetAndSimpleWake {
+            cond: 64,
+            value: 1,
+            all: true,
+        },
+        OUT,
+    ),
+    Deed::Begins(
+        Call::Cell {
+            call: CellCall::Complete,
+            cell: 0,
+        },
+        Told::Begun,
+    ),
+    Deed::Begins(
+        Call::Cell {
+            call: CellCall::Complete,
+            cell: 0,
+        },
+        BUSY,
+    ),
+    Deed::Begins(
+        Call::SimpleWake {
+            cond: SIMPLE,
+            all: true,
+        },
+        BUSY,
+    ),
+    Deed::Begins(
+        Call::Signal {
+            who: 0,
+            fatal: false,
+        },
+        BUSY,
+    ),
+    Deed::Begins(Call::Accept, BUSY),
+];
 
 #[test]
 fn wrong_numbers_are_refused(rt: HostRuntime) -> Result<(), Fail> {
-    let mut task = CheckedTask::start(rt.alloc())?;
-    all_so(&rt, &refuse_numbers(&mut task));
-    all_so(&rt, &refuse_busy(&mut task));
-    Ok(())
+    play_alone(&rt, rt.alloc(), WRONG_NUMBERS)
 }

@@ -1,7 +1,9 @@
 //! A wait of each kind that its task leaves, beside a second one and a wake, whose stretches on one thread come in orders
 //! that numbers draw.
 
-use super::leaves::{KINDS, MOMENTS, go_on, has_got, make, takes_back, wait_of, wake_of};
+use super::leaves::{
+    KINDS, MOMENTS, gives_back, go_on, has_got, make, takes_back, wait_of, wake_of,
+};
 use super::{MOST, begins, took};
 use std::alloc::{AllocError, Global};
 use std::process::Abort;
@@ -162,18 +164,13 @@ impl Players {
         };
         let waited = match came.waited {
             Some(answer) => Some(answer),
-            None => go_on_awake(&mut self.second, rousing),
+            None => go_on(&mut self.second, MOST, rousing),
         };
         let given = has_got(waited) && gives_back(&mut self.second, kind, rousing);
         let there = takes_back(&mut self.keeper, kind, rousing);
         let none = meets_nobody(&mut self.keeper, kind, rousing);
         came.wake.is_some() && passed && given && there && none
     }
-}
-
-/// Goes on with a wait that was woken, if it sleeps.
-fn go_on_awake(task: &mut CheckedTask, rousing: &mut Rousing) -> Option<Answer> {
-    go_on(task, MOST, rousing)
 }
 
 /// Whether a wait was left that no wake had chosen.
@@ -195,14 +192,6 @@ fn passes_on(task: &mut CheckedTask, kind: u8, rousing: &mut Rousing) -> bool {
     }
 }
 
-/// A bit, a page or a permit that the second wait took, it gives back.
-fn gives_back(task: &mut CheckedTask, kind: u8, rousing: &mut Rousing) -> bool {
-    match kind {
-        5 | 6 | 7 => make(task, wake_of(kind), rousing).is_some(),
-        _ => true,
-    }
-}
-
 /// Whether a wake chose nobody.
 fn chose_none(answer: Option<Answer>) -> bool {
     match answer {
@@ -212,46 +201,37 @@ fn chose_none(answer: Option<Answer>) -> bool {
     }
 }
 
-/// A wake by who keeps what is waited for: whether no entry was queued for it. What it gave back it takes again.
-fn meets_nobody(keeper: &mut CheckedTask, kind: u8, rousing: &mut Rousing) -> bool {
+/// A wake of each kind that sets nothing, where there is one.
+fn wake_again_of(kind: u8) -> Call {
     let mode = Mode::Normal;
     let count = 0;
     match kind {
-        0 => chose_none(make(
-            keeper,
-            Call::Wake {
-                cond: 3,
-                mode,
-                count,
-            },
-            rousing,
-        )),
-        1 => chose_none(make(
-            keeper,
-            Call::Wake {
-                cond: 4,
-                mode,
-                count,
-            },
-            rousing,
-        )),
-        2 => chose_none(make(
-            keeper,
-            Call::SimpleWake {
-                cond: 50,
-                all: true,
-            },
-            rousing,
-        )),
-        3 => chose_none(make(keeper, Call::SetVar { var: 100, value: 0 }, rousing)),
-        7 => {
-            let made = make(keeper, wake_of(7), rousing).is_some();
-            made && takes_back(keeper, 7, rousing) && !takes_back(keeper, 7, rousing)
-        }
-        _ => {
-            let none = chose_none(make(keeper, wake_of(kind), rousing));
-            none && takes_back(keeper, kind, rousing)
-        }
+        0 => Call::Wake {
+            cond: 3,
+            mode,
+            count,
+        },
+        1 => Call::Wake {
+            cond: 4,
+            mode,
+            count,
+        },
+        2 => Call::SimpleWake {
+            cond: 50,
+            all: true,
+        },
+        3 => Call::SetVar { var: 100, value: 0 },
+        _ => wake_of(kind),
+    }
+}
+
+/// A wake by who keeps what is waited for: whether no entry was queued for it. What it gave back it takes again.
+fn meets_nobody(keeper: &mut CheckedTask, kind: u8, rousing: &mut Rousing) -> bool {
+    let told = make(keeper, wake_again_of(kind), rousing);
+    match kind {
+        0..=3 => chose_none(told),
+        7 => { told.is_some() && takes_back(keeper, 7, rousing) && !takes_back(keeper, 7, rousing) }
+        _ => chose_none(told) && takes_back(keeper, kind, rousing),
     }
 }
 

@@ -1,7 +1,11 @@
 //! Waits that their task leaves, at each moment, against nobody and against a waker.
 
-use super::{MOST, all_so, begins, start_two, took};
+use super::scripts::start_two;
+use super::{MOST, begins, took};
+use crate::wants::all_so;
 use completion_cell::cell_turns::CellCall;
+use std::alloc::Global;
+use std::process::Abort;
 use std::test::Fail;
 use wait_model::tasks::{How, SleepState};
 use wq_checked::calls::{Answer, Call, Progress};
@@ -193,12 +197,10 @@ pub(super) fn takes_back(keeper: &mut CheckedTask, kind: u8, rousing: &mut Rousi
     }
 }
 
-/// A waiter that has taken a bit, a page or a permit gives it back.
-fn gives_back(waiter: &mut CheckedTask, kind: u8, rousing: &mut Rousing) -> bool {
+/// A task that has taken a bit, a page or a permit gives it back.
+pub(super) fn gives_back(task: &mut CheckedTask, kind: u8, rousing: &mut Rousing) -> bool {
     match kind {
-        5 => make(waiter, wake_of(5), rousing).is_some(),
-        6 => make(waiter, wake_of(6), rousing).is_some(),
-        7 => make(waiter, wake_of(7), rousing).is_some(),
+        5..=7 => make(task, wake_of(kind), rousing).is_some(),
         _ => true,
     }
 }
@@ -218,32 +220,37 @@ fn leave_woken(keeper: &mut CheckedTask, waiter: &mut CheckedTask, kind: u8, aft
     begun && gone.is_none() && woken.is_some() && ended && there && waiter.refusal().is_none()
 }
 
-/// Each kind of wait is left at each moment, kicked where it sleeps, and its task begins the next one.
-#[test]
-fn waits_are_left_at_each_moment(rt: HostRuntime) -> Result<(), Fail> {
-    let (mut keeper, mut waiter) = start_two(&rt, rt.alloc())?;
-    assert!(rt; took(keeper.begin(Call::TryBit { word: 2, bit: 5 })));
-    assert!(rt; took(keeper.begin(Call::TryBit { word: 3, bit: 0 })));
+/// Each kind of wait is left at each moment, behind a wake or not.
+fn leave_each(rt: &impl Abort, alloc: Global, woken: bool) -> Result<(), Fail> {
+    let (mut keeper, mut waiter) = start_two(rt, alloc)?;
+    let kept = [
+        took(keeper.begin(Call::TryBit { word: 2, bit: 5 })),
+        took(keeper.begin(Call::TryBit { word: 3, bit: 0 })),
+    ];
+    all_so(rt, &kept);
     for kind in 0..KINDS {
         for after in 0..MOMENTS {
-            assert!(rt; leave_unset(&mut keeper, &mut waiter, kind, after));
+            let left = if woken {
+                leave_woken(&mut keeper, &mut waiter, kind, after)
+            } else {
+                leave_unset(&mut keeper, &mut waiter, kind, after)
+            };
+            assert!(rt; left);
         }
     }
     Ok(())
 }
 
+/// Each kind of wait is left at each moment, kicked where it sleeps, and its task begins the next one.
+#[test]
+fn waits_are_left_at_each_moment(rt: HostRuntime) -> Result<(), Fail> {
+    leave_each(&rt, rt.alloc(), false)
+}
+
 /// The same behind a wake: nothing that was made is lost, and nothing is taken twice.
 #[test]
 fn waits_that_were_woken_are_left_at_each_moment(rt: HostRuntime) -> Result<(), Fail> {
-    let (mut keeper, mut waiter) = start_two(&rt, rt.alloc())?;
-    assert!(rt; took(keeper.begin(Call::TryBit { word: 2, bit: 5 })));
-    assert!(rt; took(keeper.begin(Call::TryBit { word: 3, bit: 0 })));
-    for kind in 0..KINDS {
-        for after in 0..MOMENTS {
-            assert!(rt; leave_woken(&mut keeper, &mut waiter, kind, after));
-        }
-    }
-    Ok(())
+    leave_each(&rt, rt.alloc(), true)
 }
 
 /// A task that sleeps is not left before it was kicked, and a kick of one that does not sleep rouses nobody. Who was

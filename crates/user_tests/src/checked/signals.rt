@@ -1,251 +1,269 @@
 //! Waits that were put asleep, and the signals that end them or don't: a task whose stretches go on one by one, so that
 //! each of these waits has slept.
 
-use super::{accepted, begins, doze, finish, has_got, has_waited, start_two, took, woke};
-use crate::wants::all_so;
-use bit_wait::BitEnd;
+use super::scripts::{Deed, End, KILLABLE, LIGHT, Script, Told, Who, play};
 use std::test::Fail;
-use wait_event::WaitEnd;
 use wait_model::layout::FIRST_SIMPLE;
-use wait_model::tasks::{How, SleepState, Taken};
-use wq_checked::calls::{Answer, Call, Progress};
-use wq_checked::tasks::CheckedTask;
+use wait_model::tasks::{How, Taken};
+use wq_checked::calls::Call;
 
-/// Whether a signal ended a wait for a condition or a completion, which was not set, and no wake had selected it.
-fn is_signalled(answer: Option<Answer>) -> bool {
-    matches!(
-        answer,
-        Some(Answer::Waited(Err(WaitEnd::Signal {
-            seen: 0,
-            selected: false
-        })))
-    )
-}
+/// A plain signal at the first task, and a fatal one; and so at the other one.
+const PLAIN: Call = Call::Signal {
+    who: 0,
+    fatal: false,
+};
 
-/// Whether a signal ended a wait for a bit, whose word held this.
-fn is_interrupted(answer: Option<Answer>, wanted: u64) -> bool {
-    match answer {
-        Some(Answer::Bit(Err(BitEnd::Interrupted { seen }))) => seen == wanted,
-        _ => false,
-    }
-}
+const FATAL: Call = Call::Signal {
+    who: 0,
+    fatal: true,
+};
 
-/// Raises a signal at a task: true where its thread is to be roused.
-fn raise(sender: &mut CheckedTask, who: u8, fatal: bool) -> bool {
-    matches!(
-        sender.begin(Call::Signal { who, fatal }),
-        Ok(Progress::Done(Answer::Raised(Some(_))))
-    )
-}
+const PLAIN_AT_OTHER: Call = Call::Signal {
+    who: 1,
+    fatal: false,
+};
 
-/// Whether a plain signal was pending.
-fn takes_plain(task: &mut CheckedTask) -> bool {
-    matches!(accepted(task), Some(Taken::Plain))
-}
+const FATAL_AT_OTHER: Call = Call::Signal {
+    who: 1,
+    fatal: true,
+};
 
-/// Whether a fatal one was.
-fn takes_fatal(task: &mut CheckedTask) -> bool {
-    matches!(accepted(task), Some(Taken::Fatal))
-}
+const TAKES_PLAIN: Deed = Deed::Begins(Call::Accept, Told::Accepted(Taken::Plain));
+
+const TAKES_FATAL: Deed = Deed::Begins(Call::Accept, Told::Accepted(Taken::Fatal));
+
+const SHARED_KILLABLE: How = How {
+    state: KILLABLE,
+    exclusive: false,
+};
+
+const ONE_KILLABLE: How = How {
+    state: KILLABLE,
+    exclusive: true,
+};
+
+const FATAL_ALONE: Script = &[
+    (
+        Who::First,
+        Deed::Begins(
+            Call::Wait {
+                cond: 2,
+                how: SHARED_KILLABLE,
+            },
+            Told::Begun,
+        ),
+    ),
+    (Who::First, Deed::Dozes),
+    (Who::Other, Deed::Begins(PLAIN, Told::Raised(None))),
+    (Who::First, Deed::Dozes),
+    (Who::Other, Deed::Begins(FATAL, Told::Raised(Some(0)))),
+    (Who::First, Deed::Ends(End::Signalled)),
+    (Who::First, TAKES_FATAL),
+];
 
 /// A killable wait sleeps on under plain signals, and a fatal one ends it.
 #[test]
 fn fatal_signal_alone_ends_a_killable_wait(rt: HostRuntime) -> Result<(), Fail> {
-    let killable = How {
-        state: SleepState::Killable,
-        exclusive: false,
-    };
-    let (mut waiter, mut sender) = start_two(&rt, rt.alloc())?;
-    let seen = [
-        begins(
-            &mut waiter,
-            Call::Wait {
-                cond: 2,
-                how: killable,
-            },
-        ),
-        doze(&mut waiter),
-        !raise(&mut sender, 0, false),
-        doze(&mut waiter),
-        raise(&mut sender, 0, true),
-        is_signalled(finish(&mut waiter)),
-        takes_fatal(&mut waiter),
-    ];
-    all_so(&rt, &seen);
-    Ok(())
+    play(&rt, rt.alloc(), FATAL_ALONE)
 }
 
-/// One that began under a plain signal sleeps until its condition is set, and the signal is pending still.
-#[test]
-fn plain_signal_stays_pending_over_a_killable_wait(rt: HostRuntime) -> Result<(), Fail> {
-    let killable = How {
-        state: SleepState::Killable,
-        exclusive: true,
-    };
-    let (mut waiter, mut setter) = start_two(&rt, rt.alloc())?;
-    let seen = [
-        !raise(&mut setter, 0, false),
-        begins(
-            &mut waiter,
+const PLAIN_STAYS: Script = &[
+    (Who::Other, Deed::Begins(PLAIN, Told::Raised(None))),
+    (
+        Who::First,
+        Deed::Begins(
             Call::Wait {
                 cond: 2,
-                how: killable,
+                how: ONE_KILLABLE,
             },
+            Told::Begun,
         ),
-        doze(&mut waiter),
-        begins(
-            &mut setter,
+    ),
+    (Who::First, Deed::Dozes),
+    (
+        Who::Other,
+        Deed::Begins(
             Call::SetAndWake {
                 cond: 2,
                 value: 1,
                 count: 1,
             },
+            Told::Begun,
         ),
-        woke(finish(&mut setter), 1),
-        has_waited(finish(&mut waiter)),
-        takes_plain(&mut waiter),
-    ];
-    all_so(&rt, &seen);
-    Ok(())
+    ),
+    (Who::Other, Deed::Ends(End::Woke(1))),
+    (Who::First, Deed::Ends(End::Waited)),
+    (Who::First, TAKES_PLAIN),
+];
+
+/// One that began under a plain signal sleeps until its condition is set, and the signal is pending still.
+#[test]
+fn plain_signal_stays_pending_over_a_killable_wait(rt: HostRuntime) -> Result<(), Fail> {
+    play(&rt, rt.alloc(), PLAIN_STAYS)
 }
 
-/// A wait for a bit that has slept, which a plain signal ends.
-fn interrupt_wait(keeper: &mut CheckedTask, waiter: &mut CheckedTask) -> [bool; 5] {
-    let number = waiter.number();
-    [
-        begins(
-            waiter,
+const BIT_WAITS: Script = &[
+    (
+        Who::First,
+        Deed::Begins(Call::TryBit { word: 2, bit: 5 }, Told::Took),
+    ),
+    (
+        Who::Other,
+        Deed::Begins(
             Call::WaitBit {
                 word: 2,
                 bit: 5,
-                state: SleepState::Interruptible,
+                state: LIGHT,
             },
+            Told::Begun,
         ),
-        doze(waiter),
-        raise(keeper, number, false),
-        is_interrupted(finish(waiter), 32),
-        takes_plain(waiter),
-    ]
-}
-
-/// One that is to take it and is killable, which a fatal signal alone ends.
-fn kill_lock(keeper: &mut CheckedTask, waiter: &mut CheckedTask) -> [bool; 5] {
-    let number = waiter.number();
-    [
-        begins(
-            waiter,
+    ),
+    (Who::Other, Deed::Dozes),
+    (
+        Who::First,
+        Deed::Begins(PLAIN_AT_OTHER, Told::Raised(Some(1))),
+    ),
+    (Who::Other, Deed::Ends(End::Interrupted(32))),
+    (Who::Other, TAKES_PLAIN),
+    (
+        Who::Other,
+        Deed::Begins(
             Call::LockBit {
                 word: 2,
                 bit: 5,
-                state: SleepState::Killable,
+                state: KILLABLE,
             },
+            Told::Begun,
         ),
-        doze(waiter),
-        !raise(keeper, number, false),
-        raise(keeper, number, true),
-        is_interrupted(finish(waiter), 32),
-    ]
-}
+    ),
+    (Who::Other, Deed::Dozes),
+    (Who::First, Deed::Begins(PLAIN_AT_OTHER, Told::Raised(None))),
+    (
+        Who::First,
+        Deed::Begins(FATAL_AT_OTHER, Told::Raised(Some(1))),
+    ),
+    (Who::Other, Deed::Ends(End::Interrupted(32))),
+    (
+        Who::First,
+        Deed::Keeps {
+            word: 2,
+            bit: 5,
+            kept: true,
+        },
+    ),
+    (
+        Who::Other,
+        Deed::Keeps {
+            word: 2,
+            bit: 5,
+            kept: false,
+        },
+    ),
+];
 
-/// A signal that its state admits ends a wait for a bit that has slept, and one to take it, and the bit stays with its
-/// keeper.
+/// A signal that its state admits ends a wait for a bit that has slept, and one to take it, which is killable, so that a
+/// fatal one alone ends it; and the bit stays with its keeper.
 #[test]
 fn signals_end_waits_for_a_bit(rt: HostRuntime) -> Result<(), Fail> {
-    let (mut keeper, mut waiter) = start_two(&rt, rt.alloc())?;
-    assert!(rt; took(keeper.begin(Call::TryBit { word: 2, bit: 5 })));
-    all_so(&rt, &interrupt_wait(&mut keeper, &mut waiter));
-    all_so(&rt, &kill_lock(&mut keeper, &mut waiter));
-    assert!(rt; keeper.keeps(2, 5) && !waiter.keeps(2, 5));
-    Ok(())
+    play(&rt, rt.alloc(), BIT_WAITS)
 }
 
-/// A lock of a page that has slept, which a signal ends.
-fn interrupt_page(holder: &mut CheckedTask, waiter: &mut CheckedTask) -> [bool; 5] {
-    let number = waiter.number();
-    [
-        begins(
-            waiter,
+const PAGE_LOCK: Script = &[
+    (
+        Who::First,
+        Deed::Begins(Call::TryBit { word: 5, bit: 0 }, Told::Took),
+    ),
+    (
+        Who::Other,
+        Deed::Begins(
             Call::LockPage {
                 page: 5,
-                state: SleepState::Interruptible,
+                state: LIGHT,
             },
+            Told::Begun,
         ),
-        doze(waiter),
-        raise(holder, number, false),
-        is_interrupted(finish(waiter), 1),
-        holder.keeps(5, 0) && !waiter.keeps(5, 0),
-    ]
-}
-
-/// The page is given back, in a call that is over at once since nobody waits, and the other one takes its signal and then
-/// the page.
-fn give_page(holder: &mut CheckedTask, waiter: &mut CheckedTask) -> [bool; 5] {
-    [
-        begins(holder, Call::ClearBit { word: 5, bit: 0 }),
-        finish(holder).is_none(),
-        takes_plain(waiter),
-        begins(
-            waiter,
+    ),
+    (Who::Other, Deed::Dozes),
+    (
+        Who::First,
+        Deed::Begins(PLAIN_AT_OTHER, Told::Raised(Some(1))),
+    ),
+    (Who::Other, Deed::Ends(End::Interrupted(1))),
+    (
+        Who::First,
+        Deed::Keeps {
+            word: 5,
+            bit: 0,
+            kept: true,
+        },
+    ),
+    (
+        Who::Other,
+        Deed::Keeps {
+            word: 5,
+            bit: 0,
+            kept: false,
+        },
+    ),
+    (
+        Who::First,
+        Deed::Begins(Call::ClearBit { word: 5, bit: 0 }, Told::Begun),
+    ),
+    (Who::First, Deed::Ends(End::None)),
+    (Who::Other, TAKES_PLAIN),
+    (
+        Who::Other,
+        Deed::Begins(
             Call::LockPage {
                 page: 5,
-                state: SleepState::Interruptible,
+                state: LIGHT,
             },
+            Told::Begun,
         ),
-        has_got(finish(waiter)),
-    ]
-}
+    ),
+    (Who::Other, Deed::Ends(End::Got)),
+];
 
-/// It ends a lock of a page that has slept. The page stays with its holder, whose unlock then finds nobody, and the
-/// other one takes it.
+/// It ends a lock of a page that has slept. The page stays with its holder, whose unlock then finds nobody, so that it is
+/// over at once, and the other one takes its signal and then the page.
 #[test]
 fn signal_ends_a_lock_of_a_page(rt: HostRuntime) -> Result<(), Fail> {
-    let (mut holder, mut waiter) = start_two(&rt, rt.alloc())?;
-    assert!(rt; took(holder.begin(Call::TryBit { word: 5, bit: 0 })));
-    all_so(&rt, &interrupt_page(&mut holder, &mut waiter));
-    all_so(&rt, &give_page(&mut holder, &mut waiter));
-    Ok(())
+    play(&rt, rt.alloc(), PAGE_LOCK)
 }
 
-/// A wait for a completion that has slept, which a fatal signal alone ends.
-fn kill_await(waiter: &mut CheckedTask, sender: &mut CheckedTask) -> [bool; 6] {
-    [
-        begins(
-            waiter,
+const COUNT_AND_SIMPLE: Script = &[
+    (
+        Who::First,
+        Deed::Begins(
             Call::WaitFor {
                 cell: 3,
-                state: SleepState::Killable,
+                state: KILLABLE,
             },
+            Told::Begun,
         ),
-        doze(waiter),
-        !raise(sender, 0, false),
-        raise(sender, 0, true),
-        is_signalled(finish(waiter)),
-        takes_fatal(waiter),
-    ]
-}
-
-/// One in a simple queue, which a plain signal ends.
-fn interrupt_swait(waiter: &mut CheckedTask, sender: &mut CheckedTask) -> [bool; 4] {
-    let cond = FIRST_SIMPLE as u8;
-    [
-        begins(
-            waiter,
+    ),
+    (Who::First, Deed::Dozes),
+    (Who::Other, Deed::Begins(PLAIN, Told::Raised(None))),
+    (Who::Other, Deed::Begins(FATAL, Told::Raised(Some(0)))),
+    (Who::First, Deed::Ends(End::Signalled)),
+    (Who::First, TAKES_FATAL),
+    (
+        Who::First,
+        Deed::Begins(
             Call::SimpleWait {
-                cond,
-                state: SleepState::Interruptible,
+                cond: FIRST_SIMPLE as u8,
+                state: LIGHT,
             },
+            Told::Begun,
         ),
-        doze(waiter),
-        raise(sender, 0, false),
-        is_signalled(finish(waiter)),
-    ]
-}
+    ),
+    (Who::First, Deed::Dozes),
+    (Who::Other, Deed::Begins(PLAIN, Told::Raised(Some(0)))),
+    (Who::First, Deed::Ends(End::Signalled)),
+];
 
-/// It ends a wait for a completion that has slept, and one in a simple queue.
+/// A fatal one alone ends a killable wait for a completion that has slept, and a plain one ends one in a simple queue.
 #[test]
 fn signals_end_waits_for_counts_and_in_simple_queues(rt: HostRuntime) -> Result<(), Fail> {
-    let (mut waiter, mut sender) = start_two(&rt, rt.alloc())?;
-    all_so(&rt, &kill_await(&mut waiter, &mut sender));
-    all_so(&rt, &interrupt_swait(&mut waiter, &mut sender));
-    Ok(())
+    play(&rt, rt.alloc(), COUNT_AND_SIMPLE)
 }

@@ -1,5 +1,6 @@
 //! The parts that tasks play.
 
+use crate::pipes::{full_pieces, streams};
 use crate::users::rounds::{complete_for_one, swait_for_zero, swake_twice, wait_for_permit};
 use crate::users::strangers::{change_once, see_change};
 use std::sync::Wait;
@@ -21,6 +22,14 @@ pub(crate) enum Part {
     Changes,
     /// It waits for that.
     SeesChange,
+    /// It sends the bytes of a stream in pieces.
+    Sends { round: u32 },
+    /// It takes them.
+    Receives { round: u32 },
+    /// It sends pieces each of which fills the pipe.
+    SendsFull,
+    /// It takes them.
+    ReceivesFull,
 }
 
 impl meetings::Part for Part {
@@ -32,6 +41,10 @@ impl meetings::Part for Part {
             Part::UserWaits => wait_for_permit(rt, domain, task),
             Part::Changes => change_once(rt, domain, task),
             Part::SeesChange => see_change(rt, domain, task),
+            Part::Sends { round } => streams::send(rt, domain, task, round),
+            Part::Receives { round } => streams::receive(rt, domain, task, round),
+            Part::SendsFull => full_pieces::send(rt, domain, task),
+            Part::ReceivesFull => full_pieces::receive(rt, domain, task),
         }
     }
 }

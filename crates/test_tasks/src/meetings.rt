@@ -89,3 +89,57 @@ pub fn meet_four<R: Threads + Wait + Sync, P: Part>(
         { meet_two(rt, domain, seconds.0, seconds.1, others) },
     )
 }
+
+/// A task and a new one play their parts: the task, which takes the other one in, and whether each went as its part says.
+/// The new one is number 1 where the task is the first one of a new Domain. Where no number is spare, nobody plays.
+pub fn two_meet<R: Threads + Wait + Sync, P: Part>(
+    rt: &R,
+    domain: &Domain,
+    task: Task,
+    parts: (P, P),
+) -> (Task, [bool; 2])
+    requires of { task.domain ≡ domain.now }
+    requires clean { IsClean task }
+    ensures of { result.0.domain ≡ domain.now }
+    ensures clean { IsClean result.0 }
+{
+    let mut task = task;
+    let Ok(other) = task.fork(domain, 0) else {
+        return (task, [false; 2]);
+    };
+    let ((mut task, own), (other, its)) = meet_two(rt, domain, task, other, parts);
+    task.join(domain, other);
+    (task, [own, its])
+}
+
+/// So do a task and three new ones, numbers 1 to 3.
+pub fn four_meet<R: Threads + Wait + Sync, P: Part>(
+    rt: &R,
+    domain: &Domain,
+    task: Task,
+    own: (P, P),
+    others: (P, P),
+) -> (Task, [bool; 4])
+    requires of { task.domain ≡ domain.now }
+    requires clean { IsClean task }
+    ensures of { result.0.domain ≡ domain.now }
+    ensures clean { IsClean result.0 }
+{
+    let mut task = task;
+    let Ok(one) = task.fork(domain, 0) else {
+        return (task, [false; 4]);
+    };
+    let Ok(two) = task.fork(domain, 0) else {
+        return (task, [false; 4]);
+    };
+    let Ok(three) = task.fork(domain, 0) else {
+        return (task, [false; 4]);
+    };
+    let (firsts, seconds) = ((task, one), (two, three));
+    let ((first, one), (two, three)) = meet_four(rt, domain, firsts, seconds, own, others);
+    let mut task = first.0;
+    task.join(domain, one.0);
+    task.join(domain, two.0);
+    task.join(domain, three.0);
+    (task, [first.1, one.1, two.1, three.1])
+}

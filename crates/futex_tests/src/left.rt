@@ -15,7 +15,7 @@ use std::sync::Wait;
 use std::sync::atomic::{AtomicU64, Ordering};
 use std::test::Fail;
 use std::thread;
-use test_tasks::meetings::{Part, meet_four, meet_two};
+use test_tasks::meetings::{Part, four_meet, two_meet};
 use wait_class::runs::{stretch, woke};
 use wait_class::stages::Turn;
 use wait_leave::Until;
@@ -150,15 +150,12 @@ fn leave<R: Wait>(rt: &R, domain: &Domain, task: &mut Task, flag: &AtomicU64) ->
 #[test]
 fn left_waiter_loses_no_wake(rt: HostRuntime) -> Result<(), Fail> {
     for round in 0..ROUNDS {
-        let (domain, mut task) = Domain::with_looks(rt.alloc(), 0)?;
+        let (domain, task) = Domain::with_looks(rt.alloc(), 0)?;
         let (flag, passed) = (AtomicU64::new(0), AtomicU64::new(0));
         let wakes = AtomicU64::new(0);
-        let one = another(&rt, &domain, &mut task);
-        let two = another(&rt, &domain, &mut task);
-        let three = another(&rt, &domain, &mut task);
         let asks = Leaving::Asks {
             flag: &flag,
-            who: one.number(),
+            who: 1,
             late: round % 30,
         };
         let passes = Leaving::Passes {
@@ -166,18 +163,13 @@ fn left_waiter_loses_no_wake(rt: HostRuntime) -> Result<(), Fail> {
             wakes: &passed,
         };
         let sleeps = Leaving::Sleeps(&wakes);
-        let ((first, one), (two, three)) = meet_four(
-            &rt,
-            &domain,
-            (task, one),
-            (two, three),
-            (Leaving::Wakes, passes),
-            (sleeps, asks),
-        );
-        let mut task = first.0;
+        let own = (Leaving::Wakes, passes);
+        let (mut task, went) = four_meet(&rt, &domain, task, own, (sleeps, asks));
+        all_so(&rt, &went);
         let nobody = futex_wake(&rt, &domain, &mut task, FUTEX, 8) == 0;
-        let got = wakes.load(Ordering::SeqCst) == 1 && passed.load(Ordering::SeqCst) <= 1;
-        all_so(&rt, &[first.1, one.1, two.1, three.1, nobody, got]);
+        let got = wakes.load(Ordering::SeqCst) == 1;
+        let few = passed.load(Ordering::SeqCst) <= 1;
+        all_so(&rt, &[nobody, got, few]);
     }
     Ok(())
 }
@@ -186,19 +178,18 @@ fn left_waiter_loses_no_wake(rt: HostRuntime) -> Result<(), Fail> {
 #[test]
 fn futex_wait_is_left_from_its_sleep(rt: HostRuntime) -> Result<(), Fail> {
     for round in 0..ROUNDS {
-        let (domain, mut task) = Domain::with_looks(rt.alloc(), 0)?;
+        let (domain, task) = Domain::with_looks(rt.alloc(), 0)?;
         let flag = AtomicU64::new(0);
-        let other = another(&rt, &domain, &mut task);
         let asks = Leaving::Asks {
             flag: &flag,
-            who: other.number(),
+            who: 1,
             late: round % 8,
         };
         let leaves = Leaving::Leaves(&flag);
-        let (asked, was) = meet_two(&rt, &domain, task, other, (asks, leaves));
-        let mut task = asked.0;
+        let (mut task, went) = two_meet(&rt, &domain, task, (asks, leaves));
+        all_so(&rt, &went);
         let nobody = futex_wake(&rt, &domain, &mut task, FUTEX, 8) == 0;
-        all_so(&rt, &[asked.1, was.1, nobody]);
+        assert!(rt; nobody);
     }
     Ok(())
 }

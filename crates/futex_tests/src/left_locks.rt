@@ -7,7 +7,7 @@ ghost use Rattle.futex_table.specs.Holding.{HoldsMutex};
 ghost use Rattle.futex_table.specs.LockLeaves.{is_held_until, is_locked_until};
 
 use crate::calls::{broadcast, lock, open, unlock};
-use crate::wants::{all_so, another};
+use crate::wants::all_so;
 use futex_table::cond_vars::CondEnd;
 use futex_table::futexes::futex_wake;
 use futex_table::lock_leaves::{cond_wait_until, mutex_lock_until};
@@ -16,7 +16,7 @@ use std::sync::Wait;
 use std::sync::atomic::{AtomicU64, Ordering};
 use std::test::Fail;
 use std::thread;
-use test_tasks::meetings::{Part, meet_four};
+use test_tasks::meetings::{Part, four_meet};
 use wait_leave::Until;
 use wait_model::tasks::SleepState;
 use wait_model::watches::Mode;
@@ -261,9 +261,6 @@ fn tally_of_four_that_leave(rt: HostRuntime) -> Result<(), Fail> {
             flag: &flag,
         };
         open(&rt, &domain, &mut task);
-        let one = another(&rt, &domain, &mut task);
-        let two = another(&rt, &domain, &mut task);
-        let three = another(&rt, &domain, &mut task);
         let waits = Locking::Counts {
             shared,
             patience: 1_000_000,
@@ -272,22 +269,15 @@ fn tally_of_four_that_leave(rt: HostRuntime) -> Result<(), Fail> {
             shared,
             patience: u64::from(round % 40),
         };
-        let ((first, one), (two, three)) = meet_four(
-            &rt,
-            &domain,
-            (task, one),
-            (two, three),
-            (waits, leaves),
-            (leaves, leaves),
-        );
-        let mut task = first.0;
+        let (mut task, went) = four_meet(&rt, &domain, task, (waits, leaves), (leaves, leaves));
+        all_so(&rt, &went);
         let exact = tally.load(Ordering::SeqCst) == added.load(Ordering::SeqCst);
         let tries = added
             .load(Ordering::SeqCst)
             .saturating_add(left.load(Ordering::SeqCst));
         let all = tries == 20;
         let free = mutex_try(&domain, &mut task, LOCK);
-        all_so(&rt, &[first.1, one.1, two.1, three.1, exact, all, free]);
+        all_so(&rt, &[exact, all, free]);
     }
     Ok(())
 }
@@ -307,32 +297,22 @@ fn waits_with_a_limit_have_the_mutex(rt: HostRuntime) -> Result<(), Fail> {
             flag: &flag,
         };
         open(&rt, &domain, &mut task);
-        let one = another(&rt, &domain, &mut task);
-        let two = another(&rt, &domain, &mut task);
-        let three = another(&rt, &domain, &mut task);
         let tells = Locking::Tells {
             shared,
             late: round % 7,
         };
         let asks = Locking::Asks {
             shared,
-            who: (one.number(), two.number()),
+            who: (1, 2),
             late: (round / 7) % 9,
         };
         let waits = Locking::Waits(shared);
-        let ((first, one), (two, three)) = meet_four(
-            &rt,
-            &domain,
-            (task, one),
-            (two, three),
-            (tells, waits),
-            (waits, asks),
-        );
-        let mut task = first.0;
+        let (mut task, went) = four_meet(&rt, &domain, task, (tells, waits), (waits, asks));
+        all_so(&rt, &went);
         let exact = tally.load(Ordering::SeqCst) == 3;
         let nobody = futex_wake(&rt, &domain, &mut task, COND, 8) == 0;
         let free = mutex_try(&domain, &mut task, LOCK);
-        all_so(&rt, &[first.1, one.1, two.1, three.1, exact, nobody, free]);
+        all_so(&rt, &[exact, nobody, free]);
     }
     Ok(())
 }

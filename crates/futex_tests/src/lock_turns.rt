@@ -67,8 +67,14 @@ fn is_free(at: MutexTurn) -> bool {
     }
 }
 
-/// One stretch of a lock, or a look whether it was woken.
-fn go_on_by(domain: &Domain, task: &mut Task, last: MutexTurn, passing: &mut Passing) -> MutexTurn
+/// One stretch of a lock, which is asked to leave or is not, or a look whether it was woken.
+fn go_on_by(
+    domain: &Domain,
+    task: &mut Task,
+    last: MutexTurn,
+    asks: bool,
+    passing: &mut Passing,
+) -> MutexTurn
     requires of { task.old.domain ≡ domain.now }
     requires passes { PassesNone passing.old }
     requires waiting { IsLockUnderWay 6 task.old last }
@@ -76,8 +82,18 @@ fn go_on_by(domain: &Domain, task: &mut Task, last: MutexTurn, passing: &mut Pas
     ensures waiting { IsLockUnderWay 6 task.new result }
 {
     match last {
-        Turn::Again(stage) => stretch_mutex_lock(domain, task, LOCK, stage, passing),
-        Turn::Locked(stage) => stretch_mutex_lock(domain, task, LOCK, stage, passing),
+        Turn::Again(stage) => {
+            if asks {
+                return stretch_mutex_lock_out(domain, task, LOCK, stage, passing);
+            }
+            stretch_mutex_lock(domain, task, LOCK, stage, passing)
+        }
+        Turn::Locked(stage) => {
+            if asks {
+                return stretch_mutex_lock_out(domain, task, LOCK, stage, passing);
+            }
+            stretch_mutex_lock(domain, task, LOCK, stage, passing)
+        }
         Turn::Asleep(stage) => {
             if woke_mutex_lock(domain, task, LOCK, stage) {
                 return Turn::Again(stage);
@@ -88,15 +104,16 @@ fn go_on_by(domain: &Domain, task: &mut Task, last: MutexTurn, passing: &mut Pas
     }
 }
 
-/// Goes on with a lock by one stretch, or looks whether it was woken. Who parks for a lock that it passed on is woken.
-fn go_on(domain: &Domain, task: &mut Task, last: MutexTurn) -> MutexTurn
+/// Goes on with a lock by one stretch, which is asked to leave or is not, or looks whether it was woken. Who parks for a
+/// lock that it passed on is woken.
+fn go_on(domain: &Domain, task: &mut Task, last: MutexTurn, asks: bool) -> MutexTurn
     requires of { task.old.domain ≡ domain.now }
     requires waiting { IsLockUnderWay 6 task.old last }
     ensures of { task.new.domain ≡ domain.now }
     ensures waiting { IsLockUnderWay 6 task.new result }
 {
     let mut passing = Passing::none();
-    let next = go_on_by(domain, task, last, &mut passing);
+    let next = go_on_by(domain, task, last, asks, &mut passing);
     passing.wake(domain);
     passing.end();
     next
@@ -141,7 +158,7 @@ fn take_turn<R: Wait>(
                 at
             }
         }
-        _ => go_on(domain, task, at),
+        _ => go_on(domain, task, at, false),
     }
 }
 
@@ -250,41 +267,6 @@ fn two_locks_take_turns(rt: HostRuntime) -> Result<(), Fail> {
     Ok(())
 }
 
-/// One stretch of a lock that is asked to leave, or a look whether it was woken.
-fn go_out_by(domain: &Domain, task: &mut Task, last: MutexTurn, passing: &mut Passing) -> MutexTurn
-    requires of { task.old.domain ≡ domain.now }
-    requires passes { PassesNone passing.old }
-    requires waiting { IsLockUnderWay 6 task.old last }
-    ensures of { task.new.domain ≡ domain.now }
-    ensures waiting { IsLockUnderWay 6 task.new result }
-{
-    match last {
-        Turn::Again(stage) => stretch_mutex_lock_out(domain, task, LOCK, stage, passing),
-        Turn::Locked(stage) => stretch_mutex_lock_out(domain, task, LOCK, stage, passing),
-        Turn::Asleep(stage) => {
-            if woke_mutex_lock(domain, task, LOCK, stage) {
-                return Turn::Again(stage);
-            }
-            Turn::Asleep(stage)
-        }
-        Turn::Done(answer) => Turn::Done(answer),
-    }
-}
-
-/// Goes on with a lock by one stretch that is asked to leave, or looks whether it was woken.
-fn go_out(domain: &Domain, task: &mut Task, last: MutexTurn) -> MutexTurn
-    requires of { task.old.domain ≡ domain.now }
-    requires waiting { IsLockUnderWay 6 task.old last }
-    ensures of { task.new.domain ≡ domain.now }
-    ensures waiting { IsLockUnderWay 6 task.new result }
-{
-    let mut passing = Passing::none();
-    let next = go_out_by(domain, task, last, &mut passing);
-    passing.wake(domain);
-    passing.end();
-    next
-}
-
 /// Leaves a lock where it stands, by stretches to its end. One that sleeps was woken.
 fn leave_at<R: Wait>(
     rt: &R,
@@ -299,7 +281,7 @@ fn leave_at<R: Wait>(
     for _ in rt.forever() {
         match at {
             Turn::Done(answer) => return end_mutex_lock_until(task, LOCK, answer),
-            _ => at = go_out(domain, task, at),
+            _ => at = go_on(domain, task, at, true),
         }
     }
     unreachable!()
@@ -330,7 +312,7 @@ fn leave_after<R: Wait>(
     let who = task.number();
     let mut at = Turn::Again(begin_mutex_lock(task, LOCK));
     for _ in 0..stretches {
-        at = go_on(domain, task, at);
+        at = go_on(domain, task, at, false);
         wake_task(rt, domain, waker, who, Mode::Normal);
     }
     let gave = gives && is_free(at);

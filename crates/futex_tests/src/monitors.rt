@@ -6,11 +6,11 @@ ghost use Rattle.wait_rule.specs.Says.{IsClean};
 ghost use Rattle.futex_table.specs.Holding.{HoldsMutex};
 
 use crate::calls::{broadcast, lock, open, unlock, wait};
-use crate::wants::{all_so, another};
+use crate::wants::all_so;
 use std::sync::Wait;
 use std::sync::atomic::{AtomicU64, Ordering};
 use std::test::Fail;
-use test_tasks::meetings::{Part, meet_two};
+use test_tasks::meetings::{Part, two_meet};
 use wait_rule::{Domain, Task};
 
 /// How many rounds the test makes.
@@ -95,7 +95,6 @@ fn monitor(rt: HostRuntime) -> Result<(), Fail> {
         let (domain, mut task) = Domain::with_looks(rt.alloc(), 0)?;
         let number = AtomicU64::new(0);
         open(&rt, &domain, &mut task);
-        let other = another(&rt, &domain, &mut task);
         let own = Adds {
             number: &number,
             own: 0,
@@ -104,9 +103,9 @@ fn monitor(rt: HostRuntime) -> Result<(), Fail> {
             number: &number,
             own: 1,
         };
-        let (first, second) = meet_two(&rt, &domain, task, other, (own, its));
-        let last = number.load(Ordering::SeqCst) == LAST;
-        all_so(&rt, &[first.1, second.1, last]);
+        let (_task, went) = two_meet(&rt, &domain, task, (own, its));
+        all_so(&rt, &went);
+        assert!(rt; number.load(Ordering::SeqCst) == LAST);
     }
     Ok(())
 }

@@ -5,13 +5,13 @@ ghost use Rattle.std.specs.Prelude.{◌≡◌};
 ghost use Rattle.wait_rule.specs.Says.{IsClean};
 
 use crate::calls::wake_soon;
-use crate::wants::{all_so, another};
+use crate::wants::all_so;
 use futex_table::{futex_wait, futex_wake};
 use std::sync::Wait;
 use std::sync::atomic::{AtomicU64, Ordering};
 use std::test::Fail;
 use std::thread;
-use test_tasks::meetings::{Part, meet_four};
+use test_tasks::meetings::{Part, four_meet};
 use wait_model::tasks::SleepState;
 use wait_rule::{Domain, Task, send_signal};
 
@@ -99,29 +99,20 @@ fn pass_on<R: Wait>(rt: &R, domain: &Domain, task: &mut Task, wakes: &AtomicU64)
 #[test]
 fn signal_races_with_a_wake(rt: HostRuntime) -> Result<(), Fail> {
     for round in 0..ROUNDS {
-        let (domain, mut task) = Domain::with_looks(rt.alloc(), 0)?;
+        let (domain, task) = Domain::with_looks(rt.alloc(), 0)?;
         let wakes = AtomicU64::new(0);
-        let one = another(&rt, &domain, &mut task);
-        let two = another(&rt, &domain, &mut task);
-        let three = another(&rt, &domain, &mut task);
         let passes = Racing::Passes(&wakes);
         let sleeps = Racing::Sleeps(&wakes);
         let signals = Racing::Signals {
-            who: one.number(),
+            who: 1,
             late: round % 30,
         };
-        let ((first, one), (two, three)) = meet_four(
-            &rt,
-            &domain,
-            (task, one),
-            (two, three),
-            (Racing::Wakes, passes),
-            (sleeps, signals),
-        );
-        let mut task = first.0;
+        let own = (Racing::Wakes, passes);
+        let (mut task, went) = four_meet(&rt, &domain, task, own, (sleeps, signals));
+        all_so(&rt, &went);
         let nobody = futex_wake(&rt, &domain, &mut task, FUTEX, 8) == 0;
         let some = wakes.load(Ordering::SeqCst) >= 1;
-        all_so(&rt, &[first.1, one.1, two.1, three.1, nobody, some]);
+        all_so(&rt, &[nobody, some]);
     }
     Ok(())
 }

@@ -5,13 +5,13 @@ ghost use Rattle.std.specs.Prelude.{◌≡◌};
 ghost use Rattle.wait_rule.specs.Says.{IsClean};
 
 use crate::calls::{lock, open, unlock};
-use crate::wants::{all_so, another};
+use crate::wants::all_so;
 use lock_users::tallies::add_in_two_threads;
 use std::sync::Wait;
 use std::sync::atomic::{AtomicU64, Ordering};
 use std::test::Fail;
 use std::thread;
-use test_tasks::meetings::{Part, meet_four};
+use test_tasks::meetings::{Part, four_meet};
 use wait_rule::{Domain, Task};
 
 /// How many rounds the test makes, and how often each task adds in a round.
@@ -75,20 +75,12 @@ fn tally_of_four(rt: HostRuntime) -> Result<(), Fail> {
         let (domain, mut task) = Domain::with_looks(rt.alloc(), 0)?;
         let tally = AtomicU64::new(0);
         open(&rt, &domain, &mut task);
-        let one = another(&rt, &domain, &mut task);
-        let two = another(&rt, &domain, &mut task);
-        let three = another(&rt, &domain, &mut task);
         let counts = Counts(&tally);
-        let ((first, one), (two, three)) = meet_four(
-            &rt,
-            &domain,
-            (task, one),
-            (two, three),
-            (counts, counts),
-            (counts, counts),
-        );
+        let two = (counts, counts);
+        let (_task, went) = four_meet(&rt, &domain, task, two, two);
+        all_so(&rt, &went);
         let exact = tally.load(Ordering::SeqCst) == 100;
-        all_so(&rt, &[first.1, one.1, two.1, three.1, exact]);
+        assert!(rt; exact);
     }
     Ok(())
 }

@@ -1,5 +1,5 @@
 -- The table of a wait for a completion keeps its laws.
-use Rattle.std.proofs.Common.{◌∙◌, ap, sym, refl, subst, inl, inr, arith}
+use Rattle.std.proofs.Common.{◌∙◌, ap, sym, refl, subst, arith}
 use Rattle.std.specs.Prelude.{◌≡◌, ◌≤◌, ◌||◌, Bool, true, false, if◌then◌else◌, None, [], ◌∷◌}
 use Rattle.wait_model.specs.declared.points.AwaitPoint.TheVariants as awaiting
 use Rattle.wait_model.specs.declared.points.Next.TheVariants as next
@@ -16,11 +16,11 @@ use Rattle.wait_rule.specs.Stays.{with_left_entry}
 use Rattle.wait_rule.specs.Transitions.{OnlyLooks, StepOrLook, Transition}
 use Rattle.wait_rule.proofs.KnownLaws.Transitions.{only_looked}
 use Rattle.wait_class.specs.Posts.{own_of}
-use Rattle.wait_class.specs.Laws.{DrawLaw, HasJoined, IsLawfulCallTable, LawOf, LockLaw, LookLaw, QueueLaw, SleepLaw, StateLaw, UnlockLaw}
+use Rattle.wait_class.specs.Laws.{HasJoined, IsLawfulCallTable, LawOf, LookLaw, QueueLaw}
 use Rattle.wait_class.specs.declared.stages.Turn.TheVariants as turn
 use Rattle.wait_class.proofs.Histories.{ends_calm, stored_history, unmoved_by}
+use Rattle.wait_class.proofs.Holds.{draw_by, lock_by, queue_by, running_by, state_by, unlock_by}
 use Rattle.wait_class.proofs.Stays.{stays_but}
-use Rattle.wait_class.proofs.Turns.{may_by}
 use Rattle.wait_class.proofs.Ways.{look_by, sleep_by, way}
 use Rattle.wait_event.specs.Waits.{is_queue, has_queued_in}
 use Rattle.wait_event.proofs.Tellings.{or_none, queues_append, quiet_queues}
@@ -55,7 +55,8 @@ joined_knows : (r : AwaitCall) (old mid new : Known) → OnlyLooks old mid → H
     → Knows old r.cell 0 → Knows new r.cell 0
 joined_knows r old mid new looks x u =
     let s = knows_looks r.cell mid x.seen 0
-    (only_looked mid x.seen x.looks.items x.looks.same x.looks.looks x.looks.is) (knows_looks r.cell old mid 0 looks u) in
+    (only_looked mid x.seen x.looks.items x.looks.same x.looks.looks x.looks.is)
+    (knows_looks r.cell old mid 0 looks u) in
     let same : index mid.view.number 0 ≡ own x.seen.view.number =
     ap (λ (k : Known). index k.view.number 0) (sym x.looks.is) ∙ omega arith in
     knows_by r.cell x.seen new 0 (step.Queue (index mid.view.number 0) x.entry ∷ [])
@@ -63,76 +64,12 @@ joined_knows r old mid new looks x u =
     (ap (λ (k : Known). k.view.number) x.is) (λ k. ((same, refl), (refl, refl))) refl s
 
 module _ (r : AwaitCall) where
-  -- the locks
-  draw_first : DrawLaw await_table r stage.First
-  draw_first = record {
-    free = refl;
-    fresh = refl;
-    head = refl;
-    drawn = refl;
-    locks = refl;
-    same = refl;
-    took = refl;
-    depth = refl;
-    trail = λ k u. u;
-  }
-
-  draw_again : DrawLaw await_table r stage.Again
-  draw_again = record {
-    free = refl;
-    fresh = refl;
-    head = refl;
-    drawn = refl;
-    locks = refl;
-    same = refl;
-    took = refl;
-    depth = refl;
-    trail = λ k u. u;
-  }
-
-  lock_first : LockLaw await_table r stage.FirstTurn
-  lock_first = record {
-    free = refl;
-    head = refl;
-    drawn = refl;
-    moves = record {
-      plain = refl;
-      falls = refl;
-      took = refl;
-      goes = λ me. refl;
-      is = λ me k x ok. (refl, refl);
-      finds = λ me k x ok. (tt, tt, tt);
-    };
-    leaves = record { head = refl; ticket = refl };
-    state = λ σ s. s;
-    home = λ o h. h;
-    trail = λ old new x c u. first_begun r.cell old new (walk_of_hold (await_head r) None) x c u;
-  }
-
-  lock_again : LockLaw await_table r stage.AgainTurn
-  lock_again = record {
-    free = refl;
-    head = refl;
-    drawn = refl;
-    moves = record {
-      plain = refl;
-      falls = refl;
-      took = refl;
-      goes = λ me. refl;
-      is = λ me k x ok. (refl, refl);
-      finds = λ me k x ok. (tt, tt, tt);
-    };
-    leaves = record { head = refl; ticket = refl };
-    state = λ σ s. s;
-    home = λ o h. h;
-    trail = λ old new x c u. (walk_of_hold (await_head r) None, x, (history_of old, c.history));
-  }
-
   -- a hold that found 0
   look_law : (hit : Bool) → LookLaw await_table r stage.Look hit
   look_law true = look_by await_table r stage.Look refl true
       (way await_table r stage.Look r (turn.Again stage.LeaveState) refl refl refl refl refl (λ σ s. s) (λ o h. h))
-      (λ w me is. ap (λ (c : Bool). next.Go (if c then at.Await (awaiting.Run true) else at.Prepare preparing.Queue)) is)
+      (λ w me is. ap (λ (c : Bool). next.Go (if c then at.Await (awaiting.Run true) else at.Prepare preparing.Queue))
+      is)
       (λ w me k. tt) (λ w me k. (refl, tt, tt)) (λ old new w is c u. leaves_for new r [] (record {
         word = w;
         pends = is;
@@ -141,204 +78,61 @@ module _ (r : AwaitCall) where
       }) r.asked)
   look_law false = look_by await_table r stage.Look refl false
       (way await_table r stage.Look r (turn.Again stage.Queue) refl refl refl refl refl (λ σ s. s) (λ o h. h))
-      (λ w me is. ap (λ (c : Bool). next.Go (if c then at.Await (awaiting.Run true) else at.Prepare preparing.Queue)) is)
+      (λ w me is. ap (λ (c : Bool). next.Go (if c then at.Await (awaiting.Run true) else at.Prepare preparing.Queue))
+      is)
       (λ w me k. tt) (λ w me k. (refl, tt, tt)) (λ old new w is c u. knows_look r.cell old new 0 w c u.0)
 
   queue_law : QueueLaw await_table r stage.Queue
-  queue_law = record {
-    held = record { holds = refl; head = refl };
-    opens = record { fresh = refl; zone = refl };
-    stays = λ e. record {
-      plain = refl;
-      falls = refl;
-      took = refl;
-      goes = λ me. refl;
-      is = λ me k x ok. refl;
-      finds = λ me k x ok. (tt, (ok, λ none. absurd (cc)), tt);
-    };
-    stays_leaves = record { head = refl; ticket = refl };
-    stays_state = inr refl;
-    stays_home = λ o h. h;
-    stays_may = λ k s. may_by false (state_mask r.state) k s;
-    stays_trail = λ old new w c queued u. knows_stayed r.cell old new 0 (own_of old) w (state_mask r.state) c u;
-    joins = record {
-      plain = refl;
-      falls = refl;
-      took = refl;
-      goes = λ me. refl;
-      is = λ me k e ok. (refl, sym ok.at, ok.whole, ok.placed);
-      finds = λ me k e ok. (tt, (ok.shows, λ none. (ok.whole, sym ok.left)), tt);
-    };
-    joins_same = refl;
-    joins_fits = λ f. f;
-    joins_leaves = record { head = refl; ticket = refl };
-    joins_state = λ σ s. s;
-    joins_home = λ e h. h;
-    joins_tells = λ x i e did. record {
-      cell = refl;
-      state = refl;
-      queued = sym (ap (λ (d : StepOrLook). r.queued || (is_queue d || false)) did ∙ or_yes r.queued);
-      ranged = (subst InRange (sym did) tt, tt);
-    };
-    joins_trail = joined_knows r;
-    wears = record {
-      plain = tt;
-      falls = refl;
-      took = refl;
-      goes = λ me. refl;
-      is = λ me k x ok. (ok.at, refl);
-      finds = λ me k x ok. (tt, (ok.shows, λ none. (ok.whole, sym ok.worn)), tt);
-    };
-    wears_leaves = λ p. record { head = refl; ticket = refl };
-    wears_state = λ p σ s. s;
-    wears_home = λ p. tt;
-    wears_permits = λ old last fits looks at u. knows_none r.cell last at (knows_looks r.cell old last 0 looks u);
-    wears_trail = λ old last new p looks noted is u. (
-      (history_of last, is),
-      record {
-        noted = noted;
-        zero = count_after_step r.cell last new (step.Unlock (await_head r) false) is
-            ∙ (looked_count r.cell old last looks ∙ u.counts.0);
-      },
-    );
-  }
-
-  state_law : StateLaw await_table r stage.State
-  state_law = record {
-    fresh = refl;
-    moves = record {
-      plain = refl;
-      falls = refl;
-      took = refl;
-      goes = λ me. refl;
-      is = λ me k x ok. refl;
-      finds = λ me k x ok. (tt, tt, tt);
-    };
-    leaves = record { head = refl; ticket = refl };
-    state = inr refl;
-    home = λ o h. h;
-    may = λ k s. may_by false (state_mask r.state) k s;
-    sort = inr refl;
-    trail = λ old new c u. knows_state r.cell old new 0 (state_mask r.state) c u;
-  }
-
-  unlock_law : UnlockLaw await_table r stage.Unlock
-  unlock_law = record {
-    held = record { holds = refl; head = refl };
-    fresh = refl;
-    moves = record {
-      plain = refl;
-      falls = refl;
-      took = refl;
-      goes = λ me. refl;
-      is = λ me k x ok. (ok, refl);
-      finds = λ me k x ok. (tt, tt, tt);
-    };
-    leaves = record { head = refl; ticket = refl };
-    state = λ σ s. s;
-    home = λ o h. h;
-    trail = λ old new c u. tt;
-    permits = λ k fits at u. knows_none r.cell k at u;
-  }
-
-  sleep_law : SleepLaw await_table r stage.Sleep stage.Again
-  sleep_law = sleep_by await_table r stage.Sleep refl stage.Again refl refl refl refl refl refl (λ o h. h)
-      (λ w me. refl) (λ w me k. tt) (λ w me k. (refl, tt, tt)) (λ old new w c u. tt)
-
-  -- a hold that found a signal
-  state_leave : StateLaw await_table r stage.LeaveState
-  state_leave = record {
-    fresh = refl;
-    moves = record {
-      plain = refl;
-      falls = refl;
-      took = refl;
-      goes = λ me. refl;
-      is = λ me k x ok. refl;
-      finds = λ me k x ok. (tt, tt, tt);
-    };
-    leaves = record { head = refl; ticket = refl };
-    state = refl;
-    home = λ o h. h;
-    may = λ k s. inl refl;
-    sort = inl refl;
-    trail = λ old new c u. leaves_calm old new r [] (step.State 0 ∷ []) r.asked c
-        (knows_state r.cell old new 0 0 c (knows_for old r [] r.asked u)) u;
-  }
-
-  -- a hold that takes one of the count
-  state_take : StateLaw await_table r stage.TakeState
-  state_take = record {
-    fresh = refl;
-    moves = record {
-      plain = refl;
-      falls = refl;
-      took = refl;
-      goes = λ me. refl;
-      is = λ me k x ok. refl;
-      finds = λ me k x ok. (tt, tt, tt);
-    };
-    leaves = record { head = refl; ticket = refl };
-    state = refl;
-    home = λ o h. h;
-    may = λ k s. inl refl;
-    sort = inl refl;
-    trail = λ old new c u. (knows_state r.cell old new r.count 0 c u.0, u.1);
-  }
-
-  unlock_take : UnlockLaw await_table r stage.TakeUnlock
-  unlock_take = record {
-    held = record { holds = refl; head = refl };
-    fresh = refl;
-    moves = record {
-      plain = tt;
-      falls = refl;
-      took = refl;
-      goes = λ me. refl;
-      is = λ me k x ok. (ok, refl);
-      finds = λ me k x ok. (tt, tt, tt);
-    };
-    leaves = record { head = refl; ticket = refl };
-    state = λ σ s. s;
-    home = λ o h. h;
-    trail = λ old new c u. gives_back old new r c;
-    permits = λ k fits at u. waits_may_end r.cell k u.0 at u.1;
-  }
+  queue_law = queue_by await_table r stage.Queue refl refl refl refl refl (λ e me. refl) (λ o h. h)
+      (λ old new w c queued u. knows_stayed r.cell old new 0 (own_of old) w (state_mask r.state) c u) refl refl
+      (λ me. refl) refl (λ f. f) (λ σ s. s) (λ e h. h) (λ x i e did. record {
+        cell = refl;
+        state = refl;
+        queued = sym (ap (λ (d : StepOrLook). r.queued || (is_queue d || false)) did ∙ or_yes r.queued);
+        ranged = (subst InRange (sym did) tt, tt);
+      }) (joined_knows r) tt (λ me. refl) (λ p. refl) (λ p σ s. s) (λ p. tt)
+      (λ old last fits looks at u. knows_none r.cell last at (knows_looks r.cell old last 0 looks u))
+      (λ old last new p looks noted is u. (
+        (history_of last, is),
+        record {
+          noted = noted;
+          zero = count_after_step r.cell last new (step.Unlock (await_head r) false) is
+              ∙ (looked_count r.cell old last looks ∙ u.counts.0);
+        },
+      ))
 
   laws_at : (s : AwaitStage) → LawOf (await_doing s) await_table r s
-  laws_at stage.First = draw_first
-  laws_at stage.FirstTurn = lock_first
+  laws_at stage.First = draw_by await_table r stage.First refl (λ k u. u)
+  laws_at stage.FirstTurn = lock_by await_table r stage.FirstTurn refl refl refl (λ me. refl) (λ me k x. (tt, tt, tt))
+      (λ σ s. s) (λ o h. h) (λ old new x c u. first_begun r.cell old new (walk_of_hold (await_head r) None) x c u)
   laws_at stage.FirstLoad = tt
-  laws_at stage.Again = draw_again
-  laws_at stage.AgainTurn = lock_again
+  laws_at stage.Again = draw_by await_table r stage.Again refl (λ k u. u)
+  laws_at stage.AgainTurn = lock_by await_table r stage.AgainTurn refl refl refl (λ me. refl) (λ me k x. (tt, tt, tt))
+      (λ σ s. s) (λ o h. h) (λ old new x c u. (walk_of_hold (await_head r) None, x, (history_of old, c.history)))
   laws_at stage.AgainLoad = tt
   laws_at stage.Look = λ hit. look_law hit
   laws_at stage.Queue = queue_law
-  laws_at stage.State = state_law
-  laws_at stage.Unlock = unlock_law
-  laws_at stage.Sleep = sleep_law
-  laws_at stage.LeaveState = state_leave
+  laws_at stage.State = state_by await_table r stage.State refl refl refl refl (λ me. refl) (λ me k. (tt, tt, tt))
+      (λ o h. h) (λ old new c u. knows_state r.cell old new 0 (state_mask r.state) c u)
+  laws_at stage.Unlock = unlock_by await_table r stage.Unlock refl refl refl (λ me. refl) (λ me k. (tt, tt, tt))
+      (λ σ s. s) (λ o h. h) (λ old new c u. tt) (λ k fits at u. knows_none r.cell k at u)
+  laws_at stage.Sleep = sleep_by await_table r stage.Sleep refl stage.Again refl refl refl refl refl refl (λ o h. h)
+      (λ w me. refl) (λ w me k. tt) (λ w me k. (refl, tt, tt)) (λ old new w c u. tt)
+  laws_at stage.LeaveState = running_by await_table r stage.LeaveState refl refl refl (λ me. refl)
+      (λ me k. (tt, tt, tt)) (λ o h. h) (λ old new c u. leaves_calm old new r [] (step.State 0 ∷ []) r.asked c
+      (knows_state r.cell old new 0 0 c (knows_for old r [] r.asked u)) u)
   laws_at stage.LeaveQueue = tt
   laws_at stage.LeaveUnlock = tt
-  laws_at stage.TakeState = state_take
+  laws_at stage.TakeState = running_by await_table r stage.TakeState refl refl refl (λ me. refl) (λ me k. (tt, tt, tt))
+      (λ o h. h) (λ old new c u. (knows_state r.cell old new r.count 0 c u.0, u.1))
   laws_at stage.TakeQueue = tt
   laws_at stage.TakeStore = tt
-  laws_at stage.TakeUnlock = unlock_take
+  laws_at stage.TakeUnlock = unlock_by await_table r stage.TakeUnlock refl tt refl (λ me. refl) (λ me k. (tt, tt, tt))
+      (λ σ s. s) (λ o h. h) (λ old new c u. gives_back old new r c)
+      (λ k fits at u. waits_may_end r.cell k u.0 at u.1)
 
 depth_most : (s : AwaitStage) → await_depth s ≤ 6
 depth_most stage.Look = omega arith
-depth_most stage.Queue = omega arith
-depth_most stage.State = omega arith
-depth_most stage.Unlock = omega arith
-depth_most stage.LeaveState = omega arith
-depth_most stage.LeaveQueue = omega arith
-depth_most stage.LeaveUnlock = omega arith
-depth_most stage.TakeState = omega arith
-depth_most stage.TakeQueue = omega arith
-depth_most stage.TakeStore = omega arith
-depth_most stage.TakeUnlock = omega arith
-depth_most stage.FirstLoad = omega arith
-depth_most stage.AgainLoad = omega arith
 depth_most s = omega arith
 
 pub await_lawful : IsLawfulCallTable await_table

@@ -3,6 +3,8 @@
 #![tactic(auto)]
 
 #[cfg(test)]
+mod cases;
+#[cfg(test)]
 mod copy_rows;
 #[cfg(test)]
 mod event_rows;

@@ -1,265 +1,350 @@
 //! Merges through `run`, over a folder in memory.
 
-ghost use Rattle.std.specs.Prelude.{◌≤◌};
-
-use crate::copy_rows::{Fails, Left, NONE, folder_of, gave, has, run_in};
-use std::alloc::{AllocError, Global};
-use std::process::Abort;
-use std::sync::Wait;
+use crate::cases::{
+    Bytes, Case, Fails, Held, Like, NONE, READ_FAILED, RUN, USAGE, WRITE_FAILED, play_all,
+};
 use std::test::Fail;
-use std::thread::Threads;
 
-/// The words of a merge of `a` and `b` into `c`.
-const MERGE: [&str; 4] = ["merge", "a", "b", "c"];
+/// A merge of `a` and `b` into `c`. The reads that fail are those of `a`.
+const MERGE: Case = Case {
+    words: &["merge", "a", "b", "c"],
+    ..RUN
+};
 
-/// The letter `first` and the 22 after it, which come again and again in their order.
-fn letters(alloc: Global, first: u8, size: usize) -> Result<Vec<u8>, AllocError>
-    requires { first ≤ 200 }
-{
-    let mut bytes = Vec::new(alloc);
-    for at in 0..size {
-        bytes.push(first + (at % 23) as u8)?;
-    }
-    Ok(bytes)
-}
-
-/// The bytes of the file `a`: capital letters.
-fn capitals(alloc: Global, size: usize) -> Result<Vec<u8>, AllocError> {
-    letters(alloc, b'A', size)
-}
-
-/// The bytes of the file `b`: small letters.
-fn smalls(alloc: Global, size: usize) -> Result<Vec<u8>, AllocError> {
-    letters(alloc, b'a', size)
-}
-
-/// Merges two files of these bytes. The reads that fail are those of the first.
-fn merge<R: Threads + Wait + Sync>(
-    rt: &R,
-    alloc: Global,
-    first: &[u8],
-    second: &[u8],
-    fails: Fails,
-) -> Result<Left, Fail> {
-    let mut folder = folder_of(alloc, first, fails)?;
-    folder.add("b", second, &[])?;
-    run_in(rt, alloc, &MERGE, folder, fails)
-}
-
-/// The bytes of the file `c` that are small letters, or those that are not, in their order.
-fn part_of(alloc: Global, left: &Left, small: bool) -> Result<Vec<u8>, Fail> {
-    let mut part = Vec::new(alloc);
-    let all = left.folder.bytes_of("c").unwrap_or(&[]);
-    for byte in all {
-        if byte.is_ascii_lowercase() == small {
-            part.push(*byte)?;
-        }
-    }
-    Ok(part)
-}
-
-/// Merges capital and small letters, so many of each, where nothing fails, and compares what is told, and that the file
-/// `c` has all of them, those of each file in their order.
-fn merges<R: Abort + Threads + Wait + Sync>(
-    rt: &R,
-    alloc: Global,
-    capital: usize,
-    small: usize,
-    text: &str,
-) -> Result<(), Fail> {
-    let first = capitals(alloc, capital)?;
-    let second = smalls(alloc, small)?;
-    let left = merge(rt, alloc, &first, &second, NONE)?;
-    gave(rt, &left, 0, text, "");
-    assert_eq!(rt; part_of(alloc, &left, false)?.as_slice(), first.as_slice());
-    assert_eq!(rt; part_of(alloc, &left, true)?.as_slice(), second.as_slice());
-    Ok(())
-}
-
-#[test]
-fn an_empty_file_and_another(rt: HostRuntime) -> Result<(), Fail> {
-    let left = merge(&rt, rt.alloc(), b"", b"hello", NONE)?;
-    gave(&rt, &left, 0, "merged 5 bytes\nmoved 15\n", "");
-    has(&rt, &left, "a", b"", Some(0));
-    has(&rt, &left, "b", b"hello", Some(5));
-    has(&rt, &left, "c", b"hello", Some(5));
-    Ok(())
-}
-
-#[test]
-fn two_files_that_fill_no_pipe(rt: HostRuntime) -> Result<(), Fail> {
-    let first = vec![in rt.alloc(); b'a'; 7_000]?;
-    let second = vec![in rt.alloc(); b'b'; 7_000]?;
-    let left = merge(&rt, rt.alloc(), &first, &second, NONE)?;
-    gave(&rt, &left, 0, "merged 14000 bytes\nmoved 42000\n", "");
-    let all = left.folder.bytes_of("c").unwrap_or(&[]);
-    assert_eq!(rt; all.iter().filter(|byte| **byte == b'a').count(), 7_000);
-    assert_eq!(rt; all.iter().filter(|byte| **byte == b'b').count(), 7_000);
-    assert_eq!(rt; all.len(), 14_000);
-    Ok(())
-}
+const MERGES: &[Case] = &[
+    Case {
+        name: "an_empty_file_and_another",
+        a: Some(Bytes::Just("")),
+        b: Some(Bytes::Just("hello")),
+        text: Bytes::Just("merged 5 bytes\nmoved 15\n"),
+        left: &[
+            ("a", Held::Such(Like::All, Bytes::Just(""))),
+            ("b", Held::Such(Like::All, Bytes::Just("hello"))),
+            ("c", Held::Such(Like::All, Bytes::Just("hello"))),
+        ],
+        ..MERGE
+    },
+    Case {
+        name: "two_files_that_fill_no_pipe",
+        a: Some(Bytes::Lines("", "a", 7_000)),
+        b: Some(Bytes::Lines("", "b", 7_000)),
+        text: Bytes::Just("merged 14000 bytes\nmoved 42000\n"),
+        left: &[(
+            "c",
+            Held::Merged(Bytes::Lines("", "a", 7_000), Bytes::Lines("", "b", 7_000)),
+        )],
+        ..MERGE
+    },
+    Case {
+        name: "merges_of_several_sizes: 0 and 0",
+        a: Some(Bytes::Letters(b'A', 0)),
+        b: Some(Bytes::Letters(b'a', 0)),
+        text: Bytes::Just("merged 0 bytes\nmoved 0\n"),
+        left: &[(
+            "c",
+            Held::Merged(Bytes::Letters(b'A', 0), Bytes::Letters(b'a', 0)),
+        )],
+        ..MERGE
+    },
+    Case {
+        name: "merges_of_several_sizes: 1 and 0",
+        a: Some(Bytes::Letters(b'A', 1)),
+        b: Some(Bytes::Letters(b'a', 0)),
+        text: Bytes::Just("merged 1 bytes\nmoved 3\n"),
+        left: &[(
+            "c",
+            Held::Merged(Bytes::Letters(b'A', 1), Bytes::Letters(b'a', 0)),
+        )],
+        ..MERGE
+    },
+    Case {
+        name: "merges_of_several_sizes: 4096 and 4097",
+        a: Some(Bytes::Letters(b'A', 4_096)),
+        b: Some(Bytes::Letters(b'a', 4_097)),
+        text: Bytes::Just("merged 8193 bytes\nmoved 24579\n"),
+        left: &[(
+            "c",
+            Held::Merged(Bytes::Letters(b'A', 4_096), Bytes::Letters(b'a', 4_097)),
+        )],
+        ..MERGE
+    },
+    Case {
+        name: "merges_of_several_sizes: 7168 and 7169",
+        a: Some(Bytes::Letters(b'A', 7_168)),
+        b: Some(Bytes::Letters(b'a', 7_169)),
+        text: Bytes::Just("merged 14337 bytes\nmoved 43011\n"),
+        left: &[(
+            "c",
+            Held::Merged(Bytes::Letters(b'A', 7_168), Bytes::Letters(b'a', 7_169)),
+        )],
+        ..MERGE
+    },
+    Case {
+        name: "merges_of_several_sizes: 20000 and 1",
+        a: Some(Bytes::Letters(b'A', 20_000)),
+        b: Some(Bytes::Letters(b'a', 1)),
+        text: Bytes::Just("merged 20001 bytes\nmoved 60003\n"),
+        left: &[(
+            "c",
+            Held::Merged(Bytes::Letters(b'A', 20_000), Bytes::Letters(b'a', 1)),
+        )],
+        ..MERGE
+    },
+    Case {
+        name: "merges_of_several_sizes: 3 and 50000",
+        a: Some(Bytes::Letters(b'A', 3)),
+        b: Some(Bytes::Letters(b'a', 50_000)),
+        text: Bytes::Just("merged 50003 bytes\nmoved 150009\n"),
+        left: &[(
+            "c",
+            Held::Merged(Bytes::Letters(b'A', 3), Bytes::Letters(b'a', 50_000)),
+        )],
+        ..MERGE
+    },
+];
 
 #[test]
 fn merges_of_several_sizes(rt: HostRuntime) -> Result<(), Fail> {
-    for (capital, small, text) in [
-        (0, 0, "merged 0 bytes\nmoved 0\n"),
-        (1, 0, "merged 1 bytes\nmoved 3\n"),
-        (4_096, 4_097, "merged 8193 bytes\nmoved 24579\n"),
-        (7_168, 7_169, "merged 14337 bytes\nmoved 43011\n"),
-        (20_000, 1, "merged 20001 bytes\nmoved 60003\n"),
-        (3, 50_000, "merged 50003 bytes\nmoved 150009\n"),
-    ] {
-        merges(&rt, rt.alloc(), capital, small, text)?;
-    }
-    Ok(())
+    play_all(&rt, rt.alloc(), MERGES)
 }
+
+/// Words that are no merge command, over two files of one byte.
+const OTHER: Case = Case {
+    name: "words_that_are_no_merge_command",
+    a: Some(Bytes::Just("x")),
+    b: Some(Bytes::Just("y")),
+    status: 2,
+    line: USAGE,
+    left: &[
+        ("a", Held::Such(Like::All, Bytes::Just("x"))),
+        ("b", Held::Such(Like::All, Bytes::Just("y"))),
+        ("c", Held::Missing),
+    ],
+    ..RUN
+};
+
+const OTHERS: &[Case] = &[
+    Case {
+        words: &["merge"],
+        ..OTHER
+    },
+    Case {
+        words: &["merge", "a"],
+        ..OTHER
+    },
+    Case {
+        words: &["merge", "a", "b"],
+        ..OTHER
+    },
+    Case {
+        words: &["merge", "a", "b", "c", "d"],
+        ..OTHER
+    },
+    Case {
+        words: &["merge", "a", "a", "c"],
+        ..OTHER
+    },
+    Case {
+        words: &["merge", "a", "b", "a"],
+        ..OTHER
+    },
+    Case {
+        words: &["merge", "a", "b", "b"],
+        ..OTHER
+    },
+    Case {
+        words: &["merge", "", "b", "c"],
+        ..OTHER
+    },
+    Case {
+        words: &["merge", "a", "", "c"],
+        ..OTHER
+    },
+    Case {
+        words: &["merge", "a", "b", ""],
+        ..OTHER
+    },
+    Case {
+        words: &["merge", "-a", "b", "c"],
+        ..OTHER
+    },
+    Case {
+        words: &["merge", "a", "-b", "c"],
+        ..OTHER
+    },
+    Case {
+        words: &["merge", "a", "b", "-c"],
+        ..OTHER
+    },
+    Case {
+        words: &["Merge", "a", "b", "c"],
+        ..OTHER
+    },
+];
 
 #[test]
 fn words_that_are_no_merge_command(rt: HostRuntime) -> Result<(), Fail> {
-    for words in [
-        &["merge"] as &[&str],
-        &["merge", "a"],
-        &["merge", "a", "b"],
-        &["merge", "a", "b", "c", "d"],
-        &["merge", "a", "a", "c"],
-        &["merge", "a", "b", "a"],
-        &["merge", "a", "b", "b"],
-        &["merge", "", "b", "c"],
-        &["merge", "a", "", "c"],
-        &["merge", "a", "b", ""],
-        &["merge", "-a", "b", "c"],
-        &["merge", "a", "-b", "c"],
-        &["merge", "a", "b", "-c"],
-        &["Merge", "a", "b", "c"],
-    ] {
-        let mut folder = folder_of(rt.alloc(), b"x", NONE)?;
-        folder.add("b", b"y", &[])?;
-        let left = run_in(&rt, rt.alloc(), words, folder, NONE)?;
-        assert_eq!(rt; left.status, 2, "{} words", words.len());
-        assert_eq!(rt; left.text.as_str(), "");
-        has(&rt, &left, "a", b"x", Some(1));
-        has(&rt, &left, "b", b"y", Some(1));
-        has(&rt, &left, "c", b"", None);
-    }
-    Ok(())
+    play_all(&rt, rt.alloc(), OTHERS)
 }
 
-#[test]
-fn the_first_missing_file_is_told(rt: HostRuntime) -> Result<(), Fail> {
-    for (words, line) in [
-        (["merge", "a", "b", "c"], "waitq: no file b\n"),
-        (["merge", "b", "a", "c"], "waitq: no file b\n"),
-        (["merge", "d", "e", "c"], "waitq: no file d\n"),
-    ] {
-        let folder = folder_of(rt.alloc(), b"x", NONE)?;
-        let left = run_in(&rt, rt.alloc(), &words, folder, NONE)?;
-        gave(&rt, &left, 4, "", line);
-        has(&rt, &left, "c", b"", None);
-    }
-    Ok(())
-}
+/// A merge of two files of one byte that makes no file.
+const UNMADE: Case = Case {
+    a: Some(Bytes::Just("x")),
+    b: Some(Bytes::Just("y")),
+    left: &[("c", Held::Missing)],
+    ..MERGE
+};
 
-/// The calls of the folder, in their order: both files are opened, `c` is made, and then it is stored.
+/// One where there is no file `b`.
+const ALONE: Case = Case {
+    b: None,
+    status: 4,
+    ..UNMADE
+};
+
+// The calls of the folder, in their order: both files are opened, `c` is made, and then it is stored.
+const UNMADES: &[Case] = &[
+    Case {
+        name: "the_first_missing_file_is_told: the second",
+        line: "waitq: no file b\n",
+        ..ALONE
+    },
+    Case {
+        name: "the_first_missing_file_is_told: the first",
+        words: &["merge", "b", "a", "c"],
+        line: "waitq: no file b\n",
+        ..ALONE
+    },
+    Case {
+        name: "the_first_missing_file_is_told: of two",
+        words: &["merge", "d", "e", "c"],
+        line: "waitq: no file d\n",
+        ..ALONE
+    },
+    Case {
+        name: "faults_of_the_folder_leave_it: the first open",
+        fails: Fails {
+            calls: &[1],
+            ..NONE
+        },
+        status: 4,
+        line: READ_FAILED,
+        ..UNMADE
+    },
+    Case {
+        name: "faults_of_the_folder_leave_it: the second open",
+        fails: Fails {
+            calls: &[2],
+            ..NONE
+        },
+        status: 4,
+        line: READ_FAILED,
+        ..UNMADE
+    },
+    Case {
+        name: "faults_of_the_folder_leave_it: the create",
+        fails: Fails {
+            calls: &[3],
+            ..NONE
+        },
+        status: 5,
+        line: WRITE_FAILED,
+        ..UNMADE
+    },
+    Case {
+        name: "faults_of_the_folder_leave_it: the store",
+        fails: Fails {
+            calls: &[4],
+            ..NONE
+        },
+        status: 5,
+        line: WRITE_FAILED,
+        ..UNMADE
+    },
+];
+
 #[test]
 fn faults_of_the_folder_leave_it(rt: HostRuntime) -> Result<(), Fail> {
-    let read = "waitq: read failed\n";
-    let write = "waitq: write failed\n";
-    for (call, status, line) in [(1, 4, read), (2, 4, read), (3, 5, write), (4, 5, write)] {
-        let fails = Fails {
-            calls: &[call],
-            ..NONE
-        };
-        let left = merge(&rt, rt.alloc(), b"x", b"y", fails)?;
-        gave(&rt, &left, status, "", line);
-        has(&rt, &left, "c", b"", None);
-    }
-    Ok(())
+    play_all(&rt, rt.alloc(), UNMADES)
 }
 
-/// Compares that each part of the file `c` is a front of the file that it came from.
-fn has_fronts(
-    rt: &impl Abort,
-    alloc: Global,
-    left: &Left,
-    first: &[u8],
-    second: &[u8],
-) -> Result<(), Fail> {
-    assert!(rt; left.folder.bytes_of("c").is_some());
-    assert!(rt; first.starts_with(part_of(alloc, left, false)?.as_slice()));
-    assert!(rt; second.starts_with(part_of(alloc, left, true)?.as_slice()));
-    Ok(())
-}
+const CAPITALS: Bytes = Bytes::Letters(b'A', 20_000);
+
+const SMALLS: Bytes = Bytes::Letters(b'a', 20_000);
+
+/// A merge of capital and of small letters, of which fronts arrive; a fault of a read stops it, or one of a write.
+const UNREAD: Case = Case {
+    a: Some(CAPITALS),
+    b: Some(SMALLS),
+    status: 4,
+    line: READ_FAILED,
+    left: &[("c", Held::MergedFronts(CAPITALS, SMALLS))],
+    ..MERGE
+};
+
+const UNWRITTEN: Case = Case {
+    status: 5,
+    line: WRITE_FAILED,
+    ..UNREAD
+};
+
+const FAULTS: &[Case] = &[
+    Case {
+        name: "faults_in_the_midst_leave_fronts: the first read",
+        fails: Fails {
+            reads: &[1],
+            ..NONE
+        },
+        ..UNREAD
+    },
+    Case {
+        name: "faults_in_the_midst_leave_fronts: the third read",
+        fails: Fails {
+            reads: &[3],
+            ..NONE
+        },
+        ..UNREAD
+    },
+    Case {
+        name: "faults_in_the_midst_leave_fronts: the first write",
+        fails: Fails {
+            writes: &[1],
+            ..NONE
+        },
+        ..UNWRITTEN
+    },
+    Case {
+        name: "faults_in_the_midst_leave_fronts: the fourth write",
+        fails: Fails {
+            writes: &[4],
+            ..NONE
+        },
+        ..UNWRITTEN
+    },
+    Case {
+        name: "faults_in_the_midst_leave_fronts: neither the second write nor the line",
+        fails: Fails {
+            writes: &[2],
+            errs: &[1],
+            ..NONE
+        },
+        line: "",
+        ..UNWRITTEN
+    },
+    Case {
+        name: "a_text_that_is_not_written_leaves_the_whole_file",
+        a: Some(Bytes::Letters(b'A', 5_000)),
+        b: Some(Bytes::Letters(b'a', 9_000)),
+        fails: Fails { outs: &[1], ..NONE },
+        left: &[(
+            "c",
+            Held::Merged(Bytes::Letters(b'A', 5_000), Bytes::Letters(b'a', 9_000)),
+        )],
+        ..UNWRITTEN
+    },
+];
 
 #[test]
 fn faults_in_the_midst_leave_fronts(rt: HostRuntime) -> Result<(), Fail> {
-    let first = capitals(rt.alloc(), 20_000)?;
-    let second = smalls(rt.alloc(), 20_000)?;
-    let read = "waitq: read failed\n";
-    let write = "waitq: write failed\n";
-    for (fails, status, line) in [
-        (
-            Fails {
-                reads: &[1],
-                ..NONE
-            },
-            4,
-            read,
-        ),
-        (
-            Fails {
-                reads: &[3],
-                ..NONE
-            },
-            4,
-            read,
-        ),
-        (
-            Fails {
-                writes: &[1],
-                ..NONE
-            },
-            5,
-            write,
-        ),
-        (
-            Fails {
-                writes: &[4],
-                ..NONE
-            },
-            5,
-            write,
-        ),
-        (
-            Fails {
-                writes: &[2],
-                errs: &[1],
-                ..NONE
-            },
-            5,
-            "",
-        ),
-    ] {
-        let left = merge(&rt, rt.alloc(), &first, &second, fails)?;
-        gave(&rt, &left, status, "", line);
-        has_fronts(&rt, rt.alloc(), &left, &first, &second)?;
-    }
-    Ok(())
-}
-
-#[test]
-fn a_text_that_is_not_written_leaves_the_whole_file(rt: HostRuntime) -> Result<(), Fail> {
-    let first = capitals(rt.alloc(), 5_000)?;
-    let second = smalls(rt.alloc(), 9_000)?;
-    let fails = Fails { outs: &[1], ..NONE };
-    let left = merge(&rt, rt.alloc(), &first, &second, fails)?;
-    gave(&rt, &left, 5, "", "waitq: write failed\n");
-    assert_eq!(rt;
-        part_of(rt.alloc(), &left, false)?.as_slice(),
-        first.as_slice()
-    );
-    assert_eq!(rt;
-        part_of(rt.alloc(), &left, true)?.as_slice(),
-        second.as_slice()
-    );
-    Ok(())
+    play_all(&rt, rt.alloc(), FAULTS)
 }

@@ -1,11 +1,12 @@
 //! Scripts that lock pages, and what replaying them gives. The texts were written by hand from the rules, not by this
 //! program.
 
-use crate::rows::Row;
+use crate::cases::{Bytes, Case, REPLAY};
 
-pub const PAGE_HANDED_ON: Row = Row {
+pub(crate) const PAGE_HANDED_ON: Case = Case {
     name: "page_handed_on",
-    script: "\
+    input: Bytes::Just(
+        "\
 waitq 2\n\
 call 1 trybit b0.0\n\
 step 1 1\n\
@@ -16,8 +17,9 @@ step 3 99\n\
 call 1 clearbit b0.0\n\
 step 1 99\n\
 step 2 99\n",
-    status: 0,
-    text: "\
+    ),
+    text: Bytes::Just(
+        "\
 t1 tas b0.0 0\n\
 t1 = 1\n\
 t2 tas b0.0 1\n\
@@ -56,12 +58,14 @@ task 2 run plain idle\n\
 task 3 run none idle\n\
 word b0 1\n\
 end\n",
-    line: "",
+    ),
+    ..REPLAY
 };
 
-pub const PAGE_TAKEN_BY_STRANGER: Row = Row {
+pub(crate) const PAGE_TAKEN_BY_STRANGER: Case = Case {
     name: "page_taken_by_stranger",
-    script: "\
+    input: Bytes::Just(
+        "\
 waitq 2\n\
 call 1 trybit b0.0\n\
 step 1 1\n\
@@ -72,8 +76,9 @@ step 1 1\n\
 call 4 trybit b0.0\n\
 step 4 1\n\
 step 1 99\n",
-    status: 0,
-    text: "\
+    ),
+    text: Bytes::Just(
+        "\
 t1 tas b0.0 0\n\
 t1 = 1\n\
 t2 tas b0.0 1\n\
@@ -100,15 +105,18 @@ task 4 run none idle\n\
 head h0 t2\n\
 word b0 1\n\
 end\n",
-    line: "",
+    ),
+    ..REPLAY
 };
 
-pub const PAGE_CALL_IN_VERSION_1: Row = Row {
+pub(crate) const PAGE_CALL_IN_VERSION_1: Case = Case {
     name: "page_call_in_version_1",
-    script: "\
+    input: Bytes::Just(
+        "\
 waitq 1\n\
 call 1 lockpage b0 int\n",
+    ),
     status: 3,
-    text: "",
     line: "waitq: line 2: unknown word\n",
+    ..REPLAY
 };

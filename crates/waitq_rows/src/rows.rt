@@ -1,18 +1,11 @@
 //! Scripts and what replaying them gives. The texts were written by hand from the rules, not by this program.
 
-/// A script and what replaying it gives.
-#[derive(Clone, Copy)]
-pub struct Row {
-    pub name: &'static str,
-    pub script: &'static str,
-    pub status: u8,
-    pub text: &'static str,
-    pub line: &'static str,
-}
+use crate::cases::{Bytes, Case, REPLAY};
 
-pub const WAIT_SET_WAKE: Row = Row {
+pub(crate) const WAIT_SET_WAKE: Case = Case {
     name: "wait_set_wake",
-    script: "\
+    input: Bytes::Just(
+        "\
 waitq 1\n\
 call 1 wait c0 plain\n\
 step 1 99\n\
@@ -21,8 +14,9 @@ step 2 1\n\
 call 2 wake c0 normal 0\n\
 step 2 99\n\
 step 1 99\n",
-    status: 0,
-    text: "\
+    ),
+    text: Bytes::Just(
+        "\
 t1 load c0 0\n\
 t1 lock h256\n\
 t1 queue h256 front\n\
@@ -53,12 +47,14 @@ task 1 run none idle\n\
 task 2 run none idle\n\
 word c0 1\n\
 end\n",
-    line: "",
+    ),
+    ..REPLAY
 };
 
-pub const WAKE_BEFORE_LOAD: Row = Row {
+pub(crate) const WAKE_BEFORE_LOAD: Case = Case {
     name: "wake_before_load",
-    script: "\
+    input: Bytes::Just(
+        "\
 waitq 1\n\
 call 1 wait c0 plain\n\
 step 1 5\n\
@@ -67,8 +63,9 @@ step 2 1\n\
 call 2 wake c0 normal 0\n\
 step 2 99\n\
 step 1 99\n",
-    status: 0,
-    text: "\
+    ),
+    text: Bytes::Just(
+        "\
 t1 load c0 0\n\
 t1 lock h256\n\
 t1 queue h256 front\n\
@@ -90,12 +87,14 @@ task 1 run none idle\n\
 task 2 run none idle\n\
 word c0 1\n\
 end\n",
-    line: "",
+    ),
+    ..REPLAY
 };
 
-pub const WAKE_BEFORE_SLEEP: Row = Row {
+pub(crate) const WAKE_BEFORE_SLEEP: Case = Case {
     name: "wake_before_sleep",
-    script: "\
+    input: Bytes::Just(
+        "\
 waitq 1\n\
 call 1 wait c0 plain\n\
 step 1 6\n\
@@ -104,8 +103,9 @@ step 2 1\n\
 call 2 wake c0 normal 0\n\
 step 2 99\n\
 step 1 99\n",
-    status: 0,
-    text: "\
+    ),
+    text: Bytes::Just(
+        "\
 t1 load c0 0\n\
 t1 lock h256\n\
 t1 queue h256 front\n\
@@ -136,12 +136,14 @@ task 1 run none idle\n\
 task 2 run none idle\n\
 word c0 1\n\
 end\n",
-    line: "",
+    ),
+    ..REPLAY
 };
 
-pub const WAKE_ONE_EXCLUSIVE: Row = Row {
+pub(crate) const WAKE_ONE_EXCLUSIVE: Case = Case {
     name: "wake_one_exclusive",
-    script: "\
+    input: Bytes::Just(
+        "\
 waitq 1\n\
 call 1 wait c0 int-ex\n\
 step 1 99\n\
@@ -151,8 +153,9 @@ call 3 wait c0 plain\n\
 step 3 99\n\
 call 4 wake c0 normal 1\n\
 step 4 99\n",
-    status: 0,
-    text: "\
+    ),
+    text: Bytes::Just(
+        "\
 t1 load c0 0\n\
 t1 lock h256\n\
 t1 look no\n\
@@ -190,12 +193,14 @@ task 3 run none open\n\
 task 4 run none idle\n\
 head h256 t2\n\
 end\n",
-    line: "",
+    ),
+    ..REPLAY
 };
 
-pub const PRIORITY_FIRST: Row = Row {
+pub(crate) const PRIORITY_FIRST: Case = Case {
     name: "priority_first",
-    script: "\
+    input: Bytes::Just(
+        "\
 waitq 1\n\
 call 1 wait c0 plain\n\
 step 1 99\n\
@@ -210,8 +215,9 @@ step 3 1\n\
 call 3 wake c0 normal 1\n\
 step 3 99\n\
 step 2 99\n",
-    status: 0,
-    text: "\
+    ),
+    text: Bytes::Just(
+        "\
 t1 load c0 0\n\
 t1 lock h256\n\
 t1 queue h256 front\n\
@@ -245,12 +251,14 @@ task 3 run none idle\n\
 head h256 t2 t1\n\
 word c0 1\n\
 end\n",
-    line: "",
+    ),
+    ..REPLAY
 };
 
-pub const SELECTED_THEN_SIGNALLED: Row = Row {
+pub(crate) const SELECTED_THEN_SIGNALLED: Case = Case {
     name: "selected_then_signalled",
-    script: "\
+    input: Bytes::Just(
+        "\
 waitq 1\n\
 call 1 wait c0 int-ex\n\
 step 1 99\n\
@@ -261,8 +269,9 @@ step 2 99\n\
 call 3 signal 1 plain\n\
 step 3 99\n\
 step 1 99\n",
-    status: 0,
-    text: "\
+    ),
+    text: Bytes::Just(
+        "\
 t1 load c0 0\n\
 t1 lock h256\n\
 t1 look no\n\
@@ -294,12 +303,14 @@ task 2 run none idle\n\
 task 3 run none idle\n\
 word c0 1\n\
 end\n",
-    line: "",
+    ),
+    ..REPLAY
 };
 
-pub const SELECTED_CONDITION_TAKEN: Row = Row {
+pub(crate) const SELECTED_CONDITION_TAKEN: Case = Case {
     name: "selected_condition_taken",
-    script: "\
+    input: Bytes::Just(
+        "\
 waitq 1\n\
 call 1 wait c0 int-ex\n\
 step 1 99\n\
@@ -312,8 +323,9 @@ step 3 99\n\
 call 4 take c0\n\
 step 4 1\n\
 step 1 99\n",
-    status: 0,
-    text: "\
+    ),
+    text: Bytes::Just(
+        "\
 t1 load c0 0\n\
 t1 lock h256\n\
 t1 look no\n\
@@ -345,19 +357,22 @@ task 2 run none idle\n\
 task 3 run none idle\n\
 task 4 run none idle\n\
 end\n",
-    line: "",
+    ),
+    ..REPLAY
 };
 
-pub const MODE_MISSES: Row = Row {
+pub(crate) const MODE_MISSES: Case = Case {
     name: "mode_misses",
-    script: "\
+    input: Bytes::Just(
+        "\
 waitq 1\n\
 call 1 wait c0 plain\n\
 step 1 99\n\
 call 2 wake c0 int 0\n\
 step 2 99\n",
-    status: 0,
-    text: "\
+    ),
+    text: Bytes::Just(
+        "\
 t1 load c0 0\n\
 t1 lock h256\n\
 t1 queue h256 front\n\
@@ -374,5 +389,6 @@ task 1 unint none asleep\n\
 task 2 run none idle\n\
 head h256 t1\n\
 end\n",
-    line: "",
+    ),
+    ..REPLAY
 };

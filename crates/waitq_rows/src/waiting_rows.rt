@@ -1,11 +1,12 @@
 //! Scripts of flags, completions, simple queues and bits, and what replaying them gives. The texts were written by hand
 //! from the rules, not by this program.
 
-use crate::rows::Row;
+use crate::cases::{Bytes, Case, REPLAY};
 
-pub const WOKEN_FLAG_BEFORE_STATE: Row = Row {
+pub(crate) const WOKEN_FLAG_BEFORE_STATE: Case = Case {
     name: "woken_flag_before_state",
-    script: "\
+    input: Bytes::Just(
+        "\
 waitq 1\n\
 call 1 add c0 woken front\n\
 step 1 9\n\
@@ -17,8 +18,9 @@ call 1 woken int\n\
 step 1 9\n\
 call 1 remove\n\
 step 1 9\n",
-    status: 0,
-    text: "\
+    ),
+    text: Bytes::Just(
+        "\
 t1 lock h256\n\
 t1 queue h256 front\n\
 t1 unlock h256\n\
@@ -43,12 +45,14 @@ events 15\n\
 task 1 run none idle\n\
 task 2 run none idle\n\
 end\n",
-    line: "",
+    ),
+    ..REPLAY
 };
 
-pub const COMPLETIONS: Row = Row {
+pub(crate) const COMPLETIONS: Case = Case {
     name: "completions",
-    script: "\
+    input: Bytes::Just(
+        "\
 waitq 1\n\
 call 1 complete d0\n\
 step 1 9\n\
@@ -68,8 +72,9 @@ call 2 isdone d0\n\
 step 2 9\n\
 call 1 reinit d0\n\
 step 1 9\n",
-    status: 0,
-    text: "\
+    ),
+    text: Bytes::Just(
+        "\
 t1 lock h320\n\
 t1 load d0 0\n\
 t1 set d0 1\n\
@@ -113,12 +118,14 @@ events 30\n\
 task 1 run none idle\n\
 task 2 run none idle\n\
 end\n",
-    line: "",
+    ),
+    ..REPLAY
 };
 
-pub const TWO_WAITERS_ONE_PERMIT: Row = Row {
+pub(crate) const TWO_WAITERS_ONE_PERMIT: Case = Case {
     name: "two_waiters_one_permit",
-    script: "\
+    input: Bytes::Just(
+        "\
 waitq 1\n\
 call 1 waitfor d0 plain\n\
 step 1 9\n\
@@ -126,8 +133,9 @@ call 2 waitfor d0 plain\n\
 step 2 9\n\
 call 3 complete d0\n\
 step 3 9\n",
-    status: 0,
-    text: "\
+    ),
+    text: Bytes::Just(
+        "\
 t1 lock h320\n\
 t1 load d0 0\n\
 t1 queue h320 tail\n\
@@ -154,12 +162,14 @@ task 3 run none idle\n\
 head h320 t2\n\
 word d0 1\n\
 end\n",
-    line: "",
+    ),
+    ..REPLAY
 };
 
-pub const BIT_LOCK_SIGNALLED: Row = Row {
+pub(crate) const BIT_LOCK_SIGNALLED: Case = Case {
     name: "bit_lock_signalled",
-    script: "\
+    input: Bytes::Just(
+        "\
 waitq 1\n\
 call 1 trybit b0.0\n\
 step 1 1\n\
@@ -170,8 +180,9 @@ step 3 99\n\
 call 1 clearbit b0.0\n\
 step 1 99\n\
 step 2 99\n",
-    status: 0,
-    text: "\
+    ),
+    text: Bytes::Just(
+        "\
 t1 tas b0.0 0\n\
 t1 = 1\n\
 t2 tas b0.0 1\n\
@@ -205,5 +216,6 @@ task 2 run plain idle\n\
 task 3 run none idle\n\
 word b0 1\n\
 end\n",
-    line: "",
+    ),
+    ..REPLAY
 };

@@ -7,3 +7,4 @@ mod heads;
 mod meeting;
 mod sources;
 mod tables;
+mod wants;

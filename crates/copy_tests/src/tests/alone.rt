@@ -3,6 +3,7 @@
 ghost use Rattle.std.specs.Prelude.{◌≡◌};
 ghost use Rattle.copy_ends.specs.Did.{IsIdler};
 
+use crate::tests::wants::all_so;
 use copy_plan::{OpenGate, ReaderEnd, SINK_PIPE, SOURCE_PIPE, Stop, WorkerEnd};
 use edge_io::{MemSink, MemSource};
 use flow_copy::{controller_task, reader_task, relay_task, writer_task};
@@ -47,14 +48,8 @@ fn work_alone<R: Wait>(
     (reader, relay, writer)
 }
 
-/// All workers finish, and each counts ten bytes.
-#[test]
-fn one_task_does_all(rt: HostRuntime) -> Result<(), Fail> {
-    let (domain, mut task) = Domain::new(rt.alloc())?;
-    let mut source = MemSource::new(rt.alloc(), b"ten bytes.", &[])?;
-    let mut sink = MemSink::new(rt.alloc(), &[])?;
-    let ends = work_alone(&rt, &domain, &mut task, &mut source, &mut sink);
-    let total = controller_task(&rt, &domain, &mut task, 3);
+/// Whether all finished, and each counted ten bytes.
+fn are_ten(ends: &(ReaderEnd, WorkerEnd, WorkerEnd)) -> bool {
     let ten = WorkerEnd {
         stop: Stop::Finished,
         moved: 10,
@@ -65,10 +60,28 @@ fn one_task_does_all(rt: HostRuntime) -> Result<(), Fail> {
         sent: 0,
         kills: 0,
     };
-    assert_eq!(rt; ends, (reader, ten, ten));
-    assert!(rt; matches!(total, Ok(30)));
-    assert_eq!(rt; sink.bytes(), b"ten bytes.".as_slice());
+    *ends == (reader, ten, ten)
+}
+
+/// All workers finish, and each counts ten bytes.
+#[test]
+fn one_task_does_all(rt: HostRuntime) -> Result<(), Fail> {
+    let (domain, mut task) = Domain::new(rt.alloc())?;
+    let mut source = MemSource::new(rt.alloc(), b"ten bytes.", &[])?;
+    let mut sink = MemSink::new(rt.alloc(), &[])?;
+    let ends = work_alone(&rt, &domain, &mut task, &mut source, &mut sink);
+    let is_counted = matches!(controller_task(&rt, &domain, &mut task, 3), Ok(30));
+    let is_there = sink.bytes() == b"ten bytes.".as_slice();
+    all_so(&rt, &[are_ten(&ends), is_counted, is_there]);
     Ok(())
+}
+
+/// Whether all stopped at once, and the reader has read nothing.
+fn are_taken(ends: &(ReaderEnd, WorkerEnd, WorkerEnd)) -> bool {
+    ends.0.stop == Stop::Taken
+        && ends.0.read == 0
+        && ends.1.stop == Stop::Taken
+        && ends.2.stop == Stop::Taken
 }
 
 /// An end is opened once: a second reader, relay or writer of the Domain stops at once, and has done nothing.
@@ -79,9 +92,8 @@ fn second_workers_stop_as_taken(rt: HostRuntime) -> Result<(), Fail> {
     let mut more = MemSource::new(rt.alloc(), b"def", &[])?;
     let mut sink = MemSink::new(rt.alloc(), &[])?;
     work_alone(&rt, &domain, &mut task, &mut source, &mut sink);
-    let (reader, relay, writer) = work_alone(&rt, &domain, &mut task, &mut more, &mut sink);
-    assert_eq!(rt; (reader.stop, reader.read), (Stop::Taken, 0));
-    assert_eq!(rt; (relay.stop, writer.stop), (Stop::Taken, Stop::Taken));
-    assert_eq!(rt; sink.bytes(), b"abc".as_slice());
+    let ends = work_alone(&rt, &domain, &mut task, &mut more, &mut sink);
+    let is_first = sink.bytes() == b"abc".as_slice();
+    all_so(&rt, &[are_taken(&ends), is_first]);
     Ok(())
 }

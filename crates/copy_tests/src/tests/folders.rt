@@ -1,5 +1,6 @@
 //! Files of a folder in memory by their names.
 
+use crate::tests::wants::{all_so, wants};
 use edge_io::{Failed, Folder, MemFolder, MemSink, OpenFault, Sink, SinkFault, Source};
 use std::alloc::{AllocError, Global};
 use std::test::Fail;
@@ -35,21 +36,36 @@ fn read_thrice(
     Ok((reads, is_front))
 }
 
+/// Whether three reads of the file a gave its bytes, but for the second, which failed.
+fn is_read_thrice(alloc: Global, folder: &mut MemFolder) -> Result<bool, Fail> {
+    let (reads, is_front) = read_thrice(alloc, folder)?;
+    Ok(is_front && reads == [Ok(4), Err(Failed), Ok(2)])
+}
+
+/// Whether there is no file b, which cannot be opened either.
+fn lacks_b(alloc: Global, folder: &mut MemFolder) -> bool {
+    folder.bytes_of("b").is_none() && is_refused(alloc, folder, OpenFault::NoSuchFile)
+}
+
+/// Whether the file b is not opened, for this fault.
+fn is_refused(alloc: Global, folder: &mut MemFolder, wanted: OpenFault) -> bool {
+    match folder.open(alloc, "b") {
+        Ok(_) => false,
+        Err(fault) => fault == wanted,
+    }
+}
+
 #[test]
 fn a_folder_gives_back_what_was_added(rt: HostRuntime) -> Result<(), Fail> {
     let alloc = rt.alloc();
-    assert!(rt; MemFolder::new(alloc).bytes_of("a").is_none());
     let mut folder = two_files(alloc)?;
-    assert!(rt; has(&folder, "a", b"abcdef") && has(&folder, "c", b"other"));
-    assert!(rt; folder.bytes_of("b").is_none());
-    let none = folder.open(alloc, "b").map(|_| ());
-    assert_eq!(rt; none, Err(OpenFault::NoSuchFile));
+    let has_both = has(&folder, "a", b"abcdef") && has(&folder, "c", b"other");
+    let has_no_b = lacks_b(alloc, &mut folder);
     // each time that the file is opened its second read fails, and nothing else does
-    for _ in 0..2 {
-        let (reads, is_front) = read_thrice(alloc, &mut folder)?;
-        assert!(rt; is_front);
-        assert_eq!(rt; reads, [Ok(4), Err(Failed), Ok(2)]);
-    }
+    let first = is_read_thrice(alloc, &mut folder)?;
+    let second = is_read_thrice(alloc, &mut folder)?;
+    let is_new_empty = MemFolder::new(alloc).bytes_of("a").is_none();
+    all_so(&rt, &[is_new_empty, has_both, has_no_b, first, second]);
     Ok(())
 }
 
@@ -74,19 +90,26 @@ fn store_new(
     Ok((writes, is_old))
 }
 
+/// How much the first read of the file b gives.
+fn read_b(alloc: Global, folder: &mut MemFolder) -> Result<Result<usize, Failed>, Fail> {
+    let mut input = folder.open(alloc, "b")?;
+    let mut buf = [0; 4];
+    let read = input.read(&mut buf);
+    folder.close(input);
+    Ok(read)
+}
+
 #[test]
 fn what_is_stored_is_the_file_and_no_other_changes(rt: HostRuntime) -> Result<(), Fail> {
     let alloc = rt.alloc();
     let mut folder = failing_files(alloc)?;
     let (writes, is_old) = store_new(alloc, &mut folder)?;
     // the fault of the write is counted, and what the sink holds is stored all the same
-    assert_eq!(rt; writes, [Ok(3), Err(SinkFault::Failed)]);
-    assert!(rt; is_old && has(&folder, "b", b"new") && has(&folder, "a", b"abc"));
+    let is_counted = writes == [Ok(3), Err(SinkFault::Failed)];
+    let is_stored = is_old && has(&folder, "b", b"new") && has(&folder, "a", b"abc");
     // no read of the new file fails
-    let mut input = folder.open(alloc, "b")?;
-    let mut buf = [0; 4];
-    assert_eq!(rt; input.read(&mut buf), Ok(3));
-    folder.close(input);
+    let is_read = read_b(alloc, &mut folder)? == Ok(3);
+    all_so(&rt, &[is_counted, is_stored, is_read]);
     Ok(())
 }
 
@@ -103,30 +126,35 @@ fn calls_well(alloc: Global, fails: u64) -> Result<[bool; 4], Fail> {
     Ok([opens, creates, stores, folder.bytes_of("b").is_some()])
 }
 
-#[test]
-fn chosen_calls_of_a_folder_fail(rt: HostRuntime) -> Result<(), Fail> {
-    let alloc = rt.alloc();
-    // which call fails, and what `open`, `create` and `store` answer
-    for (fails, opens, creates, stores) in [
-        (1, false, true, true),
-        (2, true, false, true),
-        (3, true, true, false),
-        (4, true, true, true),
-    ] {
-        assert_eq!(rt;
-            calls_well(alloc, fails)?,
-            [opens, creates, stores, stores],
-            "at {fails}"
-        );
-    }
-    // a call whose number is listed fails whatever the name is
+/// Which call fails, and what `open`, `create` and `store` answer.
+const CALLS: &[(u64, [bool; 3])] = &[
+    (1, [false, true, true]),
+    (2, [true, false, true]),
+    (3, [true, true, false]),
+    (4, [true, true, true]),
+];
+
+/// Whether the first call of a folder without files fails whatever the name is, and the second since there is no file.
+fn fails_once(alloc: Global) -> Result<bool, Fail> {
     let mut folder = MemFolder::new(alloc);
     folder.fail_calls(&[1])?;
-    let first = folder.open(alloc, "b").map(|_| ());
-    let second = folder.open(alloc, "b").map(|_| ());
-    assert_eq!(rt;
-        (first, second),
-        (Err(OpenFault::Failed), Err(OpenFault::NoSuchFile))
+    Ok(
+        is_refused(alloc, &mut folder, OpenFault::Failed)
+            && is_refused(alloc, &mut folder, OpenFault::NoSuchFile),
+    )
+}
+
+#[test]
+fn chosen_calls_of_a_folder_fail(rt: HostRuntime) -> Result<(), Fail> {
+    for (fails, [opens, creates, stores]) in CALLS {
+        let is_so = calls_well(rt.alloc(), *fails)? == [*opens, *creates, *stores, *stores];
+        wants(&rt, *fails, "calls", is_so);
+    }
+    wants(
+        &rt,
+        0,
+        "a call whatever the name is",
+        fails_once(rt.alloc())?,
     );
     Ok(())
 }

@@ -3,10 +3,13 @@
 ghost use Rattle.std.specs.Prelude.{◌≡◌, ◌+◌, ◌-◌, ◌^◌, ◌∷◌, [], length, min, slice_index};
 ghost use Rattle.func_head.specs.Walks.{shown_all};
 
+use crate::tests::wants::{all_so, wants};
 use func_head::{FuncHead, NoWatchers, WakeFn, Watchers};
+use std::alloc::{AllocError, Global};
+use std::process::Abort;
 use std::test::Fail;
 use std::thread;
-use wait_model::End;
+use wait_model::queues::{End, Walked};
 
 /// Answers the same at each call, and tells how many bytes its keys had.
 #[derive(Drop)]
@@ -33,90 +36,188 @@ impl WakeFn for Counter {
     }
 }
 
-/// What the function at that place tells, or 1,000 where there is none.
-fn told(head: &FuncHead, index: usize) -> u64 {
-    if index < head.len() {
-        head.tell_at(index)
-    } else {
-        1000
-    }
+/// How an entry is added.
+#[derive(Clone, Copy)]
+enum Add {
+    Plain,
+    Exclusive,
+    Priority,
 }
 
-#[test]
-fn a_walk_ends_with_its_count_or_at_an_answer_below_0(rt: HostRuntime) -> Result<(), Fail> {
-    let alloc = rt.alloc();
-    let mut head = FuncHead::new(alloc);
-    let zero = Counter {
-        answer: 0,
-        bytes: 0,
-    };
-    let one = Counter {
-        answer: 1,
-        bytes: 0,
-    };
-    let below = Counter {
-        answer: -1,
-        bytes: 0,
-    };
-    assert!(rt; matches!(head.add_priority(Box::new(alloc, zero)?), Ok(0)));
-    assert!(rt; matches!(head.add_exclusive(Box::new(alloc, one)?), Ok(1)));
-    assert!(rt; matches!(head.add_exclusive(Box::new(alloc, below)?), Ok(2)));
-    let walked = head.wake(3, 1, b"x");
-    assert!(rt; matches!(walked.end, End::Spent));
-    assert_eq!(rt; (walked.selected, walked.woken, walked.holds), (1, 1, 1));
-    assert_eq!(rt; (told(&head, 0), told(&head, 1), told(&head, 2)), (1, 1, 0));
-    let walked = head.wake(3, 2, b"x");
-    assert!(rt; matches!(walked.end, End::Stopped));
-    assert_eq!(rt; (walked.selected, walked.woken, walked.holds), (1, 1, 1));
-    assert_eq!(rt; (told(&head, 0), told(&head, 1), told(&head, 2)), (2, 2, 1));
-    assert_eq!(rt; (head.len(), head.added()), (3, 3));
-    Ok(())
+/// What is done to a head, and what is to be seen of it.
+#[derive(Clone, Copy)]
+enum Step {
+    /// A counter that answers a number, and has counted so many bytes, is added, and is given a number.
+    Adds(Add, i32, u64, u64),
+    /// An ordinary wake with a count and a key, in one hold: how many functions answered non-zero, how many of them of
+    /// exclusive entries, and how it ended.
+    Wakes(u32, &'static [u8], u32, u32, End),
+    /// The entry of a number is removed: what its function tells, or nothing where there is none.
+    Removes(u64, Option<u64>),
+    /// Two pieces are shown to the head, and to nobody.
+    Shows(&'static [u8], &'static [u8]),
+    /// What the functions tell, in their order.
+    Tells(&'static [u64]),
+    /// How many were added.
+    Added(u64),
 }
 
-#[test]
-fn entries_stand_in_the_order_of_a_queue(rt: HostRuntime) -> Result<(), Fail> {
-    let alloc = rt.alloc();
-    let mut head = FuncHead::new(alloc);
-    for form in [0, 1, 2, 2, 0] {
-        let before = head.added();
-        assert!(rt; before < 9);
-        let bytes = before + 1;
-        let func = Box::new(alloc, Counter { answer: 1, bytes })?;
-        let added = match form {
-            0 => head.add(func),
-            1 => head.add_exclusive(func),
-            _ => head.add_priority(func),
-        };
-        assert!(rt; added.is_ok());
-    }
-    // those of priority in the order of their adds, the last that was added at the front, and the tail
-    for (at, number) in [3, 4, 5, 1, 2].iter().enumerate() {
-        assert_eq!(rt; told(&head, at), *number, "at {at}");
-    }
-    // with a count of 0 all are called, and the three exclusive ones are selected
-    let walked = head.wake(3, 0, b"");
-    assert!(rt; matches!(walked.end, End::End));
-    assert_eq!(rt; (walked.selected, walked.woken), (3, 5));
-    Ok(())
+/// Steps, in their order, on a new head.
+#[derive(Clone, Copy)]
+struct Row {
+    name: &'static str,
+    steps: &'static [Step],
 }
 
-#[test]
-fn a_function_that_is_removed_is_handed_back(rt: HostRuntime) -> Result<(), Fail> {
-    let alloc = rt.alloc();
-    let mut head = FuncHead::new(alloc);
-    for bytes in 5..8 {
-        assert!(rt; head.added() < 9);
-        let func = Box::new(alloc, Counter { answer: 1, bytes })?;
-        assert!(rt; head.add_exclusive(func).is_ok());
-    }
-    match head.remove(1) {
-        Some(func) => assert_eq!(rt; func.tell(), 6),
-        None => assert!(rt; false),
-    }
-    assert!(rt; head.remove(1).is_none());
-    assert_eq!(rt; (head.len(), told(&head, 0), told(&head, 1)), (2, 5, 7));
+const ROWS: &[Row] = &[
+    Row {
+        name: "a_walk_ends_with_its_count_or_at_an_answer_below_0",
+        steps: &[
+            Step::Adds(Add::Priority, 0, 0, 0),
+            Step::Adds(Add::Exclusive, 1, 0, 1),
+            Step::Adds(Add::Exclusive, -1, 0, 2),
+            Step::Wakes(1, b"x", 1, 1, End::Spent),
+            Step::Tells(&[1, 1, 0]),
+            Step::Wakes(2, b"x", 1, 1, End::Stopped),
+            Step::Tells(&[2, 2, 1]),
+            Step::Added(3),
+        ],
+    },
+    // those of priority in the order of their adds, the last that was added at the front, and the tail; with a count of 0
+    // all are called, and the three exclusive ones are selected
+    Row {
+        name: "entries_stand_in_the_order_of_a_queue",
+        steps: &[
+            Step::Adds(Add::Plain, 1, 1, 0),
+            Step::Adds(Add::Exclusive, 1, 2, 1),
+            Step::Adds(Add::Priority, 1, 3, 2),
+            Step::Adds(Add::Priority, 1, 4, 3),
+            Step::Adds(Add::Plain, 1, 5, 4),
+            Step::Tells(&[3, 4, 5, 1, 2]),
+            Step::Wakes(0, b"", 5, 3, End::End),
+        ],
+    },
     // no number is given twice
-    assert_eq!(rt; head.added(), 3);
+    Row {
+        name: "a_function_that_is_removed_is_handed_back",
+        steps: &[
+            Step::Adds(Add::Exclusive, 1, 5, 0),
+            Step::Adds(Add::Exclusive, 1, 6, 1),
+            Step::Adds(Add::Exclusive, 1, 7, 2),
+            Step::Removes(1, Some(6)),
+            Step::Removes(1, None),
+            Step::Tells(&[5, 7]),
+            Step::Added(3),
+        ],
+    },
+    Row {
+        name: "each_piece_is_shown_to_all_or_to_nobody",
+        steps: &[
+            Step::Adds(Add::Exclusive, 1, 0, 0),
+            Step::Adds(Add::Exclusive, 1, 1, 1),
+            Step::Adds(Add::Exclusive, 1, 2, 2),
+            Step::Shows(b"abc", b"d\n"),
+            Step::Tells(&[5, 6, 7]),
+        ],
+    },
+];
+
+/// Adds a counter. Whether it was given this number.
+fn adds(
+    alloc: Global,
+    head: &mut FuncHead,
+    add: Add,
+    counter: Counter,
+    number: u64,
+) -> Result<bool, AllocError> {
+    if head.added() == u64::MAX {
+        return Ok(false);
+    }
+    let func = Box::new(alloc, counter)?;
+    let added = match add {
+        Add::Plain => head.add(func),
+        Add::Exclusive => head.add_exclusive(func),
+        Add::Priority => head.add_priority(func),
+    };
+    Ok(match added {
+        Ok(given) => given == number,
+        Err(_) => false,
+    })
+}
+
+/// Whether a walk was made in one hold, and selected and woke so many.
+fn is_walk(walked: Walked, woken: u32, selected: u32, end: End) -> bool {
+    let is_end = matches!(
+        (walked.end, end),
+        (End::End, End::End) | (End::Spent, End::Spent) | (End::Stopped, End::Stopped)
+    );
+    is_end && walked.holds == 1 && walked.woken == woken && walked.selected == selected
+}
+
+/// What the function that is removed tells.
+fn removed(head: &mut FuncHead, number: u64) -> Option<u64> {
+    match head.remove(number) {
+        Some(func) => Some(func.tell()),
+        None => None,
+    }
+}
+
+/// Shows two pieces to whoever watches.
+fn show_two<W: Watchers>(watch: &mut W, one: &[u8], two: &[u8])
+    ensures { W.entries watch.new ≡ shown_all (one.now ∷ two.now ∷ []) (W.entries watch.old) }
+{
+    watch.show(one);
+    watch.show(two);
+}
+
+/// Whether the functions of a head tell this, in their order.
+fn tells(head: &FuncHead, wanted: &[u64]) -> bool {
+    let mut index: usize = 0;
+    for number in wanted {
+        if index >= head.len() || head.tell_at(index) != *number {
+            return false;
+        }
+        index = index.saturating_add(1);
+    }
+    index == head.len()
+}
+
+/// Plays a step, and answers whether what is seen is what is to be seen.
+fn is_so(alloc: Global, head: &mut FuncHead, step: Step) -> Result<bool, AllocError> {
+    Ok(match step {
+        Step::Adds(add, answer, bytes, number) => {
+            return adds(alloc, head, add, Counter { answer, bytes }, number);
+        }
+        Step::Wakes(count, key, woken, selected, end) => {
+            is_walk(head.wake(3, count, key), woken, selected, end)
+        }
+        Step::Removes(number, wanted) => removed(head, number) == wanted,
+        Step::Shows(one, two) => {
+            show_two(head, one, two);
+            show_two(&mut NoWatchers, one, two);
+            true
+        }
+        Step::Tells(wanted) => tells(head, wanted),
+        Step::Added(wanted) => head.added() == wanted,
+    })
+}
+
+/// Plays a row on a new head.
+fn plays(rt: &impl Abort, alloc: Global, row: &Row) -> Result<(), Fail> {
+    let mut head = FuncHead::new(alloc);
+    let mut at: u64 = 0;
+    for step in row.steps {
+        at = at.saturating_add(1);
+        wants(rt, at, row.name, is_so(alloc, &mut head, *step)?);
+    }
+    Ok(())
+}
+
+#[test]
+fn heads_by_steps(rt: HostRuntime) -> Result<(), Fail> {
+    for row in ROWS {
+        plays(&rt, rt.alloc(), row)?;
+    }
     Ok(())
 }
 
@@ -130,41 +231,13 @@ fn walk_five_times(mut head: FuncHead) -> FuncHead {
 
 #[test]
 fn a_head_is_moved_into_a_thread_and_told_after_it(rt: HostRuntime) -> Result<(), Fail> {
-    let alloc = rt.alloc();
-    let mut head = FuncHead::new(alloc);
-    let func = Box::new(
-        alloc,
-        Counter {
-            answer: 1,
-            bytes: 0,
-        },
-    )?;
-    assert!(rt; head.add(func).is_ok());
+    let mut head = FuncHead::new(rt.alloc());
+    let counter = Counter {
+        answer: 1,
+        bytes: 0,
+    };
+    let is_added = adds(rt.alloc(), &mut head, Add::Plain, counter, 0)?;
     let (head, others) = thread::join(&rt, move || walk_five_times(head), || 7);
-    assert_eq!(rt; (told(&head, 0), others), (15, 7));
-    drop(head);
-    Ok(())
-}
-
-/// Shows two pieces to whoever watches.
-fn show_two<W: Watchers>(watch: &mut W, one: &[u8], two: &[u8])
-    ensures { W.entries watch.new ≡ shown_all (one.now ∷ two.now ∷ []) (W.entries watch.old) }
-{
-    watch.show(one);
-    watch.show(two);
-}
-
-#[test]
-fn each_piece_is_shown_to_all_or_to_nobody(rt: HostRuntime) -> Result<(), Fail> {
-    let alloc = rt.alloc();
-    let mut head = FuncHead::new(alloc);
-    for bytes in 0..3 {
-        assert!(rt; head.added() < 9);
-        let func = Box::new(alloc, Counter { answer: 1, bytes })?;
-        assert!(rt; head.add_exclusive(func).is_ok());
-    }
-    show_two(&mut head, b"abc", b"d\n");
-    assert_eq!(rt; (told(&head, 0), told(&head, 1), told(&head, 2)), (5, 6, 7));
-    show_two(&mut NoWatchers, b"abc", b"d\n");
+    all_so(&rt, &[is_added, tells(&head, &[15]), others == 7]);
     Ok(())
 }

@@ -1,5 +1,6 @@
 //! The three workers run at once.
 
+use crate::tests::wants::all_so;
 use copy_plan::{Gate, Stop, Who};
 use edge_io::{MemSink, MemSource};
 use flow_copy::copy_all;
@@ -26,17 +27,23 @@ impl Meeting {
         }
     }
 
+    fn counts(&self) -> [u64; 3] {
+        let [reader, relay, writer] = &self.came;
+        [
+            reader.load(Ordering::SeqCst),
+            relay.load(Ordering::SeqCst),
+            writer.load(Ordering::SeqCst),
+        ]
+    }
+
     fn is_whole(&self) -> bool {
-        self.came.iter().all(|came| came.load(Ordering::SeqCst) > 0)
+        let [reader, relay, writer] = self.counts();
+        reader > 0 && relay > 0 && writer > 0
     }
 
     /// Whether each worker came once, and none gave up.
     fn was_met(&self) -> bool {
-        self.gave_up.load(Ordering::SeqCst) == 0
-            && self
-                .came
-                .iter()
-                .all(|came| came.load(Ordering::SeqCst) == 1)
+        self.gave_up.load(Ordering::SeqCst) == 0 && self.counts() == [1, 1, 1]
     }
 
     fn count_of(&self, who: Who) -> &AtomicU64 {
@@ -83,8 +90,10 @@ fn workers_meet_in_their_first_turns(rt: HostRuntime) -> Result<(), Fail> {
     ) else {
         panic!(rt; "the copy has no threads")
     };
-    assert_eq!(rt; end.stop, Stop::Finished);
-    assert_eq!(rt; end.sink.bytes(), bytes.as_slice());
-    assert!(rt; gate.was_met());
+    let is_copied = end.sink.bytes() == bytes.as_slice();
+    all_so(
+        &rt,
+        &[end.stop == Stop::Finished, is_copied, gate.was_met()],
+    );
     Ok(())
 }

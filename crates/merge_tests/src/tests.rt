@@ -4,3 +4,4 @@ mod faults;
 mod late;
 mod merges;
 mod tables;
+mod wants;

@@ -3,11 +3,16 @@
 ghost use Rattle.std.specs.Prelude.{Some};
 
 use crate::tests::merges::{SECOND, bytes_of, parts_of};
+use crate::tests::wants::wants;
 use copy_plan::{OpenGate, Stop};
 use edge_io::{Failed, MemSink, MemSource, Sink, SinkFault, Source};
 use flow_merge::merge_all;
+use std::alloc::{AllocError, Global};
+use std::process::Abort;
+use std::sync::Wait;
 use std::sync::atomic::{AtomicU64, Ordering};
 use std::test::Fail;
+use std::thread::Threads;
 use wait_rule::Domain;
 
 /// How often a late source looks whether the other's bytes have arrived.
@@ -74,37 +79,50 @@ impl Sink for Counting<'_> {
     }
 }
 
+/// Merges two sources that each wait for so many bytes in the sink, and compares how that stopped, how many bytes are
+/// counted, that all arrived, and that no source gave up.
+fn merges_late<R: Abort + Threads + Wait + Sync>(
+    rt: &R,
+    alloc: Global,
+    first_after: u64,
+    second_after: u64,
+) -> Result<(), Fail> {
+    let arrived = Arrived {
+        bytes: AtomicU64::new(0),
+        gave_up: AtomicU64::new(0),
+    };
+    let (domain, mut task) = Domain::with_looks(alloc, 0)?;
+    let first = bytes_of(alloc, SIZE, 0)?;
+    let second = bytes_of(alloc, SIZE, SECOND)?;
+    let first = Late {
+        source: MemSource::new(alloc, &first, &[])?,
+        arrived: &arrived,
+        after: first_after,
+    };
+    let second = Late {
+        source: MemSource::new(alloc, &second, &[])?,
+        arrived: &arrived,
+        after: second_after,
+    };
+    let sink = Counting {
+        sink: MemSink::new(alloc, &[])?,
+        arrived: &arrived,
+    };
+    let Ok(end) = merge_all(rt, &domain, &mut task, first, second, sink, &OpenGate) else {
+        return Err(AllocError)?;
+    };
+    let is_whole = end.stop == Stop::Finished && end.moved == 120_000;
+    let are_all = parts_of(end.sink.sink.bytes()) == Some((SIZE, SIZE));
+    let is_patient = arrived.gave_up.load(Ordering::SeqCst) == 0;
+    wants(rt, 0, "how it stopped, and how many are counted", is_whole);
+    wants(rt, 0, "all bytes", are_all);
+    wants(rt, 0, "patience", is_patient);
+    Ok(())
+}
+
 /// All of one source arrives while the other gives nothing, whichever it is: so none is waited for alone.
 #[test]
 fn whichever_has_bytes_first(rt: HostRuntime) -> Result<(), Fail> {
-    for (first_after, second_after) in [(0u64, SIZE as u64), (SIZE as u64, 0)] {
-        let arrived = Arrived {
-            bytes: AtomicU64::new(0),
-            gave_up: AtomicU64::new(0),
-        };
-        let (domain, mut task) = Domain::with_looks(rt.alloc(), 0)?;
-        let first = bytes_of(rt.alloc(), SIZE, 0)?;
-        let second = bytes_of(rt.alloc(), SIZE, SECOND)?;
-        let first = Late {
-            source: MemSource::new(rt.alloc(), &first, &[])?,
-            arrived: &arrived,
-            after: first_after,
-        };
-        let second = Late {
-            source: MemSource::new(rt.alloc(), &second, &[])?,
-            arrived: &arrived,
-            after: second_after,
-        };
-        let sink = Counting {
-            sink: MemSink::new(rt.alloc(), &[])?,
-            arrived: &arrived,
-        };
-        let Ok(end) = merge_all(&rt, &domain, &mut task, first, second, sink, &OpenGate) else {
-            panic!(rt; "the merge has no threads")
-        };
-        assert_eq!(rt; (end.stop, end.moved), (Stop::Finished, 120_000));
-        assert_eq!(rt; parts_of(end.sink.sink.bytes()), Some((SIZE, SIZE)));
-        assert_eq!(rt; arrived.gave_up.load(Ordering::SeqCst), 0);
-    }
-    Ok(())
+    merges_late(&rt, rt.alloc(), 0, SIZE as u64)?;
+    merges_late(&rt, rt.alloc(), SIZE as u64, 0)
 }

@@ -14,8 +14,8 @@ use Rattle.completion_cell.specs.declared.awaits.AwaitOutcome.{AwaitOutcome}
 use Rattle.completion_cell.specs.declared.awaits.AwaitStage.{AwaitStage}
 
 -- a wait stands where its last turn left it
-pub record IsAwaiting (k : Known) (r : Run AwaitCall) (last : Turn AwaitStage AwaitOutcome) : Type 0 where
-  pub lands : Lands await_table k r last
+abbrev pub IsAwaiting : Known → Run AwaitCall → Turn AwaitStage AwaitOutcome → Type 0
+IsAwaiting k r last = Lands await_table k r last
 
 -- one who completes, between two calls
 pub record MayComplete (k : Known) : Type 0 where

@@ -7,61 +7,45 @@ ghost use Rattle.std.specs.Prelude.{◌≡◌};
 ghost use Rattle.wait_rule.specs.Says.{IsClean};
 
 pub(crate) use crate::meetings::parts::Part;
-use crate::wants::{all_so, another};
+use crate::wants::all_so;
 use std::process::Abort;
 use std::sync::Wait;
 use std::thread::Threads;
-use test_tasks::meetings::{meet_four, meet_two};
+use test_tasks::meetings;
 use wait_rule::{Domain, Task};
 
 /// A task and a new one, number 1 of a new Domain, play these parts, and go as they say: the task, which takes the other
 /// one in.
-pub(crate) fn two_meet<R: Abort + Threads + Wait + Sync>(
+pub(crate) fn two_meet<R: Abort + Threads + Wait + Sync, P: meetings::Part>(
     rt: &R,
     domain: &Domain,
-    mut task: Task,
-    parts: (Part, Part),
+    task: Task,
+    parts: (P, P),
 ) -> Task
     requires of { task.domain ≡ domain.now }
     requires clean { IsClean task }
     ensures of { result.domain ≡ domain.now }
     ensures clean { IsClean result }
 {
-    let other = another(rt, domain, &mut task);
-    let ((mut task, own), (other, its)) = meet_two(rt, domain, task, other, parts);
-    all_so(rt, &[own, its]);
-    task.join(domain, other);
+    let (task, went) = meetings::two_meet(rt, domain, task, parts);
+    all_so(rt, &went);
     task
 }
 
 /// The same of a task and three new ones, numbers 1 to 3 of a new Domain.
-pub(crate) fn four_meet<R: Abort + Threads + Wait + Sync>(
+pub(crate) fn four_meet<R: Abort + Threads + Wait + Sync, P: meetings::Part>(
     rt: &R,
     domain: &Domain,
-    mut task: Task,
-    own: (Part, Part),
-    others: (Part, Part),
+    task: Task,
+    own: (P, P),
+    others: (P, P),
 ) -> Task
     requires of { task.domain ≡ domain.now }
     requires clean { IsClean task }
     ensures of { result.domain ≡ domain.now }
     ensures clean { IsClean result }
 {
-    let one = another(rt, domain, &mut task);
-    let two = another(rt, domain, &mut task);
-    let three = another(rt, domain, &mut task);
-    let ((first, one), (two, three)) = meet_four(
-        rt,
-        domain,
-        (task, one),
-        (two, three),
-        own,
-        others,
-    );
-    all_so(rt, &[first.1, one.1, two.1, three.1]);
-    let mut task = first.0;
-    task.join(domain, one.0);
-    task.join(domain, two.0);
-    task.join(domain, three.0);
+    let (task, went) = meetings::four_meet(rt, domain, task, own, others);
+    all_so(rt, &went);
     task
 }

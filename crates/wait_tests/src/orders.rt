@@ -1,20 +1,33 @@
 //! Two waits and a waker on one thread, which goes on with one of them at a time, in an order that a number draws: what
 //! an executor does.
 
-ghost use Rattle.std.specs.Prelude.{◌≡◌};
+ghost use Rattle.std.specs.Prelude.{◌≡◌, false};
 ghost use Rattle.wait_class.specs.Tables.{IsAt};
 ghost use Rattle.wait_event.specs.Waits.{wait_table};
 ghost use Rattle.wait_event.specs.declared.waits.WaitStage.TheVariants as stage;
-ghost use Rattle.wait_tests.specs.EventTasks.{IsTestedWait, IsWaker};
+ghost use Rattle.wait_model.specs.Tasks.{is_killable};
+ghost use Rattle.wait_tests.specs.EventTasks.{IsReadyForEvent, IsTestedWait, IsWaker};
 
-use crate::events::stretches::set_and_wake_all;
-use crate::simple_queues::stretches::wake_waiters;
+use crate::events::stretches::{is_over, set_and_wake_all};
+use crate::simple_queues::stretches::{COND, wake_waiters};
 use crate::turns::{go_on, next_number};
-use crate::variables::stretches::announce_value;
+use crate::variables::alone::VAR;
+use crate::variables::stretches::{announce_value, has_found};
+use crate::wants::another;
+use std::alloc::Global;
+use std::process::Abort;
 use std::sync::Wait;
+use std::test::Fail;
+use swait_queue::waits::begin_swait;
+use var_wait::waits::begin_var;
 use wait_class::stages::Turn;
+use wait_event::wait_events::begin_wait;
 use wait_event::waits::{WaitRun, WaitStage, WaitTurn};
+use wait_model::tasks::{How, SleepState};
 use wait_rule::{Domain, Task};
+
+/// How many orders are tried.
+const ORDERS: u32 = 400;
 
 /// How many turns an order has at most: each wait has fewer than 30 stretches, and two of five turns go to each.
 const TURNS: u32 = 600;
@@ -65,8 +78,98 @@ fn wake_if<R: Wait>(
     done
 }
 
+/// How the two waits of a simple queue wait.
+fn state_of(first: bool) -> SleepState
+    ensures { is_killable result ≡ false }
+{
+    if first {
+        SleepState::Interruptible
+    } else {
+        SleepState::Uninterruptible
+    }
+}
+
+/// The first wait begins, or the second one, for what the waker wakes.
+fn begin(task: &Task, wakes: Wakes, first: bool) -> WaitRun
+    requires ready { IsReadyForEvent task.now }
+    ensures { IsAt wait_table task.now result stage.First }
+{
+    match wakes {
+        Wakes::Event => {
+            let how = How {
+                state: SleepState::Interruptible,
+                exclusive: false,
+            };
+            begin_wait(task, 0, how)
+        }
+        Wakes::Queue { .. } => begin_swait(task, COND, state_of(first)),
+        Wakes::Variable => begin_var(task, VAR, 0, state_of(first)),
+    }
+}
+
+/// Whether a wait is over with its condition set, or has found the new value.
+fn ends(wakes: Wakes, run: WaitRun, last: WaitTurn) -> bool {
+    match wakes {
+        Wakes::Variable => has_found(run, last),
+        _ => is_over(last),
+    }
+}
+
+/// Plays one order: whether both waits are over then, and no stretch is left.
+fn play<R: Wait>(
+    rt: &R,
+    domain: &Domain,
+    waker: &mut Task,
+    wakes: Wakes,
+    first: &mut Task,
+    second: &mut Task,
+    seed: u32,
+) -> bool
+    requires of { (waker.old.domain ≡ domain.now) × (first.old.domain ≡ domain.now)
+        × (second.old.domain ≡ domain.now) }
+    requires waker { IsWaker waker.old }
+    requires first { IsReadyForEvent first.old }
+    requires second { IsReadyForEvent second.old }
+{
+    let one = begin(first, wakes, true);
+    let two = begin(second, wakes, false);
+    let (one, two) = play_two(rt, domain, waker, wakes, first, one, second, two, seed);
+    ends(wakes, one.0, one.1) && ends(wakes, two.0, two.1)
+}
+
+/// What the waker does in an order: of a simple queue it wakes all in each second one.
+fn in_order(wakes: Wakes, order: u32) -> Wakes {
+    match wakes {
+        Wakes::Queue { .. } => Wakes::Queue {
+            all: order % 2 == 1,
+        },
+        _ => wakes,
+    }
+}
+
+/// Plays each order in a Domain of its own: both waits end.
+pub(crate) fn play_each<R: Abort + Wait>(rt: &R, alloc: Global, wakes: Wakes) -> Result<(), Fail> {
+    for order in 0..ORDERS {
+        let (domain, mut waker) = Domain::new(alloc)?;
+        let mut first = another(rt, &domain, &mut waker);
+        let mut second = another(rt, &domain, &mut waker);
+        let wakes = in_order(wakes, order);
+        let well = play(
+            rt,
+            &domain,
+            &mut waker,
+            wakes,
+            &mut first,
+            &mut second,
+            order + 1,
+        );
+        assert!(rt; well);
+    }
+    Ok(())
+}
+
 /// Plays one order, of two waits that have just begun: where they stand then.
-pub(crate) fn play_two<R: Wait>(
+fn play_two<R: Wait>(
     rt: &R,
     domain: &Domain,
     waker: &mut Task,

@@ -3,16 +3,20 @@
 
 pub(crate) mod threads;
 
+ghost use Rattle.std.specs.Prelude.{◌≡◌};
+ghost use Rattle.wait_rule.specs.Says.{IsClean};
+
 use crate::bits::alone::take;
 use crate::completions::calls::wait_for;
 use crate::wants::another;
 use bit_wait::{BitEnd, wait_on_bit, wait_on_bit_lock};
+use std::sync::Wait;
 use std::test::Fail;
 use swait_queue::swait_event;
 use wait_event::{WaitEnd, wait_event};
 use wait_model::layout::FIRST_SIMPLE;
 use wait_model::tasks::{How, SleepState};
-use wait_rule::{Domain, send_signal};
+use wait_rule::{Domain, Task, send_signal};
 
 /// Whether a signal ended a wait whose condition was not set, and which no wake had selected.
 fn is_signalled(end: Result<(), WaitEnd>) -> bool {
@@ -33,64 +37,98 @@ fn interrupted(end: Result<(), BitEnd>) -> Option<u64> {
     }
 }
 
-/// A wait for a bit that is set tells what its word held.
-#[test]
-fn signal_ends_a_wait_for_a_bit(rt: HostRuntime) -> Result<(), Fail> {
-    let (domain, mut keeper) = Domain::new(rt.alloc())?;
-    let mut waiter = another(&rt, &domain, &mut keeper);
-    let mut sender = another(&rt, &domain, &mut keeper);
-    assert!(rt; take(&domain, &mut keeper, 2, 5));
-    send_signal(&rt, &domain, &mut sender, waiter.number(), false);
-    let end = wait_on_bit(&rt, &domain, &mut waiter, 2, 5, SleepState::Interruptible);
-    assert!(rt; interrupted(end) == Some(32));
-    Ok(())
+/// What is waited for.
+#[derive(Clone, Copy)]
+enum Waits {
+    ForBit,
+    ToTakeBit,
+    ForCompletion,
+    InSimpleQueue,
+    Killable,
 }
 
-/// So does one that is to take it.
-#[test]
-fn signal_ends_a_wait_that_takes_a_bit(rt: HostRuntime) -> Result<(), Fail> {
-    let (domain, mut keeper) = Domain::new(rt.alloc())?;
-    let mut waiter = another(&rt, &domain, &mut keeper);
-    let mut sender = another(&rt, &domain, &mut keeper);
-    assert!(rt; take(&domain, &mut keeper, 2, 5));
-    send_signal(&rt, &domain, &mut sender, waiter.number(), true);
-    let end = wait_on_bit_lock(&rt, &domain, &mut waiter, 2, 5, SleepState::Killable);
-    assert!(rt; interrupted(end) == Some(32));
-    Ok(())
+/// A wait, and whether the signal that ends it is fatal.
+struct Row {
+    name: &'static str,
+    waits: Waits,
+    fatal: bool,
 }
 
-/// A wait for a completion that nobody made ends without one.
-#[test]
-fn signal_ends_a_wait_for_a_completion(rt: HostRuntime) -> Result<(), Fail> {
-    let (domain, mut waiter) = Domain::new(rt.alloc())?;
-    let mut sender = another(&rt, &domain, &mut waiter);
-    send_signal(&rt, &domain, &mut sender, waiter.number(), false);
-    assert!(rt; !wait_for(&rt, &domain, &mut waiter, 3, SleepState::Interruptible));
-    Ok(())
+const ROWS: &[Row] = &[
+    // A wait for a bit that is set tells what its word held, and so does one that is to take it.
+    Row {
+        name: "signal_ends_a_wait_for_a_bit",
+        waits: Waits::ForBit,
+        fatal: false,
+    },
+    Row {
+        name: "signal_ends_a_wait_that_takes_a_bit",
+        waits: Waits::ToTakeBit,
+        fatal: true,
+    },
+    // A wait for a completion that nobody made ends without one.
+    Row {
+        name: "signal_ends_a_wait_for_a_completion",
+        waits: Waits::ForCompletion,
+        fatal: false,
+    },
+    // One in a simple queue tells that its condition was not set.
+    Row {
+        name: "signal_ends_a_wait_in_a_simple_queue",
+        waits: Waits::InSimpleQueue,
+        fatal: false,
+    },
+    // A fatal signal ends a killable wait.
+    Row {
+        name: "fatal_signal_ends_a_killable_wait",
+        waits: Waits::Killable,
+        fatal: true,
+    },
+];
+
+/// Waits, under a signal that its state admits: whether the wait ended so.
+fn is_ended<R: Wait>(rt: &R, domain: &Domain, task: &mut Task, waits: Waits) -> bool
+    requires of { task.old.domain ≡ domain.now }
+    requires clean { IsClean task.old }
+{
+    let light = SleepState::Interruptible;
+    let killable = SleepState::Killable;
+    match waits {
+        Waits::ForBit => interrupted(wait_on_bit(rt, domain, task, 2, 5, light)) == Some(32),
+        Waits::ToTakeBit => interrupted(wait_on_bit_lock(rt, domain, task, 2, 5, killable))
+            == Some(32),
+        Waits::ForCompletion => !wait_for(rt, domain, task, 3, light),
+        Waits::InSimpleQueue => is_signalled(swait_event(
+            rt,
+            domain,
+            task,
+            FIRST_SIMPLE as u8,
+            light,
+        )),
+        Waits::Killable => is_signalled(wait_event(
+            rt,
+            domain,
+            task,
+            1,
+            How {
+                state: killable,
+                exclusive: false,
+            },
+        )),
+    }
 }
 
-/// One in a simple queue tells that its condition was not set.
+/// Each wait, beside a task that keeps the bit.
 #[test]
-fn signal_ends_a_wait_in_a_simple_queue(rt: HostRuntime) -> Result<(), Fail> {
-    let (domain, mut waiter) = Domain::new(rt.alloc())?;
-    let mut sender = another(&rt, &domain, &mut waiter);
-    send_signal(&rt, &domain, &mut sender, waiter.number(), false);
-    let cond = FIRST_SIMPLE as u8;
-    let end = swait_event(&rt, &domain, &mut waiter, cond, SleepState::Interruptible);
-    assert!(rt; is_signalled(end));
-    Ok(())
-}
-
-/// A fatal signal ends a killable wait.
-#[test]
-fn fatal_signal_ends_a_killable_wait(rt: HostRuntime) -> Result<(), Fail> {
-    let (domain, mut waiter) = Domain::new(rt.alloc())?;
-    let mut sender = another(&rt, &domain, &mut waiter);
-    send_signal(&rt, &domain, &mut sender, waiter.number(), true);
-    let killable = How {
-        state: SleepState::Killable,
-        exclusive: false,
-    };
-    assert!(rt; is_signalled(wait_event(&rt, &domain, &mut waiter, 1, killable)));
+fn signal_ends_each_wait(rt: HostRuntime) -> Result<(), Fail> {
+    for row in ROWS {
+        let (domain, mut keeper) = Domain::new(rt.alloc())?;
+        let mut waiter = another(&rt, &domain, &mut keeper);
+        let mut sender = another(&rt, &domain, &mut keeper);
+        let taken = take(&domain, &mut keeper, 2, 5);
+        send_signal(&rt, &domain, &mut sender, waiter.number(), row.fatal);
+        let ended = is_ended(&rt, &domain, &mut waiter, row.waits);
+        assert!(rt; taken && ended, "{}", row.name);
+    }
     Ok(())
 }

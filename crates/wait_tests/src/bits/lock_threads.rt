@@ -18,7 +18,7 @@ use wait_rule::{Domain, Task};
 const ROUNDS: u32 = 300;
 
 /// Waits until it has taken the bit: true where it has.
-fn lock_in_turn<R: Wait>(rt: &R, domain: &Domain, task: &mut Task) -> bool
+pub(crate) fn lock_in_turn<R: Wait>(rt: &R, domain: &Domain, task: &mut Task) -> bool
     requires of { task.old.domain ≡ domain.now }
     requires clean { IsClean task.old }
     ensures of { task.new.domain ≡ domain.now }

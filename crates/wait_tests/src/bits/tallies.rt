@@ -7,11 +7,10 @@ ghost use Rattle.wait_rule.specs.Says.{IsClean};
 ghost use Rattle.bit_wait.specs.Holders.{IsHolder};
 
 use crate::bits::alone::{lock, unlock};
-use crate::wants::another;
+use crate::meetings::{Part, two_meet};
 use std::sync::Wait;
 use std::test::Fail;
 use std::thread;
-use std::thread::Threads;
 use wait_rule::tallies::tally_add;
 use wait_rule::{Domain, Task};
 
@@ -57,51 +56,28 @@ fn add_once<R: Wait>(rt: &R, domain: &Domain, task: &mut Task, amount: u64)
 }
 
 /// The same again and again.
-fn add_often<R: Wait>(rt: &R, domain: &Domain, mut task: Task, amount: u64) -> Task
-    requires of { task.domain ≡ domain.now }
-    requires clean { IsClean task }
-    ensures of { result.domain ≡ domain.now }
-    ensures clean { IsClean result }
+pub(crate) fn add_often<R: Wait>(rt: &R, domain: &Domain, task: &mut Task, amount: u64) -> bool
+    requires of { task.old.domain ≡ domain.now }
+    requires clean { IsClean task.old }
+    ensures of { task.new.domain ≡ domain.now }
+    ensures clean { IsClean task.new }
 {
     for _ in 0..ADDS {
-        add_once(rt, domain, &mut task, amount);
+        add_once(rt, domain, task, amount);
     }
-    task
-}
-
-/// Two tasks, each in a thread of its own.
-fn add_both<R: Threads + Wait + Sync>(
-    rt: &R,
-    domain: &Domain,
-    one: Task,
-    other: Task,
-) -> (Task, Task)
-    requires of { (one.domain ≡ domain.now) × (other.domain ≡ domain.now) }
-    requires clean { IsClean one × IsClean other }
-    ensures of { (result.0.domain ≡ domain.now) × (result.1.domain ≡ domain.now) }
-    ensures clean { IsClean result.0 × IsClean result.1 }
-{
-    thread::join(
-        rt,
-        move || -> Task
-            requires { (one.domain ≡ domain.now) × IsClean one }
-            ensures { (result.domain ≡ domain.entry.now) × IsClean result }
-        { add_often(rt, domain, one, FIRST) },
-        move || -> Task
-            requires { (other.domain ≡ domain.now) × IsClean other }
-            ensures { (result.domain ≡ domain.entry.now) × IsClean result }
-        { add_often(rt, domain, other, SECOND) },
-    )
+    true
 }
 
 /// Whatever the order of the steps, the tally is in the end what both have added, modulo 2^64.
 #[test]
 fn two_add_to_one_tally(rt: HostRuntime) -> Result<(), Fail> {
+    let parts = (
+        Part::AddsAmount { amount: FIRST },
+        Part::AddsAmount { amount: SECOND },
+    );
     for _round in 0..ROUNDS {
-        let (domain, mut task) = Domain::with_looks(rt.alloc(), 0)?;
-        let other = another(&rt, &domain, &mut task);
-        let (mut task, other) = add_both(&rt, &domain, task, other);
-        task.join(&domain, other);
+        let (domain, task) = Domain::with_looks(rt.alloc(), 0)?;
+        let mut task = two_meet(&rt, &domain, task, parts);
         if !lock(&domain, &mut task, PAGE, 0) {
             panic!(rt; "each has given the page back")
         }

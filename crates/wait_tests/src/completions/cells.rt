@@ -1,12 +1,13 @@
 //! Calls by stretches, by who waits for no lock.
 
 ghost use Rattle.std.specs.Prelude.{◌≡◌};
-ghost use Rattle.wait_tests.specs.CompletionTasks.{IsAwaiting, IsReadyForCell, MayComplete};
+ghost use Rattle.wait_tests.specs.CompletionTasks.{IsReadyForCell, MayComplete};
 
-use crate::completions::stretches::{CELL, go_on};
+use crate::completions::stretches::CELL;
+use crate::turns::go_often;
 use crate::wants::{all_so, another};
 use completion_cell::await_calls::{begin_await, end_of};
-use completion_cell::awaits::{AwaitRun, AwaitStage, AwaitTurn};
+use completion_cell::awaits::AwaitStage;
 use completion_cell::cell_turns::{CellCall, CellRun, CellStage, CellTurn, cell_stretch};
 use std::process::Abort;
 use std::test::Fail;
@@ -123,20 +124,6 @@ fn call_waits_for_its_turn(rt: HostRuntime) -> Result<(), Fail> {
     Ok(())
 }
 
-/// Goes on with a wait until it sleeps or is over, where nobody else goes on.
-fn go_often(domain: &Domain, task: &mut Task, run: &mut AwaitRun, last: AwaitTurn) -> AwaitTurn
-    requires of { task.old.domain ≡ domain.now }
-    requires waiting { IsAwaiting task.old run.old last }
-    ensures of { task.new.domain ≡ domain.now }
-    ensures waiting { IsAwaiting task.new run.new result }
-{
-    let mut at = last;
-    for _ in 0..OFTEN {
-        at = go_on(domain, task, run, at);
-    }
-    at
-}
-
 /// A stretch completes: it names the waiter, which slept, and the wait takes the one then.
 fn complete_for_sleeper<R: Abort>(rt: &R, domain: &Domain, task: &mut Task, waiter: &mut Task)
     requires of { (task.old.domain ≡ domain.now) × (waiter.old.domain ≡ domain.now) }
@@ -145,7 +132,7 @@ fn complete_for_sleeper<R: Abort>(rt: &R, domain: &Domain, task: &mut Task, wait
 {
     let mut wait = begin_await(waiter, CELL, SleepState::Uninterruptible);
     let first = Turn::Again(AwaitStage::First);
-    let asleep = go_often(domain, waiter, &mut wait, first);
+    let asleep = go_often(domain, waiter, &mut wait, first, OFTEN);
     assert!(rt; matches!(asleep, Turn::Asleep(_)));
     let mut rousing = Rousing::new();
     let mut passing = Passing::none();
@@ -157,7 +144,7 @@ fn complete_for_sleeper<R: Abort>(rt: &R, domain: &Domain, task: &mut Task, wait
     };
     let named = rouses_only(&rousing, waiter.number());
     end_both(domain, rousing, passing);
-    let Turn::Done(outcome) = go_often(domain, waiter, &mut wait, asleep) else {
+    let Turn::Done(outcome) = go_often(domain, waiter, &mut wait, asleep, OFTEN) else {
         panic!(rt; "it was completed")
     };
     all_so(rt, &[named, end_of(wait.of, outcome).is_ok()]);

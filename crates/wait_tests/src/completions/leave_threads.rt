@@ -6,13 +6,13 @@ ghost use Rattle.wait_rule.specs.Says.{IsClean};
 
 use crate::completions::calls::{complete, try_wait, wait_for};
 use crate::leaves::asking::ask_late;
-use crate::wants::{all_so, another};
+use crate::meetings::four_meet;
 use completion_cell::leaves::wait_for_until;
 use std::sync::Wait;
 use std::sync::atomic::{AtomicU64, Ordering};
 use std::test::Fail;
 use std::thread;
-use test_tasks::meetings::{Part, meet_four};
+use test_tasks::meetings::Part;
 use wait_leave::Until;
 use wait_model::tasks::SleepState;
 use wait_rule::{Domain, Task};
@@ -102,16 +102,12 @@ fn take_until<R: Wait>(
 fn left_waiters_lose_no_permit(rt: HostRuntime) -> Result<(), Fail> {
     let mut took_any = 0u64;
     for round in 0..ROUNDS {
-        let (domain, mut task) = Domain::with_looks(rt.alloc(), 0)?;
+        let (domain, task) = Domain::with_looks(rt.alloc(), 0)?;
         let flag = AtomicU64::new(0);
         let took = AtomicU64::new(0);
-        let one = another(&rt, &domain, &mut task);
-        let two = another(&rt, &domain, &mut task);
-        let three = another(&rt, &domain, &mut task);
-        let who = two.number();
         let asks = Leaving::Asks {
             flag: &flag,
-            who,
+            who: 2,
             late: round % 7,
         };
         let leaves = Leaving::TakesUntil {
@@ -121,19 +117,12 @@ fn left_waiters_lose_no_permit(rt: HostRuntime) -> Result<(), Fail> {
         let completes = Leaving::Completes {
             late: (round / 7) % 7,
         };
-        let ((first, one), (two, three)) = meet_four(
-            &rt,
-            &domain,
-            (task, one),
-            (two, three),
-            (asks, completes),
-            (leaves, Leaving::Takes),
-        );
-        let mut task = first.0;
+        let own = (asks, completes);
+        let mut task = four_meet(&rt, &domain, task, own, (leaves, Leaving::Takes));
         let rest = try_wait(&rt, &domain, &mut task, CELL);
         took_any = took_any.wrapping_add(took.load(Ordering::SeqCst));
-        all_so(&rt, &[first.1, one.1, two.1, three.1, !rest]);
+        assert!(rt; !rest);
     }
-    all_so(&rt, &[took_any < u64::from(ROUNDS)]);
+    assert!(rt; took_any < u64::from(ROUNDS));
     Ok(())
 }

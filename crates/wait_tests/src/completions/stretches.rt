@@ -1,19 +1,17 @@
 //! Two waits and one who completes on one thread, which goes on with one of them at a time: what an executor does.
 
 ghost use Rattle.std.specs.Prelude.{◌≡◌};
-ghost use Rattle.wait_tests.specs.CompletionTasks.{IsAwaiting, IsReadyForCell, MayComplete};
+ghost use Rattle.wait_tests.specs.CompletionTasks.{IsReadyForCell, MayComplete};
 
-use crate::turns::next_number;
+use crate::turns::{go_on, next_number};
 use completion_cell::asks::try_wait;
 use completion_cell::await_calls::begin_await;
-use completion_cell::awaits::{AwaitOutcome, AwaitRun, AwaitStage, AwaitTurn};
+use completion_cell::awaits::{AwaitOutcome, AwaitStage, AwaitTurn};
 use completion_cell::completes::complete;
 use std::sync::Wait;
 use std::test::Fail;
-use wait_class::runs::{stretch, woke};
 use wait_class::stages::Turn;
 use wait_model::tasks::SleepState;
-use wait_rule::queues::Passing;
 use wait_rule::{Domain, Task};
 
 /// How many orders are tried.
@@ -24,31 +22,6 @@ const TURNS: u32 = 600;
 
 /// The completion of the tests.
 pub const CELL: u8 = 2;
-
-/// Goes on with a wait by one stretch, or looks whether it was woken.
-pub fn go_on(domain: &Domain, task: &mut Task, run: &mut AwaitRun, last: AwaitTurn) -> AwaitTurn
-    requires of { task.old.domain ≡ domain.now }
-    requires waiting { IsAwaiting task.old run.old last }
-    ensures of { task.new.domain ≡ domain.now }
-    ensures waiting { IsAwaiting task.new run.new result }
-{
-    let mut passing = Passing::none();
-    let turn = match last {
-        Turn::Again(stage) => stretch(domain, task, run, stage, &mut passing),
-        Turn::Locked(stage) => stretch(domain, task, run, stage, &mut passing),
-        Turn::Asleep(stage) => {
-            if woke(domain, task, run, stage) {
-                Turn::Again(stage)
-            } else {
-                Turn::Asleep(stage)
-            }
-        }
-        Turn::Done(outcome) => Turn::Done(outcome),
-    };
-    passing.wake(domain);
-    passing.end();
-    turn
-}
 
 /// Whether the wait is over, and took one.
 fn is_over(last: AwaitTurn) -> bool {

@@ -4,7 +4,6 @@ ghost use Rattle.std.specs.Prelude.{◌≡◌};
 ghost use Rattle.wait_tests.specs.EventTasks.{IsCleanHearer};
 
 use super::met_nobody;
-use super::simple::{swait_after_all, swake_first, swake_in_hold};
 use crate::events::flags::{enter, hear, leave};
 use crate::wants::all_so;
 use std::sync::Wait;
@@ -13,6 +12,7 @@ use wait_model::queues::Walked;
 use wait_model::watches::{Mode, Watch};
 use wait_rule::{Domain, Task};
 use wq_head::wake;
+use wq_user::simple;
 
 /// Wakes all who wait for condition 0, of which the own entry is one.
 fn wake_own<R: Wait>(rt: &R, domain: &Domain, task: &mut Task) -> Walked
@@ -33,12 +33,15 @@ fn flag_then_a_simple_queue(rt: HostRuntime) -> Result<(), Fail> {
     let walked = wake_own(&rt, &domain, &mut task);
     hear(&rt, &domain, &mut task);
     leave(&rt, &domain, &mut task);
-    let first = swake_first(&rt, &domain, &mut task);
-    let (locked, all_locked) = swake_in_hold(&rt, &domain, &mut task);
-    let (all, over) = swait_after_all(&rt, &domain, &mut task);
+    let first = simple::swake(&rt, &domain, &mut task);
+    let (locked, all_locked) = simple::swake_in_hold(&rt, &domain, &mut task);
+    let all = simple::set_and_swake_all(&rt, &domain, &mut task);
+    let over = simple::swait(&rt, &domain, &mut task);
     let seen = [
         met_nobody(walked, 1),
-        !first && !locked && over,
+        !first,
+        !locked,
+        over,
         all_locked == 0,
         all == 0,
     ];

@@ -1,18 +1,18 @@
 //! Waits for a bit and for a page with their ends, and a wait for a variable with its.
 
-ghost use Rattle.std.specs.Prelude.{◌≡◌, MatchBool};
+ghost use Rattle.std.specs.Prelude.{◌≡◌};
 ghost use Rattle.wait_model.specs.declared.watches.Watch.TheVariants as watch;
 ghost use Rattle.wait_rule.specs.Says.{IsClean};
 ghost use Rattle.bit_wait.specs.Holders.{IsHolder};
 
 use super::met_nobody;
+use crate::bits::lock_threads::lock_in_turn;
 use crate::pages::alone::{give, take};
+use crate::variables::alone::{announce, wait_for_other};
 use crate::wants::all_so;
-use bit_wait::{clear_and_wake_bit, wait_on_bit, wait_on_bit_lock};
+use bit_wait::{clear_and_wake_bit, wait_on_bit};
 use std::sync::Wait;
 use std::test::Fail;
-use var_wait::{publish_var_and_wake, wait_var};
-use wait_event::WaitEnd;
 use wait_model::queues::Walked;
 use wait_model::tasks::SleepState;
 use wait_rule::tasks::set_state;
@@ -33,19 +33,6 @@ fn wait_for_bit<R: Wait>(rt: &R, domain: &Domain, task: &mut Task) -> bool
     over
 }
 
-/// Waits until it has taken the bit: true where it has.
-fn lock_bit<R: Wait>(rt: &R, domain: &Domain, task: &mut Task) -> bool
-    requires of { task.old.domain ≡ domain.now }
-    requires clean { IsClean task.old }
-    ensures of { task.new.domain ≡ domain.now }
-    ensures holder { MatchBool result (IsHolder task.new (watch.Bit 0 0)) (IsClean task.new) }
-{
-    match wait_on_bit_lock(rt, domain, task, 0, 0, STATE) {
-        Ok(()) => true,
-        Err(_) => false,
-    }
-}
-
 /// Gives it back: what the wake answers.
 fn give_bit<R: Wait>(rt: &R, domain: &Domain, task: &mut Task) -> Walked
     requires of { task.old.domain ≡ domain.now }
@@ -60,7 +47,7 @@ fn give_bit<R: Wait>(rt: &R, domain: &Domain, task: &mut Task) -> Walked
 fn bit_then_page(rt: HostRuntime) -> Result<(), Fail> {
     let (domain, mut task) = Domain::new(rt.alloc())?;
     let over = wait_for_bit(&rt, &domain, &mut task);
-    if !lock_bit(&rt, &domain, &mut task) {
+    if !lock_in_turn(&rt, &domain, &mut task) {
         panic!(rt; "the bit is clear")
     }
     let given = give_bit(&rt, &domain, &mut task);
@@ -73,21 +60,11 @@ fn bit_then_page(rt: HostRuntime) -> Result<(), Fail> {
     Ok(())
 }
 
-/// Waits until variable 20 is not 1: the value that it has.
-fn wait_for_change<R: Wait>(rt: &R, domain: &Domain, task: &mut Task) -> Result<u64, WaitEnd>
-    requires of { task.old.domain ≡ domain.now }
-    requires clean { IsClean task.old }
-    ensures of { task.new.domain ≡ domain.now }
-    ensures clean { IsClean task.new }
-{
-    wait_var(rt, domain, task, 20, 1, STATE)
-}
-
 #[test]
 fn variable_then_its_change(rt: HostRuntime) -> Result<(), Fail> {
     let (domain, mut task) = Domain::new(rt.alloc())?;
-    let seen = wait_for_change(&rt, &domain, &mut task);
-    let walked = publish_var_and_wake(&rt, &domain, &mut task, 20, 2);
+    let seen = wait_for_other(&rt, &domain, &mut task, 1);
+    let walked = announce(&rt, &domain, &mut task, 2);
     let seen = [matches!(seen, Ok(0)), met_nobody(walked, 0)];
     all_so(&rt, &seen);
     Ok(())

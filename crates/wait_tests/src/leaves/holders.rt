@@ -9,8 +9,8 @@ ghost use Rattle.bit_wait.specs.Holders.{IsHolder};
 
 use crate::bits::alone::{lock, unlock};
 use crate::leaves::asking::ask_late;
+use crate::meetings::four_meet;
 use crate::pages::alone::{give, take};
-use crate::wants::{all_so, another};
 use bit_wait::lock_calls::wait_on_bit_lock;
 use bit_wait::lock_leaves::wait_on_bit_lock_until;
 use bit_wait::wait_leaves::wait_on_bit_until;
@@ -22,7 +22,7 @@ use std::sync::atomic::{AtomicU64, Ordering};
 use std::test::Fail;
 use std::thread;
 use std::thread::Threads;
-use test_tasks::meetings::{Part, meet_four};
+use test_tasks::meetings::Part;
 use wait_leave::Until;
 use wait_model::tasks::SleepState;
 use wait_rule::tasks::set_state;
@@ -189,7 +189,7 @@ fn clear_until<R: Wait>(rt: &R, domain: &Domain, task: &mut Task, shared: Shared
 fn balances<R: Abort + Threads + Wait + Sync>(
     rt: &R,
     domain: &Domain,
-    mut task: Task,
+    task: Task,
     flag: &AtomicU64,
     takes: Holding,
     leaves: Holding,
@@ -198,21 +198,9 @@ fn balances<R: Abort + Threads + Wait + Sync>(
     requires of { task.domain ≡ domain.now }
     requires clean { IsClean task }
 {
-    let one = another(rt, domain, &mut task);
-    let two = another(rt, domain, &mut task);
-    let three = another(rt, domain, &mut task);
-    let who = one.number();
-    let asks = Holding::Asks { flag, who, late };
-    let ((first, one), (two, three)) = meet_four(
-        rt,
-        domain,
-        (task, one),
-        (two, three),
-        (takes, leaves),
-        (takes, asks),
-    );
-    all_so(rt, &[first.1, one.1, two.1, three.1]);
-    is_clear(rt, domain, first.0)
+    let asks = Holding::Asks { flag, who: 1, late };
+    let task = four_meet(rt, domain, task, (takes, leaves), (takes, asks));
+    is_clear(rt, domain, task)
 }
 
 /// Whether the page and the bit are clear, and nobody is woken where they are given back.

@@ -1,19 +1,17 @@
 //! A pool of three workers in threads of their own, to which jobs are posted one by one, and which is shut down by asking
 //! each of them to leave its wait.
 
-ghost use Rattle.std.specs.Prelude.{◌≡◌, ◌<◌};
-ghost use Rattle.wait_model.specs.declared.layout.TheConstants.{FIRST_SIMPLE};
+ghost use Rattle.std.specs.Prelude.{◌≡◌};
 ghost use Rattle.wait_rule.specs.Says.{IsClean};
 
-use crate::leaves::asking::ask_late;
-use crate::wants::{all_so, another};
+use crate::leaves::asking::{ask_late, set_one, take};
+use crate::meetings::four_meet;
 use std::sync::Wait;
 use std::sync::atomic::{AtomicU64, Ordering};
 use std::test::Fail;
-use test_tasks::meetings::{Part, meet_four};
-use wait_event::{WaitUntil, set_and_wake, take_cond, wait_event, wait_event_until};
+use test_tasks::meetings::Part;
+use wait_event::{WaitUntil, wait_event, wait_event_until};
 use wait_model::tasks::{How, SleepState};
-use wait_model::watches::Mode;
 use wait_rule::{Domain, Task};
 
 /// How many rounds the test makes, and how many jobs are posted in each.
@@ -64,29 +62,6 @@ impl Part for Pooled<'_> {
     }
 }
 
-/// Sets a condition, and wakes one of those who wait for it.
-fn set_one<R: Wait>(rt: &R, domain: &Domain, task: &mut Task, cond: u8, value: u64)
-    requires of { task.old.domain ≡ domain.now }
-    requires clean { IsClean task.old }
-    requires cond { cond < FIRST_SIMPLE }
-    ensures of { task.new.domain ≡ domain.now }
-    ensures clean { IsClean task.new }
-{
-    set_and_wake(rt, domain, task, cond, value, Mode::Normal, 1);
-}
-
-/// Takes what a condition has: 0 where it is not set.
-fn take<R: Wait>(rt: &R, domain: &Domain, task: &mut Task, cond: u8) -> u64
-    requires of { task.old.domain ≡ domain.now }
-    requires clean { IsClean task.old }
-    requires cond { cond < FIRST_SIMPLE }
-    ensures of { task.new.domain ≡ domain.now }
-    ensures clean { IsClean task.new }
-{
-    let _ = rt;
-    take_cond(domain, task, cond)
-}
-
 /// Waits until there is room, and posts a job: whether there was room.
 fn post<R: Wait>(rt: &R, domain: &Domain, task: &mut Task, job: u32) -> bool
     requires of { task.old.domain ≡ domain.now }
@@ -95,7 +70,7 @@ fn post<R: Wait>(rt: &R, domain: &Domain, task: &mut Task, job: u32) -> bool
     ensures clean { IsClean task.new }
 {
     let room = wait_event(rt, domain, task, ROOM, HOW).is_ok();
-    let had = take(rt, domain, task, ROOM);
+    let had = take(domain, task, ROOM);
     set_one(rt, domain, task, NEXT, u64::from(job).wrapping_add(1));
     room && had == 1
 }
@@ -132,7 +107,7 @@ fn do_job<R: Wait>(rt: &R, domain: &Domain, task: &mut Task, done: &AtomicU64)
     ensures of { task.new.domain ≡ domain.now }
     ensures clean { IsClean task.new }
 {
-    match take(rt, domain, task, NEXT) {
+    match take(domain, task, NEXT) {
         0 => {}
         next => {
             let digit = 1u64.wrapping_shl(((next & 0xff) as u32).wrapping_sub(1).wrapping_mul(4));
@@ -172,12 +147,9 @@ fn pool_is_shut_down_with_each_job_done_once(rt: HostRuntime) -> Result<(), Fail
     for round in 0..ROUNDS {
         let (domain, mut task) = Domain::with_looks(rt.alloc(), 0)?;
         let (closed, done) = (AtomicU64::new(0), AtomicU64::new(0));
-        let one = another(&rt, &domain, &mut task);
-        let two = another(&rt, &domain, &mut task);
-        let three = another(&rt, &domain, &mut task);
         let posts = Pooled::Posts {
             closed: &closed,
-            workers: [one.number(), two.number(), three.number()],
+            workers: [1, 2, 3],
             late: round % 6,
         };
         let works = Pooled::Works {
@@ -185,16 +157,8 @@ fn pool_is_shut_down_with_each_job_done_once(rt: HostRuntime) -> Result<(), Fail
             done: &done,
         };
         set_one(&rt, &domain, &mut task, ROOM, 1);
-        let ((first, one), (two, three)) = meet_four(
-            &rt,
-            &domain,
-            (task, one),
-            (two, three),
-            (posts, works),
-            (works, works),
-        );
-        let once = done.load(Ordering::SeqCst) == ALL_ONCE;
-        all_so(&rt, &[first.1, one.1, two.1, three.1, once]);
+        four_meet(&rt, &domain, task, (posts, works), (works, works));
+        assert!(rt; done.load(Ordering::SeqCst) == ALL_ONCE);
     }
     Ok(())
 }

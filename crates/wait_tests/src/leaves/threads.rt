@@ -4,16 +4,17 @@
 ghost use Rattle.std.specs.Prelude.{◌≡◌};
 ghost use Rattle.wait_rule.specs.Says.{IsClean};
 
-use crate::leaves::asking::ask_late;
-use crate::wants::{all_so, another};
+use crate::leaves::asking::{ask_late, set_one, take};
+use crate::meetings::{four_meet, two_meet};
+use crate::wants::all_so;
 use std::sync::Wait;
 use std::sync::atomic::{AtomicU64, Ordering};
 use std::test::Fail;
 use std::thread;
 use swait_queue::{swait_event_until, swake_one};
-use test_tasks::meetings::{Part, meet_four, meet_two};
+use test_tasks::meetings::Part;
 use var_wait::wait_var_until;
-use wait_event::{WaitEnd, WaitUntil, set_and_wake, take_cond, wait_event, wait_event_until};
+use wait_event::{WaitEnd, WaitUntil, set_and_wake, wait_event, wait_event_until};
 use wait_model::layout::{CLAIMS, FIRST_SIMPLE};
 use wait_model::tasks::{How, SleepState};
 use wait_model::watches::Mode;
@@ -44,7 +45,6 @@ enum Left {
 /// What a task does in a round. All share the flag that asks.
 #[derive(Clone, Copy)]
 enum Leaving<'a> {
-    Rests,
     /// It waits for condition 0, and leaves once it is asked: where it has the condition, it passes it on.
     LeavesOrPasses(&'a AtomicU64),
     /// It waits for it until it has it.
@@ -66,7 +66,6 @@ enum Leaving<'a> {
 impl Part for Leaving<'_> {
     fn play<R: Wait>(self, rt: &R, domain: &Domain, task: &mut Task) -> bool {
         match self {
-            Leaving::Rests => true,
             Leaving::LeavesOrPasses(flag) => leave_or_pass(rt, domain, task, flag),
             Leaving::Takes => take_it(rt, domain, task),
             Leaving::Sets { late } => set_late(rt, domain, task, late),
@@ -74,16 +73,6 @@ impl Part for Leaving<'_> {
             Leaving::Leaves(flag, left) => leave(rt, domain, task, flag, left),
         }
     }
-}
-
-/// Sets condition 0, and wakes one exclusive waiter.
-fn set_one<R: Wait>(rt: &R, domain: &Domain, task: &mut Task)
-    requires of { task.old.domain ≡ domain.now }
-    requires clean { IsClean task.old }
-    ensures of { task.new.domain ≡ domain.now }
-    ensures clean { IsClean task.new }
-{
-    set_and_wake(rt, domain, task, 0, 1, Mode::Normal, 1);
 }
 
 /// Yields so often, and sets the condition.
@@ -96,18 +85,8 @@ fn set_late<R: Wait>(rt: &R, domain: &Domain, task: &mut Task, late: u32) -> boo
     for _ in 0..late {
         thread::yield_now();
     }
-    set_one(rt, domain, task);
+    set_one(rt, domain, task, 0, 1);
     true
-}
-
-/// Takes the condition, where it is set: whether it was.
-fn takes(domain: &Domain, task: &mut Task) -> bool
-    requires of { task.old.domain ≡ domain.now }
-    requires clean { IsClean task.old }
-    ensures of { task.new.domain ≡ domain.now }
-    ensures clean { IsClean task.new }
-{
-    take_cond(domain, task, 0) != 0
 }
 
 /// Waits until it has the condition, or is asked to leave: passes on what it has. True where it saw the condition set,
@@ -127,8 +106,8 @@ fn leave_or_pass<R: Wait>(rt: &R, domain: &Domain, task: &mut Task, flag: &Atomi
         || flag.load(Ordering::SeqCst) != 0,
     ) {
         WaitUntil::Over(Ok(())) => {
-            if takes(domain, task) {
-                set_one(rt, domain, task);
+            if take(domain, task, 0) != 0 {
+                set_one(rt, domain, task, 0, 1);
             }
             true
         }
@@ -148,7 +127,7 @@ fn take_it<R: Wait>(rt: &R, domain: &Domain, task: &mut Task) -> bool
         if wait_event(rt, domain, task, 0, HOW).is_err() {
             return false;
         }
-        if takes(domain, task) {
+        if take(domain, task, 0) != 0 {
             return true;
         }
     }
@@ -187,28 +166,16 @@ fn is_left<A: Drop>(end: WaitUntil<Result<A, WaitEnd>>) -> bool {
 #[test]
 fn left_waiter_passes_its_wake(rt: HostRuntime) -> Result<(), Fail> {
     for round in 0..ROUNDS {
-        let (domain, mut task) = Domain::with_looks(rt.alloc(), 0)?;
+        let (domain, task) = Domain::with_looks(rt.alloc(), 0)?;
         let flag = AtomicU64::new(0);
-        let one = another(&rt, &domain, &mut task);
-        let two = another(&rt, &domain, &mut task);
-        let three = another(&rt, &domain, &mut task);
-        let who = one.number();
-        let late = round % 5;
         let asks = Leaving::Asks {
             flag: &flag,
-            who,
+            who: 1,
             late: (round / 5) % 5,
         };
-        let own = (Leaving::Sets { late }, Leaving::LeavesOrPasses(&flag));
-        let ((first, one), (two, three)) = meet_four(
-            &rt,
-            &domain,
-            (task, one),
-            (two, three),
-            own,
-            (Leaving::Takes, asks),
-        );
-        all_so(&rt, &[first.1, one.1, two.1, three.1]);
+        let sets = Leaving::Sets { late: round % 5 };
+        let own = (sets, Leaving::LeavesOrPasses(&flag));
+        four_meet(&rt, &domain, task, own, (Leaving::Takes, asks));
     }
     Ok(())
 }
@@ -217,10 +184,8 @@ fn left_waiter_passes_its_wake(rt: HostRuntime) -> Result<(), Fail> {
 #[test]
 fn waits_are_left_from_their_sleep(rt: HostRuntime) -> Result<(), Fail> {
     for round in 0..ROUNDS {
-        let (domain, mut task) = Domain::with_looks(rt.alloc(), 0)?;
+        let (domain, task) = Domain::with_looks(rt.alloc(), 0)?;
         let flag = AtomicU64::new(0);
-        let other = another(&rt, &domain, &mut task);
-        let who = other.number();
         let left = match round % 3 {
             0 => Left::Plain,
             1 => Left::Simple,
@@ -228,20 +193,14 @@ fn waits_are_left_from_their_sleep(rt: HostRuntime) -> Result<(), Fail> {
         };
         let asks = Leaving::Asks {
             flag: &flag,
-            who,
+            who: 1,
             late: (round / 3) % 8,
         };
-        let (asked, was) = meet_two(
-            &rt,
-            &domain,
-            task,
-            other,
-            (asks, Leaving::Leaves(&flag, left)),
-        );
-        let mut task = asked.0;
+        let leaves = Leaving::Leaves(&flag, left);
+        let mut task = two_meet(&rt, &domain, task, (asks, leaves));
         let none = !swake_one(&rt, &domain, &mut task, SIMPLE);
         let walked = set_and_wake(&rt, &domain, &mut task, 0, 1, Mode::Normal, 0);
-        all_so(&rt, &[asked.1, was.1, none, walked.woken == 0]);
+        all_so(&rt, &[none, walked.woken == 0]);
     }
     Ok(())
 }

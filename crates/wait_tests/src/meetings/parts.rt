@@ -1,6 +1,7 @@
 //! The parts that tasks play.
 
 use crate::bits::lock_threads::take_turns;
+use crate::bits::tallies;
 use crate::completions::threads::{complete_thrice, take_one};
 use crate::events::flags::hear_until_set;
 use crate::events::parts::{see_by_turns, wait_by_turns};
@@ -8,11 +9,12 @@ use crate::events::selected::{signal, wait_exclusive};
 use crate::events::threads::{set_condition, wait_for_condition};
 use crate::pages::threads::add_often;
 use crate::signals::threads::{lock_in_vain, wait_killable, wake_then_signal};
-use crate::simple_queues::threads::{swait_once, swake_all_or_two};
+use crate::simple_queues::threads::swake_all_or_two;
 use crate::variables::threads::{announce_twice, wait_twice};
 use std::sync::Wait;
 use test_tasks::meetings;
 use wait_rule::{Domain, Task};
+use wq_user::simple::swait;
 
 /// What a task does, which owes nothing before it and after it.
 #[derive(Clone, Copy)]
@@ -55,6 +57,8 @@ pub(crate) enum Part {
     TakesTurns,
     /// It takes the page of the tests, adds 1 to its tally, and gives it back, so often.
     AddsToPage { times: u64 },
+    /// It adds this to the tally of a page, again and again, as soon as the page's bit is clear.
+    AddsAmount { amount: u64 },
 }
 
 impl meetings::Part for Part {
@@ -71,7 +75,7 @@ impl meetings::Part for Part {
             Part::WakesThenSignals { who, fatal } => wake_then_signal(rt, domain, task, who, fatal),
             Part::LocksInVain => lock_in_vain(rt, domain, task),
             Part::Swakes { all } => swake_all_or_two(rt, domain, task, all),
-            Part::Swaits => swait_once(rt, domain, task),
+            Part::Swaits => swait(rt, domain, task),
             Part::CompletesThrice => complete_thrice(rt, domain, task),
             Part::TakesOne => take_one(rt, domain, task),
             Part::AnnouncesTwice => announce_twice(rt, domain, task),
@@ -79,6 +83,7 @@ impl meetings::Part for Part {
             Part::SeesByTurns => see_by_turns(rt, domain, task),
             Part::TakesTurns => take_turns(rt, domain, task),
             Part::AddsToPage { times } => add_often(rt, domain, task, times),
+            Part::AddsAmount { amount } => tallies::add_often(rt, domain, task, amount),
         }
     }
 }

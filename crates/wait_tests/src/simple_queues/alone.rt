@@ -7,54 +7,14 @@ use crate::wants::{all_so, another};
 use std::sync::Wait;
 use std::test::Fail;
 use swait_queue::waits::swait_event;
-use swait_queue::wakes::{swake_all, swake_all_locked, swake_locked, swake_one};
-use wait_model::layout::{FIRST_SIMPLE, FIRST_SIMPLE_HEAD};
+use swait_queue::wakes::{swake_all, swake_one};
+use wait_model::layout::FIRST_SIMPLE;
 use wait_model::tasks::SleepState;
-use wait_model::watches::Watch;
-use wait_rule::queues::publish;
 use wait_rule::{Domain, Task};
-use wq_head::{lock, unlock};
+use wq_user::simple::{set_and_swake_all, swake_in_hold};
 
-/// The first condition with a simple head, and that head.
+/// The first condition with a simple head.
 const COND: u8 = FIRST_SIMPLE as u8;
-
-const HEAD: u16 = FIRST_SIMPLE_HEAD;
-
-/// Wakes in a hold of the head: how many the two calls selected.
-fn wake_in_hold<R: Wait>(rt: &R, domain: &Domain, task: &mut Task) -> (bool, u32)
-    requires of { task.old.domain ≡ domain.now }
-    requires clean { IsClean task.old }
-    ensures of { task.new.domain ≡ domain.now }
-    ensures clean { IsClean task.new }
-{
-    lock(rt, domain, task, HEAD);
-    let one = swake_locked(rt, domain, task, HEAD);
-    let all = swake_all_locked(rt, domain, task, HEAD);
-    unlock(rt, domain, task, false);
-    (one, all)
-}
-
-/// Sets the condition, and wakes all who wait for it.
-pub(crate) fn set_and_swake<R: Wait>(rt: &R, domain: &Domain, task: &mut Task) -> u32
-    requires of { task.old.domain ≡ domain.now }
-    requires clean { IsClean task.old }
-    ensures of { task.new.domain ≡ domain.now }
-    ensures clean { IsClean task.new }
-{
-    publish(domain, task, Watch::Plain { cond: COND }, 1);
-    swake_all(rt, domain, task, COND)
-}
-
-/// Sets the condition, and wakes the first who waits for it: whether there was one.
-pub(crate) fn set_and_swake_one<R: Wait>(rt: &R, domain: &Domain, task: &mut Task) -> bool
-    requires of { task.old.domain ≡ domain.now }
-    requires clean { IsClean task.old }
-    ensures of { task.new.domain ≡ domain.now }
-    ensures clean { IsClean task.new }
-{
-    publish(domain, task, Watch::Plain { cond: COND }, 1);
-    swake_one(rt, domain, task, COND)
-}
 
 /// Wakes with nothing set before: whether there was a first one, and how many there were then.
 fn wake_unset<R: Wait>(rt: &R, domain: &Domain, task: &mut Task) -> (bool, u32)
@@ -76,7 +36,7 @@ fn wakes_of_an_empty_queue(rt: HostRuntime) -> Result<(), Fail> {
     let (one, all) = wake_unset(&rt, &domain, &mut other);
     let seen = [!one, all == 0];
     all_so(&rt, &seen);
-    let (one, all) = wake_in_hold(&rt, &domain, &mut other);
+    let (one, all) = swake_in_hold(&rt, &domain, &mut other);
     let seen = [!one, all == 0];
     all_so(&rt, &seen);
     task.join(&domain, other);
@@ -88,7 +48,7 @@ fn wakes_of_an_empty_queue(rt: HostRuntime) -> Result<(), Fail> {
 fn set_before_the_wait(rt: HostRuntime) -> Result<(), Fail> {
     let (domain, mut task) = Domain::new(rt.alloc())?;
     let seen = [
-        set_and_swake(&rt, &domain, &mut task) == 0,
+        set_and_swake_all(&rt, &domain, &mut task) == 0,
         swait_event(&rt, &domain, &mut task, COND, SleepState::Uninterruptible).is_ok(),
     ];
     all_so(&rt, &seen);

@@ -3,7 +3,8 @@
 ghost use Rattle.std.specs.Prelude.{◌≡◌};
 ghost use Rattle.wait_tests.specs.EventTasks.{IsReadyForEvent, IsWaker};
 
-use crate::simple_queues::stretches::{COND, is_over};
+use crate::events::stretches::is_over;
+use crate::simple_queues::stretches::COND;
 use crate::turns::go_often;
 use crate::wants::{all_so, another};
 use std::process::Abort;

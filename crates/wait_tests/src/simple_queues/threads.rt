@@ -5,41 +5,13 @@ ghost use Rattle.std.specs.Prelude.{◌≡◌};
 ghost use Rattle.wait_rule.specs.Says.{IsClean};
 
 use crate::meetings::{Part, four_meet};
-use crate::simple_queues::alone::{set_and_swake, set_and_swake_one};
 use std::sync::Wait;
 use std::test::Fail;
-use swait_queue::waits::swait_event;
-use swait_queue::wakes::swake_one;
-use wait_model::layout::FIRST_SIMPLE;
-use wait_model::tasks::SleepState;
 use wait_rule::{Domain, Task};
+use wq_user::simple::{set_and_swake, set_and_swake_all, swake};
 
 /// How many rounds each test makes.
 const ROUNDS: u32 = 300;
-
-/// The first condition with a simple head.
-const COND: u8 = FIRST_SIMPLE as u8;
-
-/// Waits for the condition: true where it was set.
-pub(crate) fn swait_once<R: Wait>(rt: &R, domain: &Domain, task: &mut Task) -> bool
-    requires of { task.old.domain ≡ domain.now }
-    requires clean { IsClean task.old }
-    ensures of { task.new.domain ≡ domain.now }
-    ensures clean { IsClean task.new }
-{
-    swait_event(rt, domain, task, COND, SleepState::Uninterruptible).is_ok()
-}
-
-/// Sets the condition and wakes the first who waits for it, and the next one.
-fn set_and_swake_two<R: Wait>(rt: &R, domain: &Domain, task: &mut Task)
-    requires of { task.old.domain ≡ domain.now }
-    requires clean { IsClean task.old }
-    ensures of { task.new.domain ≡ domain.now }
-    ensures clean { IsClean task.new }
-{
-    set_and_swake_one(rt, domain, task);
-    swake_one(rt, domain, task, COND);
-}
 
 /// Sets the condition, and wakes who waits for it, all at once or one after another.
 pub(crate) fn swake_all_or_two<R: Wait>(rt: &R, domain: &Domain, task: &mut Task, all: bool) -> bool
@@ -49,9 +21,10 @@ pub(crate) fn swake_all_or_two<R: Wait>(rt: &R, domain: &Domain, task: &mut Task
     ensures clean { IsClean task.new }
 {
     if all {
-        set_and_swake(rt, domain, task);
+        set_and_swake_all(rt, domain, task);
     } else {
-        set_and_swake_two(rt, domain, task);
+        set_and_swake(rt, domain, task);
+        swake(rt, domain, task);
     }
     true
 }

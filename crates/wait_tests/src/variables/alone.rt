@@ -28,7 +28,7 @@ pub(crate) fn announce<R: Wait>(rt: &R, domain: &Domain, task: &mut Task, value:
 }
 
 /// Waits until the variable has another value than this one: what the wait answers.
-fn wait_for_other<R: Wait>(
+pub(crate) fn wait_for_other<R: Wait>(
     rt: &R,
     domain: &Domain,
     task: &mut Task,

@@ -409,7 +409,8 @@ fn begin_all<
             requires share { (L.parts ≡ 1) × ((share.parts ≡ 1) × (share.amount ≡ 0)) }
             requires asks { A.asks jobs.0 × (B.asks jobs.1.0 × (C.asks jobs.1.1.0
                 × (IfSome jobs.1.1.1.0 D.asks × E.asks jobs.1.1.1.1))) }
-            ensures comes { Comes _ _ (Both A.did (Both B.did (Both C.did (Both (DidSome D D.Done D.did) E.did)))) jobs result }
+            ensures comes { Comes _ _ (Both A.did (Both B.did (Both C.did
+                (Both (DidSome D D.Done D.did) E.did)))) jobs result }
         { begin_in(scope, rt, lock, book, share, jobs) },
     )
 }

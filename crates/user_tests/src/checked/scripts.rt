@@ -47,8 +47,8 @@ pub(super) enum Told {
 
 /// How a call ends that is gone on with: its wait has what it waited for, or its bit or page; it woke so many; it
 /// selected so many in a simple queue; it told this of a completion; a signal ended a wait for what was not set, and
-/// which no wake had selected, or one for a bit whose word held this. Or it was over at once, so that there is none to go
-/// on with.
+/// which no wake had selected, or one for a bit whose word held this. Or it was over at once, so that there is none to
+/// go on with.
 #[derive(Clone, Copy)]
 pub(super) enum End {
     Waited,

@@ -4,12 +4,14 @@
 ghost use Rattle.std.specs.Prelude.{◌≡◌};
 ghost use Rattle.wait_rule.specs.Says.{IsClean};
 
-use crate::meetings::{Part, two_meet};
+use crate::meetings::Part;
 use crate::pipes::calls::{
     are_from, end_read, end_write, fill_from, get, put, take_read, take_write,
 };
+use crate::wants::all_so;
 use std::sync::Wait;
 use std::test::Fail;
+use test_tasks::meetings::two_meet;
 use wait_rule::{Domain, Task};
 
 /// How many rounds the test makes.
@@ -79,7 +81,9 @@ pub(crate) fn receive<R: Wait>(rt: &R, domain: &Domain, task: &mut Task) -> bool
 fn full_pieces_pass_one_by_one(rt: HostRuntime) -> Result<(), Fail> {
     for _round in 0..ROUNDS {
         let (domain, task) = Domain::with_looks(rt.alloc(), 0)?;
-        two_meet(&rt, &domain, task, (Part::SendsFull, Part::ReceivesFull));
+        let parts = (Part::SendsFull, Part::ReceivesFull);
+        let (_task, went) = two_meet(&rt, &domain, task, parts);
+        all_so(&rt, &went);
     }
     Ok(())
 }

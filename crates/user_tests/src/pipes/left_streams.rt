@@ -7,12 +7,12 @@ ghost use Rattle.wait_rule.specs.Says.{IsClean};
 use crate::pipes::calls::{
     are_from, end_read, end_write, fill_from, get, get_until, put, put_until, take_read, take_write,
 };
-use crate::wants::{all_so, another};
+use crate::wants::all_so;
 use std::sync::Wait;
 use std::sync::atomic::{AtomicU64, Ordering};
 use std::test::Fail;
 use std::thread;
-use test_tasks::meetings::{Part, meet_four};
+use test_tasks::meetings::{Part, four_meet};
 use wait_leave::Until;
 use wait_model::watches::Mode;
 use wait_rule::{Domain, Task, wake_task};
@@ -213,14 +213,11 @@ fn leave_full<R: Wait>(rt: &R, domain: &Domain, task: &mut Task, asked: &AtomicU
 #[test]
 fn left_calls_lose_no_byte(rt: HostRuntime) -> Result<(), Fail> {
     for round in 0..ROUNDS {
-        let (domain, mut task) = Domain::with_looks(rt.alloc(), 0)?;
+        let (domain, task) = Domain::with_looks(rt.alloc(), 0)?;
         let asked = AtomicU64::new(0);
-        let one = another(&rt, &domain, &mut task);
-        let two = another(&rt, &domain, &mut task);
-        let three = another(&rt, &domain, &mut task);
         let asks = Leaving::Asks {
             asked: &asked,
-            whom: (task.number(), one.number()),
+            whom: (0, 1),
             late: round % 7,
             times: ASKS,
         };
@@ -232,15 +229,9 @@ fn left_calls_lose_no_byte(rt: HostRuntime) -> Result<(), Fail> {
             asked: &asked,
             round,
         };
-        let ((first, one), (two, three)) = meet_four(
-            &rt,
-            &domain,
-            (task, one),
-            (two, three),
-            (sends, receives),
-            (asks, Leaving::Rests),
-        );
-        all_so(&rt, &[first.1, one.1, two.1, three.1]);
+        let own = (sends, receives);
+        let (_task, went) = four_meet(&rt, &domain, task, own, (asks, Leaving::Rests));
+        all_so(&rt, &went);
     }
     Ok(())
 }
@@ -249,27 +240,17 @@ fn left_calls_lose_no_byte(rt: HostRuntime) -> Result<(), Fail> {
 #[test]
 fn calls_are_left_from_their_sleep(rt: HostRuntime) -> Result<(), Fail> {
     for round in 0..ROUNDS {
-        let (domain, mut task) = Domain::with_looks(rt.alloc(), 0)?;
+        let (domain, task) = Domain::with_looks(rt.alloc(), 0)?;
         let asked = AtomicU64::new(0);
-        let one = another(&rt, &domain, &mut task);
-        let two = another(&rt, &domain, &mut task);
-        let three = another(&rt, &domain, &mut task);
         let asks = Leaving::Asks {
             asked: &asked,
-            whom: (two.number(), three.number()),
+            whom: (2, 3),
             late: round % 9,
             times: 1,
         };
         let leaves = (Leaving::LeavesEmpty(&asked), Leaving::LeavesFull(&asked));
-        let ((first, one), (two, three)) = meet_four(
-            &rt,
-            &domain,
-            (task, one),
-            (two, three),
-            (asks, Leaving::Rests),
-            leaves,
-        );
-        let mut task = first.0;
+        let (mut task, went) = four_meet(&rt, &domain, task, (asks, Leaving::Rests), leaves);
+        all_so(&rt, &went);
         let opened = take_read(&domain, &mut task, FILLED);
         if !opened {
             panic!(rt; "the end is free")
@@ -278,15 +259,7 @@ fn calls_are_left_from_their_sleep(rt: HostRuntime) -> Result<(), Fail> {
         let all = get(&rt, &domain, &mut task, FILLED, &mut buf);
         let in_order = are_from(0, &buf);
         let last = get(&rt, &domain, &mut task, FILLED, &mut buf);
-        let seen = [
-            first.1,
-            one.1,
-            two.1,
-            three.1,
-            matches!(all, Ok(FULL)),
-            in_order,
-            matches!(last, Ok(0)),
-        ];
+        let seen = [matches!(all, Ok(FULL)), in_order, matches!(last, Ok(0))];
         all_so(&rt, &seen);
     }
     Ok(())

@@ -4,11 +4,11 @@
 ghost use Rattle.std.specs.Prelude.{◌≡◌};
 ghost use Rattle.wait_rule.specs.Says.{IsClean};
 
-use crate::meetings::{Part, two_meet};
+use crate::meetings::Part;
 use crate::wants::{all_so, another};
 use std::sync::Wait;
 use std::test::Fail;
-use test_tasks::meetings::meet_two;
+use test_tasks::meetings::{meet_two, two_meet};
 use wait_model::tasks::SleepState;
 use wait_rule::{Domain, Task};
 use wq_user::completions::{
@@ -126,7 +126,8 @@ fn waiter_for_one_is_joined(rt: HostRuntime) -> Result<(), Fail> {
     for _round in 0..ROUNDS {
         let (domain, task) = Domain::with_looks(rt.alloc(), 0)?;
         let parts = (Part::UserCompletes, Part::UserWaits);
-        let mut task = two_meet(&rt, &domain, task, parts);
+        let (mut task, went) = two_meet(&rt, &domain, task, parts);
+        all_so(&rt, &went);
         assert!(rt; !take_one(&rt, &domain, &mut task));
     }
     Ok(())

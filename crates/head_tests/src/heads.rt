@@ -1,10 +1,12 @@
 //! Wait queues: holds of heads, adds and removes, and wakes.
 
-mod counted;
+mod cases;
+mod errands;
 mod leaving;
 mod listed;
 mod many;
 mod pages;
+mod scripts;
 mod sleepers;
 mod strangers;
 pub(crate) mod tickets;
@@ -14,13 +16,11 @@ mod waiting;
 use crate::wants::all_so;
 use std::test::Fail;
 use wait_model::layout::FIRST_PLAIN_HEAD;
-use wait_model::queues::End;
-use wait_model::watches::{Kind, Mode, Watch};
+use wait_model::watches::{Kind, Watch};
 use wait_rule::Domain;
 use wq_head::adds::{add_front, add_priority, add_tail, remove};
 use wq_head::locks::{lock, unlock};
 use wq_head::looks::has_members;
-use wq_head::wakes::wake;
 
 /// A free head is locked at once.
 #[test]
@@ -91,21 +91,5 @@ fn removed_is_no_member(rt: HostRuntime) -> Result<(), Fail> {
     remove(&domain, &mut task, 0, 0);
     assert!(rt; !has_members(&domain, &mut task, FIRST_PLAIN_HEAD));
     unlock(&rt, &domain, &mut task, false);
-    Ok(())
-}
-
-/// A wake of an empty queue calls nobody, in one hold.
-#[test]
-fn wake_alone(rt: HostRuntime) -> Result<(), Fail> {
-    let (domain, mut task) = Domain::new(rt.alloc())?;
-    let watch = Watch::Plain { cond: 0 };
-    let walked = wake(&rt, &domain, &mut task, watch, Mode::Normal, 0);
-    let seen = [
-        walked.selected == 0,
-        walked.woken == 0,
-        walked.holds == 1,
-        matches!(walked.end, End::End),
-    ];
-    all_so(&rt, &seen);
     Ok(())
 }

@@ -18,40 +18,73 @@ use std::thread::Threads;
 use wait_model::layout::{INTERRUPTIBLE, KILLABLE, NORMAL, RUNNING, UNINTERRUPTIBLE};
 use wait_model::tasks::{Sleep, Taken};
 use wait_model::watches::Mode;
+use wait_rule::NoTask;
 use wait_rule::domain::{Domain, Task};
 use wait_rule::running::{schedule, send_signal, take_signal, wake_task};
 use wait_rule::tasks::{awake, load_own, set_state, sleep_exchange, wake_exchange};
 use wait_rule::tries::{FailedTries, sleep_try, wake_try};
 
+/// What became of a sleep, and what was taken: a list of what a test sees has no branches so.
+fn stays(sleep: Sleep) -> bool {
+    matches!(sleep, Sleep::Stay)
+}
+
+fn sleeps(sleep: Sleep) -> bool {
+    matches!(sleep, Sleep::Asleep)
+}
+
+fn is_stopped(sleep: Sleep) -> bool {
+    matches!(sleep, Sleep::Signal)
+}
+
+fn is_plain(taken: Taken) -> bool {
+    matches!(taken, Taken::Plain)
+}
+
+fn is_fatal(taken: Taken) -> bool {
+    matches!(taken, Taken::Fatal)
+}
+
+fn is_nothing(taken: Taken) -> bool {
+    matches!(taken, Taken::Nothing)
+}
+
 /// A task with nobody beside it is never put asleep and wakes nobody.
 #[test]
 fn alone(rt: HostRuntime) -> Result<(), Fail> {
     let (domain, mut task) = Domain::new(rt.alloc())?;
-    assert!(rt; matches!(schedule(&rt, &domain, &mut task), Sleep::Stay));
+    let stayed = schedule(&rt, &domain, &mut task);
     assert!(rt; matches!(sleep_exchange(&rt, &domain, &mut task), Sleep::Stay));
-    assert!(rt; !wake_task(&rt, &domain, &mut task, 0, Mode::Normal));
-    assert!(rt; !wake_exchange(&rt, &domain, &mut task, 0, NORMAL));
+    let seen = [
+        stays(stayed),
+        !wake_task(&rt, &domain, &mut task, 0, Mode::Normal),
+        !wake_exchange(&rt, &domain, &mut task, 0, NORMAL),
+    ];
+    all_so(&rt, &seen);
     send_signal(&rt, &domain, &mut task, 0, false);
-    assert!(rt; matches!(take_signal(&domain, &mut task), Taken::Plain));
-    assert!(rt; matches!(take_signal(&domain, &mut task), Taken::Nothing));
+    let taken = [
+        is_plain(take_signal(&domain, &mut task)),
+        is_nothing(take_signal(&domain, &mut task)),
+    ];
+    all_so(&rt, &taken);
     Ok(())
+}
+
+/// Whether no number was spare.
+fn is_refused(forked: Result<Task, NoTask>) -> bool {
+    matches!(forked, Err(none) if none.spare == 0)
 }
 
 /// 255 tasks are cut off the first one, numbered 1 to 255, and then there is no number left.
 #[test]
 fn numbers_run_out(rt: HostRuntime) -> Result<(), Fail> {
     let (domain, mut task) = Domain::new(rt.alloc())?;
-    assert!(rt; task.number() == 0);
+    let own = task.number() == 0;
     for n in 1..256u16 {
-        match task.fork(&domain, 0) {
-            Ok(other) => assert_eq!(rt; u16::from(other.number()), n),
-            Err(_) => panic!(rt; "a number is spare"),
-        }
+        let other = another(&rt, &domain, &mut task);
+        assert!(rt; u16::from(other.number()) == n);
     }
-    match task.fork(&domain, 0) {
-        Ok(_) => panic!(rt; "no number is spare"),
-        Err(none) => assert_eq!(rt; none.spare, 0),
-    }
+    all_so(&rt, &[own, is_refused(task.fork(&domain, 0))]);
     Ok(())
 }
 
@@ -62,24 +95,22 @@ fn shares_are_apart(rt: HostRuntime) -> Result<(), Fail> {
     let Ok(mut second) = task.fork(&domain, 5) else {
         panic!(rt; "a number is spare")
     };
-    let seen = [
-        second.number() == 1,
-        second.spare() == 5,
-        task.spare() == 249,
-    ];
-    all_so(&rt, &seen);
+    let spare = (second.spare(), task.spare());
     let Ok(third) = second.fork(&domain, 4) else {
         panic!(rt; "5 numbers are spare")
     };
-    assert!(rt; third.number() == 2);
-    match second.fork(&domain, 0) {
-        Ok(_) => panic!(rt; "no number is spare"),
-        Err(none) => assert_eq!(rt; none.spare, 0),
-    }
+    let none = is_refused(second.fork(&domain, 0));
     let Ok(fourth) = task.fork(&domain, 248) else {
         panic!(rt; "249 numbers are spare")
     };
-    assert!(rt; fourth.number() == 7);
+    let seen = [
+        second.number() == 1,
+        spare == (5, 249),
+        third.number() == 2,
+        none,
+        fourth.number() == 7,
+    ];
+    all_so(&rt, &seen);
     task.join(&domain, second);
     Ok(())
 }
@@ -92,20 +123,23 @@ fn single_tries(rt: HostRuntime) -> Result<(), Fail> {
     let mut other = another(&rt, &domain, &mut task);
     set_state(&domain, &mut task, UNINTERRUPTIBLE);
     let mut failed = FailedTries::none();
-    assert!(rt;
-        matches!(
-            sleep_try(&domain, &mut task, &mut failed),
-            Some(Sleep::Asleep)
-        )
-    );
+    let Some(slept) = sleep_try(&domain, &mut task, &mut failed) else {
+        panic!(rt; "nobody changes the word meanwhile")
+    };
     let Some(tried) = wake_try(&domain, &mut other, 0, NORMAL, &mut failed) else {
         panic!(rt; "nobody changes the word meanwhile")
     };
-    assert!(rt; tried.met && tried.rouse);
     let Some(again) = wake_try(&domain, &mut other, 0, NORMAL, &mut failed) else {
         panic!(rt; "nobody changes the word meanwhile")
     };
-    let seen = [!again.met && !again.rouse, awake(&domain, &mut task)];
+    let seen = [
+        sleeps(slept),
+        tried.met,
+        tried.rouse,
+        !again.met,
+        !again.rouse,
+        awake(&domain, &mut task),
+    ];
     all_so(&rt, &seen);
     Ok(())
 }
@@ -116,18 +150,23 @@ fn signals_stop_sleeps(rt: HostRuntime) -> Result<(), Fail> {
     let (domain, mut task) = Domain::new(rt.alloc())?;
     send_signal(&rt, &domain, &mut task, 0, true);
     set_state(&domain, &mut task, KILLABLE);
-    assert!(rt; matches!(schedule(&rt, &domain, &mut task), Sleep::Signal));
+    let killable = schedule(&rt, &domain, &mut task);
     set_state(&domain, &mut task, INTERRUPTIBLE);
+    let interruptible = schedule(&rt, &domain, &mut task);
+    let pending = load_own(&domain, &mut task).0;
+    let taken = take_signal(&domain, &mut task);
+    set_state(&domain, &mut task, UNINTERRUPTIBLE);
+    let uninterruptible = load_own(&domain, &mut task).0;
+    set_state(&domain, &mut task, RUNNING);
     let seen = [
-        matches!(schedule(&rt, &domain, &mut task), Sleep::Signal),
-        load_own(&domain, &mut task).0 == 0x7_0000,
-        matches!(take_signal(&domain, &mut task), Taken::Fatal),
+        is_stopped(killable),
+        is_stopped(interruptible),
+        pending == 0x7_0000,
+        is_fatal(taken),
+        uninterruptible == 0x1_0002,
+        load_own(&domain, &mut task).0 == 0x1_0000,
     ];
     all_so(&rt, &seen);
-    set_state(&domain, &mut task, UNINTERRUPTIBLE);
-    assert!(rt; load_own(&domain, &mut task).0 == 0x1_0002);
-    set_state(&domain, &mut task, RUNNING);
-    assert!(rt; load_own(&domain, &mut task).0 == 0x1_0000);
     Ok(())
 }
 
@@ -138,7 +177,7 @@ fn wakes_meet_states(rt: HostRuntime) -> Result<(), Fail> {
     let mut other = another(&rt, &domain, &mut task);
     set_state(&domain, &mut other, UNINTERRUPTIBLE);
     let seen = [
-        matches!(sleep_exchange(&rt, &domain, &mut other), Sleep::Asleep),
+        sleeps(sleep_exchange(&rt, &domain, &mut other)),
         !awake(&domain, &mut other),
         !wake_task(&rt, &domain, &mut task, 1, Mode::Interruptible),
         !awake(&domain, &mut other),

@@ -1,4 +1,4 @@
-//! The list of a head's members, and a look for members without the lock.
+//! The list of a head's members.
 
 use crate::heads::strangers::queue_for;
 use crate::heads::waiting::queue_own;
@@ -9,7 +9,7 @@ use wait_model::watches::{Kind, Watch};
 use wait_rule::Domain;
 use wq_head::lists::{Member, Members};
 use wq_head::locks::{lock, unlock};
-use wq_head::looks::{active, members};
+use wq_head::looks::members;
 
 /// Whether a member is the entry of slot 0 of a task, and its word shows an entry.
 fn is_entry_of(member: Member, who: u8) -> bool {
@@ -36,20 +36,6 @@ fn members_in_order(rt: HostRuntime) -> Result<(), Fail> {
     unlock(&rt, &domain, &mut task, false);
     assert!(rt; count == 2);
     let seen = [is_entry_of(list.at(0), 1), is_entry_of(list.at(1), 0)];
-    all_so(&rt, &seen);
-    Ok(())
-}
-
-/// A head is active while it has a member.
-#[test]
-fn active_with_a_member(rt: HostRuntime) -> Result<(), Fail> {
-    let (domain, mut task) = Domain::new(rt.alloc())?;
-    let mut other = another(&rt, &domain, &mut task);
-    let seen = [
-        !active(&domain, &mut task, FIRST_PLAIN_HEAD),
-        queue_own(&rt, &domain, &mut other, Kind::Default, false, RUNNING),
-        active(&domain, &mut task, FIRST_PLAIN_HEAD),
-    ];
     all_so(&rt, &seen);
     Ok(())
 }

@@ -1,9 +1,10 @@
 //! Three tasks that sleep until a condition is set, and one that sets it, each in a thread of its own; again and again,
 //! in Domains whose tasks park at once when they are put asleep.
 
-ghost use Rattle.std.specs.Prelude.{◌≡◌, ◌<◌, ◌≤◌};
+ghost use Rattle.std.specs.Prelude.{◌≡◌};
 ghost use Rattle.wq_head.specs.Readied.{IsUpAndIdle, IsReadyToCall, IsUpAndFree};
 
+use crate::heads::errands::{Errand, run_four};
 use crate::heads::waiting::{count_members, leave, queue_own};
 use crate::wants::{all_so, another};
 use std::process::Abort;
@@ -12,7 +13,6 @@ use std::test::Fail;
 use std::thread;
 use std::thread::Threads;
 use wait_model::layout::{RUNNING, UNINTERRUPTIBLE};
-use wait_model::queues::Walked;
 use wait_model::watches::{Kind, Mode, Watch};
 use wait_rule::queues::{cond_load, entry_load, publish};
 use wait_rule::tasks::set_state;
@@ -35,7 +35,7 @@ fn sleep_unless_set<R: Wait>(rt: &R, domain: &Domain, task: &mut Task)
 }
 
 /// Waits once for the condition. True where its entry was still queued then: no wake has taken it off.
-fn wait_once<R: Wait>(rt: &R, domain: &Domain, mut task: Task) -> bool
+pub(crate) fn wait_once<R: Wait>(rt: &R, domain: &Domain, mut task: Task) -> bool
     requires of { task.domain ≡ domain.now }
     requires ready { IsReadyToCall task }
 {
@@ -83,110 +83,34 @@ fn look_for_three(domain: &Domain, task: &mut Task, looks: u32)
 }
 
 /// Lets other threads run.
-fn yield_often(count: u32) {
+pub(crate) fn yield_often(count: u32) {
     for _ in 0..count {
         thread::yield_now();
     }
 }
 
 /// Sets the condition and wakes all who wait for it, after so many looks at their entries at most, and then so many
-/// yields.
-fn set_and_wake<R: Wait>(rt: &R, domain: &Domain, mut task: Task, looks: u32, yields: u32) -> Walked
+/// yields: how many it woke.
+pub(crate) fn set_and_wake<R: Wait>(
+    rt: &R,
+    domain: &Domain,
+    mut task: Task,
+    looks: u32,
+    yields: u32,
+) -> u32
     requires of { task.domain ≡ domain.now }
-    requires rests { IsUpAndIdle task }
+    requires ready { IsReadyToCall task }
 {
     let watch = Watch::Plain { cond: 0 };
     look_for_three(domain, &mut task, looks);
     yield_often(yields);
     publish(domain, &mut task, watch, 1);
-    wake(rt, domain, &mut task, watch, Mode::Normal, 0)
+    wake(rt, domain, &mut task, watch, Mode::Normal, 0).woken
 }
 
-/// How many of three are true.
-fn count(one: bool, two: bool, three: bool) -> u32
-    ensures { result ≤ 3 }
-{
-    u32::from(one) + u32::from(two) + u32::from(three)
-}
-
-/// Two waits, each in a thread of its own.
-fn two_wait<R: Threads + Wait + Sync>(
-    rt: &R,
-    domain: &Domain,
-    second: Task,
-    third: Task,
-) -> (bool, bool)
-    requires of { (second.domain ≡ domain.now) × (third.domain ≡ domain.now) }
-    requires ready { IsReadyToCall second × IsReadyToCall third }
-{
-    thread::join(
-        rt,
-        move || -> bool
-            requires { (second.domain ≡ domain.now) × IsReadyToCall second }
-        { wait_once(rt, domain, second) },
-        move || -> bool
-            requires { (third.domain ≡ domain.now) × IsReadyToCall third }
-        { wait_once(rt, domain, third) },
-    )
-}
-
-/// Three waits, each in a thread of its own: how many entries no wake has taken off.
-fn three_wait<R: Threads + Wait + Sync>(
-    rt: &R,
-    domain: &Domain,
-    first: Task,
-    second: Task,
-    third: Task,
-) -> u32
-    requires of { (first.domain ≡ domain.now) × (second.domain ≡ domain.now) × (third.domain ≡ domain.now) }
-    requires ready { IsReadyToCall first × IsReadyToCall second × IsReadyToCall third }
-    ensures { result ≤ 3 }
-{
-    let (one, (two, three)) = thread::join(
-        rt,
-        move || -> bool
-            requires { (first.domain ≡ domain.now) × IsReadyToCall first }
-        { wait_once(rt, domain, first) },
-        move || -> (bool, bool)
-            requires { (second.domain ≡ domain.now) × IsReadyToCall second × (third.domain ≡ domain.now) × IsReadyToCall third }
-        { two_wait(rt, domain, second, third) },
-    );
-    count(one, two, three)
-}
-
-/// Three tasks wait, and a fourth one sets the condition and wakes them, each in a thread of its own: what the wake
-/// did, and how many entries it has not taken off.
-fn meet<R: Threads + Wait + Sync>(
-    rt: &R,
-    domain: &Domain,
-    waker: Task,
-    first: Task,
-    second: Task,
-    third: Task,
-    looks: u32,
-    yields: u32,
-) -> (Walked, u32)
-    requires of { (waker.domain ≡ domain.now) × (first.domain ≡ domain.now) × (second.domain ≡ domain.now)
-        × (third.domain ≡ domain.now) }
-    requires rests { IsUpAndIdle waker }
-    requires ready { IsReadyToCall first × IsReadyToCall second × IsReadyToCall third }
-    ensures { result.1 ≤ 3 }
-{
-    thread::join(
-        rt,
-        move || -> Walked
-            requires { (waker.domain ≡ domain.now) × IsUpAndIdle waker }
-        { set_and_wake(rt, domain, waker, looks, yields) },
-        move || -> u32
-            requires of { (first.domain ≡ domain.now) × (second.domain ≡ domain.now) × (third.domain ≡ domain.now) }
-            requires ready { IsReadyToCall first × IsReadyToCall second × IsReadyToCall third }
-            ensures { result ≤ 3 }
-        { three_wait(rt, domain, first, second, third) },
-    )
-}
-
-/// Each entry is taken off by the wake that woke its task, or by its task: whatever the order of the steps, no wakeup
-/// is lost, and no entry and no bookmark is left anywhere.
+/// Three tasks wait, and a fourth one sets the condition and wakes them, each in a thread of its own. Each entry is taken
+/// off by the wake that woke its task, or by its task: whatever the order of the steps, no wakeup is lost, and no entry and
+/// no bookmark is left anywhere.
 fn walk_over_three<R: Abort + Threads + Wait + Sync>(
     rt: &R,
     domain: &Domain,
@@ -201,13 +125,19 @@ fn walk_over_three<R: Abort + Threads + Wait + Sync>(
     let second = another(rt, domain, &mut task);
     let third = another(rt, domain, &mut task);
     let mut last = another(rt, domain, &mut task);
-    let (walked, left) = meet(rt, domain, task, first, second, third, looks, yields);
-    let (entries, marks) = count_members(domain, &mut last);
+    let ((woken, one), (two, three)) = run_four(
+        rt,
+        domain,
+        (task, first),
+        (second, third),
+        Errand::Sets { looks, yields },
+        Errand::Waits,
+    );
+    let left = one.saturating_add(two).saturating_add(three);
     let seen = [
-        walked.woken <= 3,
-        walked.woken.saturating_add(left) == 3,
-        entries == 0,
-        marks == 0,
+        woken <= 3,
+        woken.saturating_add(left) == 3,
+        count_members(domain, &mut last) == (0, 0),
     ];
     all_so(rt, &seen);
 }

@@ -3,10 +3,11 @@
 ghost use Rattle.std.specs.Prelude.{◌≡◌};
 ghost use Rattle.wait_rule.specs.Says.{IsClean};
 
-use crate::meetings::{Part, four_meet};
+use crate::meetings::Part;
 use crate::wants::all_so;
 use std::sync::Wait;
 use std::test::Fail;
+use test_tasks::meetings::four_meet;
 use wait_model::layout::FIRST_PLAIN_HEAD;
 use wait_rule::queues::{draw, serving_load};
 use wait_rule::{Domain, Task};
@@ -34,7 +35,8 @@ pub(crate) fn holds<R: Wait>(rt: &R, domain: &Domain, task: &mut Task) -> bool
 fn tickets(rt: HostRuntime) -> Result<(), Fail> {
     let (domain, task) = Domain::new(rt.alloc())?;
     let two = (Part::Holds, Part::Holds);
-    let mut last = four_meet(&rt, &domain, task, two, two);
+    let (mut last, went) = four_meet(&rt, &domain, task, two, two);
+    all_so(&rt, &went);
     let seen = [
         serving_load(&domain, &mut last, FIRST_PLAIN_HEAD) == 2_000,
         draw(&domain, &mut last, FIRST_PLAIN_HEAD) == 2_000,

@@ -4,10 +4,12 @@
 ghost use Rattle.std.specs.Prelude.{◌≡◌};
 ghost use Rattle.wait_rule.specs.Says.{IsClean};
 
-use crate::meetings::{Part, four_meet, two_meet};
+use crate::meetings::Part;
+use crate::wants::all_so;
 use std::sync::Wait;
 use std::test::Fail;
 use std::thread;
+use test_tasks::meetings::{four_meet, two_meet};
 use wait_model::layout::UNINTERRUPTIBLE;
 use wait_model::watches::Mode;
 use wait_rule::domain::{Domain, Task};
@@ -95,12 +97,9 @@ pub(crate) fn wakes<R: Wait>(rt: &R, domain: &Domain, task: &mut Task, who: u8) 
 fn sleeps_end(rt: HostRuntime) -> Result<(), Fail> {
     for _ in 0..BATCHES {
         let (domain, task) = Domain::with_looks(rt.alloc(), 0)?;
-        two_meet(
-            &rt,
-            &domain,
-            task,
-            (Part::WakesOften { who: 1 }, Part::Sleeps),
-        );
+        let parts = (Part::WakesOften { who: 1 }, Part::Sleeps);
+        let (_task, went) = two_meet(&rt, &domain, task, parts);
+        all_so(&rt, &went);
     }
     Ok(())
 }
@@ -155,7 +154,8 @@ fn three_hand_on(rt: HostRuntime) -> Result<(), Fail> {
     let seconds = (in_turn(0, 1, false), Part::Rests);
     for _ in 0..BATCHES {
         let (domain, task) = Domain::with_looks(rt.alloc(), 0)?;
-        four_meet(&rt, &domain, task, firsts, seconds);
+        let (_task, went) = four_meet(&rt, &domain, task, firsts, seconds);
+        all_so(&rt, &went);
     }
     Ok(())
 }

@@ -1,5 +1,5 @@
-//! Rows of steps on a core, and what plays them. A test plays a table of rows, since the proof of a test takes as long as
-//! it has calls and branches, and that of a table as long as its text.
+//! Rows of steps on a core, and what plays them. A test plays a table of rows, since the proof of a test takes as long
+//! as it has calls and branches, and that of a table as long as its text.
 
 ghost use Rattle.std.specs.Prelude.{IsTrue};
 ghost use Rattle.wait_model.specs.Admission.{IsListed};
@@ -8,7 +8,7 @@ use edge_io::MemSink;
 use std::alloc::{AllocError, Global};
 use std::process::Abort;
 use std::test::Fail;
-use wait_core::{Core, Stepped};
+use wait_core::{Core, StartFault, Stepped};
 use wait_model::calls::{Answer, Call, Event, Ran};
 use wait_model::layout::WORDS;
 use wait_model::queues::Form;
@@ -23,7 +23,8 @@ pub enum Step {
     Opens(u8, Call),
     /// It opens a call and makes its events until the call ends or sleeps: how many, and the number that it answers.
     Runs(u8, Call, u32, Option<i32>),
-    /// It goes on with its open call to the end or to a sleep: how many events it makes, and the number that it answers.
+    /// It goes on with its open call to the end or to a sleep: how many events it makes, and the number that the call
+    /// answers.
     Goes(u8, u32, Option<i32>),
     /// The same, and more than so many events are made.
     GoesOn(u8, u32, Option<i32>),
@@ -92,11 +93,32 @@ fn goes(core: &mut Core, task: u8, most: u32) -> (u32, Option<i32>) {
     (most, None)
 }
 
-/// Whether one event of a task has this text.
-fn writes(alloc: Global, core: &mut Core, task: u8, text: &str) -> Result<bool, AllocError> {
+/// Whether what a step of a task did has this text.
+pub fn has_text(
+    alloc: Global,
+    task: u8,
+    stepped: &Stepped,
+    text: &str,
+) -> Result<bool, AllocError> {
     let mut out = MemSink::new(alloc, &[])?;
-    let stepped = core.step(task);
-    Ok(write_step(&mut out, task, &stepped).is_ok() && out.bytes() == text.as_bytes())
+    let is_written = write_step(&mut out, task, stepped).is_ok();
+    Ok(is_written && is_text(&out, text))
+}
+
+/// Whether the refusal of a call of a task has this text.
+pub fn has_refusal(
+    alloc: Global,
+    task: u8,
+    fault: StartFault,
+    text: &str,
+) -> Result<bool, AllocError> {
+    let mut out = MemSink::new(alloc, &[])?;
+    let is_written = write_refused(&mut out, task, fault).is_ok();
+    Ok(is_written && is_text(&out, text))
+}
+
+fn is_text(out: &MemSink, text: &str) -> bool {
+    out.bytes() == text.as_bytes()
 }
 
 /// Whether a call is refused by this text.
@@ -110,11 +132,10 @@ fn refuses(
     if !is_listed(call) {
         return Ok(false);
     }
-    let Err(fault) = core.start(task, call) else {
-        return Ok(false);
-    };
-    let mut out = MemSink::new(alloc, &[])?;
-    Ok(write_refused(&mut out, task, fault).is_ok() && out.bytes() == text.as_bytes())
+    match core.start(task, call) {
+        Ok(()) => Ok(false),
+        Err(fault) => has_refusal(alloc, task, fault, text),
+    }
 }
 
 /// All tasks below a number add an entry at the front of condition 0. Whether each did.
@@ -181,7 +202,7 @@ fn is_made(core: &mut Core, step: Step) -> bool {
 /// Plays a step, and answers whether what is seen is what is to be seen.
 fn is_so(alloc: Global, core: &mut Core, step: Step) -> Result<bool, AllocError> {
     match step {
-        Step::Writes(task, text) => writes(alloc, core, task, text),
+        Step::Writes(task, text) => has_text(alloc, task, &core.step(task), text),
         Step::Refuses(task, call, text) => refuses(alloc, core, task, call, text),
         _ => Ok(is_made(core, step)),
     }

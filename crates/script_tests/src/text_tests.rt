@@ -1,5 +1,5 @@
 use crate::lines::{BAD_LINES, BAD_LINES_OF_VERSION_2, CALLS, GREATER, PAGES};
-use edge_io::MemSink;
+use crate::steps::{has_refusal, has_text};
 use std::alloc::{AllocError, Global};
 use std::process::Abort;
 use std::test::Fail;
@@ -8,12 +8,10 @@ use wait_model::calls::{Answer, Call, Event};
 use wait_model::queues::{End, Form, Walked};
 use wait_model::tasks::{How, Sleep, SleepState, Taken};
 use wait_model::watches::Mode;
-use wait_script::{
-    Line, ReadScript, Reason, Version, asked, read_script, write_refused, write_step,
-};
+use wait_script::{Line, ReadScript, Reason, Version, asked, read_script};
 
-/// What is seen of the reading of a script: the first bad line and the number of its first reason, or line 0 and how many
-/// lines it has.
+/// What is seen of the reading of a script: the first bad line and the number of its first reason, or line 0 and how
+/// many lines it has.
 fn reading_of(alloc: Global, bytes: &[u8]) -> Option<(u32, usize)> {
     if bytes.len() > 1_048_576 {
         return None;
@@ -30,131 +28,175 @@ fn wants(rt: &impl Abort, name: &str, text: &str, is_so: bool) {
     assert!(rt; is_so, "{name}: {text}");
 }
 
-/// A script that is bad: its first bad line, and the first reason that stands there.
+/// A script that is bad: a text, so many bytes x and what comes after them; its first bad line, and the first reason
+/// that stands there.
 #[derive(Clone, Copy)]
 struct Bad {
-    bytes: &'static [u8],
+    name: &'static str,
+    text: &'static [u8],
+    many: usize,
+    after: &'static [u8],
     line: u32,
     why: Reason,
 }
 
+/// A short script, and one with 200 bytes on a line, before what comes after them. The byte 7, which no line may have,
+/// is the 201st.
+const SHORT: Bad = Bad {
+    name: "the_first_bad_line_and_its_first_reason",
+    text: b"",
+    many: 0,
+    after: b"",
+    line: 1,
+    why: Reason::NoHeader,
+};
+
+const LONG: Bad = Bad {
+    name: "a_line_has_at_most_200_bytes",
+    many: 200,
+    ..SHORT
+};
+
 const BAD: &[Bad] = &[
     Bad {
-        bytes: b"",
+        text: b"",
         line: 1,
         why: Reason::NoHeader,
+        ..SHORT
     },
     Bad {
-        bytes: b"\n",
+        text: b"\n",
         line: 1,
         why: Reason::NoHeader,
+        ..SHORT
     },
     Bad {
-        bytes: b"waitq 1",
+        text: b"waitq 1",
         line: 1,
         why: Reason::CutLine,
+        ..SHORT
     },
     Bad {
-        bytes: b"waitq 2",
+        text: b"waitq 2",
         line: 1,
         why: Reason::CutLine,
+        ..SHORT
     },
     Bad {
-        bytes: b"waitq 2\nstep 1",
+        text: b"waitq 2\nstep 1",
         line: 2,
         why: Reason::CutLine,
+        ..SHORT
     },
     Bad {
-        bytes: b"waitq 3\nstep 1",
+        text: b"waitq 3\nstep 1",
         line: 1,
         why: Reason::NoHeader,
+        ..SHORT
     },
     Bad {
-        bytes: b"waitq 12\n",
+        text: b"waitq 12\n",
         line: 1,
         why: Reason::NoHeader,
+        ..SHORT
     },
     Bad {
-        bytes: b"waitq 1 \n",
+        text: b"waitq 1 \n",
         line: 1,
         why: Reason::NoHeader,
+        ..SHORT
     },
     Bad {
-        bytes: b"waitq\t1\n",
+        text: b"waitq\t1\n",
         line: 1,
         why: Reason::BadByte,
+        ..SHORT
     },
     Bad {
-        bytes: b"waitq 1\nstep 1 1",
+        text: b"waitq 1\nstep 1 1",
         line: 2,
         why: Reason::CutLine,
+        ..SHORT
     },
     Bad {
-        bytes: b"waitq 1\nhop",
+        text: b"waitq 1\nhop",
         line: 2,
         why: Reason::CutLine,
+        ..SHORT
     },
     Bad {
-        bytes: b"waitq 1\nhop\nstep 1 1",
+        text: b"waitq 1\nhop\nstep 1 1",
         line: 2,
         why: Reason::UnknownWord,
+        ..SHORT
     },
     Bad {
-        bytes: b"waitq 1\nstep 1 1\nhop\n",
+        text: b"waitq 1\nstep 1 1\nhop\n",
         line: 3,
         why: Reason::UnknownWord,
+        ..SHORT
     },
     Bad {
-        bytes: b"waitq 1\nstep 1 1\n\nhop\n",
+        text: b"waitq 1\nstep 1 1\n\nhop\n",
         line: 3,
         why: Reason::UnknownWord,
+        ..SHORT
+    },
+    Bad {
+        text: b"waitq 1\n",
+        after: b"\n",
+        line: 2,
+        why: Reason::UnknownWord,
+        ..LONG
+    },
+    Bad {
+        text: b"waitq 2\n",
+        after: b"\x07\n",
+        line: 2,
+        why: Reason::LongLine,
+        ..LONG
+    },
+    Bad {
+        text: b"",
+        after: b"\x07",
+        line: 1,
+        why: Reason::CutLine,
+        ..LONG
+    },
+    Bad {
+        text: b"",
+        after: b"\x07\n",
+        line: 1,
+        why: Reason::LongLine,
+        ..LONG
     },
 ];
 
-#[test]
-fn the_first_bad_line_and_its_first_reason(rt: HostRuntime) -> Result<(), Fail> {
-    for (at, bad) in BAD.iter().enumerate() {
-        let read = reading_of(rt.alloc(), bad.bytes);
-        let is_so = read == Some((bad.line, usize::from(bad.why.number())));
-        assert!(rt; is_so, "script {at}");
-    }
-    Ok(())
-}
-
-/// A header, so many bytes x, and what comes after them.
-fn long_script(
-    alloc: Global,
-    header: &[u8],
-    count: usize,
-    after: &[u8],
-) -> Result<Vec<u8>, AllocError> {
+/// The bytes of a bad script.
+fn bytes_of(alloc: Global, bad: &Bad) -> Result<Vec<u8>, AllocError> {
     let mut bytes = Vec::new(alloc);
-    bytes.extend_from_slice(header)?;
-    for _ in 0..count {
+    bytes.extend_from_slice(bad.text)?;
+    for _ in 0..bad.many {
         bytes.push(b'x')?;
     }
-    bytes.extend_from_slice(after)?;
+    bytes.extend_from_slice(bad.after)?;
     Ok(bytes)
 }
 
+/// Whether a bad script is bad as it says.
+fn is_bad(alloc: Global, bad: &Bad) -> Result<bool, AllocError> {
+    let bytes = bytes_of(alloc, bad)?;
+    let wanted = (bad.line, usize::from(bad.why.number()));
+    Ok(reading_of(alloc, &bytes) == Some(wanted))
+}
+
 #[test]
-fn a_line_has_at_most_200_bytes(rt: HostRuntime) -> Result<(), Fail> {
-    // the byte 7, which no line may have, is the 201st
-    for (header, after, line, why) in [
-        (
-            b"waitq 1\n".as_slice(),
-            b"\n".as_slice(),
-            2,
-            Reason::UnknownWord,
-        ),
-        (b"waitq 2\n", b"\x07\n", 2, Reason::LongLine),
-        (b"", b"\x07", 1, Reason::CutLine),
-        (b"", b"\x07\n", 1, Reason::LongLine),
-    ] {
-        let bytes = long_script(rt.alloc(), header, 200, after)?;
-        let read = reading_of(rt.alloc(), &bytes);
-        let is_so = read == Some((line, usize::from(why.number())));
-        assert!(rt; is_so, "reason {}", why.number());
+fn the_first_bad_line_and_its_first_reason(rt: HostRuntime) -> Result<(), Fail> {
+    let mut row: u64 = 0;
+    for bad in BAD {
+        row = row.saturating_add(1);
+        let is_so = is_bad(rt.alloc(), bad)?;
+        assert!(rt; is_so, "{}: script {row}", bad.name);
     }
     Ok(())
 }
@@ -257,9 +299,9 @@ fn lines_are_read_in_their_versions(rt: HostRuntime) -> Result<(), Fail> {
 }
 
 /// Whether a line steps a task so often.
-fn is_step(line: Option<&Line>, wanted: (u8, u32)) -> bool {
+fn is_step(line: Option<&Line>, wanted: u8, often: u32) -> bool {
     match line {
-        Some(Line::Step { task, count }) => (*task, *count) == wanted,
+        Some(Line::Step { task, count }) => *task == wanted && *count == often,
         _ => false,
     }
 }
@@ -315,10 +357,10 @@ fn is_lock(line: Option<&Line>) -> bool {
 fn are_lines(lines: &[Line]) -> bool {
     lines.len() == 5
         && is_wait(lines.first())
-        && is_step(lines.get(1), (63, 1_000_000))
+        && is_step(lines.get(1), 63, 1_000_000)
         && is_wake(lines.get(2))
         && is_lock(lines.get(3))
-        && is_step(lines.get(4), (0, 1))
+        && is_step(lines.get(4), 0, 1)
 }
 
 #[test]
@@ -338,140 +380,290 @@ fn a_script_is_its_lines(rt: HostRuntime) -> Result<(), Fail> {
 #[test]
 fn a_greater_number_is_that_of_a_task(rt: HostRuntime) -> Result<(), Fail> {
     let script = read_script(rt.alloc(), b"waitq 2\nstep 255 7\n")?;
-    let is_so = script.version == Version::Two && is_step(script.lines.first(), (255, 7));
+    let is_so = script.version == Version::Two && is_step(script.lines.first(), 255, 7);
     wants(&rt, "version 2", "a line", is_so);
     Ok(())
 }
 
 /// Events that end no call, and their texts.
-const EVENTS: &[(Event, &str)] = &[
-    (Event::State { state: 0 }, "t7 state run\n"),
-    (Event::State { state: 1 }, "t7 state int\n"),
-    (Event::State { state: 2 }, "t7 state unint\n"),
-    (Event::State { state: 0x102 }, "t7 state kill\n"),
+const EVENTS: &[(Stepped, &str)] = &[
     (
-        Event::Sleep {
-            sleep: Sleep::Signal,
+        Stepped::Made {
+            event: Event::State { state: 0 },
+            ended: None,
+        },
+        "t7 state run\n",
+    ),
+    (
+        Stepped::Made {
+            event: Event::State { state: 1 },
+            ended: None,
+        },
+        "t7 state int\n",
+    ),
+    (
+        Stepped::Made {
+            event: Event::State { state: 2 },
+            ended: None,
+        },
+        "t7 state unint\n",
+    ),
+    (
+        Stepped::Made {
+            event: Event::State { state: 0x102 },
+            ended: None,
+        },
+        "t7 state kill\n",
+    ),
+    (
+        Stepped::Made {
+            event: Event::Sleep {
+                sleep: Sleep::Signal,
+            },
+            ended: None,
         },
         "t7 sleep signal\n",
     ),
-    (Event::Wake { who: 63, yes: true }, "t7 wake t63 yes\n"),
-    (Event::Lock { head: 0 }, "t7 lock h0\n"),
     (
-        Event::Unlock {
-            head: 303,
-            spent: true,
+        Stepped::Made {
+            event: Event::Wake { who: 63, yes: true },
+            ended: None,
+        },
+        "t7 wake t63 yes\n",
+    ),
+    (
+        Stepped::Made {
+            event: Event::Lock { head: 0 },
+            ended: None,
+        },
+        "t7 lock h0\n",
+    ),
+    (
+        Stepped::Made {
+            event: Event::Unlock {
+                head: 303,
+                spent: true,
+            },
+            ended: None,
         },
         "t7 unlock h303 spent\n",
     ),
     (
-        Event::Unlock {
-            head: 303,
-            spent: false,
+        Stepped::Made {
+            event: Event::Unlock {
+                head: 303,
+                spent: false,
+            },
+            ended: None,
         },
         "t7 unlock h303\n",
     ),
     (
-        Event::Queue {
-            head: 256,
-            form: Form::Tail,
+        Stepped::Made {
+            event: Event::Queue {
+                head: 256,
+                form: Form::Tail,
+            },
+            ended: None,
         },
         "t7 queue h256 tail\n",
     ),
     (
-        Event::Queue {
-            head: 256,
-            form: Form::Priority,
+        Stepped::Made {
+            event: Event::Queue {
+                head: 256,
+                form: Form::Priority,
+            },
+            ended: None,
         },
         "t7 queue h256 prio\n",
     ),
     (
-        Event::Load {
-            cond: 127,
-            value: 3,
+        Stepped::Made {
+            event: Event::Load {
+                cond: 127,
+                value: 3,
+            },
+            ended: None,
         },
         "t7 load d63 3\n",
     ),
     (
-        Event::Set {
-            cond: 255,
-            value: 0,
+        Stepped::Made {
+            event: Event::Set {
+                cond: 255,
+                value: 0,
+            },
+            ended: None,
         },
         "t7 set b127 0\n",
     ),
     (
-        Event::Signal {
-            who: 127,
-            fatal: false,
+        Stepped::Made {
+            event: Event::Signal {
+                who: 127,
+                fatal: false,
+            },
+            ended: None,
         },
         "t7 signal t127 plain\n",
     ),
-    (Event::Mark { head: 303 }, "t7 mark h303\n"),
-    (Event::Unmark { head: 0 }, "t7 unmark h0\n"),
-    (Event::Active { head: 9, yes: true }, "t7 active h9 yes\n"),
     (
-        Event::Active {
-            head: 9,
-            yes: false,
+        Stepped::Made {
+            event: Event::Mark { head: 303 },
+            ended: None,
+        },
+        "t7 mark h303\n",
+    ),
+    (
+        Stepped::Made {
+            event: Event::Unmark { head: 0 },
+            ended: None,
+        },
+        "t7 unmark h0\n",
+    ),
+    (
+        Stepped::Made {
+            event: Event::Active { head: 9, yes: true },
+            ended: None,
+        },
+        "t7 active h9 yes\n",
+    ),
+    (
+        Stepped::Made {
+            event: Event::Active {
+                head: 9,
+                yes: false,
+            },
+            ended: None,
         },
         "t7 active h9 no\n",
     ),
     (
-        Event::Tas {
-            word: 127,
-            bit: 63,
-            found: 1,
+        Stepped::Made {
+            event: Event::Tas {
+                word: 127,
+                bit: 63,
+                found: 1,
+            },
+            ended: None,
         },
         "t7 tas b127.63 1\n",
     ),
     (
-        Event::TasFor {
-            word: 127,
-            who: 255,
-            found: 1,
+        Stepped::Made {
+            event: Event::TasFor {
+                word: 127,
+                who: 255,
+                found: 1,
+            },
+            ended: None,
         },
         "t7 tas b127.0 1 t255\n",
     ),
-    (Event::Handed { who: 255 }, "t7 handed t255\n"),
-    (Event::Clear { word: 0, bit: 5 }, "t7 clear b0.5\n"),
     (
-        Event::Signal {
-            who: 0,
-            fatal: true,
+        Stepped::Made {
+            event: Event::Handed { who: 255 },
+            ended: None,
+        },
+        "t7 handed t255\n",
+    ),
+    (
+        Stepped::Made {
+            event: Event::Clear { word: 0, bit: 5 },
+            ended: None,
+        },
+        "t7 clear b0.5\n",
+    ),
+    (
+        Stepped::Made {
+            event: Event::Signal {
+                who: 0,
+                fatal: true,
+            },
+            ended: None,
         },
         "t7 signal t0 fatal\n",
     ),
     (
-        Event::Accept {
-            taken: Taken::Nothing,
+        Stepped::Made {
+            event: Event::Accept {
+                taken: Taken::Nothing,
+            },
+            ended: None,
         },
         "t7 accept none\n",
     ),
     (
-        Event::Accept {
-            taken: Taken::Plain,
+        Stepped::Made {
+            event: Event::Accept {
+                taken: Taken::Plain,
+            },
+            ended: None,
         },
         "t7 accept plain\n",
     ),
     (
-        Event::Accept {
-            taken: Taken::Fatal,
+        Stepped::Made {
+            event: Event::Accept {
+                taken: Taken::Fatal,
+            },
+            ended: None,
         },
         "t7 accept fatal\n",
     ),
-    (Event::Look { yes: true }, "t7 look yes\n"),
-    (Event::Look { yes: false }, "t7 look no\n"),
     (
-        Event::Take {
-            cond: 63,
-            found: u64::MAX,
+        Stepped::Made {
+            event: Event::Look { yes: true },
+            ended: None,
+        },
+        "t7 look yes\n",
+    ),
+    (
+        Stepped::Made {
+            event: Event::Look { yes: false },
+            ended: None,
+        },
+        "t7 look no\n",
+    ),
+    (
+        Stepped::Made {
+            event: Event::Take {
+                cond: 63,
+                found: u64::MAX,
+            },
+            ended: None,
         },
         "t7 take c63 18446744073709551615\n",
     ),
-    (Event::Woken { who: 63 }, "t7 woken t63\n"),
-    (Event::Flag { yes: true }, "t7 flag yes\n"),
-    (Event::Flag { yes: false }, "t7 flag no\n"),
-    (Event::Unflag, "t7 unflag\n"),
+    (
+        Stepped::Made {
+            event: Event::Woken { who: 63 },
+            ended: None,
+        },
+        "t7 woken t63\n",
+    ),
+    (
+        Stepped::Made {
+            event: Event::Flag { yes: true },
+            ended: None,
+        },
+        "t7 flag yes\n",
+    ),
+    (
+        Stepped::Made {
+            event: Event::Flag { yes: false },
+            ended: None,
+        },
+        "t7 flag no\n",
+    ),
+    (
+        Stepped::Made {
+            event: Event::Unflag,
+            ended: None,
+        },
+        "t7 unflag\n",
+    ),
 ];
 
 /// The longest lines of a step: a load and a walk's answer, each with the greatest numbers.
@@ -515,25 +707,19 @@ const STEPS: &[(Stepped, &str)] = &[
     (Stepped::Full, ""),
 ];
 
-/// Whether a step of task 7 has this text.
-fn has_text(alloc: Global, stepped: &Stepped, text: &str) -> Result<bool, AllocError> {
-    let mut out = MemSink::new(alloc, &[])?;
-    Ok(write_step(&mut out, 7, stepped).is_ok() && out.bytes() == text.as_bytes())
+/// Wants each step of task 7 to have its text.
+fn have_texts(rt: &impl Abort, alloc: Global, rows: &[(Stepped, &str)]) -> Result<(), Fail> {
+    for (stepped, text) in rows {
+        let is_so = has_text(alloc, 7, stepped, text)?;
+        wants(rt, "text", text, is_so);
+    }
+    Ok(())
 }
 
 #[test]
 fn each_event_and_answer_has_its_text(rt: HostRuntime) -> Result<(), Fail> {
-    for (event, text) in EVENTS {
-        let stepped = Stepped::Made {
-            event: *event,
-            ended: None,
-        };
-        wants(&rt, "text", text, has_text(rt.alloc(), &stepped, text)?);
-    }
-    for (stepped, text) in STEPS {
-        wants(&rt, "text", text, has_text(rt.alloc(), stepped, text)?);
-    }
-    Ok(())
+    have_texts(&rt, rt.alloc(), EVENTS)?;
+    have_texts(&rt, rt.alloc(), STEPS)
 }
 
 /// Calls that are refused, and their texts.
@@ -548,14 +734,8 @@ const REFUSED: &[(u8, StartFault, &str)] = &[
 #[test]
 fn a_refused_call_has_its_number(rt: HostRuntime) -> Result<(), Fail> {
     for (task, fault, text) in REFUSED {
-        let mut out = MemSink::new(rt.alloc(), &[])?;
-        let written = write_refused(&mut out, *task, *fault);
-        wants(
-            &rt,
-            "text",
-            text,
-            written.is_ok() && out.bytes() == text.as_bytes(),
-        );
+        let is_so = has_refusal(rt.alloc(), *task, *fault, text)?;
+        wants(&rt, "text", text, is_so);
     }
     Ok(())
 }

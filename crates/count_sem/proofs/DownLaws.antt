@@ -1,5 +1,5 @@
 -- The table of a `down` keeps its laws.
-use Rattle.std.proofs.Common.{◌∙◌, ap, sym, refl, inr, arith, append_assoc}
+use Rattle.std.proofs.Common.{◌∙◌, ap, sym, refl, arith, append_assoc}
 use Rattle.std.specs.Prelude.{ℕ, ◌≡◌, ◌≤◌, ◌||◌, Bool, true, false, if◌then◌else◌, Some, None, [], ◌∷◌, ◌++◌}
 use Rattle.wait_model.specs.declared.points.FinishPoint.TheVariants as finishing
 use Rattle.wait_model.specs.declared.points.Next.TheVariants as next
@@ -15,13 +15,11 @@ use Rattle.wait_rule.specs.Stays.{with_left_entry}
 use Rattle.wait_rule.specs.Transitions.{OnlyLooks, StepOrLook, Transition}
 use Rattle.wait_rule.proofs.KnownLaws.Transitions.{only_looked}
 use Rattle.wait_class.specs.Posts.{own_of}
-use Rattle.wait_class.specs.Laws.{Calm, DrawLaw, HasJoined, IsLawfulCallTable, LawOf, LockLaw, LookLaw, PareLaw}
-use Rattle.wait_class.specs.Laws.{QueueLaw, SleepLaw, StateLaw, UnlockLaw}
+use Rattle.wait_class.specs.Laws.{Calm, HasJoined, IsLawfulCallTable, LawOf, LookLaw, PareLaw, QueueLaw}
 use Rattle.wait_class.specs.declared.stages.Turn.TheVariants as turn
 use Rattle.wait_class.proofs.Histories.{stored_history, unmoved_by}
-use Rattle.wait_class.proofs.Ground.Standing.{owner_own}
+use Rattle.wait_class.proofs.Holds.{draw_by, give_by, lock_by, pare_by, queue_by, state_by, unlock_by}
 use Rattle.wait_class.proofs.Stays.{stays_but}
-use Rattle.wait_class.proofs.Turns.{may_by}
 use Rattle.wait_class.proofs.Ways.{look_by, sleep_by, way}
 use Rattle.wait_event.specs.Waits.{is_queue, has_queued_in}
 use Rattle.wait_event.proofs.Tellings.{or_none, queues_append, quiet_queues}
@@ -64,74 +62,6 @@ joined_knows r old mid new looks x u =
     (ap (λ (k : Known). k.view.number) x.is) (λ k. ((same, refl), (refl, refl))) refl s
 
 module _ (r : DownCall) where
-  -- the locks
-  draw_first : DrawLaw down_table r stage.First
-  draw_first = record {
-    free = refl;
-    fresh = refl;
-    head = refl;
-    drawn = refl;
-    locks = refl;
-    same = refl;
-    took = refl;
-    depth = refl;
-    trail = λ k u. u;
-  }
-
-  draw_again : DrawLaw down_table r stage.Again
-  draw_again = record {
-    free = refl;
-    fresh = refl;
-    head = refl;
-    drawn = refl;
-    locks = refl;
-    same = refl;
-    took = refl;
-    depth = refl;
-    trail = λ k u. u;
-  }
-
-  lock_first : LockLaw down_table r stage.FirstTurn
-  lock_first = record {
-    free = refl;
-    head = refl;
-    drawn = refl;
-    moves = record {
-      plain = refl;
-      falls = refl;
-      took = refl;
-      goes = λ me. refl;
-      is = λ me k x ok. (refl, refl);
-      finds = λ me k x ok. (tt, tt, tt);
-    };
-    leaves = record { head = refl; ticket = refl };
-    state = λ σ s. s;
-    home = λ o h. h;
-    trail = λ old new x c u. (first_begun r.cell old new (walk_of_hold (down_head r) None) x c u.0, u.1);
-  }
-
-  lock_again : LockLaw down_table r stage.AgainTurn
-  lock_again = record {
-    free = refl;
-    head = refl;
-    drawn = refl;
-    moves = record {
-      plain = refl;
-      falls = refl;
-      took = refl;
-      goes = λ me. refl;
-      is = λ me k x ok. (refl, refl);
-      finds = λ me k x ok. (tt, tt, tt);
-    };
-    leaves = record { head = refl; ticket = refl };
-    state = λ σ s. s;
-    home = λ o h. h;
-    trail = λ old new x c u. (
-      (walk_of_hold (down_head r) None, x, (history_of old, c.history)),
-      lock_walk old new r.cell x c,
-    );
-  }
-
   -- a hold that found 0
   look_law : (hit : Bool) → LookLaw down_table r stage.Look hit
   look_law true = look_by down_table r stage.Look refl true
@@ -152,141 +82,31 @@ module _ (r : DownCall) where
       ))
 
   queue_law : QueueLaw down_table r stage.Queue
-  queue_law = record {
-    held = record { holds = refl; head = refl };
-    opens = record { fresh = refl; zone = refl };
-    stays = λ e. record {
-      plain = refl;
-      falls = refl;
-      took = refl;
-      goes = λ me. refl;
-      is = λ me k x ok. refl;
-      finds = λ me k x ok. (tt, (ok, λ none. absurd (cc)), tt);
-    };
-    stays_leaves = record { head = refl; ticket = refl };
-    stays_state = inr refl;
-    stays_home = λ o h. h;
-    stays_may = λ k s. may_by false (state_mask r.state) k s;
-    stays_trail = λ old new w c queued u. knows_stayed r.cell old new 0 (own_of old) w (state_mask r.state) c u.0;
-    joins = record {
-      plain = refl;
-      falls = refl;
-      took = refl;
-      goes = λ me. refl;
-      is = λ me k e ok. (refl, sym ok.at, ok.whole, ok.placed);
-      finds = λ me k e ok. (tt, (ok.shows, λ none. (ok.whole, sym ok.left)), tt);
-    };
-    joins_same = refl;
-    joins_fits = λ f. f;
-    joins_leaves = record { head = refl; ticket = refl };
-    joins_state = λ σ s. s;
-    joins_home = λ e h. h;
-    joins_tells = λ x i e did. record {
-      cell = refl;
-      state = refl;
-      queued = sym (ap (λ (d : StepOrLook). r.queued || (is_queue d || false)) did ∙ or_yes r.queued);
-    };
-    joins_trail = λ old mid new looks x u. joined_knows r old mid new looks x u.0;
-    wears = record {
-      plain = tt;
-      falls = refl;
-      took = refl;
-      goes = λ me. refl;
-      is = λ me k x ok. (ok.at, refl);
-      finds = λ me k x ok. (tt, (ok.shows, λ none. (ok.whole, sym ok.worn)), tt);
-    };
-    wears_leaves = λ p. record { head = refl; ticket = refl };
-    wears_state = λ p σ s. s;
-    wears_home = λ p. tt;
-    wears_permits = λ old last fits looks at u. knows_none r.cell last at (knows_looks r.cell old last 0 looks u.0);
-    wears_trail = λ old last new p looks noted is u. (
-      (history_of last, is),
-      record {
-        noted = noted;
-        zero = count_after_step r.cell last new (step.Unlock (down_head r) false) is
-            ∙ (looked_count r.cell old last looks ∙ u.0.counts.0);
-      },
-    );
-  }
-
-  state_law : StateLaw down_table r stage.State
-  state_law = record {
-    fresh = refl;
-    moves = record {
-      plain = refl;
-      falls = refl;
-      took = refl;
-      goes = λ me. refl;
-      is = λ me k x ok. refl;
-      finds = λ me k x ok. (tt, tt, tt);
-    };
-    leaves = record { head = refl; ticket = refl };
-    state = inr refl;
-    home = λ o h. h;
-    may = λ k s. may_by false (state_mask r.state) k s;
-    sort = inr refl;
-    trail = λ old new c u. knows_state r.cell old new 0 (state_mask r.state) c u;
-  }
-
-  unlock_law : UnlockLaw down_table r stage.Unlock
-  unlock_law = record {
-    held = record { holds = refl; head = refl };
-    fresh = refl;
-    moves = record {
-      plain = refl;
-      falls = refl;
-      took = refl;
-      goes = λ me. refl;
-      is = λ me k x ok. (ok, refl);
-      finds = λ me k x ok. (tt, tt, tt);
-    };
-    leaves = record { head = refl; ticket = refl };
-    state = λ σ s. s;
-    home = λ o h. h;
-    trail = λ old new c u. tt;
-    permits = λ k fits at u. knows_none r.cell k at u;
-  }
-
-  sleep_law : SleepLaw down_table r stage.Sleep stage.Again
-  sleep_law = sleep_by down_table r stage.Sleep refl stage.Again refl refl refl refl refl refl (λ o h. h)
-      (λ w me. refl) (λ w me k. tt) (λ w me k. (refl, tt, tt)) (λ old new w c u. tt)
+  queue_law = queue_by down_table r stage.Queue refl refl refl refl refl (λ e me. refl) (λ o h. h)
+      (λ old new w c queued u. knows_stayed r.cell old new 0 (own_of old) w (state_mask r.state) c u.0) refl refl
+      (λ me. refl) refl (λ f. f) (λ σ s. s) (λ e h. h) (λ x i e did. record {
+        cell = refl;
+        state = refl;
+        queued = sym (ap (λ (d : StepOrLook). r.queued || (is_queue d || false)) did ∙ or_yes r.queued);
+      }) (λ old mid new looks x u. joined_knows r old mid new looks x u.0) tt (λ me. refl) (λ p. refl) (λ p σ s. s)
+      (λ p. tt) (λ old last fits looks at u. knows_none r.cell last at (knows_looks r.cell old last 0 looks u.0))
+      (λ old last new p looks noted is u. (
+        (history_of last, is),
+        record {
+          noted = noted;
+          zero = count_after_step r.cell last new (step.Unlock (down_head r) false) is
+              ∙ (looked_count r.cell old last looks ∙ u.0.counts.0);
+        },
+      ))
 
   -- a hold that found a signal, or that it was asked to leave
   pare_leave : PareLaw down_table r stage.LeaveQueue
-  pare_leave = record {
-    held = record { holds = refl; head = refl };
-    opens = record { fresh = refl; zone = refl };
-    takes = λ e. record {
-      plain = refl;
-      falls = refl;
-      took = refl;
-      goes = λ me. refl;
-      is = λ me k x ok. owner_own me;
-      finds = λ me k x ok. (tt, ok, refl);
-    };
-    takes_leaves = record { head = refl; ticket = refl };
-    takes_state = λ σ s. s;
-    takes_home = tt;
-    takes_trail = λ old new w c queued u. (knows_off r.cell old new 0 w c u.0, left_taken old new r w u.1 c queued);
-    gives = record {
-      moves = record {
-        plain = tt;
-        falls = refl;
-        took = refl;
-        goes = λ me. refl;
-        is = λ me k x ok. (ok.0, refl);
-        finds = λ me k x ok. (tt, ok.1, tt);
-      };
-      leaves = record { head = refl; ticket = refl };
-      state = λ σ s. s;
-      home = tt;
-      permits = λ old mid w c fits at u. knows_none r.cell mid at (knows_saw r.cell old mid 0 (own_of old) w c u.0);
-      trail = λ old new w c none u. (
-        ends_with_unlock old new w c,
-        left_none old new r w u.1 c none,
-      );
-    };
-  }
+  pare_leave = pare_by down_table r stage.LeaveQueue refl refl refl refl (λ e me. refl) (λ me k e ok. (tt, ok, refl))
+      (λ σ s. s) tt
+      (λ old new w c queued u. (knows_off r.cell old new 0 w c u.0, left_taken old new r w u.1 c queued))
+      (give_by down_table r stage.LeaveQueue tt refl (λ me. refl) (λ me k shows. (tt, shows, tt)) (λ σ s. s) tt
+      (λ old mid w c fits at u. knows_none r.cell mid at (knows_saw r.cell old mid 0 (own_of old) w c u.0))
+      (λ old new w c none u. (ends_with_unlock old new w c, left_none old new r w u.1 c none)))
     where
       ends_with_unlock : (old new : Known) (w : ℕ)
           → Calm (step.Saw (own_of old) w ∷ step.Unlock (down_head r) false ∷ []) old new → GaveBack new r
@@ -296,75 +116,38 @@ module _ (r : DownCall) where
             (step.Unlock (down_head r) false ∷ [])),
       )
 
-  unlock_leave : UnlockLaw down_table r stage.LeaveUnlock
-  unlock_leave = record {
-    held = record { holds = refl; head = refl };
-    fresh = refl;
-    moves = record {
-      plain = tt;
-      falls = refl;
-      took = refl;
-      goes = λ me. refl;
-      is = λ me k x ok. (ok, refl);
-      finds = λ me k x ok. (tt, tt, tt);
-    };
-    leaves = record { head = refl; ticket = refl };
-    state = λ σ s. s;
-    home = λ o h. h;
-    trail = λ old new c u. (gave_back old new r c, left_given old new r c u.1);
-    permits = λ k fits at u. knows_none r.cell k at u.0;
-  }
-
-  -- a hold that took a permit, or was given one
-  unlock_take : UnlockLaw down_table r stage.TakeUnlock
-  unlock_take = record {
-    held = record { holds = refl; head = refl };
-    fresh = refl;
-    moves = record {
-      plain = tt;
-      falls = refl;
-      took = refl;
-      goes = λ me. refl;
-      is = λ me k x ok. (ok, refl);
-      finds = λ me k x ok. (tt, tt, tt);
-    };
-    leaves = record { head = refl; ticket = refl };
-    state = λ σ s. s;
-    home = λ o h. h;
-    trail = λ old new c u. gave_back old new r c;
-    permits = λ k fits at u. waits_may_end r.cell k u.0 at u.1;
-  }
-
   laws_at : (s : DownStage) → LawOf (down_doing s) down_table r s
-  laws_at stage.First = draw_first
-  laws_at stage.FirstTurn = lock_first
+  laws_at stage.First = draw_by down_table r stage.First refl (λ k u. u)
+  laws_at stage.FirstTurn = lock_by down_table r stage.FirstTurn refl refl refl (λ me. refl) (λ me k x. (tt, tt, tt))
+      (λ σ s. s) (λ o h. h)
+      (λ old new x c u. (first_begun r.cell old new (walk_of_hold (down_head r) None) x c u.0, u.1))
   laws_at stage.FirstLoad = tt
-  laws_at stage.Again = draw_again
-  laws_at stage.AgainTurn = lock_again
+  laws_at stage.Again = draw_by down_table r stage.Again refl (λ k u. u)
+  laws_at stage.AgainTurn = lock_by down_table r stage.AgainTurn refl refl refl (λ me. refl) (λ me k x. (tt, tt, tt))
+      (λ σ s. s) (λ o h. h) (λ old new x c u. (
+        (walk_of_hold (down_head r) None, x, (history_of old, c.history)),
+        lock_walk old new r.cell x c,
+      ))
   laws_at stage.AgainLoad = tt
   laws_at stage.Look = λ hit. look_law hit
   laws_at stage.Queue = queue_law
-  laws_at stage.State = state_law
-  laws_at stage.Unlock = unlock_law
-  laws_at stage.Sleep = sleep_law
+  laws_at stage.State = state_by down_table r stage.State refl refl refl refl (λ me. refl) (λ me k. (tt, tt, tt))
+      (λ o h. h) (λ old new c u. knows_state r.cell old new 0 (state_mask r.state) c u)
+  laws_at stage.Unlock = unlock_by down_table r stage.Unlock refl refl refl (λ me. refl) (λ me k. (tt, tt, tt))
+      (λ σ s. s) (λ o h. h) (λ old new c u. tt) (λ k fits at u. knows_none r.cell k at u)
+  laws_at stage.Sleep = sleep_by down_table r stage.Sleep refl stage.Again refl refl refl refl refl refl (λ o h. h)
+      (λ w me. refl) (λ w me k. tt) (λ w me k. (refl, tt, tt)) (λ old new w c u. tt)
   laws_at stage.LeaveQueue = pare_leave
-  laws_at stage.LeaveUnlock = unlock_leave
+  laws_at stage.LeaveUnlock = unlock_by down_table r stage.LeaveUnlock refl tt refl (λ me. refl) (λ me k. (tt, tt, tt))
+      (λ σ s. s) (λ o h. h) (λ old new c u. (gave_back old new r c, left_given old new r c u.1))
+      (λ k fits at u. knows_none r.cell k at u.0)
   laws_at stage.TakeQueue = tt
   laws_at stage.TakeStore = tt
-  laws_at stage.TakeUnlock = unlock_take
+  laws_at stage.TakeUnlock = unlock_by down_table r stage.TakeUnlock refl tt refl (λ me. refl) (λ me k. (tt, tt, tt))
+      (λ σ s. s) (λ o h. h) (λ old new c u. gave_back old new r c) (λ k fits at u. waits_may_end r.cell k u.0 at u.1)
 
 depth_most : (s : DownStage) → down_depth s ≤ 6
-depth_most stage.FirstLoad = omega arith
-depth_most stage.AgainLoad = omega arith
 depth_most stage.Look = omega arith
-depth_most stage.Queue = omega arith
-depth_most stage.State = omega arith
-depth_most stage.Unlock = omega arith
-depth_most stage.LeaveQueue = omega arith
-depth_most stage.LeaveUnlock = omega arith
-depth_most stage.TakeQueue = omega arith
-depth_most stage.TakeStore = omega arith
-depth_most stage.TakeUnlock = omega arith
 depth_most s = omega arith
 
 pub down_lawful : IsLawfulCallTable down_table

@@ -175,7 +175,8 @@ fn left_waiter_passes_its_wake(rt: HostRuntime) -> Result<(), Fail> {
         };
         let sets = Leaving::Sets { late: round % 5 };
         let own = (sets, Leaving::LeavesOrPasses(&flag));
-        four_meet(&rt, &domain, task, own, (Leaving::Takes, asks));
+        let others = (Leaving::Takes, asks);
+        four_meet(&rt, &domain, task, own, others);
     }
     Ok(())
 }

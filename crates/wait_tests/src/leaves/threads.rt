@@ -5,14 +5,14 @@ ghost use Rattle.std.specs.Prelude.{◌≡◌};
 ghost use Rattle.wait_rule.specs.Says.{IsClean};
 
 use crate::leaves::asking::{ask_late, set_one, take};
-use crate::meetings::{four_meet, two_meet};
-use crate::wants::all_so;
+use crate::meetings::two_meet;
+use crate::wants::{all_so, another};
 use std::sync::Wait;
 use std::sync::atomic::{AtomicU64, Ordering};
 use std::test::Fail;
 use std::thread;
 use swait_queue::{swait_event_until, swake_one};
-use test_tasks::meetings::Part;
+use test_tasks::meetings::{Part, meet_four};
 use var_wait::wait_var_until;
 use wait_event::{WaitEnd, WaitUntil, set_and_wake, wait_event, wait_event_until};
 use wait_model::layout::{CLAIMS, FIRST_SIMPLE};
@@ -166,17 +166,28 @@ fn is_left<A: Drop>(end: WaitUntil<Result<A, WaitEnd>>) -> bool {
 #[test]
 fn left_waiter_passes_its_wake(rt: HostRuntime) -> Result<(), Fail> {
     for round in 0..ROUNDS {
-        let (domain, task) = Domain::with_looks(rt.alloc(), 0)?;
+        let (domain, mut task) = Domain::with_looks(rt.alloc(), 0)?;
         let flag = AtomicU64::new(0);
+        let one = another(&rt, &domain, &mut task);
+        let two = another(&rt, &domain, &mut task);
+        let three = another(&rt, &domain, &mut task);
+        let who = one.number();
+        let late = round % 5;
         let asks = Leaving::Asks {
             flag: &flag,
-            who: 1,
+            who,
             late: (round / 5) % 5,
         };
-        let sets = Leaving::Sets { late: round % 5 };
-        let own = (sets, Leaving::LeavesOrPasses(&flag));
-        let others = (Leaving::Takes, asks);
-        four_meet(&rt, &domain, task, own, others);
+        let own = (Leaving::Sets { late }, Leaving::LeavesOrPasses(&flag));
+        let ((first, one), (two, three)) = meet_four(
+            &rt,
+            &domain,
+            (task, one),
+            (two, three),
+            own,
+            (Leaving::Takes, asks),
+        );
+        all_so(&rt, &[first.1, one.1, two.1, three.1]);
     }
     Ok(())
 }

@@ -1,12 +1,16 @@
 -- Worked scripts of setters that are followed through time, computed.
-use Rattle.std.proofs.Common.{refl}
-use Rattle.std.specs.Prelude.{◌≡◌, ◌+◌, ◌&&◌, Bool, true, false, pos, List, [], ◌∷◌, ◌++◌, take, drop}
+use Rattle.std.proofs.Common.{refl, sym, subst}
+use Rattle.std.specs.Prelude.{◌≡◌, ◌+◌, ◌&&◌, Bool, true, false, pos, Some, List, [], ◌∷◌, ◌++◌, take}
 use Rattle.wait_model.specs.declared.layout.TheConstants.{FIRST_PLACE, FIRST_PLAIN_HEAD, FIRST_DONE_HEAD, FIRST_DONE}
-use Rattle.wait_model.specs.declared.layout.TheConstants.{ALL_DONE}
+use Rattle.wait_model.specs.declared.layout.TheConstants.{ALL_DONE, UNINTERRUPTIBLE, RUNNABLE}
 use Rattle.wait_model.specs.declared.watches.Watch.{Watch}
 use Rattle.wait_model.specs.declared.watches.Watch.TheVariants as watch
 use Rattle.wait_model.specs.declared.watches.Mode.TheVariants as modes
+use Rattle.wait_model.specs.declared.watches.Kind.TheVariants as kind
 use Rattle.wait_model.specs.declared.queues.End.TheVariants as ends
+use Rattle.wait_model.specs.declared.queues.Form.TheVariants as forms
+use Rattle.wait_model.specs.declared.tasks.Sleep.TheVariants as sleeps
+use Rattle.wait_model.specs.declared.tasks.SleepState.TheVariants as states
 use Rattle.wait_model.specs.declared.calls.Call.TheVariants as calls
 use Rattle.wait_model.specs.declared.calls.Event.TheVariants as event
 use Rattle.wait_model.specs.declared.calls.Answer.TheVariants as answers
@@ -18,7 +22,7 @@ use Rattle.wait_model.specs.declared.points.SelectPoint.TheVariants as selecting
 use Rattle.wait_model.specs.Runs.{State, looks, all_peeks, happens, state_of}
 use Rattle.wait_model.specs.Tables.{met}
 use Rattle.wait_model.specs.Watches.{hashed, head_of, owner}
-use Rattle.wait_model.specs.Words.{bit_at, bit_word, entry_of}
+use Rattle.wait_model.specs.Words.{bit_at, bit_word, entry_of, entry_word}
 use Rattle.wait_model.specs.Tasks.{meets}
 use Rattle.wait_model.specs.Followed.{StaysMet, IsFollowed}
 use Rattle.wait_model.specs.Worked.{replay}
@@ -65,13 +69,38 @@ no_member = record {
       (happens (state_of (take 3 (replay cleared_alone).run)) (ran.Made 1 (event.Clear 0 0) 1)) (watch.Bit 0 0) refl;
 }
 
-for_all : IsFollowed (replay completed_for_all).run 2 (watch.Done 0) (watch.Done 0)
+-- the run of a completion for all until its store, and from there until its walk is over
+abbrev until_done : List Ran
+until_done = ran.Opened 1 (calls.WaitFor 0 states.Uninterruptible) ∷ ran.Made 1 (event.Lock FIRST_DONE_HEAD) 0
+    ∷ ran.Made 1 (event.Load FIRST_DONE 0) 0 ∷ ran.Made 1 (event.Queue FIRST_DONE_HEAD forms.Tail) 0
+    ∷ ran.Made 1 (event.State UNINTERRUPTIBLE) RUNNABLE ∷ ran.Made 1 (event.Unlock FIRST_DONE_HEAD false) 1
+    ∷ ran.Made 1 (event.Sleep sleeps.Asleep) (RUNNABLE + UNINTERRUPTIBLE) ∷ ran.Opened 2 (calls.CompleteAll 0)
+    ∷ ran.Made 2 (event.Lock FIRST_DONE_HEAD) 0 ∷ []
+
+abbrev until_taken : List Ran
+until_taken = ran.Made 2 (event.Wake 1 true) UNINTERRUPTIBLE ∷ ran.Made 2 (event.Unqueue 1) (entry_word (Some (record {
+  watch = watch.Done 0;
+  place = FIRST_PLACE;
+  exclusive = false;
+  priority = false;
+  kind = kind.Simple;
+}))) ∷ []
+
+abbrev done_run : List Ran
+done_run = until_done ++ ran.Made 2 (event.Set FIRST_DONE ALL_DONE) 0 ∷ (until_taken
+    ++ ran.Made 2 (event.Unlock FIRST_DONE_HEAD false) 1 ∷ [])
+
+for_all_told : (replay completed_for_all).run ≡ done_run
 unfolding looks hashed head_of owner meets
-for_all = record {
-  before = take 9 (replay completed_for_all).run;
+for_all_told = refl
+
+in_done_run : IsFollowed done_run 2 (watch.Done 0) (watch.Done 0)
+unfolding looks hashed head_of owner meets
+in_done_run = record {
+  before = until_done;
   publish = event.Set FIRST_DONE ALL_DONE;
   found = 0;
-  between = take 2 (drop 10 (replay completed_for_all).run);
+  between = until_taken;
   end = event.Unlock FIRST_DONE_HEAD false;
   end_found = 1;
   later = [];
@@ -88,11 +117,12 @@ for_all = record {
     whole = refl;
   };
   watch = refl;
-  stays = stays_met
-      (take 2 (drop 10 (replay completed_for_all).run) ++ ran.Made 2 (event.Unlock FIRST_DONE_HEAD false) 1 ∷ [])
-      (happens (state_of (take 9 (replay completed_for_all).run)) (ran.Made 2 (event.Set FIRST_DONE ALL_DONE) 0))
-      (watch.Done 0) refl;
+  stays = stays_met (until_taken ++ ran.Made 2 (event.Unlock FIRST_DONE_HEAD false) 1 ∷ [])
+      (happens (state_of until_done) (ran.Made 2 (event.Set FIRST_DONE ALL_DONE) 0)) (watch.Done 0) refl;
 }
+
+for_all : IsFollowed (replay completed_for_all).run 2 (watch.Done 0) (watch.Done 0)
+for_all = subst (λ (run : List Ran). IsFollowed run 2 (watch.Done 0) (watch.Done 0)) (sym for_all_told) in_done_run
 
 by_walk_told : (replay set_and_woken).run ≡ whole_run
 unfolding looks hashed head_of owner meets

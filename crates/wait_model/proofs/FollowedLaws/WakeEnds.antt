@@ -1,6 +1,6 @@
 -- Where a call that wakes comes to its end, no entry for its watch is before its walk, or stands at all.
 use Rattle.std.proofs.Common.{refl, sym, ◌∙◌, ap, subst, arith}
-use Rattle.std.proofs.lemmas.Bool.Decides.{nat_tests}
+use Rattle.std.proofs.lemmas.Bool.{lt-ltb, ltb-true}
 use Rattle.std.specs.Prelude.{ℕ, ◌≡◌, ◌<◌, Bool, true, false, if◌then◌else◌, nat_lt, Option, Some, None, List, [], ◌∷◌}
 use Rattle.wait_model.specs.declared.layout.TheConstants.{ENTRIES}
 use Rattle.wait_model.specs.declared.watches.Watch.{Watch}
@@ -35,7 +35,7 @@ use Rattle.wait_model.specs.Tasks.{meets}
 use Rattle.wait_model.specs.Watches.{same, mask_of, owner}
 use Rattle.wait_model.specs.Queues.{rank, is_entry, entry_from, has_members, Arrival, IsIn}
 use Rattle.wait_model.specs.Points.{call_aim, call_watch, call_head, mode_of, called_task, given_at}
-use Rattle.wait_model.specs.Programs.{go, past, reached, hands_event, call_entry, call_next, select_next, select_ends}
+use Rattle.wait_model.specs.Programs.{go, reached, hands_event, call_entry, call_next, select_next, select_ends}
 use Rattle.wait_model.specs.Programs.{is_enough, active_event, selected_answer}
 use Rattle.wait_model.specs.Runs.{State, called_as, called_of, called_by, seen_by, event_steps, planned}
 use Rattle.wait_model.specs.Followed.{is_wake, is_end, comes_to_end}
@@ -92,31 +92,26 @@ walking_call (calls.Complete d) p w h = absurd (cc)
 walking_call (calls.CompleteAll d) p w h = absurd (cc)
 walking_call call p w h = absurd (cc)
 
--- an event after which the call goes on does not end it
-goes_on : (e : Event) (b : Bool) (p q : Point) (a : Answer) → (go e (if b then p else q)).next ≡ next.Ends a → ⊥
-goes_on e true p q a h = cc
-goes_on e false p q a h = cc
-
-walks_on : (e : Event) (b : Bool) (p q : WalkPoint) (a : Answer)
-    → (go e (at.Walk (if b then p else q))).next ≡ next.Ends a → ⊥
-walks_on e b p q a h = cc
+-- a call that goes on does not end
+goes_on : (p : Point) (a : Answer) → next.Go p ≡ next.Ends a → ⊥
+goes_on p a h = cc
 
 entry_on : (aim : Aim) (w : Walking) (c : CalledEntry) (k : Kind) (seen : Seen) (hit : Bool) (a : Answer)
     → (call_entry aim w c k seen hit).next ≡ next.Ends a → ⊥
-entry_on aim w c kind.Default seen hit a h = goes_on (event.Wake c.who hit) (past w c hit).spent _ _ a h
-entry_on aim w c kind.Autoremove seen hit a h = cc
-entry_on aim w c kind.Woken seen hit a h = cc
-entry_on aim w c kind.Bit seen hit a h = cc
-entry_on aim w c kind.Var seen hit a h = cc
-entry_on aim w c kind.Simple seen hit a h = goes_on (event.Wake c.who hit) (past w c hit).spent _ _ a h
-entry_on aim w c kind.Page seen hit a h = cc
+entry_on aim w c kind.Default seen hit a h = goes_on _ a h
+entry_on aim w c kind.Autoremove seen hit a h = goes_on _ a h
+entry_on aim w c kind.Woken seen hit a h = goes_on _ a h
+entry_on aim w c kind.Bit seen hit a h = goes_on _ a h
+entry_on aim w c kind.Var seen hit a h = goes_on _ a h
+entry_on aim w c kind.Simple seen hit a h = goes_on _ a h
+entry_on aim w c kind.Page seen hit a h = goes_on _ a h
 
 hands_on : (aim : Aim) (st : PageStage) (w : Walking) (c : CalledEntry) (seen : Seen) (a : Answer)
     → (hands_event aim st w c seen).next ≡ next.Ends a → ⊥
-hands_on aim staging.Try w c seen a h = cc
-hands_on aim staging.Hand w c seen a h = cc
-hands_on aim staging.Wake w c seen a h = cc
-hands_on aim staging.Off w c seen a h = goes_on (event.Unqueue c.who) (past w c true).spent _ _ a h
+hands_on aim staging.Try w c seen a h = goes_on _ a h
+hands_on aim staging.Hand w c seen a h = goes_on _ a h
+hands_on aim staging.Wake w c seen a h = goes_on _ a h
+hands_on aim staging.Off w c seen a h = goes_on _ a h
 
 -- a walk that ended otherwise, and a selection that used up its count, did not come to their ends
 not_whole : (w : Walked) (e : Event) (a : Answer) → next.Ends (answers.Walk w) ≡ next.Ends a → is_end w.end ≡ false
@@ -134,6 +129,21 @@ not_selected h call j a end whole =
     by : (c : Call) → comes_to_end (event.Unlock h true) (selected_answer c j) ≡ true → ⊥
     by (calls.SimpleWake c all) k = cc
     by c k = cc
+
+untrue : false ≡ true → ⊥
+untrue h = cc
+
+none_below : (n : ℕ) → n < 0 → ⊥
+none_below n h = omega arith
+
+some_called : (entry : ℕ → Option Entry) (m : Member) (g : Entry) → entry m.at ≡ Some g
+    → called_by entry (Some m) ≡ None → ⊥
+some_called entry m g is h =
+    let z : Some (called_of (owner m.at) g) ≡ None = sym (ap (called_as (owner m.at)) is) ∙ h in cc
+
+empty : (q : List Member) (m : Member) → has_members q ≡ false → IsIn m q → ⊥
+empty [] m h i = i
+empty (x ∷ xs) m h i = cc
 
 module _ (s : State) (n me : ℕ) (call : Call) (on : Watch) (sound : IsSound s n)
     (wakes : is_wake call ≡ true) (for_call : same on (call_watch call) ≡ true) where
@@ -184,47 +194,39 @@ module _ (s : State) (n me : ℕ) (call : Call) (on : Watch) (sound : IsSound s 
     turn_ends : (b : Bool) → r.breaks ≡ b → Ends (at.Walk (walking.Call w)) (if b
         then go (event.Mark (call_head call)) (at.Walk (walking.BreakUnlock (reached w r.calls)))
         else calls_on (called_by s.table.entry (if b then None else r.member)))
-    turn_ends true is a end whole = absurd (cc)
+    turn_ends true is a end whole = absurd (goes_on _ a end)
     turn_ends false is a end whole = called_ends (called_by s.table.entry r.member) is refl a end whole
 
   walk_ends : (p : WalkPoint) → IsCallSound n call (at.Walk p) → is_at_home call (at.Walk p) ≡ true
       → Ends (at.Walk p) (planned s me call (at.Walk p))
   walk_ends (walking.Call w) k home a end whole = turn_ends w k home (r w k home).breaks refl a end whole
-  walk_ends (walking.Wake w c) k home a end whole = absurd (goes_on
-      (event.Wake c.who (meets (mask_of (mode_of call)) (s.table.task c.who).state))
-      (past w c (meets (mask_of (mode_of call)) (s.table.task c.who).state)).spent _ _ a end)
-  walk_ends (walking.Unqueue w who) k home a end whole = absurd (goes_on (event.Unqueue who) w.spent _ _ a end)
+  walk_ends (walking.Wake w c) k home a end whole = absurd (goes_on _ a end)
+  walk_ends (walking.Unqueue w who) k home a end whole = absurd (goes_on _ a end)
   walk_ends (walking.Spent w) k home a end whole = absurd (not_whole _ (event.Unlock (call_head call) true) a end
       refl whole)
   walk_ends (walking.Stopped w) k home a end whole = absurd (not_whole _ (event.Unlock (call_head call) false) a end
       refl whole)
   walk_ends (walking.Page st w c) k home a end whole = absurd (hands_on (call_aim call) st w c
       (seen_by s me call (at.Walk (walking.Page st w c))) a end)
-  walk_ends walking.Lock k home a end whole = absurd (cc)
-  walk_ends (walking.Bit w c) k home a end whole = absurd (cc)
-  walk_ends (walking.BreakUnlock w) k home a end whole = absurd (cc)
-  walk_ends (walking.BreakLock w) k home a end whole = absurd (cc)
-  walk_ends (walking.Unmark w) k home a end whole = absurd (cc)
+  walk_ends walking.Lock k home a end whole = absurd (goes_on _ a end)
+  walk_ends (walking.Bit w c) k home a end whole = absurd (goes_on _ a end)
+  walk_ends (walking.BreakUnlock w) k home a end whole = absurd (goes_on _ a end)
+  walk_ends (walking.BreakLock w) k home a end whole = absurd (goes_on _ a end)
+  walk_ends (walking.Unmark w) k home a end whole = absurd (goes_on _ a end)
 
   -- the end of a selection: no entry is left
-  some_called : (m : Member) (g : Entry) → s.table.entry m.at ≡ Some g → called_by s.table.entry (Some m) ≡ None → ⊥
-  some_called m g is h =
-      let z : Some (called_of (owner m.at) g) ≡ None = sym (ap (called_as (owner m.at)) is) ∙ h in cc
-
   none_first : (o : Option Member) → IsFirstFrom is_entry 0 (s.queue (call_head call)) o
       → called_by s.table.entry o ≡ None → (y : ℕ) (e : Entry) → s.table.entry y ≡ Some e → same on e.watch ≡ true → ⊥
   none_first None f none y e stands watches =
       let small : y < ENTRIES = entry_number s.table.entry s.table.mark s.queue n sound.linked y e stands in
-      let b : nat_lt y ENTRIES ≡ true = grind (arith, nat_tests) in
-      let lt : rank (record { at = y; place = e.place }) < 0 =
-      f (record { at = y; place = e.place }) (member_of y e stands watches) b in
-      omega arith
+      let b : nat_lt y ENTRIES ≡ true = lt-ltb y ENTRIES small in
+      none_below (rank (record { at = y; place = e.place }))
+      (f (record { at = y; place = e.place }) (member_of y e stands watches) b)
   none_first (Some m) f none y e stands watches =
-      let b : nat_lt m.at ENTRIES ≡ true = f.1 in
       let k : IsMember s.table.entry (call_head call) m = member_is s.table.entry s.table.mark s.queue n
       (call_head call) m
-      sound.linked.ordered (grind (arith, nat_tests)) f.0 in
-      some_called m k.entry k.stands none
+      sound.linked.ordered (ltb-true m.at ENTRIES f.1) f.0 in
+      some_called s.table.entry m k.entry k.stands none
 
   chosen_ends : (j : ℕ) (o : Option CalledEntry)
       → called_by s.table.entry (entry_from 0 (s.queue (call_head call))) ≡ o → (hit : Bool)
@@ -235,7 +237,7 @@ module _ (s : State) (n me : ℕ) (call : Call) (on : Watch) (sound : IsSound s 
         watches),
     refl,
   )
-  chosen_ends j (Some c) is hit a end whole = absurd (cc)
+  chosen_ends j (Some c) is hit a end whole = absurd (goes_on _ a end)
 
   select_ended : (p : SelectPoint) → Ends (at.Select p) (planned s me call (at.Select p))
   select_ended (selecting.Next j) a end whole = by (is_enough call j) a end whole
@@ -247,18 +249,14 @@ module _ (s : State) (n me : ℕ) (call : Call) (on : Watch) (sound : IsSound s 
       by true a end whole = absurd (not_selected (call_head call) call j a end whole)
       by false a end whole = chosen_ends j (called_by s.table.entry (entry_from 0 (s.queue (call_head call)))) refl _
           a end whole
-  select_ended selecting.Lock a end whole = absurd (cc)
-  select_ended selecting.Load a end whole = absurd (cc)
-  select_ended selecting.Store a end whole = absurd (cc)
-  select_ended (selecting.Off j who) a end whole = absurd (cc)
+  select_ended selecting.Lock a end whole = absurd (goes_on _ a end)
+  select_ended selecting.Load a end whole = absurd (goes_on _ a end)
+  select_ended selecting.Store a end whole = absurd (goes_on _ a end)
+  select_ended (selecting.Off j who) a end whole = absurd (goes_on _ a end)
 
   -- a look without the lock that finds no member
-  empty : (q : List Member) (m : Member) → has_members q ≡ false → IsIn m q → ⊥
-  empty [] m h i = i
-  empty (x ∷ xs) m h i = cc
-
   active_ends : (b : Bool) → has_members (s.queue (call_head call)) ≡ b → Ends at.Active (active_event call b)
-  active_ends true is a end whole = absurd (cc)
+  active_ends true is a end whole = absurd (goes_on _ a end)
   active_ends false is a end whole = (
     (λ y e stands watches ah. empty (s.queue (call_head call)) (record { at = y; place = e.place }) is
         (member_of y e stands watches)),
@@ -269,5 +267,5 @@ module _ (s : State) (n me : ℕ) (call : Call) (on : Watch) (sound : IsSound s 
   ends_gone (at.Walk p) k home a end whole = walk_ends p k home a end whole
   ends_gone (at.Select p) k home a end whole = select_ended p a end whole
   ends_gone at.Active k home a end whole = active_ends (has_members (s.queue (call_head call))) refl a end whole
-  ends_gone at.Publish k home a end whole = absurd (cc)
-  ends_gone p k home a end whole = absurd (let z : is_waking p ≡ true = waking_point call p wakes home in cc)
+  ends_gone at.Publish k home a end whole = absurd (goes_on _ a end)
+  ends_gone p k home a end whole = absurd (untrue (waking_point call p wakes home))

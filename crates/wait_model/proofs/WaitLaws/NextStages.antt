@@ -47,7 +47,7 @@ use Rattle.wait_model.specs.declared.points.WokenPoint.{WokenPoint}
 use Rattle.wait_model.specs.declared.points.WokenPoint.TheVariants as hearing
 use Rattle.wait_model.specs.declared.points.Progress.TheVariants as now
 use Rattle.wait_model.specs.Functions.{put}
-use Rattle.wait_model.specs.Tasks.{IsLawful, sleep_of, meets, pending, woken, slept, task_word, state_mask, looks_in}
+use Rattle.wait_model.specs.Tasks.{IsLawful, sleep_of, meets, pending, slept, task_word, state_mask, looks_in}
 use Rattle.wait_model.specs.Watches.{head_of, bare, mask_of, misses, failing, word_of, bit_of, is_page}
 use Rattle.wait_model.specs.Readings.{FailedLoad}
 use Rattle.wait_model.specs.Points.{call_number, is_bit_wait, is_lock, call_watch, call_head, form_of, state_in}

@@ -2,7 +2,7 @@
 -- and whoever sleeps has found the page set since its entry was queued.
 use Rattle.std.proofs.lemmas.Bool.Decides.{nat_tests}
 use Rattle.std.proofs.Common.{refl, sym, ◌∙◌, ap, subst, arith, inl, inr}
-use Rattle.std.specs.Prelude.{ℕ, ◌≡◌, ◌≢◌, ◌⊎◌, Bool, true, false, not, ◌||◌, ◌==◌, if◌then◌else◌, is_some, Option}
+use Rattle.std.specs.Prelude.{ℕ, ◌≡◌, ◌≢◌, ◌⊎◌, Bool, true, false, ◌||◌, ◌==◌, if◌then◌else◌, is_some, Option}
 use Rattle.std.specs.Prelude.{Some, None}
 use Rattle.wait_model.specs.declared.watches.Watch.{Watch}
 use Rattle.wait_model.specs.declared.watches.Mode.TheVariants as mode
@@ -32,7 +32,6 @@ use Rattle.wait_model.specs.declared.points.AwaitPoint.TheVariants as awaiting
 use Rattle.wait_model.specs.declared.points.BitPoint.TheVariants as biting
 use Rattle.wait_model.specs.declared.points.Progress.{Progress}
 use Rattle.wait_model.specs.declared.points.Progress.TheVariants as now
-use Rattle.wait_model.specs.Functions.{put}
 use Rattle.wait_model.specs.Tasks.{meets, IsLawful, pending, looks_in, state_mask, slept, woken}
 use Rattle.wait_model.specs.Words.{head_word}
 use Rattle.wait_model.specs.Watches.{is_page, is_bit, misses, word_of, page, mask_of}

@@ -30,11 +30,10 @@ use Rattle.wait_model.specs.Functions.{put}
 use Rattle.wait_model.specs.Tasks.{woken}
 use Rattle.wait_model.specs.Watches.{is_page, misses, word_of, page, mask_of}
 use Rattle.wait_model.specs.Views.{View}
-use Rattle.wait_model.specs.Fold.{after}
 use Rattle.wait_model.specs.Tables.{Table, value_of}
 use Rattle.wait_model.specs.Points.{call_watch, given_at}
 use Rattle.wait_model.specs.Programs.{program_start, past}
-use Rattle.wait_model.specs.Reached.{held_at, handed_by, HomeAt, IsTaken, IsSound, IsSoundCall, pages, zone}
+use Rattle.wait_model.specs.Reached.{held_at, handed_by, HomeAt, IsTaken, IsSound, IsSoundCall, zone}
 use Rattle.wait_model.specs.Runs.{State, own, given_by, planned, seen_by, progress_at, progress_after, event_steps}
 use Rattle.wait_model.specs.Runs.{happens, start_state, state_after, state_of, Continues, IsItem, IsRunFrom, IsRun}
 use Rattle.wait_model.specs.Runs.{made_in}

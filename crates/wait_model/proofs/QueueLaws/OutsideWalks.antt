@@ -69,171 +69,220 @@ pub record IsAway (x : Planned) : Type 0 where
   pub event : IsUnmarked x.event
   pub next : goes_away x.next ≡ true
 
-signalled_away : (c : Call) → is_away (signalled_at c) ≡ true
-signalled_away (calls.WaitFor d st) = refl
-signalled_away c = refl
+-- the events that move no bookmark and take no page for a task
+abbrev pub IsPlainEvent : Event → Type 0
+IsPlainEvent (event.Mark h) = ⊥
+IsPlainEvent (event.Unmark h) = ⊥
+IsPlainEvent (event.TasFor p who found) = ⊥
+IsPlainEvent _ = Unit {0}
 
-prepared_away : (c : Call) → is_away (prepared_at c) ≡ true
-prepared_away (calls.WaitFor d st) = refl
-prepared_away c = refl
+-- the places outside walks and outside locks of pages
+abbrev pub IsPlainPoint : Point → Type 0
+IsPlainPoint (at.Walk p) = ⊥
+IsPlainPoint (at.Page p) = ⊥
+IsPlainPoint _ = Unit {0}
 
-worn_away : (c : Call) → goes_away (worn_next c) ≡ true
-worn_away (calls.WaitFor d st) = refl
-worn_away c = refl
+-- the places outside walks, and outside what a lock of a page does under the head's lock
+abbrev is_plain : Point → Bool
+is_plain (at.Page paging.Lock) = false
+is_plain (at.Page paging.Queue) = false
+is_plain p = is_away p
 
-slept_away : (c : Call) → is_away (slept_at c) ≡ true
-slept_away (calls.WaitFor d st) = refl
-slept_away c = refl
+abbrev pub goes_plain : Next → Bool
+goes_plain (next.Go p) = is_plain p
+goes_plain (next.Ends a) = true
 
-published_unmarked : (c : Call) → IsUnmarked (publishing_event c)
-published_unmarked (calls.ClearBit w b) = tt
-published_unmarked c = tt
+pub record IsPlain (x : Planned) : Type 0 where
+  pub event : IsPlainEvent x.event
+  pub next : goes_plain x.next ≡ true
 
-both : (b : Bool) (x y : Planned) → IsAway x → IsAway y → IsAway (if b then x else y)
+unmarked : (e : Event) → IsPlainEvent e → IsUnmarked e
+unmarked (event.Mark h) u = u
+unmarked (event.Unmark h) u = u
+unmarked e u = tt
+
+stays_away : (n : Next) → goes_plain n ≡ true → goes_away n ≡ true
+stays_away (next.Go (at.Page p)) h = refl
+stays_away n h = h
+
+plain_away : (x : Planned) → IsPlain x → IsAway x
+plain_away x h = record { event = unmarked x.event h.event; next = stays_away x.next h.next }
+
+away_both : (b : Bool) (x y : Planned) → IsAway x → IsAway y → IsAway (if b then x else y)
+away_both true x y p q = p
+away_both false x y p q = q
+
+signalled_plain : (c : Call) → is_plain (signalled_at c) ≡ true
+signalled_plain (calls.WaitFor d st) = refl
+signalled_plain c = refl
+
+prepared_plain : (c : Call) → is_plain (prepared_at c) ≡ true
+prepared_plain (calls.WaitFor d st) = refl
+prepared_plain c = refl
+
+worn_plain : (c : Call) → goes_plain (worn_next c) ≡ true
+worn_plain (calls.WaitFor d st) = refl
+worn_plain c = refl
+
+slept_plain : (c : Call) → is_plain (slept_at c) ≡ true
+slept_plain (calls.WaitFor d st) = refl
+slept_plain c = refl
+
+published_plain : (c : Call) → IsPlainEvent (publishing_event c)
+published_plain (calls.ClearBit w b) = tt
+published_plain c = tt
+
+both : (b : Bool) (x y : Planned) → IsPlain x → IsPlain y → IsPlain (if b then x else y)
 both true x y p q = p
 both false x y p q = q
 
-one_of : (b : Bool) (e : Event) (p q : Point) → IsAway (go e p) → IsAway (go e q)
-    → IsAway (go e (if b then p else q))
+one_of : (b : Bool) (e : Event) (p q : Point) → IsPlain (go e p) → IsPlain (go e q)
+    → IsPlain (go e (if b then p else q))
 one_of true e p q h k = h
 one_of false e p q h k = k
 
 module _ (call : Call) (me : ℕ) (seen : Seen) where
-  asks : IsUnmarked (ask call seen)
+  asks : IsPlainEvent (ask call seen)
   asks = by (is_lock call)
     where
-      by : (b : Bool) → IsUnmarked (if b then exchange call seen else load call seen)
+      by : (b : Bool) → IsPlainEvent (if b then exchange call seen else load call seen)
       by true = tt
       by false = tt
 
-  prepare_away : (p : PreparePoint) → IsAway (prepare_event call p seen)
-  prepare_away preparing.Look = one_of _ _ (signalled_at call) (at.Prepare preparing.Queue)
-      (record { event = tt; next = signalled_away call }) (record { event = tt; next = refl })
-  prepare_away preparing.Queue = both (is_some seen.entry) _ _ (record { event = tt; next = refl })
-      (both seen.worn _ _ (record { event = tt; next = worn_away call }) (record { event = tt; next = refl }))
-  prepare_away preparing.Unlock = record { event = tt; next = prepared_away call }
-  prepare_away p = record { event = tt; next = refl }
+  prepare_plain : (p : PreparePoint) → IsPlain (prepare_event call p seen)
+  prepare_plain preparing.Look = one_of _ _ (signalled_at call) (at.Prepare preparing.Queue)
+      (record { event = tt; next = signalled_plain call }) (record { event = tt; next = refl })
+  prepare_plain preparing.Queue = both (is_some seen.entry) _ _ (record { event = tt; next = refl })
+      (both seen.worn _ _ (record { event = tt; next = worn_plain call }) (record { event = tt; next = refl }))
+  prepare_plain preparing.Unlock = record { event = tt; next = prepared_plain call }
+  prepare_plain p = record { event = tt; next = refl }
 
-  leave_away : (p : LeavePoint) → IsAway (leave_event me call p seen)
-  leave_away leaving.Queue = both (is_some seen.entry) _ _ (record { event = tt; next = refl })
+  leave_plain : (p : LeavePoint) → IsPlain (leave_event me call p seen)
+  leave_plain leaving.Queue = both (is_some seen.entry) _ _ (record { event = tt; next = refl })
       (record { event = tt; next = refl })
-  leave_away leaving.Unlock = record { event = tt; next = refl }
-  leave_away leaving.Load = both (call_fails call seen) _ _ (record { event = tt; next = refl })
+  leave_plain leaving.Unlock = record { event = tt; next = refl }
+  leave_plain leaving.Load = both (call_fails call seen) _ _ (record { event = tt; next = refl })
       (record { event = tt; next = refl })
 
-  finished_away : (failed : Bool) (e : Event) → IsUnmarked e → IsAway (finished call failed e)
-  finished_away failed e u = both (failed && is_lock call) _ _ (record { event = u; next = refl })
+  finished_plain : (failed : Bool) (e : Event) → IsPlainEvent e → IsPlain (finished call failed e)
+  finished_plain failed e u = both (failed && is_lock call) _ _ (record { event = u; next = refl })
       (record { event = u; next = refl })
 
-  finish_away : (p : FinishPoint) (failed : Bool) → IsAway (finish_event me call p failed seen)
-  finish_away finishing.Look failed = both (is_some seen.entry) _ _ (record { event = tt; next = refl })
-      (finished_away failed _ tt)
-  finish_away finishing.Queue failed = both (is_some seen.entry) _ _ (record { event = tt; next = refl })
-      (finished_away failed _ tt)
-  finish_away finishing.Unlock failed = finished_away failed _ tt
-  finish_away p failed = record { event = tt; next = refl }
+  finish_plain : (p : FinishPoint) (failed : Bool) → IsPlain (finish_event me call p failed seen)
+  finish_plain finishing.Look failed = both (is_some seen.entry) _ _ (record { event = tt; next = refl })
+      (finished_plain failed _ tt)
+  finish_plain finishing.Queue failed = both (is_some seen.entry) _ _ (record { event = tt; next = refl })
+      (finished_plain failed _ tt)
+  finish_plain finishing.Unlock failed = finished_plain failed _ tt
+  finish_plain p failed = record { event = tt; next = refl }
 
-  bit_away : (p : BitPoint) → IsAway (bit_event call p seen)
-  bit_away biting.First = both (call_fails call seen) _ _ (record { event = asks; next = refl })
+  bit_plain : (p : BitPoint) → IsPlain (bit_event call p seen)
+  bit_plain biting.First = both (call_fails call seen) _ _ (record { event = asks; next = refl })
       (record { event = asks; next = refl })
-  bit_away biting.Look = by (pending (state_mask (state_in call)) seen.own)
+  bit_plain biting.Look = by (pending (state_mask (state_in call)) seen.own)
     where
-      by : (hit : Bool) → IsAway (go (event.Look hit) (acted call hit))
+      by : (hit : Bool) → IsPlain (go (event.Look hit) (acted call hit))
       by hit = one_of (hit && is_lock call) _ (at.Finish finishing.State true) (at.Bit (biting.Again hit))
           (record { event = tt; next = refl }) (record { event = tt; next = refl })
-  bit_away (biting.Again failed) = one_of (call_fails call seen && not failed) _ (at.Prepare preparing.Lock)
+  bit_plain (biting.Again failed) = one_of (call_fails call seen && not failed) _ (at.Prepare preparing.Lock)
       (at.Finish finishing.State failed) (record { event = asks; next = refl })
       (record { event = asks; next = refl })
-  bit_away p = record { event = tt; next = refl }
+  bit_plain p = record { event = tt; next = refl }
+
+  active_plain : (b : Bool) → IsPlain (active_event call b)
+  active_plain true = record { event = tt; next = refl }
+  active_plain false = record { event = tt; next = refl }
+
+  add_plain : (p : AddPoint) → IsPlain (add_event call p seen)
+  add_plain adding.Lock = record { event = tt; next = refl }
+  add_plain adding.Queue = both seen.worn _ _ (record { event = tt; next = refl }) (record { event = tt; next = refl })
+  add_plain adding.Unlock = record { event = tt; next = refl }
+
+  remove_plain : (p : RemovePoint) → IsPlain (remove_event me p seen)
+  remove_plain removing.Lock = record { event = tt; next = refl }
+  remove_plain (removing.Queue c) = record { event = tt; next = refl }
+  remove_plain (removing.Unlock c) = record { event = tt; next = refl }
+
+  woken_plain : (p : WokenPoint) → IsPlain (woken_event call p seen)
+  woken_plain hearing.State = record { event = tt; next = refl }
+  woken_plain p = record { event = tt; next = refl }
+
+  chosen_plain : (j : ℕ) (o : Option CalledEntry) (hit : Bool) → IsPlain (select_next call j o hit)
+  chosen_plain j None hit = record { event = tt; next = refl }
+  chosen_plain j (Some c) hit = record { event = tt; next = refl }
+
+  select_plain : (p : SelectPoint) → IsPlain (select_event call p seen)
+  select_plain (selecting.Next j) = both (is_enough call j) _ _ (record { event = tt; next = refl })
+      (chosen_plain j seen.called (meets (mask_of mode.Normal) seen.other.state))
+  select_plain p = record { event = tt; next = refl }
+
+  ends_plain : (b : Bool) → IsPlain (await_ends call b seen)
+  ends_plain true = record { event = tt; next = refl }
+  ends_plain false = both (is_at_end seen.value) _ _ (record { event = tt; next = refl })
+      (record { event = tt; next = refl })
+
+  await_plain_after : (waited zero : Bool) → IsPlain (go (load call seen) (await_after call waited zero))
+  await_plain_after waited true = record { event = tt; next = refl }
+  await_plain_after true false = record { event = tt; next = refl }
+  await_plain_after false false = record { event = tt; next = refl }
+
+  await_plain : (p : AwaitPoint) → IsPlain (await_event me call p seen)
+  await_plain (awaiting.Load waited) = await_plain_after waited (seen.value == 0)
+  await_plain (awaiting.Off stopped) = both (is_some seen.entry) _ _ (record { event = tt; next = refl })
+      (ends_plain stopped)
+  await_plain (awaiting.Last stopped) = ends_plain stopped
+  await_plain p = record { event = tt; next = refl }
+
+  count_plain : (p : CountPoint) → IsPlain (count_event call p seen)
+  count_plain counting.Peek = both (seen.value == 0) _ _ (record { event = tt; next = refl })
+      (record { event = tt; next = refl })
+  count_plain p = record { event = tt; next = refl }
+
+  -- each event of a program outside walks and outside locks of pages
+  pub program_plain : (p : Point) → IsPlainPoint p → IsPlain (program me call p seen)
+  program_plain at.First o = both (call_fails call seen) _ _ (record { event = tt; next = refl })
+      (record { event = tt; next = refl })
+  program_plain (at.Prepare p) o = prepare_plain p
+  program_plain at.Test o = one_of (call_fails call seen) _ at.Sleep (at.Finish finishing.State false)
+      (record { event = tt; next = refl }) (record { event = tt; next = refl })
+  program_plain (at.Leave p) o = leave_plain p
+  program_plain (at.Finish p failed) o = finish_plain p failed
+  program_plain (at.Bit p) o = bit_plain p
+  program_plain (at.Page p) o = absurd o
+  program_plain at.Worn o = both (call_fails call seen) _ _ (record { event = asks; next = refl })
+      (both (is_lock call) _ _ (record { event = asks; next = refl }) (record { event = asks; next = refl }))
+  program_plain at.Publish o = record { event = published_plain call; next = refl }
+  program_plain at.Active o = active_plain seen.members
+  program_plain (at.Walk p) o = absurd o
+  program_plain (at.Add p) o = add_plain p
+  program_plain (at.Remove p) o = remove_plain p
+  program_plain (at.Woken p) o = woken_plain p
+  program_plain at.Sleep o = record { event = tt; next = slept_plain call }
+  program_plain (at.Select p) o = select_plain p
+  program_plain (at.Await p) o = await_plain p
+  program_plain (at.Count p) o = count_plain p
+  program_plain p o = record { event = tt; next = refl }
 
   page_finish_away : (p : FinishPoint) → IsAway (page_finish_event me call p seen)
-  page_finish_away finishing.Look = both (is_some seen.entry) _ _ (record { event = tt; next = refl })
+  page_finish_away finishing.Look = away_both (is_some seen.entry) _ _ (record { event = tt; next = refl })
       (record { event = tt; next = refl })
-  page_finish_away finishing.Queue = both (is_some seen.entry) _ _ (record { event = tt; next = refl })
+  page_finish_away finishing.Queue = away_both (is_some seen.entry) _ _ (record { event = tt; next = refl })
       (record { event = tt; next = refl })
   page_finish_away p = record { event = tt; next = refl }
 
   page_away : (p : PagePoint) → IsAway (page_event me call p seen)
-  page_away paging.First = both (call_fails call seen) _ _ (record { event = tt; next = refl })
+  page_away paging.First = away_both (call_fails call seen) _ _ (record { event = tt; next = refl })
       (record { event = tt; next = refl })
-  page_away paging.Queue = both seen.worn _ _ (record { event = tt; next = refl }) (record { event = tt; next = refl })
+  page_away paging.Queue = away_both seen.worn _ _ (record { event = tt; next = refl }) (record { event = tt; next = refl })
   page_away (paging.Unlock true) = record { event = tt; next = refl }
   page_away (paging.Unlock false) = record { event = tt; next = refl }
   page_away (paging.Finish p) = page_finish_away p
-  page_away paging.Last = both seen.flag _ _ (record { event = tt; next = refl })
+  page_away paging.Last = away_both seen.flag _ _ (record { event = tt; next = refl })
       (record { event = tt; next = refl })
   page_away p = record { event = tt; next = refl }
 
-  active_away : (b : Bool) → IsAway (active_event call b)
-  active_away true = record { event = tt; next = refl }
-  active_away false = record { event = tt; next = refl }
-
-  add_away : (p : AddPoint) → IsAway (add_event call p seen)
-  add_away adding.Lock = record { event = tt; next = refl }
-  add_away adding.Queue = both seen.worn _ _ (record { event = tt; next = refl }) (record { event = tt; next = refl })
-  add_away adding.Unlock = record { event = tt; next = refl }
-
-  remove_away : (p : RemovePoint) → IsAway (remove_event me p seen)
-  remove_away removing.Lock = record { event = tt; next = refl }
-  remove_away (removing.Queue c) = record { event = tt; next = refl }
-  remove_away (removing.Unlock c) = record { event = tt; next = refl }
-
-  woken_away : (p : WokenPoint) → IsAway (woken_event call p seen)
-  woken_away hearing.State = record { event = tt; next = refl }
-  woken_away p = record { event = tt; next = refl }
-
-  chosen_away : (j : ℕ) (o : Option CalledEntry) (hit : Bool) → IsAway (select_next call j o hit)
-  chosen_away j None hit = record { event = tt; next = refl }
-  chosen_away j (Some c) hit = record { event = tt; next = refl }
-
-  select_away : (p : SelectPoint) → IsAway (select_event call p seen)
-  select_away (selecting.Next j) = both (is_enough call j) _ _ (record { event = tt; next = refl })
-      (chosen_away j seen.called (meets (mask_of mode.Normal) seen.other.state))
-  select_away p = record { event = tt; next = refl }
-
-  ends_away : (b : Bool) → IsAway (await_ends call b seen)
-  ends_away true = record { event = tt; next = refl }
-  ends_away false = both (is_at_end seen.value) _ _ (record { event = tt; next = refl })
-      (record { event = tt; next = refl })
-
-  await_away_after : (waited zero : Bool) → IsAway (go (load call seen) (await_after call waited zero))
-  await_away_after waited true = record { event = tt; next = refl }
-  await_away_after true false = record { event = tt; next = refl }
-  await_away_after false false = record { event = tt; next = refl }
-
-  await_away : (p : AwaitPoint) → IsAway (await_event me call p seen)
-  await_away (awaiting.Load waited) = await_away_after waited (seen.value == 0)
-  await_away (awaiting.Off stopped) = both (is_some seen.entry) _ _ (record { event = tt; next = refl })
-      (ends_away stopped)
-  await_away (awaiting.Last stopped) = ends_away stopped
-  await_away p = record { event = tt; next = refl }
-
-  count_away : (p : CountPoint) → IsAway (count_event call p seen)
-  count_away counting.Peek = both (seen.value == 0) _ _ (record { event = tt; next = refl })
-      (record { event = tt; next = refl })
-  count_away p = record { event = tt; next = refl }
-
   -- each event of a program outside walks
   pub program_away : (p : Point) → IsOutside p → IsAway (program me call p seen)
-  program_away at.First o = both (call_fails call seen) _ _ (record { event = tt; next = refl })
-      (record { event = tt; next = refl })
-  program_away (at.Prepare p) o = prepare_away p
-  program_away at.Test o = one_of (call_fails call seen) _ at.Sleep (at.Finish finishing.State false)
-      (record { event = tt; next = refl }) (record { event = tt; next = refl })
-  program_away (at.Leave p) o = leave_away p
-  program_away (at.Finish p failed) o = finish_away p failed
-  program_away (at.Bit p) o = bit_away p
-  program_away (at.Page p) o = page_away p
-  program_away at.Worn o = both (call_fails call seen) _ _ (record { event = asks; next = refl })
-      (both (is_lock call) _ _ (record { event = asks; next = refl }) (record { event = asks; next = refl }))
-  program_away at.Publish o = record { event = published_unmarked call; next = refl }
-  program_away at.Active o = active_away seen.members
   program_away (at.Walk p) o = absurd o
-  program_away (at.Add p) o = add_away p
-  program_away (at.Remove p) o = remove_away p
-  program_away (at.Woken p) o = woken_away p
-  program_away at.Sleep o = record { event = tt; next = slept_away call }
-  program_away (at.Select p) o = select_away p
-  program_away (at.Await p) o = await_away p
-  program_away (at.Count p) o = count_away p
-  program_away p o = record { event = tt; next = refl }
+  program_away (at.Page p) o = page_away p
+  program_away p o = plain_away (program me call p seen) (program_plain p tt)

@@ -165,28 +165,9 @@ sets_of_call a x (step.Load l r) v f h =
     let b = both (is_bit a.watch) (failing l r a.watch) h in
     let s : same f.walk.watch a.watch ≡ true = same_sym a.watch f.walk.watch f.watch in
     rw f.is (rw (same_bit f.walk.watch a.watch s b.0) (same_bit_failing l r f.walk.watch a.watch s b.0 ∙ b.1))
-sets_of_call a x (step.State σ) v f h = absurd (cc)
-sets_of_call a x (step.Queue y d) v f h = absurd (cc)
-sets_of_call a x (step.Sleep w) v f h = absurd (cc)
-sets_of_call a x (step.Signal who fatal w) v f h = absurd (cc)
-sets_of_call a x (step.Accept w) v f h = absurd (cc)
-sets_of_call a x (step.Look w) v f h = absurd (cc)
-sets_of_call a x (step.Lock i aim w) v f h = absurd (cc)
-sets_of_call a x (step.Unlock i sp) v f h = absurd (cc)
-sets_of_call a x (step.Saw y w) v f h = absurd (cc)
-sets_of_call a x (step.Peek y w) v f h = absurd (cc)
-sets_of_call a x (step.Unqueue y) v f h = absurd (cc)
-sets_of_call a x (step.Mark i q) v f h = absurd (cc)
-sets_of_call a x step.Unmark v f h = absurd (cc)
-sets_of_call a x (step.Publish d n r) v f h = absurd (cc)
-sets_of_call a x (step.Consume d n r) v f h = absurd (cc)
-sets_of_call a x (step.Woken y) v f h = absurd (cc)
-sets_of_call a x (step.Unflag y o) v f h = absurd (cc)
-sets_of_call a x (step.Flag y w) v f h = absurd (cc)
-sets_of_call a x (step.Scan i p w) v f h = absurd (cc)
 sets_of_call a x (step.TasFor y p r) v f h =
     rw f.is (sym (same_trans (page p) a.watch f.walk.watch h) ∙ f.watch)
-sets_of_call a x (step.Handed y) v f h = absurd (cc)
+sets_of_call a x e v f h = absurd (cc)
 
 -- a step that shows the walk's bit set makes the hold moot, and is one by which the walk calls
 sees_calls : (a : Aim) (x : ℕ) (e : Step) → sees_set a e ≡ true → calls_entry a x e ≡ true
@@ -336,27 +317,8 @@ call_walk x (step.Wake who mask w) v h = (
   refl,
 )
 call_walk x (step.Load l r) v h = (seeks_walk v.walk l r h, refl)
-call_walk x (step.State σ) v h = absurd (cc)
-call_walk x (step.Queue y d) v h = absurd (cc)
-call_walk x (step.Sleep w) v h = absurd (cc)
-call_walk x (step.Signal who fatal w) v h = absurd (cc)
-call_walk x (step.Accept w) v h = absurd (cc)
-call_walk x (step.Look w) v h = absurd (cc)
-call_walk x (step.Lock i aim w) v h = absurd (cc)
-call_walk x (step.Unlock i sp) v h = absurd (cc)
-call_walk x (step.Saw y w) v h = absurd (cc)
-call_walk x (step.Peek y w) v h = absurd (cc)
-call_walk x (step.Unqueue y) v h = absurd (cc)
-call_walk x (step.Mark i q) v h = absurd (cc)
-call_walk x step.Unmark v h = absurd (cc)
-call_walk x (step.Publish d n r) v h = absurd (cc)
-call_walk x (step.Consume d n r) v h = absurd (cc)
-call_walk x (step.Woken y) v h = absurd (cc)
-call_walk x (step.Unflag y o) v h = absurd (cc)
-call_walk x (step.Flag y w) v h = absurd (cc)
-call_walk x (step.Scan i p w) v h = absurd (cc)
 call_walk x (step.TasFor y p r) v h = (page_walk v.walk p h, refl)
-call_walk x (step.Handed y) v h = absurd (cc)
+call_walk x e v h = absurd (cc)
 
 call_of : (a : Aim) (x : ℕ) (e : Step) (v : View) → IsForWalk a v.walk → sets_called x e v ≡ true
     → calls_entry a x e ≡ true
@@ -369,29 +331,10 @@ call_of a x (step.Load l r) v f h =
     let b = both (is_bit f.walk.watch) (failing l r f.walk.watch) g in
     rw (same_bit a.watch f.walk.watch f.watch b.0) (same_bit_failing l r a.watch f.walk.watch f.watch b.0
     ∙ b.1)
-call_of a x (step.State σ) v f h = absurd (cc)
-call_of a x (step.Queue y d) v f h = absurd (cc)
-call_of a x (step.Sleep w) v f h = absurd (cc)
-call_of a x (step.Signal who fatal w) v f h = absurd (cc)
-call_of a x (step.Accept w) v f h = absurd (cc)
-call_of a x (step.Look w) v f h = absurd (cc)
-call_of a x (step.Lock i aim w) v f h = absurd (cc)
-call_of a x (step.Unlock i sp) v f h = absurd (cc)
-call_of a x (step.Saw y w) v f h = absurd (cc)
-call_of a x (step.Peek y w) v f h = absurd (cc)
-call_of a x (step.Unqueue y) v f h = absurd (cc)
-call_of a x (step.Mark i q) v f h = absurd (cc)
-call_of a x step.Unmark v f h = absurd (cc)
-call_of a x (step.Publish d n r) v f h = absurd (cc)
-call_of a x (step.Consume d n r) v f h = absurd (cc)
-call_of a x (step.Woken y) v f h = absurd (cc)
-call_of a x (step.Unflag y o) v f h = absurd (cc)
-call_of a x (step.Flag y w) v f h = absurd (cc)
-call_of a x (step.Scan i p w) v f h = absurd (cc)
 call_of a x (step.TasFor y p r) v f h =
     let g : is_for_page (Some f.walk) p ≡ true = (rw f.is at h) in
     sym (same_trans (page p) f.walk.watch a.watch g) ∙ same_sym a.watch f.walk.watch f.watch
-call_of a x (step.Handed y) v f h = absurd (cc)
+call_of a x e v f h = absurd (cc)
 
 -- the same of a step that makes the hold moot
 sight_walk : (e : Step) (v : View) → sets_moot e v ≡ true → HasWalk v.walk × (turns_lock e ≡ false)

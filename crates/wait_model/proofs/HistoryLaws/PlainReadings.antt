@@ -21,29 +21,9 @@ after_append v (e ∷ es) fs = after_append (after e v) es fs
 failed_after : (e : Step) (v : View) (x : ℕ) (c : Watch)
     → (after e v).checks.failed x c ≡ cond (stores_own e x) None
     (cond (fails e c) (Some (v.checks.found (head_of c))) (v.checks.failed x c))
-failed_after (step.State σ) v x c = refl
 failed_after (step.Queue y d) v x c = grind arith
-failed_after (step.Load l r) v x c = refl
 failed_after (step.Unlock h sp) v x c = ap (λ (k : Checks). k.failed x c) (unlock_checks v v.walk sp)
-failed_after (step.Sleep w) v x c = refl
-failed_after (step.Wake who mask w) v x c = refl
-failed_after (step.Signal who fatal w) v x c = refl
-failed_after (step.Accept w) v x c = refl
-failed_after (step.Look w) v x c = refl
-failed_after (step.Lock h aim w) v x c = refl
-failed_after (step.Saw y w) v x c = refl
-failed_after (step.Peek y w) v x c = refl
-failed_after (step.Unqueue y) v x c = refl
-failed_after (step.Mark h q) v x c = refl
-failed_after step.Unmark v x c = refl
-failed_after (step.Publish d n r) v x c = refl
-failed_after (step.Consume d n r) v x c = refl
-failed_after (step.Woken y) v x c = refl
-failed_after (step.Unflag y o) v x c = refl
-failed_after (step.TasFor y p r) v x c = refl
-failed_after (step.Handed y) v x c = refl
-failed_after (step.Flag y w) v x c = refl
-failed_after (step.Scan h i w) v x c = refl
+failed_after e v x c = refl
 
 -- a failed load of the steps, or one from before them
 abbrev Found : View → List Step → ℕ → Watch → ℕ → Type 0

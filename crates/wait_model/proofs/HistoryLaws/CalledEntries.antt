@@ -10,8 +10,8 @@ use Rattle.wait_model.specs.declared.steps.Step.{Step}
 use Rattle.wait_model.specs.declared.steps.Step.TheVariants as step
 use Rattle.wait_model.specs.Tasks.{meets}
 use Rattle.wait_model.specs.Watches.{same, head_of, is_bit, is_woken, mask_of, failing, owner, part_of, is_page, page}
-use Rattle.wait_model.specs.Views.{View, Walk, Hold, blank, no_hold, concerns, gone, ahead, all_passed}
-use Rattle.wait_model.specs.Fold.{after, after_all, after_unlock, view_of, hits, finds_bit_set, paused, is_for_page}
+use Rattle.wait_model.specs.Views.{View, Walk, Hold, blank, concerns, gone, ahead}
+use Rattle.wait_model.specs.Fold.{after, after_all, view_of, hits, finds_bit_set, is_for_page}
 use Rattle.wait_model.specs.Histories.{Lacks, Since, turns_lock, is_publish}
 use Rattle.wait_model.specs.Walks.{WalkHold, calls_entry, wakes_entry, flags, CalledBy, CalledNow, finds_off_head}
 use Rattle.wait_model.specs.Walks.{sees_set}
@@ -20,7 +20,7 @@ use Rattle.wait_model.proofs.HistoryLaws.Stretches.{after_append, lacks_append, 
 use Rattle.wait_model.proofs.HistoryLaws.Stretches.{lacks_both, Seen, IsSetBy, seen_in, set_at, kept_so, append_split}
 use Rattle.wait_model.proofs.HistoryLaws.HoldWalks.{IsForWalk, begun_for, walks_for, Locked, HasWalk, locked_for}
 use Rattle.wait_model.proofs.HistoryLaws.HoldWalks.{locked_front}
-use Rattle.wait_model.proofs.StepLaws.UnlockSteps.{unlock_hold}
+use Rattle.wait_model.proofs.StepLaws.UnlockSteps.{unlock_hold, unlock_cleared}
 use Rattle.wait_model.proofs.Sameness.{same_trans, same_bit, same_bit_failing}
 
 pub both : (a b : Bool) → (a && b) ≡ true → (a ≡ true) × (b ≡ true)
@@ -60,21 +60,6 @@ publish_of (step.Publish c n r) q = absurd (cc)
 publish_of e q = refl
 
 -- a look without the lock
-unlock_cleared : (v : View) (o : Option Walk) (sp : Bool) (c : Watch) (x : ℕ)
-    → (after_unlock v o sp).duty.cleared c x ≡ v.duty.cleared c x
-unlock_cleared v None sp c x = refl
-unlock_cleared v (Some w) sp c x = by (sp || all_passed v w (λ _. false))
-  where
-    by : (b : Bool)
-        → (if b then record v {
-          hold = no_hold;
-          walk = None;
-          duty = record (v.duty) { owes = λ c σ. v.duty.owes c σ && not (concerns w c σ) };
-        }
-        else record v { hold = no_hold; walk = paused v w v.mark }).duty.cleared c x ≡ v.duty.cleared c x
-    by true = refl
-    by false = refl
-
 abbrev pub cleared : Watch → ℕ → View → Bool
 cleared c x v = v.duty.cleared c x
 

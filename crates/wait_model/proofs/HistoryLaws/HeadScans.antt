@@ -1,15 +1,15 @@
 -- A look at all member words of a head that finds no bit ends what is owed there, and nothing else.
 use Rattle.std.proofs.Common.{refl, sym, ◌∙◌, ap, subst, arith, inl, inr}
 use Rattle.std.proofs.lemmas.List.{append_assoc}
-use Rattle.std.specs.Prelude.{ℕ, zero, suc, ◌≡◌, ◌+◌, ◌-◌, ◌<◌, ◌≤◌, ◌⊎◌, Option, Some, None, Bool, true, false, not}
+use Rattle.std.specs.Prelude.{ℕ, zero, suc, ◌≡◌, ◌+◌, ◌-◌, ◌<◌, ◌≤◌, ◌⊎◌, Option, Bool, true, false, not}
 use Rattle.std.specs.Prelude.{◌&&◌, ◌||◌, ◌==◌, if◌then◌else◌, List, [], ◌∷◌, ◌++◌}
 use Rattle.wait_model.specs.declared.layout.TheConstants.{ENTRIES, MEMBER_WORDS}
 use Rattle.wait_model.specs.declared.watches.Watch.{Watch}
 use Rattle.wait_model.specs.declared.steps.Step.{Step}
 use Rattle.wait_model.specs.declared.steps.Step.TheVariants as step
 use Rattle.wait_model.specs.Watches.{head_of, part_of, same}
-use Rattle.wait_model.specs.Views.{View, Walk, blank, no_hold, concerns, all_below, all_cleared, all_passed}
-use Rattle.wait_model.specs.Fold.{after, after_all, after_unlock, view_of, scanned, paused}
+use Rattle.wait_model.specs.Views.{View, Walk, blank, all_below, all_cleared}
+use Rattle.wait_model.specs.Fold.{after, after_all, after_unlock, view_of, scanned}
 use Rattle.wait_model.specs.Told.{ends_wake}
 use Rattle.wait_model.specs.Histories.{Lacks, Since, publishes}
 use Rattle.wait_model.specs.Walks.{finds_off_head, looks_anew}
@@ -20,6 +20,7 @@ use Rattle.wait_model.proofs.HistoryLaws.CalledEntries.{off_seen}
 use Rattle.wait_model.proofs.HistoryLaws.HoldBooks.{all_cleared_of}
 use Rattle.wait_model.proofs.HistoryLaws.Stretches.{after_append, lacks_right, append_split}
 use Rattle.wait_model.proofs.StepLaws.PastEntries.{all_cleared_not}
+use Rattle.wait_model.proofs.StepLaws.UnlockSteps.{unlocked}
 
 -- who owes a wake has not found all entries off by a look
 abbrev pub IsDue : View → Watch → ℕ → Type 0
@@ -30,18 +31,7 @@ none_cleared f h = all_cleared_not f 0 (omega arith) h
 
 unlock_cleared : (v : View) (o : Option Walk) (sp : Bool) (c : Watch)
     → (after_unlock v o sp).duty.cleared c ≡ v.duty.cleared c
-unlock_cleared v None sp c = refl
-unlock_cleared v (Some w) sp c = by (sp || all_passed v w (λ _. false))
-  where
-    by : (b : Bool)
-        → (if b then record v {
-          hold = no_hold;
-          walk = None;
-          duty = record (v.duty) { owes = λ c σ. v.duty.owes c σ && not (concerns w c σ) };
-        }
-        else record v { hold = no_hold; walk = paused v w v.mark }).duty.cleared c ≡ v.duty.cleared c
-    by true = refl
-    by false = refl
+unlock_cleared v o sp c = unlocked (λ u. u.duty.cleared c ≡ v.duty.cleared c) v o sp refl (λ w. refl) (λ w. refl)
 
 -- a step that ends no wake of the watch leaves some entry before the look
 due_on : (e : Step) (v : View) (c : Watch) (σ : ℕ) → all_cleared (v.duty.cleared c) ≡ false

@@ -1,16 +1,17 @@
 -- The walk of a hold is the one for which its lock was taken.
 use Rattle.std.proofs.Common.{refl, sym, ◌∙◌, ap, subst, arith, inl, inr}
-use Rattle.std.specs.Prelude.{ℕ, ◌≡◌, ◌⊎◌, Option, Some, None, Bool, true, false, not, ◌&&◌, ◌||◌, ◌==◌, List, [], ◌∷◌}
+use Rattle.std.specs.Prelude.{ℕ, ◌≡◌, ◌⊎◌, Option, Some, None, Bool, true, false, ◌&&◌, ◌==◌, List, [], ◌∷◌}
 use Rattle.std.specs.Prelude.{◌++◌, if◌then◌else◌}
 use Rattle.wait_model.specs.declared.watches.Aim.{Aim}
 use Rattle.wait_model.specs.declared.steps.Step.{Step}
 use Rattle.wait_model.specs.declared.steps.Step.TheVariants as step
 use Rattle.wait_model.specs.Watches.{same, mask_of}
-use Rattle.wait_model.specs.Views.{View, Walk, no_hold, blank, concerns, all_passed}
+use Rattle.wait_model.specs.Views.{View, Walk, blank}
 use Rattle.wait_model.specs.Fold.{after, after_all, after_unlock, begun, begun_anew, paused}
 use Rattle.wait_model.specs.Histories.{Lacks, Since, turns_lock, takes_any_lock, is_mark}
 use Rattle.wait_model.proofs.HistoryLaws.Stretches.{after_append, lacks_left, lacks_right}
 use Rattle.wait_model.proofs.Sameness.{same_refl}
+use Rattle.wait_model.proofs.StepLaws.UnlockSteps.{unlocked}
 
 -- the walk under way is one of this aim
 pub record IsForWalk (a : Aim) (o : Option Walk) : Type 0 where
@@ -76,18 +77,7 @@ for_walks a [] v l f = f
 for_walks a (e ∷ es) v l f = for_walk a e v l.0 (for_walks a es (after e v) l.1 f)
 
 unlock_mark : (v : View) (o : Option Walk) (sp : Bool) → (after_unlock v o sp).mark ≡ v.mark
-unlock_mark v None sp = refl
-unlock_mark v (Some w) sp = by (sp || all_passed v w (λ _. false))
-  where
-    by : (b : Bool)
-        → (if b then record v {
-          hold = no_hold;
-          walk = None;
-          duty = record (v.duty) { owes = λ c σ. v.duty.owes c σ && not (concerns w c σ) };
-        }
-        else record v { hold = no_hold; walk = paused v w v.mark }).mark ≡ v.mark
-    by true = refl
-    by false = refl
+unlock_mark v o sp = unlocked (λ u. u.mark ≡ v.mark) v o sp refl (λ w. refl) (λ w. refl)
 
 pub mark_kept : (e : Step) (v : View) → is_mark e ≡ false → (after e v).mark ≡ v.mark
 mark_kept (step.Mark h q) v m = absurd (cc)
@@ -97,18 +87,7 @@ mark_kept e v m = refl
 
 -- without a bookmark an unlock leaves no walk
 unlock_walk : (v : View) (o : Option Walk) (sp : Bool) → v.mark ≡ None → (after_unlock v o sp).walk ≡ None
-unlock_walk v None sp m = refl
-unlock_walk v (Some w) sp m = by (sp || all_passed v w (λ _. false))
-  where
-    by : (b : Bool)
-        → (if b then record v {
-          hold = no_hold;
-          walk = None;
-          duty = record (v.duty) { owes = λ c σ. v.duty.owes c σ && not (concerns w c σ) };
-        }
-        else record v { hold = no_hold; walk = paused v w v.mark }).walk ≡ None
-    by true = refl
-    by false = ap (paused v w) m
+unlock_walk v o sp m = unlocked (λ u. u.walk ≡ None) v o sp refl (λ w. refl) (λ w. ap (paused v w) m)
 
 -- the last lock, taken for a walk
 pub record Locked (es : List Step) : Type 0 where

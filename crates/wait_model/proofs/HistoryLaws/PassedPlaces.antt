@@ -21,6 +21,7 @@ use Rattle.wait_model.proofs.Sameness.{same_trans}
 use Rattle.wait_model.proofs.HistoryLaws.PlainReadings.{owes_after}
 use Rattle.wait_model.proofs.HistoryLaws.CalledEntries.{same_sym, view_at, hold_walk, called_gone}
 use Rattle.wait_model.proofs.HistoryLaws.HoldBooks.{look_of, hold_book, all_passed_of}
+use Rattle.wait_model.proofs.StepLaws.UnlockSteps.{unlocked}
 
 pub concerned : (w : Walk) (a : Aim) (c : Watch) (σ : ℕ) → same a.watch w.watch ≡ true
     → w.mask ≡ mask_of a.mode
@@ -185,17 +186,7 @@ gone_in (suc n) c σ es place owes k =
 
     unowed : (v : View) (w : Walk) → v.duty.owes c σ ≡ false
         → (after_unlock v (Some w) false).duty.owes c σ ≡ false
-    unowed v w h = at (false || all_passed v w (λ _. false))
-      where
-        at : (b : Bool)
-            → (if b then record v {
-              hold = no_hold;
-              walk = None;
-              duty = record (v.duty) { owes = λ c σ. v.duty.owes c σ && not (concerns w c σ) };
-            }
-            else record v { hold = no_hold; walk = paused v w v.mark }).duty.owes c σ ≡ false
-        at true = rw h refl
-        at false = h
+    unowed v w h = unlocked (λ u. u.duty.owes c σ ≡ false) v (Some w) false h (λ w. rw h refl) (λ w. h)
 
     lost : (w : Walk) → (view_of k.before).walk ≡ Some w
         → (after_unlock (view_of k.before) (Some w) false).duty.owes c σ ≡ false → ⊥

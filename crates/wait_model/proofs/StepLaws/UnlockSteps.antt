@@ -20,20 +20,29 @@ use Rattle.wait_model.proofs.Functions.{bool_or}
 use Rattle.wait_model.proofs.StepLaws.PastEntries.{passed_not, all_passed_not}
 use Rattle.wait_model.specs.declared.steps.Step.TheVariants as step
 
+-- what holds of a view with no walk, where the walk is over, and where it goes on holds after an unlock
+pub unlocked : (P : View → Type 0) (v : View) (o : Option Walk) (sp : Bool)
+    → P (record v { hold = no_hold; walk = None })
+    → ((w : Walk) → P (record v {
+      hold = no_hold;
+      walk = None;
+      duty = record (v.duty) { owes = λ c σ. v.duty.owes c σ && not (concerns w c σ) };
+    }))
+    → ((w : Walk) → P (record v { hold = no_hold; walk = paused v w v.mark })) → P (after_unlock v o sp)
+unlocked P v None sp none over on = none
+unlocked P v (Some w) sp none over on = by (sp || all_passed v w (λ _. false))
+  where
+    by : (b : Bool) → P (if b then record v {
+      hold = no_hold;
+      walk = None;
+      duty = record (v.duty) { owes = λ c σ. v.duty.owes c σ && not (concerns w c σ) };
+    } else record v { hold = no_hold; walk = paused v w v.mark })
+    by true = over w
+    by false = on w
+
 -- an unlock changes no failed load
 pub unlock_checks : (v : View) (o : Option Walk) (sp : Bool) → (after_unlock v o sp).checks ≡ v.checks
-unlock_checks v None sp = refl
-unlock_checks v (Some w) sp = by (sp || all_passed v w (λ _. false))
-  where
-    by : (b : Bool)
-        → (if b then record v {
-          hold = no_hold;
-          walk = None;
-          duty = record (v.duty) { owes = λ c σ. v.duty.owes c σ && not (concerns w c σ) };
-        }
-        else record v { hold = no_hold; walk = paused v w v.mark }).checks ≡ v.checks
-    by true = refl
-    by false = refl
+unlock_checks v o sp = unlocked (λ u. u.checks ≡ v.checks) v o sp refl (λ w. refl) (λ w. refl)
 
 pub unlock_checked : (v : View) (o : Option Walk) (sp : Bool) (x : ℕ) (e : Entry) (on : Watch)
     → checked (after_unlock v o sp) x e on ≡ checked v x e on
@@ -43,32 +52,10 @@ unlock_checked v o sp x e on = ap (λ (k : Checks). if is_woken e.kind
     else if is_done on then k.zero_failed x on else k.failed x on) (unlock_checks v o sp)
 
 pub unlock_bits : (v : View) (o : Option Walk) (sp : Bool) → (after_unlock v o sp).bits ≡ v.bits
-unlock_bits v None sp = refl
-unlock_bits v (Some w) sp = by (sp || all_passed v w (λ _. false))
-  where
-    by : (b : Bool)
-        → (if b then record v {
-          hold = no_hold;
-          walk = None;
-          duty = record (v.duty) { owes = λ c σ. v.duty.owes c σ && not (concerns w c σ) };
-        }
-        else record v { hold = no_hold; walk = paused v w v.mark }).bits ≡ v.bits
-    by true = refl
-    by false = refl
+unlock_bits v o sp = unlocked (λ u. u.bits ≡ v.bits) v o sp refl (λ w. refl) (λ w. refl)
 
 pub unlock_hold : (v : View) (o : Option Walk) (sp : Bool) → (after_unlock v o sp).hold ≡ no_hold
-unlock_hold v None sp = refl
-unlock_hold v (Some w) sp = by (sp || all_passed v w (λ _. false))
-  where
-    by : (b : Bool)
-        → (if b then record v {
-          hold = no_hold;
-          walk = None;
-          duty = record (v.duty) { owes = λ c σ. v.duty.owes c σ && not (concerns w c σ) };
-        }
-        else record v { hold = no_hold; walk = paused v w v.mark }).hold ≡ no_hold
-    by true = refl
-    by false = refl
+unlock_hold v o sp = unlocked (λ u. u.hold ≡ no_hold) v o sp refl (λ w. refl) (λ w. refl)
 
 pub spent_rises : (sp : Bool) (n : ℕ) → n ≤ raised_spent sp n
 spent_rises false n = omega arith

@@ -2,8 +2,8 @@
 -- store of a state.
 use Rattle.std.proofs.lemmas.Bool.Decides.{nat_tests}
 use Rattle.std.proofs.Common.{refl, sym, ◌∙◌, ap, subst, arith}
-use Rattle.std.specs.Prelude.{ℕ, ◌≡◌, ◌+◌, ◌≤◌, Bool, true, false, not, ◌&&◌, ◌||◌, ◌==◌, if◌then◌else◌, is_some}
-use Rattle.std.specs.Prelude.{Option, Some, None, List, [], ◌∷◌}
+use Rattle.std.specs.Prelude.{ℕ, ◌≡◌, ◌+◌, ◌≤◌, Bool, true, false, not, ◌&&◌, ◌==◌, if◌then◌else◌, is_some}
+use Rattle.std.specs.Prelude.{Some, List, [], ◌∷◌}
 use Rattle.wait_model.specs.declared.layout.TheConstants.{EVENTS}
 use Rattle.wait_model.specs.declared.calls.Call.{Call}
 use Rattle.wait_model.specs.declared.calls.Call.TheVariants as calls
@@ -25,8 +25,8 @@ use Rattle.wait_model.specs.declared.points.BitPoint.TheVariants as biting
 use Rattle.wait_model.specs.Tasks.{pending, state_mask, looks_in}
 use Rattle.wait_model.specs.Watches.{head_of, misses, failing}
 use Rattle.wait_model.specs.Tables.{value_of, steps}
-use Rattle.wait_model.specs.Views.{View, Walk, all_passed}
-use Rattle.wait_model.specs.Fold.{after_all, after_unlock, holding}
+use Rattle.wait_model.specs.Views.{View}
+use Rattle.wait_model.specs.Fold.{after_all, holding}
 use Rattle.wait_model.specs.Points.{call_watch, call_head, call_number, is_await, is_bit_wait, is_lock, state_in}
 use Rattle.wait_model.specs.Points.{given_at}
 use Rattle.wait_model.specs.Programs.{program_start, signalled_at, prepared_at, slept_at, ask, acted, finished}
@@ -39,6 +39,7 @@ use Rattle.wait_model.proofs.HistoryLaws.HoldLooks.{steps_own, steps_other}
 use Rattle.wait_model.proofs.RunLaws.EveryRun.{opened_sound, made_sound, start_sound}
 use Rattle.wait_model.proofs.WaitLaws.OutsideStages.{either, both, unset, is_aside, aside_step}
 use Rattle.wait_model.proofs.WaitLaws.NextStages.{misses_fails}
+use Rattle.wait_model.proofs.StepLaws.UnlockSteps.{unlock_checks}
 
 -- in its hold the view has a load of the count that found 0, and after the store of a state it keeps it
 abbrev pub FoundZero : Call → View → Type 0
@@ -66,12 +67,6 @@ await_misses : (call : Call) (r : ℕ) → is_await call ≡ true → (r == 0) �
 await_misses (calls.WaitFor d st) r w z = z
 await_misses calls.Remove r w z = absurd (cc)
 await_misses call r w z = absurd (cc)
-
--- an unlock leaves what was checked
-unlock_checks : (v : View) (w : Option Walk) (spent : Bool) → (after_unlock v w spent).checks ≡ v.checks
-unlock_checks v None spent = refl
-unlock_checks v (Some w) spent = either (λ (u : View). u.checks ≡ v.checks)
-    (spent || all_passed v w (λ _. false)) _ _ refl refl
 
 module _ (s : State) (me : ℕ) (call : Call) where
   abbrev v : View

@@ -21,12 +21,12 @@ use Rattle.wait_model.specs.declared.queues.Form.{Form}
 use Rattle.wait_model.specs.declared.points.WalkPoint.TheVariants as walking
 use Rattle.wait_model.specs.Tasks.{meets, raise_mask}
 use Rattle.wait_model.specs.Words.{bit_at, flag}
-use Rattle.wait_model.specs.Watches.{head_of, mask_of}
-use Rattle.wait_model.specs.Points.{call_watch}
+use Rattle.wait_model.specs.Watches.{head_of, is_done, mask_of}
+use Rattle.wait_model.specs.Points.{call_watch, count_of}
 use Rattle.wait_model.specs.Programs.{program_start, ends_with, kicked}
 use Rattle.wait_model.specs.Phrases.{Rest, ends}
 use Rattle.wait_model.specs.Sentences.{sentence, Follows}
-use Rattle.wait_model.specs.SentenceWalks.{wakes_one}
+use Rattle.wait_model.specs.SentenceWalks.{wakes_one, walks}
 use Rattle.wait_model.specs.Making.{goes_to, Makes, SentencesAreMade}
 use Rattle.wait_model.specs.Findings.{Noted, none_noted, notes}
 use Rattle.wait_model.proofs.SentenceLaws.SentenceWalks.{walk_rest}
@@ -67,47 +67,29 @@ module _ (me : ℕ) (call : Call) where
   Publishing m (at.Walk p) = walk_rest call p
   Publishing m _ = λ w a. ⊥
 
-clear_back : (me i b : ℕ) (p : Point) (m : Noted) (x : Event) (w : List Event) (a : Answer)
-    → Publishing me (calls.ClearBit i b) m p (x ∷ w) a
-    → MakesFirst me (calls.ClearBit i b) (Publishing me (calls.ClearBit i b)) m p x w a
-clear_back me i b at.Publish m x w a h = (sees m, (fair (calls.ClearBit i b) m, tt), (h.0, h.1))
-clear_back me i b at.Active m x w a (true, h) = (
-  record (sees m) { members = true },
-  (fair (calls.ClearBit i b) m, tt),
-  (h.0, h.1),
-)
-clear_back me i b at.Active m x w a (false, h) = (sees m, (fair (calls.ClearBit i b) m, tt), (h.0, h.1))
-clear_back me i b (at.Walk p) m x w a h = walk_back (calls.ClearBit i b) refl (Publishing me (calls.ClearBit i b))
-    (λ m q v b g. g) m p x w a h
-clear_back me i b p m x w a h = absurd h
+  module _ (plain : is_done (call_watch call) ≡ false) (one : count_of call ≡ 1)
+      (publishes : (m : Noted) (x : Event) (w : List Event) (a : Answer) → sentence 0 call ends (x ∷ w) a
+      → MakesFirst me call Publishing m at.Publish x w a) (begins : (a : Answer) → sentence 0 call ends [] a → ⊥) where
+    publishing_back : (p : Point) (m : Noted) (x : Event) (w : List Event) (a : Answer) → Publishing m p (x ∷ w) a
+        → MakesFirst me call Publishing m p x w a
+    publishing_back at.Publish m x w a h = publishes m x w a h
+    publishing_back at.Active m x w a (true, h) = (
+      record (sees m) { members = true },
+      (fair call m, tt),
+      (h.0, subst (λ (n : ℕ). walks (call_watch call) n ends w a) (sym one) h.1),
+    )
+    publishing_back at.Active m x w a (false, h) = (sees m, (fair call m, tt), (h.0, h.1))
+    publishing_back (at.Walk p) m x w a h = walk_back call plain Publishing (λ m q v b g. g) m p x w a h
+    publishing_back p m x w a h = absurd h
 
-clear_none : (me i b : ℕ) (p : Point) (m : Noted) (a : Answer) → Publishing me (calls.ClearBit i b) m p [] a → ⊥
-clear_none me i b at.Publish m a h = h
-clear_none me i b at.Active m a h = h.1
-clear_none me i b (at.Walk p) m a h = walk_none (calls.ClearBit i b) refl (Publishing me (calls.ClearBit i b))
-    (λ m q v b g. g) p a h
-clear_none me i b p m a h = h
+    publishing_none : (p : Point) (m : Noted) (a : Answer) → Publishing m p [] a → ⊥
+    publishing_none at.Publish m a h = begins a h
+    publishing_none at.Active m a h = h.1
+    publishing_none (at.Walk p) m a h = walk_none call plain Publishing (λ m q v b g. g) p a h
+    publishing_none p m a h = h
 
-set_back : (me i b : ℕ) (p : Point) (m : Noted) (x : Event) (w : List Event) (a : Answer)
-    → Publishing me (calls.SetVar i b) m p (x ∷ w) a
-    → MakesFirst me (calls.SetVar i b) (Publishing me (calls.SetVar i b)) m p x w a
-set_back me i b at.Publish m x w a h = (sees m, (fair (calls.SetVar i b) m, tt), (h.0, h.1))
-set_back me i b at.Active m x w a (true, h) = (
-  record (sees m) { members = true },
-  (fair (calls.SetVar i b) m, tt),
-  (h.0, h.1),
-)
-set_back me i b at.Active m x w a (false, h) = (sees m, (fair (calls.SetVar i b) m, tt), (h.0, h.1))
-set_back me i b (at.Walk p) m x w a h = walk_back (calls.SetVar i b) refl (Publishing me (calls.SetVar i b))
-    (λ m q v b g. g) m p x w a h
-set_back me i b p m x w a h = absurd h
-
-set_none : (me i b : ℕ) (p : Point) (m : Noted) (a : Answer) → Publishing me (calls.SetVar i b) m p [] a → ⊥
-set_none me i b at.Publish m a h = h
-set_none me i b at.Active m a h = h.1
-set_none me i b (at.Walk p) m a h = walk_none (calls.SetVar i b) refl (Publishing me (calls.SetVar i b))
-    (λ m q v b g. g) p a h
-set_none me i b p m a h = h
+    publishing_made : (w : List Event) (a : Answer) → sentence 0 call ends w a → Makes me call none_noted at.Publish w a
+    publishing_made w a h = all_made me call Publishing publishing_none publishing_back w none_noted at.Publish a h
 
 -- the calls of few events
 add_made : (me c : ℕ) (k : Kind) (f : Form) (w : List Event) (a : Answer) → Follows me (calls.Add c k f) w a
@@ -332,10 +314,8 @@ sentences_are_made me (calls.TryBit i b) w a h = bit_made me i b w a h
 sentences_are_made me (calls.WaitBit i b st) w a h = wait_bit_made me i b st w a h
 sentences_are_made me (calls.LockBit i b st) w a h = lock_bit_made me i b st w a h
 sentences_are_made me (calls.LockPage i st) w a h = lock_page_made me i st w a h
-sentences_are_made me (calls.ClearBit i b) w a h = all_made me (calls.ClearBit i b) (Publishing me (calls.ClearBit i b))
-    (clear_none me i b)
-    (clear_back me i b) w none_noted at.Publish a h
-sentences_are_made me (calls.SetVar i b) w a h = all_made me (calls.SetVar i b) (Publishing me (calls.SetVar i b))
-    (set_none me i b)
-    (set_back me i b) w none_noted at.Publish a h
+sentences_are_made me (calls.ClearBit i b) w a h = publishing_made me (calls.ClearBit i b) refl refl
+    (λ m x w a h. (sees m, (fair (calls.ClearBit i b) m, tt), (h.0, h.1))) (λ a h. h) w a h
+sentences_are_made me (calls.SetVar v y) w a h = publishing_made me (calls.SetVar v y) refl refl
+    (λ m x w a h. (sees m, (fair (calls.SetVar v y) m, tt), (h.0, h.1))) (λ a h. h) w a h
 sentences_are_made me call w a h = short_made me call refl w a h

@@ -9,7 +9,6 @@ use Rattle.wait_model.specs.Words.{bit_at}
 use Rattle.wait_model.specs.Watches.{same, is_bit, was_clear, page, owner}
 use Rattle.wait_model.specs.Views.{View, Bits, blank}
 use Rattle.wait_model.specs.Fold.{after, view_of, takes_note}
-use Rattle.wait_model.specs.Histories.{Lacks}
 use Rattle.wait_model.specs.Tables.{Table, next, start, met}
 use Rattle.wait_model.specs.Rows.{Allowed}
 use Rattle.wait_model.specs.Facts.{Kept}
@@ -19,7 +18,7 @@ use Rattle.wait_model.proofs.Functions.{put_at, put_case}
 use Rattle.wait_model.proofs.StepLaws.KeptLaws.{step_keeps}
 use Rattle.wait_model.proofs.HistoryLaws.HoldLooks.{IsLookTold, told_next}
 use Rattle.wait_model.proofs.StepLaws.StartLaws.{start_kept}
-use Rattle.wait_model.proofs.HistoryLaws.Stretches.{Seen, IsSetBy, seen_in, set_at, kept_so}
+use Rattle.wait_model.proofs.HistoryLaws.Stretches.{IsSetBy, found_in, set_at, kept_so}
 use Rattle.wait_model.proofs.StepLaws.UnlockSteps.{unlock_bits}
 use Rattle.wait_model.proofs.StepLaws.TableLaws.{table_law}
 use Rattle.wait_model.specs.Functions.{put}
@@ -28,19 +27,20 @@ use Rattle.wait_model.proofs.Sameness.{same_refl}
 or_kept : (k t : Bool) → (k || t) ≡ (t || (k && not false))
 or_kept k t = grind arith
 
+-- a bit that was clear and is set is one more
+pub took_bit : (w b : ℕ) (c : Watch) (r : ℕ) (had : Bool)
+    → (had || (is_bit c && (was_clear c r && same (watch.Bit w b) c)))
+    ≡ ((was_clear c r && same (watch.Bit w b) c) || (had && not false))
+took_bit w b (watch.Bit i k) r had = grind arith
+took_bit w b (watch.Plain i) r had = grind arith
+took_bit w b (watch.Done i) r had = grind arith
+took_bit w b (watch.Var i o) r had = grind arith
+
 -- what any step does to the bits that a task keeps
 keeps_after : (w b : ℕ) → IsSetBy (λ (v : View). v.bits.keeps (watch.Bit w b)) (λ e _. comes_to_keep w b e)
     (clears_bit w b)
 keeps_after w b (step.Publish c n r) v = refl
-keeps_after w b (step.Consume c n r) v = by c
-  where
-    by : (c : Watch)
-        → (v.bits.keeps (watch.Bit w b) || (is_bit c && (was_clear c r && same (watch.Bit w b) c)))
-        ≡ ((was_clear c r && same (watch.Bit w b) c) || (v.bits.keeps (watch.Bit w b) && not false))
-    by (watch.Bit i k) = grind arith
-    by (watch.Plain i) = grind arith
-    by (watch.Done i) = grind arith
-    by (watch.Var i o) = grind arith
+keeps_after w b (step.Consume c n r) v = took_bit w b c r (v.bits.keeps (watch.Bit w b))
 keeps_after w b (step.Unflag x o) v = or_kept (v.bits.keeps (watch.Bit w b)) (takes_note o (watch.Bit w b))
 keeps_after w b (step.Unlock h sp) v =
     ap (λ (k : Bits). k.keeps (watch.Bit w b)) (unlock_bits v v.walk sp)
@@ -49,26 +49,13 @@ keeps_after w b e v = kept_so (v.bits.keeps (watch.Bit w b))
 
 pub keeps_told : KeepsTold
 keeps_told es w b = (
-  λ h. found (seen_in (λ (v : View). v.bits.keeps (watch.Bit w b)) (λ e _. comes_to_keep w b e) (clears_bit w b)
-      (keeps_after w b)
-      es blank h),
+  λ h. found_in (λ (v : View). v.bits.keeps (watch.Bit w b)) (comes_to_keep w b) (clears_bit w b) (keeps_after w b) refl
+      es h,
   λ k. ap (λ (fs : List Step). (view_of fs).bits.keeps (watch.Bit w b)) k.split
       ∙ set_at (λ (v : View). v.bits.keeps (watch.Bit w b)) (λ e _. comes_to_keep w b e) (clears_bit w b)
       (keeps_after w b) k.earlier
       k.it k.later blank k.passes k.none_since,
 )
-  where
-    found : Seen (λ e _. comes_to_keep w b e) (clears_bit w b) blank es
-        ⊎ ((blank.bits.keeps (watch.Bit w b) ≡ true) × Lacks (clears_bit w b) es) → KeepsBit es w b
-    found (inl s) = record {
-      earlier = s.earlier;
-      it = s.it;
-      later = s.later;
-      split = s.split;
-      passes = s.sets;
-      none_since = s.none_since;
-    }
-    found (inr q) = absurd (let z : false ≡ true = q.0 in cc)
 
 -- the step sets the bit, whatever it found
 abbrev sets : ℕ → ℕ → Step → Bool

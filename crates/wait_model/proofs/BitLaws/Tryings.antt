@@ -1,5 +1,5 @@
 -- Whom the fold takes for trying a bit is who tries it plainly.
-use Rattle.std.proofs.Common.{refl, sym, ◌∙◌, ap, subst, arith, inl, inr}
+use Rattle.std.proofs.Common.{refl, ◌∙◌, ap, subst, arith, inl, inr}
 use Rattle.std.specs.Prelude.{ℕ, ◌≡◌, ◌⊎◌, Option, Some, None, Bool, true, false, cond, not, ◌&&◌, ◌||◌, ◌==◌, List}
 use Rattle.wait_model.specs.declared.watches.Watch.{Watch}
 use Rattle.wait_model.specs.declared.watches.Watch.TheVariants as watch
@@ -7,7 +7,7 @@ use Rattle.wait_model.specs.declared.watches.Entry.{Entry}
 use Rattle.wait_model.specs.declared.steps.Step.{Step}
 use Rattle.wait_model.specs.declared.steps.Step.TheVariants as step
 use Rattle.wait_model.specs.Functions.{put}
-use Rattle.wait_model.specs.Watches.{same, is_bit, was_clear, owner, is_page}
+use Rattle.wait_model.specs.Watches.{same, is_bit, owner, is_page}
 use Rattle.wait_model.specs.Words.{entry_of}
 use Rattle.wait_model.specs.Views.{View, Bits, blank, is_trying_for}
 use Rattle.wait_model.specs.Fold.{view_of, is_off}
@@ -17,28 +17,13 @@ use Rattle.wait_model.specs.BitKeepers.{gets}
 use Rattle.wait_model.specs.Tryings.{queues_for, finds_off, resettles, HasQueuedForBit, answers, begins, HasGot}
 use Rattle.wait_model.specs.Tryings.{IsUnanswered, IsUnseen, IsTrying}
 use Rattle.wait_model.specs.Told.{TryingTold}
-use Rattle.wait_model.proofs.BitLaws.BitKeepers.{keeps_told}
-use Rattle.wait_model.proofs.HistoryLaws.Stretches.{Seen, IsSetBy, seen_in, set_at, kept_so}
+use Rattle.wait_model.proofs.BitLaws.BitKeepers.{took_bit, keeps_told}
+use Rattle.wait_model.proofs.HistoryLaws.Stretches.{Seen, IsSetBy, seen_in, found_in, set_at, kept_so}
 use Rattle.wait_model.proofs.StepLaws.UnlockSteps.{unlock_bits}
 
--- a reading that is unset in a blank view, set by what a step is, and found again
+-- a reading that is set by what a step is
 abbrev Reading : (View → Bool) → (Step → Bool) → (Step → Bool) → Type 0
 Reading r set unset = IsSetBy r (λ e _. set e) unset
-
-found_in : (r : View → Bool) (set unset : Step → Bool) → Reading r set unset → r blank ≡ false → (es : List Step)
-    → r (view_of es) ≡ true → Since set unset es
-found_in r set unset eq none es h = by (seen_in r (λ e _. set e) unset eq es blank h)
-  where
-    by : Seen (λ e _. set e) unset blank es ⊎ ((r blank ≡ true) × Lacks unset es) → Since set unset es
-    by (inl s) = record {
-      earlier = s.earlier;
-      it = s.it;
-      later = s.later;
-      split = s.split;
-      passes = s.sets;
-      none_since = s.none_since;
-    }
-    by (inr q) = absurd (let z : false ≡ true = sym none ∙ q.0 in cc)
 
 told_by : (r : View → Bool) (set unset : Step → Bool) → Reading r set unset → (es : List Step)
     → Since set unset es → r (view_of es) ≡ true
@@ -118,15 +103,7 @@ got_after w b (step.State σ) v = by (σ == 0) (v.bits.got (watch.Bit w b))
     by false true = refl
     by false false = refl
 got_after w b (step.Queue y d) v = refl
-got_after w b (step.Consume c n r) v = by c
-  where
-    by : (c : Watch)
-        → (v.bits.got (watch.Bit w b) || (is_bit c && (was_clear c r && same (watch.Bit w b) c)))
-        ≡ ((was_clear c r && same (watch.Bit w b) c) || (v.bits.got (watch.Bit w b) && not false))
-    by (watch.Bit i k) = grind arith
-    by (watch.Plain i) = grind arith
-    by (watch.Done i) = grind arith
-    by (watch.Var i o) = grind arith
+got_after w b (step.Consume c n r) v = took_bit w b c r (v.bits.got (watch.Bit w b))
 got_after w b (step.Unlock h sp) v =
     ap (λ (k : Bits). k.got (watch.Bit w b)) (unlock_bits v v.walk sp) ∙ kept_so (v.bits.got (watch.Bit w b))
 got_after w b e v = kept_so (v.bits.got (watch.Bit w b))

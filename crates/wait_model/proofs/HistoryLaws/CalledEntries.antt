@@ -17,7 +17,8 @@ use Rattle.wait_model.specs.Walks.{WalkHold, calls_entry, wakes_entry, flags, Ca
 use Rattle.wait_model.specs.Walks.{sees_set}
 use Rattle.wait_model.specs.Walks.{looks_anew}
 use Rattle.wait_model.proofs.HistoryLaws.Stretches.{after_append, lacks_append, lacks_left, lacks_right, lacks_more}
-use Rattle.wait_model.proofs.HistoryLaws.Stretches.{lacks_both, Seen, IsSetBy, seen_in, set_at, kept_so, append_split}
+use Rattle.wait_model.proofs.HistoryLaws.Stretches.{lacks_both, Seen, IsSetBy, seen_in, found_in, set_at}
+use Rattle.wait_model.proofs.HistoryLaws.Stretches.{kept_so, append_split}
 use Rattle.wait_model.proofs.HistoryLaws.HoldWalks.{IsForWalk, begun_for, walks_for, Locked, HasWalk, locked_for}
 use Rattle.wait_model.proofs.HistoryLaws.HoldWalks.{locked_front}
 use Rattle.wait_model.proofs.StepLaws.UnlockSteps.{unlock_hold, unlock_cleared}
@@ -266,20 +267,7 @@ seen_off es c x s = subst (λ (t : List Step). (view_of t).duty.cleared c x ≡ 
 
 pub off_seen : (es : List Step) (c : Watch) (x : ℕ) → (view_of es).duty.cleared c x ≡ true
     → Since (finds_off_head c x) (looks_anew c) es
-off_seen es c x h =
-    by (seen_in (cleared c x) (λ e v. finds_off_head c x e) (looks_anew c) (cleared_by c x) es blank h)
-  where
-    by : Seen (λ e v. finds_off_head c x e) (looks_anew c) blank es
-        ⊎ ((cleared c x blank ≡ true) × Lacks (looks_anew c) es) → Since (finds_off_head c x) (looks_anew c) es
-    by (inl s) = record {
-      earlier = s.earlier;
-      it = s.it;
-      later = s.later;
-      split = s.split;
-      passes = s.sets;
-      none_since = s.none_since;
-    }
-    by (inr q) = absurd (let z : false ≡ true = q.0 in cc)
+off_seen es c x h = found_in (cleared c x) (finds_off_head c x) (looks_anew c) (cleared_by c x) refl es h
 
 -- from here on the other way round, in holds
 hits_walk : (o : Option Walk) (mask : ℕ) → hits o mask ≡ true → HasWalk o

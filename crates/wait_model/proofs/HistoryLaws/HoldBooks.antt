@@ -54,13 +54,13 @@ books_kept : (es : List Step) (v : View) (x : ℕ) → Lacks turns_lock es → L
 books_kept [] v x l n = refl
 books_kept (e ∷ es) v x l n = books_kept es (after e v) x l.1 n.1 ∙ book_kept e v x l.0 n.0
 
--- the last step that takes a lock or gives one back, or none
-turning : (es : List Step) → Since turns_lock turns_lock es ⊎ Lacks turns_lock es
-turning [] = inr tt
-turning (e ∷ es) = by (turning es) (turns_lock e) refl
+-- the last step that is so, or none
+last_in : (is : Step → Bool) (es : List Step) → Since is is es ⊎ Lacks is es
+last_in is [] = inr tt
+last_in is (e ∷ es) = by (last_in is es) (is e) refl
   where
-    by : Since turns_lock turns_lock es ⊎ Lacks turns_lock es → (b : Bool) → turns_lock e ≡ b
-        → Since turns_lock turns_lock (e ∷ es) ⊎ Lacks turns_lock (e ∷ es)
+    by : Since is is es ⊎ Lacks is es → (b : Bool) → is e ≡ b
+        → Since is is (e ∷ es) ⊎ Lacks is (e ∷ es)
     by (inl s) b h = inl (record {
       earlier = e ∷ s.earlier;
       it = s.it;
@@ -81,7 +81,7 @@ turning (e ∷ es) = by (turning es) (turns_lock e) refl
 
 -- who holds a head by the view took its lock by the history, and has not given it back
 pub lock_held : (es : List Step) (h : ℕ) → (view_of es).hold.head ≡ Some h → Since takes_any_lock turns_lock es
-lock_held es h held = by (turning es)
+lock_held es h held = by (last_in turns_lock es)
   where
     kept : (s : Since turns_lock turns_lock es) → (view_of es).hold.head ≡ (after s.it (view_of s.earlier)).hold.head
     kept s = ap (λ (t : List Step). (view_of t).hold.head) s.split
@@ -110,28 +110,7 @@ lock_held es h held = by (turning es)
 
 -- the last step that tells of an entry word, or none
 pub telling : (es : List Step) (x : ℕ) → Since (tells x) (tells x) es ⊎ Lacks (tells x) es
-telling [] x = inr tt
-telling (e ∷ es) x = by (telling es x) (tells x e) refl
-  where
-    by : Since (tells x) (tells x) es ⊎ Lacks (tells x) es → (b : Bool) → tells x e ≡ b
-        → Since (tells x) (tells x) (e ∷ es) ⊎ Lacks (tells x) (e ∷ es)
-    by (inl s) b h = inl (record {
-      earlier = e ∷ s.earlier;
-      it = s.it;
-      later = s.later;
-      split = ap (λ (t : List Step). e ∷ t) s.split;
-      passes = s.passes;
-      none_since = s.none_since;
-    })
-    by (inr n) true h = inl (record {
-      earlier = [];
-      it = e;
-      later = es;
-      split = refl;
-      passes = h;
-      none_since = n;
-    })
-    by (inr n) false h = inr (h, n)
+telling es x = last_in (tells x) es
 
 book_in : (es : List Step) (v : View) (h x : ℕ) → v.hold.head ≡ Some h → Lacks turns_lock es
     → (s : Since (tells x) (tells x) es) → (after_all v es).hold.book x ≡ look_of h s.it

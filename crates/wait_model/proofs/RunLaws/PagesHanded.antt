@@ -10,8 +10,8 @@ use Rattle.wait_model.specs.declared.points.Progress.{Progress}
 use Rattle.wait_model.specs.declared.points.Progress.TheVariants as now
 use Rattle.wait_model.specs.declared.watches.Entry.{Entry}
 use Rattle.wait_model.specs.Facts.{Facts}
-use Rattle.wait_model.specs.Programs.{program_start, page_event, page_finish_event, page_queue, page_last, go}
-use Rattle.wait_model.specs.Programs.{ends_with, zero_answer, exchange, call_fails, past}
+use Rattle.wait_model.specs.Programs.{program_start, page_event, page_finish_event, page_queue, page_last}
+use Rattle.wait_model.specs.Programs.{call_fails, past}
 use Rattle.wait_model.specs.Reached.{ArePagesHanded, HandsAt, handed_by, IsPlaced, IsSoundCall, IsHome, absent}
 use Rattle.wait_model.specs.Reached.{IsFitted, CountedBy}
 use Rattle.wait_model.specs.Runs.{State, own, is_open, happens, Continues, event_steps, is_publishing, entry_for}
@@ -33,7 +33,7 @@ use Rattle.wait_model.specs.Words.{head_word, bit_at, flag}
 use Rattle.wait_model.specs.Views.{View}
 use Rattle.wait_model.specs.Queues.{place_for}
 use Rattle.wait_model.specs.Tables.{Table, steps, value_of}
-use Rattle.wait_model.specs.Points.{call_watch, kind_at, kind_of, call_head, state_in}
+use Rattle.wait_model.specs.Points.{call_watch, kind_at, kind_of, state_in}
 use Rattle.wait_model.specs.Admission.{IsStandingKind}
 use Rattle.wait_model.proofs.RunLaws.OthersEvents.{Changes, own_one}
 use Rattle.wait_model.proofs.RunLaws.PagelessPoints.{IsSober, IsElsewhere, enters_page, IsApart, program_apart}
@@ -56,6 +56,7 @@ use Rattle.wait_model.specs.declared.points.Seen.{Seen}
 use Rattle.wait_model.specs.declared.points.Planned.{Planned}
 use Rattle.wait_model.specs.Tasks.{looks_in, pending, state_mask}
 use Rattle.wait_model.specs.declared.points.FinishPoint.TheVariants as finishing
+use Rattle.wait_model.proofs.WaitLaws.OutsideStages.{either, both}
 
 start_hands : (taken : ℕ → Option ℕ) (me : ℕ) (call : Call) → HandsAt taken me (now.Open call (program_start call))
 start_hands taken me calls.Remove = tt
@@ -361,147 +362,81 @@ not_entered taken me call (next.Go p) f t = tt
 
 -- the events of a call that locks a page
 module _ (me : ℕ) (call : Call) (seen : Seen) where
+  abbrev Sober : Planned → Type 0
+  Sober x = IsSober x.event
+
+  abbrev QueuesNot : ℕ → Form → Planned → Type 0
+  QueuesNot x f y = y.event ≡ event.Queue x f → ⊥
+
+  abbrev HereAt : (ℕ → Option ℕ) → PagePoint → Type 0
+  HereAt taken p = HandsAt taken me (now.Open call (at.Page p))
+
+  abbrev Here : (ℕ → Option ℕ) → Planned → Type 0
+  Here taken x = HandsAt taken me (progress_at call x.next)
+
   finish_sober : (p : FinishPoint) → IsSober (page_finish_event me call p seen).event
   finish_sober finishing.State = tt
-  finish_sober finishing.Look = by (is_some seen.entry)
-    where
-      by : (b : Bool) → IsSober (if b then go (event.Queued true) (at.Page (paging.Finish finishing.Lock))
-          else go (event.Queued false) (at.Page paging.Last)).event
-      by true = tt
-      by false = tt
+  finish_sober finishing.Look = either Sober (is_some seen.entry) _ _ tt tt
   finish_sober finishing.Lock = tt
-  finish_sober finishing.Queue = by (is_some seen.entry)
-    where
-      by : (b : Bool) → IsSober (if b then go (event.Unqueue me) (at.Page (paging.Finish finishing.Unlock))
-          else go (event.Unlock (call_head call) false) (at.Page paging.Last)).event
-      by true = tt
-      by false = tt
+  finish_sober finishing.Queue = either Sober (is_some seen.entry) _ _ tt tt
   finish_sober finishing.Unlock = tt
 
   page_sober : (p : PagePoint) → IsSober (page_event me call p seen).event
-  page_sober paging.First = by (call_fails call seen)
-    where
-      by : (b : Bool) → IsSober (if b then go (exchange call seen) (at.Page paging.Unflag)
-          else ends_with (exchange call seen) zero_answer).event
-      by true = tt
-      by false = tt
-  page_sober paging.Queue = by seen.worn
-    where
-      by : (b : Bool) → IsSober (page_queue call b).event
-      by true = tt
-      by false = tt
+  page_sober paging.First = either Sober (call_fails call seen) _ _ tt tt
+  page_sober paging.Queue = both (λ b. Sober (page_queue call b)) seen.worn tt tt
   page_sober (paging.Unlock true) = tt
   page_sober (paging.Unlock false) = tt
   page_sober (paging.Finish p) = finish_sober p
-  page_sober paging.Last = by seen.flag
-    where
-      by : (b : Bool) → IsSober (page_last b).event
-      by true = tt
-      by false = tt
+  page_sober paging.Last = both (λ b. Sober (page_last b)) seen.flag tt tt
   page_sober p = tt
 
   -- only one of its places queues an entry
   finish_queues : (p : FinishPoint) (x : ℕ) (f : Form) → (page_finish_event me call p seen).event ≡ event.Queue x f → ⊥
   finish_queues finishing.State x f q = cc
-  finish_queues finishing.Look x f q = by (is_some seen.entry) q
-    where
-      by : (b : Bool) → (if b then go (event.Queued true) (at.Page (paging.Finish finishing.Lock))
-          else go (event.Queued false) (at.Page paging.Last)).event ≡ event.Queue x f → ⊥
-      by true q = cc
-      by false q = cc
+  finish_queues finishing.Look x f q = either (QueuesNot x f) (is_some seen.entry) _ _ (λ r. cc) (λ r. cc) q
   finish_queues finishing.Lock x f q = cc
-  finish_queues finishing.Queue x f q = by (is_some seen.entry) q
-    where
-      by : (b : Bool) → (if b then go (event.Unqueue me) (at.Page (paging.Finish finishing.Unlock))
-          else go (event.Unlock (call_head call) false) (at.Page paging.Last)).event ≡ event.Queue x f → ⊥
-      by true q = cc
-      by false q = cc
+  finish_queues finishing.Queue x f q = either (QueuesNot x f) (is_some seen.entry) _ _ (λ r. cc) (λ r. cc) q
   finish_queues finishing.Unlock x f q = cc
 
   page_queues : (taken : ℕ → Option ℕ) (p : PagePoint) (x : ℕ) (f : Form)
       → (page_event me call p seen).event ≡ event.Queue x f → HandsAt taken me (now.Open call (at.Page p))
       → taken (own me) ≡ None
   page_queues taken paging.Queue x f q h = h
-  page_queues taken paging.First x f q h = absurd (by (call_fails call seen) q)
-    where
-      by : (b : Bool) → (if b then go (exchange call seen) (at.Page paging.Unflag)
-          else ends_with (exchange call seen) zero_answer).event ≡ event.Queue x f → ⊥
-      by true q = cc
-      by false q = cc
+  page_queues taken paging.First x f q h =
+      absurd (either (QueuesNot x f) (call_fails call seen) _ _ (λ r. cc) (λ r. cc) q)
   page_queues taken (paging.Unlock true) x f q h = absurd (cc)
   page_queues taken (paging.Unlock false) x f q h = absurd (cc)
   page_queues taken (paging.Finish p) x f q h = absurd (finish_queues p x f q)
-  page_queues taken paging.Last x f q h = absurd (by seen.flag q)
-    where
-      by : (b : Bool) → (page_last b).event ≡ event.Queue x f → ⊥
-      by true q = cc
-      by false q = cc
+  page_queues taken paging.Last x f q h =
+      absurd (both (λ b. QueuesNot x f (page_last b)) seen.flag (λ r. cc) (λ r. cc) q)
   page_queues taken p x f q h = absurd (cc)
 
   -- where it goes
   finish_here : (taken : ℕ → Option ℕ) (p : FinishPoint)
       → HandsAt taken me (progress_at call (page_finish_event me call p seen).next)
   finish_here taken finishing.State = tt
-  finish_here taken finishing.Look = by (is_some seen.entry)
-    where
-      by : (b : Bool) → HandsAt taken me (progress_at call (if b
-          then go (event.Queued true) (at.Page (paging.Finish finishing.Lock))
-          else go (event.Queued false) (at.Page paging.Last)).next)
-      by true = tt
-      by false = tt
+  finish_here taken finishing.Look = either (Here taken) (is_some seen.entry) _ _ tt tt
   finish_here taken finishing.Lock = tt
-  finish_here taken finishing.Queue = by (is_some seen.entry)
-    where
-      by : (b : Bool) → HandsAt taken me (progress_at call (if b
-          then go (event.Unqueue me) (at.Page (paging.Finish finishing.Unlock))
-          else go (event.Unlock (call_head call) false) (at.Page paging.Last)).next)
-      by true = tt
-      by false = tt
+  finish_here taken finishing.Queue = either (Here taken) (is_some seen.entry) _ _ tt tt
   finish_here taken finishing.Unlock = tt
 
   page_here : (taken taken2 : ℕ → Option ℕ) (p : PagePoint) → HandsAt taken me (now.Open call (at.Page p))
       → (taken (own me) ≡ None → taken2 (own me) ≡ None)
       → ((page_event me call p seen).event ≡ event.Unflag → taken2 (own me) ≡ None)
       → HandsAt taken2 me (progress_at call (page_event me call p seen).next)
-  page_here taken taken2 paging.First h still un = by (call_fails call seen)
-    where
-      by : (b : Bool) → HandsAt taken2 me (progress_at call (if b then go (exchange call seen) (at.Page paging.Unflag)
-          else ends_with (exchange call seen) zero_answer).next)
-      by true = tt
-      by false = tt
+  page_here taken taken2 paging.First h still un = either (Here taken2) (call_fails call seen) _ _ tt tt
   page_here taken taken2 paging.Unflag h still un = un refl
   page_here taken taken2 paging.Lock h still un = still h
-  page_here taken taken2 paging.Queue h still un = by seen.worn
-    where
-      by : (b : Bool) → HandsAt taken2 me (progress_at call (page_queue call b).next)
-      by true = tt
-      by false = tt
-  page_here taken taken2 paging.Try h still un = by (call_fails call seen)
-    where
-      by : (b : Bool) → HandsAt taken2 me (now.Open call (at.Page (if b then paging.Unlock false else paging.Off)))
-      by true = tt
-      by false = tt
+  page_here taken taken2 paging.Queue h still un = both (λ b. Here taken2 (page_queue call b)) seen.worn tt tt
+  page_here taken taken2 paging.Try h still un = either (HereAt taken2) (call_fails call seen) _ _ tt tt
   page_here taken taken2 (paging.Unlock true) h still un = tt
   page_here taken taken2 (paging.Unlock false) h still un = tt
-  page_here taken taken2 paging.Flag h still un = by seen.flag (looks_in (state_in call))
-    where
-      by : (b l : Bool) → HandsAt taken2 me (now.Open call (at.Page (if b then paging.Finish finishing.State
-          else if l then paging.Look else paging.Sleep)))
-      by true l = tt
-      by false true = tt
-      by false false = tt
-  page_here taken taken2 paging.Look h still un = by (pending (state_mask (state_in call)) seen.own)
-    where
-      by : (b : Bool) → HandsAt taken2 me (now.Open call (at.Page (if b then paging.Finish finishing.State
-          else paging.Sleep)))
-      by true = tt
-      by false = tt
+  page_here taken taken2 paging.Flag h still un = either (HereAt taken2) seen.flag _ _ tt
+      (either (HereAt taken2) (looks_in (state_in call)) _ _ tt tt)
+  page_here taken taken2 paging.Look h still un =
+      either (HereAt taken2) (pending (state_mask (state_in call)) seen.own) _ _ tt tt
   page_here taken taken2 (paging.Finish p) h still un = finish_here taken2 p
-  page_here taken taken2 paging.Last h still un = by seen.flag
-    where
-      by : (b : Bool) → HandsAt taken2 me (progress_at call (page_last b).next)
-      by true = tt
-      by false = tt
+  page_here taken taken2 paging.Last h still un = both (λ b. Here taken2 (page_last b)) seen.flag tt tt
   page_here taken taken2 p h still un = tt
 
 -- an event that a run makes

@@ -68,9 +68,8 @@ pub record SameWords (t u : Table) : Type 0 where
   pub spent : t.spent ≡ u.spent
   pub words : t.words ≡ u.words
 
-looks_same_below : (f : ℕ → Option Entry) (n : ℕ) (t : Table) (a : ℕ)
-    → SameWords (steps t a (looks_below f n)) t
-looks_same_below f zero t a = record {
+pub same_words : (t : Table) → SameWords t t
+same_words t = record {
   task = refl;
   entry = refl;
   mark = refl;
@@ -81,19 +80,27 @@ looks_same_below f zero t a = record {
   spent = refl;
   words = refl;
 }
-looks_same_below f (suc n) t a =
-    let r = looks_same_below f n (next t a (step.Saw n (entry_word (f n)))) a in
-    record {
-      task = r.task;
-      entry = r.entry;
-      mark = r.mark;
-      flag = r.flag;
-      done = r.done;
-      taken = r.taken;
-      holder = r.holder;
-      spent = r.spent;
-      words = r.words;
-    }
+
+-- a step that changes no word, before others that change none
+pub same_through : (u t : Table) (history : ℕ → List Step) (view : ℕ → View)
+    → SameWords u (record t { history = history; view = view }) → SameWords u t
+same_through u t history view r = record {
+  task = r.task;
+  entry = r.entry;
+  mark = r.mark;
+  flag = r.flag;
+  done = r.done;
+  taken = r.taken;
+  holder = r.holder;
+  spent = r.spent;
+  words = r.words;
+}
+
+looks_same_below : (f : ℕ → Option Entry) (n : ℕ) (t : Table) (a : ℕ)
+    → SameWords (steps t a (looks_below f n)) t
+looks_same_below f zero t a = same_words t
+looks_same_below f (suc n) t a = same_through _ t _ _
+    (looks_same_below f n (next t a (step.Saw n (entry_word (f n)))) a)
 
 pub looks_same : (t : Table) (f : ℕ → Option Entry) (a : ℕ) → SameWords (steps t a (looks f)) t
 unfolding looks

@@ -9,35 +9,14 @@ use Rattle.wait_model.specs.Fold.{after, after_all}
 use Rattle.wait_model.specs.Tables.{Table, next, steps}
 use Rattle.wait_model.specs.Words.{entry_word}
 use Rattle.wait_model.specs.Rows.{AllAllowed}
-use Rattle.wait_model.proofs.HistoryLaws.HoldLooks.{SameWords, AllRead}
+use Rattle.wait_model.proofs.HistoryLaws.HoldLooks.{SameWords, AllRead, same_words, same_through}
 use Rattle.wait_model.proofs.Functions.{put_same}
 use Rattle.wait_model.specs.declared.steps.Step.TheVariants as step
 
 peeks_same_below : (f : ℕ → Option Entry) (n : ℕ) (t : Table) (a : ℕ) → SameWords (steps t a (peeks_below f n)) t
-peeks_same_below f zero t a = record {
-  task = refl;
-  entry = refl;
-  mark = refl;
-  flag = refl;
-  done = refl;
-  taken = refl;
-  holder = refl;
-  spent = refl;
-  words = refl;
-}
-peeks_same_below f (suc n) t a =
-    let r = peeks_same_below f n (next t a (step.Peek n (entry_word (f n)))) a in
-    record {
-      task = r.task;
-      entry = r.entry;
-      mark = r.mark;
-      flag = r.flag;
-      done = r.done;
-      taken = r.taken;
-      holder = r.holder;
-      spent = r.spent;
-      words = r.words;
-    }
+peeks_same_below f zero t a = same_words t
+peeks_same_below f (suc n) t a = same_through _ t _ _
+    (peeks_same_below f n (next t a (step.Peek n (entry_word (f n)))) a)
 
 -- they change no word
 pub peeks_same : (t : Table) (f : ℕ → Option Entry) (a : ℕ) → SameWords (steps t a (all_peeks f)) t

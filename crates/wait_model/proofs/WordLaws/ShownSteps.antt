@@ -23,7 +23,7 @@ use Rattle.wait_model.specs.Locations.{Cell, Claim, Member, Next, Serving, IsLoc
 use Rattle.wait_model.specs.Locations.{location_of, cond_at, mark_word, Shows}
 use Rattle.wait_model.specs.Views.{View}
 use Rattle.wait_model.specs.Functions.{put}
-use Rattle.wait_model.proofs.HistoryLaws.HoldLooks.{SameWords, looks_same}
+use Rattle.wait_model.proofs.HistoryLaws.HoldLooks.{SameWords, looks_same, same_words, same_through}
 use Rattle.wait_model.proofs.Functions.{put_same, put_other}
 use Rattle.wait_model.proofs.WordLaws.CondWords.{cond_located, plain_at, done_at, var_at}
 use Rattle.wait_model.proofs.HistoryLaws.UnlockedLooks.{peeks_same}
@@ -328,17 +328,7 @@ module _ (words : List ℕ) (s : State) (shown : Shows words s.table) (me : ℕ)
   event_shown (event.Unmark h) a j = own_mark_word _ _ _
   event_shown (event.Load c v) a j =
       let u : Table = (after_event s me g (event.Load c v)).table in
-      let same = same_word u s.table (record {
-        task = refl;
-        entry = refl;
-        mark = refl;
-        flag = refl;
-        done = refl;
-        taken = refl;
-        holder = refl;
-        spent = refl;
-        words = refl;
-      }) in
+      let same = same_word u s.table (same_through u s.table _ _ (same_words u)) in
       written_as words s.table u (cond_at c) _ shown (cond_located c a) (sym (same (cond_at c)))
       (λ l ne. sym (same l))
   event_shown (event.Set c v) a j = rw j.0 (set_shown g.watch v j.1 j.2)

@@ -124,83 +124,32 @@ record IsWaitingAt (call : Call) (q : Point) (within : Bool) : Type 0 where
   numbers : (n : ℕ) → IsWalkSound n q
   fitted : IsFitted call q
 
+waits_at : {call : Call} {q : Point} {within : Bool} → head_at call q ≡ call_head call → zone q ≡ waits
+    → holds q ≡ within → is_preparing (now.Open call q) ≡ false → is_amid_function q ≡ false
+    → ((n : ℕ) → IsWalkSound n q) → IsFitted call q → IsWaitingAt call q within
+waits_at head home held calm taken numbers fitted = record {
+  head = head;
+  home = home;
+  held = held;
+  calm = calm;
+  taken = taken;
+  numbers = numbers;
+  fitted = fitted;
+}
+
 signalled_waits : (call : Call) → IsWaitingAt call (signalled_at call) true
-signalled_waits (calls.WaitFor d st) = record {
-  head = refl;
-  home = refl;
-  held = refl;
-  calm = refl;
-  taken = refl;
-  numbers = λ n. tt;
-  fitted = refl;
-}
-signalled_waits call = record {
-  head = refl;
-  home = refl;
-  held = refl;
-  calm = refl;
-  taken = refl;
-  numbers = λ n. tt;
-  fitted = tt;
-}
+signalled_waits (calls.WaitFor d st) = waits_at refl refl refl refl refl (λ n. tt) refl
+signalled_waits call = waits_at refl refl refl refl refl (λ n. tt) tt
 
 prepared_waits : (call : Call) → IsWaitingAt call (prepared_at call) false
-prepared_waits (calls.WaitFor d st) = record {
-  head = refl;
-  home = refl;
-  held = refl;
-  calm = refl;
-  taken = refl;
-  numbers = λ n. tt;
-  fitted = tt;
-}
-prepared_waits (calls.WaitBit w b st) = record {
-  head = refl;
-  home = refl;
-  held = refl;
-  calm = refl;
-  taken = refl;
-  numbers = λ n. tt;
-  fitted = refl;
-}
-prepared_waits (calls.LockBit w b st) = record {
-  head = refl;
-  home = refl;
-  held = refl;
-  calm = refl;
-  taken = refl;
-  numbers = λ n. tt;
-  fitted = refl;
-}
-prepared_waits call = record {
-  head = refl;
-  home = refl;
-  held = refl;
-  calm = refl;
-  taken = refl;
-  numbers = λ n. tt;
-  fitted = tt;
-}
+prepared_waits (calls.WaitFor d st) = waits_at refl refl refl refl refl (λ n. tt) tt
+prepared_waits (calls.WaitBit w b st) = waits_at refl refl refl refl refl (λ n. tt) refl
+prepared_waits (calls.LockBit w b st) = waits_at refl refl refl refl refl (λ n. tt) refl
+prepared_waits call = waits_at refl refl refl refl refl (λ n. tt) tt
 
 slept_waits : (call : Call) → IsWaitingAt call (slept_at call) false
-slept_waits (calls.WaitFor d st) = record {
-  head = refl;
-  home = refl;
-  held = refl;
-  calm = refl;
-  taken = refl;
-  numbers = λ n. tt;
-  fitted = refl;
-}
-slept_waits call = record {
-  head = refl;
-  home = refl;
-  held = refl;
-  calm = refl;
-  taken = refl;
-  numbers = λ n. tt;
-  fitted = refl;
-}
+slept_waits (calls.WaitFor d st) = waits_at refl refl refl refl refl (λ n. tt) refl
+slept_waits call = waits_at refl refl refl refl refl (λ n. tt) refl
 
 module _ (s : State) (n me : ℕ) (call : Call) (sound : IsSound s n) (mine : me < TASKS) where
   abbrev F : Point → Planned → Type 0

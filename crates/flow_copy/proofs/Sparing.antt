@@ -28,6 +28,7 @@ use Rattle.wait_rule.specs.Says.{added, grown, history_of}
 use Rattle.wait_rule.specs.Transitions.{AreLooks, AreScansOf, Goes, IsMadeFor, IsStepFor, OnlyLooks, Program}
 use Rattle.wait_rule.specs.Transitions.{StepOrLook, Transition, after_step_or_look, after_transition, by_look, by_step}
 use Rattle.wait_rule.specs.Transitions.{call_program, with_lock}
+use Rattle.wait_rule.proofs.KnownLaws.SilentCalls.{GoesBeside, TakesNone, goes_beside, program_spared}
 use Rattle.wait_rule.proofs.TableSteps.ItemLists.{steps_append}
 use Rattle.completion_cell.specs.Completes.{HasCompleted}
 use Rattle.page_lock.specs.PageEnds.{EndsPageLock}
@@ -49,7 +50,6 @@ use Rattle.copy_turns.proofs.PartLaws.{total_append}
 use Rattle.flow_copy.specs.PageWaits.{InterruptedWait, LastWaits, PageWaits}
 use Rattle.flow_copy.specs.Workers.{AddsLocked, ByTurns, CountsBytes, GetsAnd, GetterTurn, HandsBytes, ReaderTurn, ReaderWorks, RelaysPiece, RelayWorks, SinksPiece, WriterWorks, a_turn, get_halted, getter_gets, getter_killed, got_piece, no_turn, pipe_ended, put_all, put_halted, reader_hands, reader_killed, reader_refused, reader_works, relay_refused, relay_refused_sink, relay_works, sink_failed, sink_took, sink_wanted, source_ended, source_failed, source_long, stops_by, writer_refused, writer_works}
 use Rattle.flow_copy.specs.KilledWorkers.{ClosesBoth, HeedsKills, ReadersHeed, RelaysHeed, WritersHeed}
-use Rattle.flow_copy.proofs.SparingCalls.{GoesBeside, TakesNone, goes_beside, program_spared}
 
 spared_then : (a b c : Known) → TookNoKill a b → TookNoKill b c → TookNoKill a c
 spared_then a b c one two = two ∙ one

@@ -37,7 +37,7 @@ use Rattle.wait_rule.proofs.KnownLaws.CarriedEnds.{looks_ends, scans_ends}
 use Rattle.wait_rule.proofs.KnownLaws.CountedTallies.{amounts_none, looks_add, scans_add}
 use Rattle.wait_rule.proofs.KnownLaws.HandedSteps.{order_front}
 use Rattle.wait_rule.proofs.KnownLaws.PipeItems.{end_append}
-use Rattle.wait_rule.proofs.KnownLaws.SilentCalls.{GoesElsewhere, IsSilent, goes_elsewhere, program_quiet, walk_quiet}
+use Rattle.wait_rule.proofs.KnownLaws.SilentCalls.{GoesElsewhere, RaisesNone, goes_elsewhere, program_quiet, walk_quiet}
 use Rattle.wait_rule.proofs.KnownLaws.TallySteps.{amounts_append}
 use Rattle.wait_rule.proofs.TableSteps.ItemLists.{steps_append}
 
@@ -130,13 +130,13 @@ lock_view : (e : Step) (k : Known) → (with_lock e k).view ≡ k.view
 lock_view (step.Lock h aim w) k = refl
 lock_view e k = refl
 
-step_none : (k : Known) (o : Option ℕ) (g : Given) (v : Event) (s : Step) → IsSilent v → IsStepFor k o g v s
+step_none : (k : Known) (o : Option ℕ) (g : Given) (v : Event) (s : Step) → RaisesNone v → IsStepFor k o g v s
     → raised_by (item.Made s) ≡ []
 step_none k o g (event.Signal who fatal) (step.Signal t deadly w) silent is = absurd silent
 step_none k o g v (step.Signal t deadly w) silent is = absurd is
 step_none k o g v s silent is = refl
 
-made_aside : (k : Known) (o : Option ℕ) (g : Given) (v : Event) (did : StepOrLook) → IsSilent v
+made_aside : (k : Known) (o : Option ℕ) (g : Given) (v : Event) (did : StepOrLook) → RaisesNone v
     → IsMadeFor k o g v did → GrowsAside k (after_step_or_look did k)
 made_aside k o g v (by_step s) silent is = more_aside k (with_lock s (added k (item.Made s))) (item.Made s ∷ [])
     (lock_view s (added k (item.Made s))) (tt, tt)
@@ -148,7 +148,7 @@ made_aside k o g v (by_look xs) silent is = absurd is
 
 -- a program whose events raise none, from the places that it comes to
 module _ (f : Program) (On : Next → Type 0)
-    (quiet : (p : Point) → On (next.Go p) → (seen : Seen) → IsSilent (f.plan p seen).event × On (f.plan p seen).next)
+    (quiet : (p : Point) → On (next.Go p) → (seen : Seen) → RaisesNone (f.plan p seen).event × On (f.plan p seen).next)
   where
     goes_aside : (old : Known) (n : Next) (ts : List Transition) (new : Known) (m : Next) → On n
         → Goes f old n ts new m → GrowsAside old new
@@ -163,11 +163,13 @@ module _ (f : Program) (On : Next → Type 0)
 
 pub calls_grow_aside : CallsGrowAside
 calls_grow_aside me slot call old new from to made none away goes = goes_aside (call_program me slot call)
-    GoesElsewhere (λ p on seen. program_quiet me call seen p on) old from made new to (goes_elsewhere from away) goes
+    (GoesElsewhere ⊥ (Unit {0}) (Unit {0}))
+    (λ p on seen. program_quiet ⊥ (Unit {0}) (Unit {0}) tt me call seen p on) old from made new to
+    (goes_elsewhere ⊥ (Unit {0}) (Unit {0}) from away (λ e. tt)) goes
 
 pub walks_grow_aside : WalksGrowAside
 walks_grow_aside aim old new from to made goes = goes_aside (walk_program aim) (λ _. Unit {0})
-    (λ p on seen. ((walk_quiet aim seen (walk_point p)).0, tt)) old from made new to tt goes
+    (λ p on seen. ((walk_quiet ⊥ (Unit {0}) (Unit {0}) aim seen (walk_point p)).0, tt)) old from made new to tt goes
 
 -- An item that is about no head leaves the own entry as it was at each completion: one that is no step, or a step that
 -- gives back no lock.

@@ -1,7 +1,7 @@
 -- What stays of the ends of pipes over calls that go through programs.
 use Rattle.std.proofs.Common.{refl, sym, ◌∙◌, ap, subst, arith}
 use Rattle.std.specs.Prelude.{ℕ, ◌≡◌, ◌≢◌, ◌+◌, ◌-◌, ◌/◌, ◌%◌, ◌==◌, ◌&&◌, not, if◌then◌else◌, Bool, true, false}
-use Rattle.std.specs.Prelude.{Option, Some, None, List, [], ◌∷◌}
+use Rattle.std.specs.Prelude.{Option, None, List, [], ◌∷◌}
 use Rattle.std.proofs.lemmas.Bool.Decides.{nat_tests}
 use Rattle.wait_model.specs.declared.layout.TheConstants.{PIPE_ENDS}
 use Rattle.wait_model.specs.declared.calls.Event.{Event}
@@ -9,23 +9,13 @@ use Rattle.wait_model.specs.declared.calls.Event.TheVariants as event
 use Rattle.wait_model.specs.declared.points.Next.{Next}
 use Rattle.wait_model.specs.declared.points.Next.TheVariants as next
 use Rattle.wait_model.specs.declared.points.Given.{Given}
-use Rattle.wait_model.specs.declared.points.PageStage.{PageStage}
-use Rattle.wait_model.specs.declared.points.PageStage.TheVariants as staging
-use Rattle.wait_model.specs.declared.points.Planned.{Planned}
 use Rattle.wait_model.specs.declared.points.Point.{Point}
 use Rattle.wait_model.specs.declared.points.Seen.{Seen}
-use Rattle.wait_model.specs.declared.points.WalkPoint.{WalkPoint}
-use Rattle.wait_model.specs.declared.points.WalkPoint.TheVariants as walking
-use Rattle.wait_model.specs.declared.queues.CalledEntry.{CalledEntry}
-use Rattle.wait_model.specs.declared.queues.Walking.{Walking}
 use Rattle.wait_model.specs.declared.steps.Step.{Step}
 use Rattle.wait_model.specs.declared.steps.Step.TheVariants as step
-use Rattle.wait_model.specs.declared.watches.Aim.{Aim}
-use Rattle.wait_model.specs.declared.watches.Kind.{Kind}
-use Rattle.wait_model.specs.declared.watches.Kind.TheVariants as kind
 use Rattle.wait_model.specs.declared.watches.Watch.{Watch}
 use Rattle.wait_model.specs.declared.watches.Watch.TheVariants as watch
-use Rattle.wait_model.specs.Programs.{call_entry, call_next, hands_event, walk_event}
+use Rattle.wait_model.specs.Programs.{walk_event}
 use Rattle.wait_rule.specs.declared.journal.Item.{Item}
 use Rattle.wait_rule.specs.declared.journal.Item.TheVariants as item
 use Rattle.wait_rule.specs.Known.{Known}
@@ -40,6 +30,7 @@ use Rattle.wait_rule.specs.Transitions.{StepOrLook, Transition, after_step_or_lo
 use Rattle.wait_rule.specs.Transitions.{walk_point, walk_program, with_lock}
 use Rattle.wait_rule.proofs.KnownLaws.PipeItems.{end_append}
 use Rattle.wait_rule.proofs.KnownLaws.PipeWords.{test_off}
+use Rattle.wait_rule.proofs.KnownLaws.SilentCalls.{StoresNone, walk_quiet}
 
 -- looks tell nothing of ends
 pub looks_ends : (k : ℕ) (e : End) (xs : List Item) → AreLooks xs → end_from k e xs ≡ e
@@ -188,53 +179,9 @@ programs_leave_ends f none old new from to made goes k = goes_end k (λ e g. g �
     (λ r e. no_load k r e (f.given p).watch (none p)) (λ n r e. no_publish k n r e (f.given p).watch (none p))
     (f.plan p seen).event s is) old from made new to goes
 
--- The walk of a wake publishes nothing.
-abbrev IsQuiet : Event → Type 0
-IsQuiet (event.Set c n) = ⊥
-IsQuiet (event.Clear i b) = ⊥
-IsQuiet _ = Unit {0}
-
-either : (b : Bool) (x y : Planned) → IsQuiet x.event → IsQuiet y.event → IsQuiet (if b then x else y).event
-either true x y one two = one
-either false x y one two = two
-
-module _ (aim : Aim) (seen : Seen) where
-  entry_quiet : (w : Walking) (c : CalledEntry) (d : Kind) (hit : Bool)
-      → IsQuiet (call_entry aim w c d seen hit).event
-  entry_quiet w c kind.Default hit = tt
-  entry_quiet w c kind.Autoremove hit = tt
-  entry_quiet w c kind.Woken hit = tt
-  entry_quiet w c kind.Bit hit = tt
-  entry_quiet w c kind.Var hit = tt
-  entry_quiet w c kind.Simple hit = tt
-  entry_quiet w c kind.Page hit = tt
-
-  next_quiet : (w : Walking) (o : Option CalledEntry) (hit : Bool) → IsQuiet (call_next aim w o seen hit).event
-  next_quiet w None hit = tt
-  next_quiet w (Some c) hit = entry_quiet w c c.kind hit
-
-  hands_quiet : (st : PageStage) (w : Walking) (c : CalledEntry) → IsQuiet (hands_event aim st w c seen).event
-  hands_quiet staging.Try w c = tt
-  hands_quiet staging.Hand w c = tt
-  hands_quiet staging.Wake w c = tt
-  hands_quiet staging.Off w c = tt
-
-  walk_quiet : (p : WalkPoint) → IsQuiet (walk_event aim p seen).event
-  walk_quiet walking.Lock = tt
-  walk_quiet (walking.Call w) = either seen.breaks _ _ tt (next_quiet _ seen.called _)
-  walk_quiet (walking.Bit w c) = tt
-  walk_quiet (walking.Page st w c) = hands_quiet st w c
-  walk_quiet (walking.Stopped w) = tt
-  walk_quiet (walking.Wake w c) = tt
-  walk_quiet (walking.Unqueue w who) = tt
-  walk_quiet (walking.Spent w) = tt
-  walk_quiet (walking.BreakUnlock w) = tt
-  walk_quiet (walking.BreakLock w) = tt
-  walk_quiet (walking.Unmark w) = tt
-
--- its steps leave the end of the variable whose waiters it wakes
+-- The steps of a walk leave the end of the variable whose waiters it wakes.
 module _ (v o : ℕ) (j : Known) (own : Option ℕ) (g : Given) (about : g.watch ≡ watch.Var v o) where
-  quiet_end : (d : Event) → IsQuiet d → (s : Step) → IsStepFor j own g d s → (e : End) → end_step v s e ≡ e
+  quiet_end : (d : Event) → StoresNone d → (s : Step) → IsStepFor j own g d s → (e : End) → end_step v s e ≡ e
   quiet_end (event.Load c n) quiet (step.Load l r) is e =
       subst (λ (w : Watch). end_step v (step.Load w r) e ≡ e) (sym (is ∙ about))
       (ap (λ (b : Bool). if b then if_unclosed (after_end_look r) e else e) (test_off v (other_end v) (not_own v)))
@@ -254,4 +201,5 @@ module _ (v o : ℕ) (j : Known) (own : Option ℕ) (g : Given) (about : g.watch
 pub walks_keep_ends : WalksKeepEnds
 walks_keep_ends aim v o about old n ts new m goes = goes_end v (λ e g. g ≡ e) (λ e g is. is) join_same
     (walk_program aim) (λ p seen j s is. quiet_end v o j None ((walk_program aim).given p) about
-    (walk_event aim (walk_point p) seen).event (walk_quiet aim seen (walk_point p)) s is) old n ts new m goes
+    (walk_event aim (walk_point p) seen).event
+    (walk_quiet (Unit {0}) (Unit {0}) ⊥ aim seen (walk_point p)).0 s is) old n ts new m goes

@@ -128,6 +128,36 @@ wake_links s a who mask w = quiet_links s a (step.Wake who mask w) (record {
   marks = λ v k. wake_marks k.walk who mask (met_task mask w) v k;
 })
 
+-- a step that is about no head and no bookmark, and wakes nobody and hands no page over
+abbrev pub IsOffHeads : Step → Type 0
+IsOffHeads (step.Lock h aim w) = ⊥
+IsOffHeads (step.Unlock h spent) = ⊥
+IsOffHeads (step.Wake who mask w) = ⊥
+IsOffHeads (step.Mark h q) = ⊥
+IsOffHeads step.Unmark = ⊥
+IsOffHeads (step.Handed x) = ⊥
+IsOffHeads _ = Unit {0}
+
+pub off_links : (s : Table) (a : ℕ) (e : Step) → IsOffHeads e → KeepsLinks s a e
+off_links s a e off = quiet_links s a e (by e off)
+  where
+    by : (e : Step) → IsOffHeads e → LinksNothing s a e
+    by (step.Lock h aim w) off = absurd off
+    by (step.Unlock h spent) off = absurd off
+    by (step.Wake who mask w) off = absurd off
+    by (step.Mark h q) off = absurd off
+    by step.Unmark off = absurd off
+    by (step.Handed x) off = absurd off
+    by e off = record {
+      holder = refl;
+      spent = refl;
+      mark = refl;
+      head = λ v. refl;
+      found = λ v. refl;
+      own = λ v k. refl;
+      marks = λ v k. refl;
+    }
+
 -- one more step in a list
 pub noted_next : (items : ℕ → List Item) (a : ℕ) (e : Step) (v : Told) → v ≡ view_of (steps_of (items a))
     → all_notes (put items a (items a ++ item.Made e ∷ []))

@@ -16,7 +16,7 @@ use Rattle.wait_model.proofs.Functions.{put_at, put_same, put_other}
 use Rattle.wait_rule.specs.declared.journal.Item.{Item}
 use Rattle.wait_rule.specs.Items.{Book, nothing, Fits}
 use Rattle.wait_rule.specs.Rule.{IsLawfulTable, IsRuled}
-use Rattle.wait_rule.proofs.KnownLaws.HeadLinks.{quiet_links}
+use Rattle.wait_rule.proofs.KnownLaws.HeadLinks.{off_links}
 use Rattle.wait_rule.proofs.KnownLaws.MemberPlaces.{still_places}
 use Rattle.wait_rule.proofs.TableSteps.KeptSteps.{Leaves, KeepsLaw}
 
@@ -76,15 +76,7 @@ module _ (s : Table) (items : ℕ → List Item) (ruled : IsRuled s items) (a : 
     stored = tt;
     orderly = λ bit. clear;
     places = still_places s a (step.Consume (watch.Bit w b) 1 found) refl refl;
-    links = quiet_links s a (step.Consume (watch.Bit w b) 1 found) (record {
-      holder = refl;
-      spent = refl;
-      mark = refl;
-      head = λ v. refl;
-      found = λ v. refl;
-      own = λ v i. refl;
-      marks = λ v i. refl;
-    });
+    links = off_links s a (step.Consume (watch.Bit w b) 1 found) tt;
     leaves = bit_leaves s a w b true k _ _ small ruled.lawful fits;
   }
 
@@ -98,14 +90,6 @@ module _ (s : Table) (items : ℕ → List Item) (ruled : IsRuled s items) (a : 
     stored = tt;
     orderly = tt;
     places = still_places s a (step.Publish (watch.Bit w b) 0 found) refl refl;
-    links = quiet_links s a (step.Publish (watch.Bit w b) 0 found) (record {
-      holder = refl;
-      spent = refl;
-      mark = refl;
-      head = λ v. refl;
-      found = λ v. refl;
-      own = λ v i. refl;
-      marks = λ v i. refl;
-    });
+    links = off_links s a (step.Publish (watch.Bit w b) 0 found) tt;
     leaves = bit_leaves s a w b false k _ _ small ruled.lawful fits;
   }

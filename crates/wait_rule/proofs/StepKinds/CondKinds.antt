@@ -16,7 +16,7 @@ use Rattle.wait_model.proofs.Functions.{put_same, put_other}
 use Rattle.wait_rule.specs.declared.journal.Item.{Item}
 use Rattle.wait_rule.specs.Items.{Book, nothing, Fits}
 use Rattle.wait_rule.specs.Rule.{IsLawfulTable, IsRuled}
-use Rattle.wait_rule.proofs.KnownLaws.HeadLinks.{quiet_links}
+use Rattle.wait_rule.proofs.KnownLaws.HeadLinks.{off_links}
 use Rattle.wait_rule.proofs.KnownLaws.MemberPlaces.{still_places}
 use Rattle.wait_rule.proofs.TableSteps.KeptSteps.{Leaves, KeepsLaw}
 use Rattle.wait_rule.proofs.StepKinds.EntryKinds.{load_leaves}
@@ -82,15 +82,7 @@ module _ (s : Table) (items : ℕ → List Item) (ruled : IsRuled s items) (a : 
         stored = tt;
         orderly = clear;
         places = still_places s a (step.Load c (value_of s.words c)) refl refl;
-        links = quiet_links s a (step.Load c (value_of s.words c)) (record {
-          holder = refl;
-          spent = refl;
-          mark = refl;
-          head = λ v. refl;
-          found = λ v. refl;
-          own = λ v k. refl;
-          marks = λ v k. refl;
-        });
+        links = off_links s a (step.Load c (value_of s.words c)) tt;
         leaves = subst (λ (n : ℕ). Leaves s (next s a (step.Load c (value_of s.words c))) a (cond_at (number_of c)) n b)
             (number_value s c is)
             (load_leaves s a (cond_at (number_of c)) b _ _ ruled.lawful fits);
@@ -103,15 +95,7 @@ module _ (s : Table) (items : ℕ → List Item) (ruled : IsRuled s items) (a : 
     stored = tt;
     orderly = tt;
     places = still_places s a (step.Publish (watch.Plain c) n (s.words.plains c)) refl refl;
-    links = quiet_links s a (step.Publish (watch.Plain c) n (s.words.plains c)) (record {
-      holder = refl;
-      spent = refl;
-      mark = refl;
-      head = λ v. refl;
-      found = λ v. refl;
-      own = λ v k. refl;
-      marks = λ v k. refl;
-    });
+    links = off_links s a (step.Publish (watch.Plain c) n (s.words.plains c)) tt;
     leaves = plain_leaves s a c n b _ _ ruled.lawful fits;
   }
 
@@ -122,15 +106,7 @@ module _ (s : Table) (items : ℕ → List Item) (ruled : IsRuled s items) (a : 
     stored = tt;
     orderly = tt;
     places = still_places s a (step.Publish (watch.Var v o) n (s.words.vars v)) refl refl;
-    links = quiet_links s a (step.Publish (watch.Var v o) n (s.words.vars v)) (record {
-      holder = refl;
-      spent = refl;
-      mark = refl;
-      head = λ v. refl;
-      found = λ v. refl;
-      own = λ v k. refl;
-      marks = λ v k. refl;
-    });
+    links = off_links s a (step.Publish (watch.Var v o) n (s.words.vars v)) tt;
     leaves = var_leaves s a v n b _ _ ruled.lawful fits;
   }
 
@@ -140,14 +116,6 @@ module _ (s : Table) (items : ℕ → List Item) (ruled : IsRuled s items) (a : 
     stored = tt;
     orderly = λ bit. absurd (cc);
     places = still_places s a (step.Consume (watch.Plain c) 0 (s.words.plains c)) refl refl;
-    links = quiet_links s a (step.Consume (watch.Plain c) 0 (s.words.plains c)) (record {
-      holder = refl;
-      spent = refl;
-      mark = refl;
-      head = λ v. refl;
-      found = λ v. refl;
-      own = λ v k. refl;
-      marks = λ v k. refl;
-    });
+    links = off_links s a (step.Consume (watch.Plain c) 0 (s.words.plains c)) tt;
     leaves = plain_leaves s a c 0 b _ _ ruled.lawful fits;
   }

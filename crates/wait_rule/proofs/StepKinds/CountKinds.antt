@@ -18,7 +18,7 @@ use Rattle.wait_model.proofs.Functions.{put_same, put_other}
 use Rattle.wait_rule.specs.declared.journal.Item.{Item}
 use Rattle.wait_rule.specs.Items.{Book, nothing, Fits}
 use Rattle.wait_rule.specs.Rule.{IsLawfulTable, IsRuled}
-use Rattle.wait_rule.proofs.KnownLaws.HeadLinks.{quiet_links}
+use Rattle.wait_rule.proofs.KnownLaws.HeadLinks.{off_links}
 use Rattle.wait_rule.proofs.KnownLaws.MemberPlaces.{still_places}
 use Rattle.wait_rule.proofs.TableSteps.KeptSteps.{Leaves, KeepsLaw}
 use Rattle.wait_rule.proofs.StepKinds.EntryKinds.{load_leaves}
@@ -63,15 +63,7 @@ module _ (s : Table) (items : ℕ → List Item) (ruled : IsRuled s items) (a : 
     stored = tt;
     orderly = clear;
     places = still_places s a (step.Load (watch.Done d) (s.words.dones d)) refl refl;
-    links = quiet_links s a (step.Load (watch.Done d) (s.words.dones d)) (record {
-      holder = refl;
-      spent = refl;
-      mark = refl;
-      head = λ v. refl;
-      found = λ v. refl;
-      own = λ v k. refl;
-      marks = λ v k. refl;
-    });
+    links = off_links s a (step.Load (watch.Done d) (s.words.dones d)) tt;
     leaves = load_leaves s a (place.Done d) b _ _ ruled.lawful fits;
   }
 
@@ -83,15 +75,7 @@ module _ (s : Table) (items : ℕ → List Item) (ruled : IsRuled s items) (a : 
       stored = stored;
       orderly = tt;
       places = still_places s a (step.Publish (watch.Done d) n (s.words.dones d)) refl refl;
-      links = quiet_links s a (step.Publish (watch.Done d) n (s.words.dones d)) (record {
-        holder = refl;
-        spent = refl;
-        mark = refl;
-        head = λ v. refl;
-        found = λ v. refl;
-        own = λ v k. refl;
-        marks = λ v k. refl;
-      });
+      links = off_links s a (step.Publish (watch.Done d) n (s.words.dones d)) tt;
       leaves = count_leaves s a d n b _ _ ruled.lawful fits;
     }
 
@@ -102,15 +86,7 @@ module _ (s : Table) (items : ℕ → List Item) (ruled : IsRuled s items) (a : 
       stored = stored;
       orderly = λ bit. absurd (cc);
       places = still_places s a (step.Consume (watch.Done d) n (s.words.dones d)) refl refl;
-      links = quiet_links s a (step.Consume (watch.Done d) n (s.words.dones d)) (record {
-        holder = refl;
-        spent = refl;
-        mark = refl;
-        head = λ v. refl;
-        found = λ v. refl;
-        own = λ v k. refl;
-        marks = λ v k. refl;
-      });
+      links = off_links s a (step.Consume (watch.Done d) n (s.words.dones d)) tt;
       leaves = count_leaves s a d n b _ _ ruled.lawful fits;
     }
 

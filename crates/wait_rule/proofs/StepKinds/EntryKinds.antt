@@ -26,7 +26,7 @@ use Rattle.wait_rule.specs.Asked.{nothing_asked, all_asked}
 use Rattle.wait_rule.specs.Pages.{uses_flag}
 use Rattle.wait_rule.specs.Rule.{IsLawfulTable, IsRuled}
 use Rattle.wait_rule.specs.Queues.{saw}
-use Rattle.wait_rule.proofs.KnownLaws.HeadLinks.{quiet_links}
+use Rattle.wait_rule.proofs.KnownLaws.HeadLinks.{off_links}
 use Rattle.wait_rule.proofs.KnownLaws.MemberPlaces.{KeepsPlaces, still_places, unqueue_places}
 use Rattle.wait_rule.proofs.KnownLaws.OwnEntries.{IsFair}
 use Rattle.wait_rule.proofs.KnownLaws.PageSteps.{not_both}
@@ -106,15 +106,7 @@ module _ (s : Table) (items : ℕ → List Item) (ruled : IsRuled s items) (x : 
       stored = tt;
       orderly = tt;
       places = still_places s a (step.Peek x (entry_word (s.entry x))) refl refl;
-      links = quiet_links s a (step.Peek x (entry_word (s.entry x))) (record {
-        holder = refl;
-        spent = refl;
-        mark = refl;
-        head = λ v. refl;
-        found = λ v. refl;
-        own = λ v k. refl;
-        marks = λ v k. refl;
-      });
+      links = off_links s a (step.Peek x (entry_word (s.entry x))) tt;
       leaves = load_leaves s a (place.Entry x) b _ _ ruled.lawful fits;
     }
     sees (Some h) held = record {
@@ -122,15 +114,7 @@ module _ (s : Table) (items : ℕ → List Item) (ruled : IsRuled s items) (x : 
       stored = tt;
       orderly = tt;
       places = still_places s a (step.Saw x (entry_word (s.entry x))) refl refl;
-      links = quiet_links s a (step.Saw x (entry_word (s.entry x))) (record {
-        holder = refl;
-        spent = refl;
-        mark = refl;
-        head = λ v. refl;
-        found = λ v. refl;
-        own = λ v k. refl;
-        marks = λ v k. refl;
-      });
+      links = off_links s a (step.Saw x (entry_word (s.entry x))) tt;
       leaves = load_leaves s a (place.Entry x) b _ _ ruled.lawful fits;
     }
 
@@ -164,15 +148,7 @@ module _ (s : Table) (items : ℕ → List Item) (ruled : IsRuled s items) (x : 
       stored = hands;
       orderly = (clear, may_ask s items ruled a x e standing asks);
       places = places;
-      links = quiet_links s a (step.Queue x e) (record {
-        holder = refl;
-        spent = refl;
-        mark = refl;
-        head = λ v. refl;
-        found = λ v. refl;
-        own = λ v k. refl;
-        marks = λ v k. refl;
-      });
+      links = off_links s a (step.Queue x e) tt;
       leaves = entry_leaves s a x (Some e) (with_difference (at_entry x true) b) _ _ ruled.lawful
           (fits_difference (s.task a) b (at_entry x true) fits)
           (λ d is. subst (IsStanding x) (let z : e ≡ d = cc in z) standing);
@@ -194,15 +170,7 @@ module _ (s : Table) (items : ℕ → List Item) (ruled : IsRuled s items) (x : 
         clear.1,
       );
       places = unqueue_places s a x;
-      links = quiet_links s a (step.Unqueue x) (record {
-        holder = refl;
-        spent = refl;
-        mark = refl;
-        head = λ v. refl;
-        found = λ v. refl;
-        own = λ v k. refl;
-        marks = λ v k. refl;
-      });
+      links = off_links s a (step.Unqueue x) tt;
       leaves = entry_leaves s a x None (with_difference (at_entry x false) b) _ _ ruled.lawful
           (fits_difference (s.task a) b (at_entry x false) fits) (λ d is. absurd (cc));
     }

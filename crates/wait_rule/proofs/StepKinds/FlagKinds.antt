@@ -22,7 +22,7 @@ use Rattle.wait_rule.specs.MemberWords.{all_differences}
 use Rattle.wait_rule.specs.Pages.{uses_flag, IsPageless, IsPageState}
 use Rattle.wait_rule.specs.Rule.{IsLawfulTable, IsRuled}
 use Rattle.wait_rule.proofs.KnownLaws.PageSteps.{not_both}
-use Rattle.wait_rule.proofs.KnownLaws.HeadLinks.{quiet_links}
+use Rattle.wait_rule.proofs.KnownLaws.HeadLinks.{off_links}
 use Rattle.wait_rule.proofs.KnownLaws.MemberPlaces.{still_places}
 use Rattle.wait_rule.proofs.TableSteps.KeptSteps.{Leaves, KeepsLaw}
 use Rattle.wait_rule.proofs.StepKinds.EntryKinds.{load_leaves}
@@ -86,15 +86,7 @@ flags s items ruled x a b fits h e held shows woken = record {
   stored = tt;
   orderly = (woken_untaken s items ruled x e agrees.0 woken, λ d is. one d is);
   places = still_places s a (step.Woken x) refl refl;
-  links = quiet_links s a (step.Woken x) (record {
-    holder = refl;
-    spent = refl;
-    mark = refl;
-    head = λ v. refl;
-    found = λ v. refl;
-    own = λ v k. refl;
-    marks = λ v k. refl;
-  });
+  links = off_links s a (step.Woken x) tt;
   leaves = flag_leaves s a x true b s.taken _ _ ruled.lawful fits;
 }
   where
@@ -117,15 +109,7 @@ module _ (s : Table) (items : ℕ → List Item) (ruled : IsRuled s items) (x a 
     stored = tt;
     orderly = tt;
     places = still_places s a (step.Flag x (done_word (s.flag x) (s.done x))) refl refl;
-    links = quiet_links s a (step.Flag x (done_word (s.flag x) (s.done x))) (record {
-      holder = refl;
-      spent = refl;
-      mark = refl;
-      head = λ v. refl;
-      found = λ v. refl;
-      own = λ v k. refl;
-      marks = λ v k. refl;
-    });
+    links = off_links s a (step.Flag x (done_word (s.flag x) (s.done x))) tt;
     leaves = load_leaves s a (place.Flag x) b _ _ ruled.lawful fits;
   }
 
@@ -138,14 +122,6 @@ module _ (s : Table) (items : ℕ → List Item) (ruled : IsRuled s items) (x a 
     stored = tt;
     orderly = pageless;
     places = still_places s a (step.Unflag x o) refl refl;
-    links = quiet_links s a (step.Unflag x o) (record {
-      holder = refl;
-      spent = refl;
-      mark = refl;
-      head = λ v. refl;
-      found = λ v. refl;
-      own = λ v k. refl;
-      marks = λ v k. refl;
-    });
+    links = off_links s a (step.Unflag x o) tt;
     leaves = flag_leaves s a x false b (put s.taken x None) _ _ ruled.lawful fits;
   }

@@ -24,7 +24,7 @@ use Rattle.wait_rule.specs.Pages.{uses_flag, taken_entry, IsPageEntry, IsPageles
 use Rattle.wait_rule.specs.Members.{IsOwnKind}
 use Rattle.wait_rule.specs.Quiet.{is_quiet_at, is_told}
 use Rattle.wait_rule.specs.Rule.{IsLawfulTable, IsRuled}
-use Rattle.wait_rule.proofs.KnownLaws.HeadLinks.{quiet_links, telling_own, telling_marks}
+use Rattle.wait_rule.proofs.KnownLaws.HeadLinks.{off_links, quiet_links, telling_marks, telling_own}
 use Rattle.wait_rule.proofs.KnownLaws.MemberPlaces.{still_places}
 use Rattle.wait_rule.proofs.KnownLaws.PageStates.{none_some}
 use Rattle.wait_rule.proofs.KnownLaws.PageSteps.{not_both, takes_none}
@@ -144,15 +144,7 @@ module _ (s : Table) (items : ℕ → List Item) (ruled : IsRuled s items) (a : 
       stored = tt;
       orderly = clear;
       places = still_places s a tried refl refl;
-      links = quiet_links s a tried (record {
-        holder = refl;
-        spent = refl;
-        mark = refl;
-        head = λ v. refl;
-        found = λ v. refl;
-        own = λ v i. refl;
-        marks = λ v i. refl;
-      });
+      links = off_links s a tried tt;
       leaves = try_leaves s a p (with_difference (after_try x (was_clear (page p) found) b.differs) b)
           (if was_clear (page p) found then put s.taken x (Some p) else s.taken) _ _ ruled.lawful
           (fits_difference (s.task a) b (after_try x (was_clear (page p) found) b.differs) fits);

@@ -18,7 +18,7 @@ use Rattle.wait_model.proofs.WordLaws.LawfulWords.{woken_lawful, slept_lawful}
 use Rattle.wait_rule.specs.declared.journal.Item.{Item}
 use Rattle.wait_rule.specs.Items.{Book, after_sleep, after_awake, with_state, Fits}
 use Rattle.wait_rule.specs.Rule.{IsLawfulTable, IsRuled}
-use Rattle.wait_rule.proofs.KnownLaws.HeadLinks.{quiet_links, wake_links}
+use Rattle.wait_rule.proofs.KnownLaws.HeadLinks.{off_links, wake_links}
 use Rattle.wait_rule.proofs.KnownLaws.MemberPlaces.{still_places}
 use Rattle.wait_rule.proofs.TableSteps.KeptSteps.{Leaves, KeepsLaw}
 use Rattle.wait_rule.proofs.StepKinds.TaskBits.{word_lawful}
@@ -155,16 +155,7 @@ module _ (s : Table) (items : ℕ → List Item) (ruled : IsRuled s items) (u : 
       stored = tt;
       orderly = tt;
       places = still_places s a (step.Signal u fatal (task_word (s.task u))) refl refl;
-      links = quiet_links s a (step.Signal u fatal (task_word (s.task u)))
-          (record {
-            holder = refl;
-            spent = refl;
-            mark = refl;
-            head = λ v. refl;
-            found = λ v. refl;
-            own = λ v k. refl;
-            marks = λ v k. refl;
-          });
+      links = off_links s a (step.Signal u fatal (task_word (s.task u))) tt;
       leaves = subst (λ (k : ℕ). Leaves s (next s a (step.Signal u fatal (task_word (s.task u)))) a
           (place.Task u) k b) (sym is)
           (task_leaves s a u (raised fatal (s.task u)) b _ _ ruled.lawful
@@ -188,16 +179,7 @@ module _ (s : Table) (items : ℕ → List Item) (ruled : IsRuled s items) (a : 
     stored = tt;
     orderly = tt;
     places = still_places s a (step.Look (task_word (s.task a))) refl refl;
-    links = quiet_links s a (step.Look (task_word (s.task a)))
-        (record {
-          holder = refl;
-          spent = refl;
-          mark = refl;
-          head = λ v. refl;
-          found = λ v. refl;
-          own = λ v k. refl;
-          marks = λ v k. refl;
-        });
+    links = off_links s a (step.Look (task_word (s.task a))) tt;
     leaves = still_leaves s a a b _ _ ruled.lawful fits;
   }
 
@@ -208,16 +190,7 @@ module _ (s : Table) (items : ℕ → List Item) (ruled : IsRuled s items) (a : 
     stored = tt;
     orderly = tt;
     places = still_places s a (step.Accept (task_word (s.task a))) refl refl;
-    links = quiet_links s a (step.Accept (task_word (s.task a)))
-        (record {
-          holder = refl;
-          spent = refl;
-          mark = refl;
-          head = λ v. refl;
-          found = λ v. refl;
-          own = λ v k. refl;
-          marks = λ v k. refl;
-        });
+    links = off_links s a (step.Accept (task_word (s.task a))) tt;
     leaves = subst (λ (k : ℕ). Leaves s (next s a (step.Accept (task_word (s.task a)))) a (place.Task a) k b) (sym is)
         (task_leaves s a a (accepted (s.task a)) b _ _ ruled.lawful (accepted_lawful (s.task a) mine)
         (λ _. same_fits (s.task a) (accepted (s.task a)) b refl refl fits) (λ _. fits)
@@ -232,16 +205,7 @@ module _ (s : Table) (items : ℕ → List Item) (ruled : IsRuled s items) (a : 
     stored = tt;
     orderly = tt;
     places = still_places s a (step.Sleep (task_word (s.task a))) refl refl;
-    links = quiet_links s a (step.Sleep (task_word (s.task a)))
-        (record {
-          holder = refl;
-          spent = refl;
-          mark = refl;
-          head = λ v. refl;
-          found = λ v. refl;
-          own = λ v k. refl;
-          marks = λ v k. refl;
-        });
+    links = off_links s a (step.Sleep (task_word (s.task a))) tt;
     leaves = subst (λ (x : TaskRecord). Leaves s (next s a (step.Sleep (task_word (s.task a)))) a (place.Task a)
         (task_word (slept x)) (after_sleep (sleep_of x) b))
         (sym own)
@@ -258,16 +222,7 @@ module _ (s : Table) (items : ℕ → List Item) (ruled : IsRuled s items) (a : 
     stored = tt;
     orderly = tt;
     places = still_places s a (step.State v) refl refl;
-    links = quiet_links s a (step.State v)
-        (record {
-          holder = refl;
-          spent = refl;
-          mark = refl;
-          head = λ v. refl;
-          found = λ v. refl;
-          own = λ v k. refl;
-          marks = λ v k. refl;
-        });
+    links = off_links s a (step.State v) tt;
     leaves = subst (λ (k : ℕ). Leaves s (next s a (step.State v)) a (place.Task a) k (with_state v b)) (sym is)
         (task_leaves s a a (record (s.task a) { state = v }) (with_state v b) _ _ ruled.lawful
         (stored_lawful (s.task a) v mine (fits.up up) is_state) (λ _. record {

@@ -25,7 +25,7 @@ use Rattle.wait_rule.specs.MemberWords.{names, index_named, is_put, all_differen
 use Rattle.wait_rule.specs.Rule.{IsRuled, Law, Holds}
 use Rattle.wait_rule.specs.Plays.{Sat, seat_with}
 use Rattle.wait_rule.specs.QueuePlays.{member_scanned_play}
-use Rattle.wait_rule.proofs.KnownLaws.HeadLinks.{quiet_links}
+use Rattle.wait_rule.proofs.KnownLaws.HeadLinks.{off_links}
 use Rattle.wait_rule.proofs.KnownLaws.MemberPlaces.{still_places}
 use Rattle.wait_rule.proofs.KnownLaws.MemberSteps.{nothing_named, entry_names}
 use Rattle.wait_rule.proofs.KnownLaws.TicketSteps.{to_test}
@@ -118,15 +118,7 @@ module _ (s : Table) (items : ℕ → List Item) (ruled : IsRuled s items) (a : 
     stored = tt;
     orderly = tt;
     places = still_places s a (step.Scan h i w) refl refl;
-    links = quiet_links s a (step.Scan h i w) (record {
-      holder = refl;
-      spent = refl;
-      mark = refl;
-      head = λ v. refl;
-      found = λ v. refl;
-      own = λ v k. refl;
-      marks = λ v k. refl;
-    });
+    links = off_links s a (step.Scan h i w) tt;
     leaves = load_leaves s a place.Base b _ _ ruled.lawful fits;
   }
 

@@ -1,6 +1,6 @@
 -- Each kind of step on a bit word keeps the law.
 use Rattle.std.proofs.Common.{refl, ap, arith}
-use Rattle.std.specs.Prelude.{ℕ, ◌≡◌, ◌≢◌, ◌<◌, ◌≤◌, Bool, true, false, Some, None, List}
+use Rattle.std.specs.Prelude.{ℕ, ◌≡◌, ◌≢◌, ◌<◌, ◌≤◌, Bool, true, false, Option, Some, None, List}
 use Rattle.wait_model.specs.declared.layout.TheConstants.{WORD_BITS}
 use Rattle.wait_model.specs.declared.watches.Watch.TheVariants as watch
 use Rattle.wait_model.specs.declared.steps.Step.{Step}
@@ -19,9 +19,10 @@ use Rattle.wait_rule.specs.Rule.{IsLawfulTable, IsRuled}
 use Rattle.wait_rule.proofs.KnownLaws.HeadLinks.{off_links}
 use Rattle.wait_rule.proofs.KnownLaws.MemberPlaces.{still_places}
 use Rattle.wait_rule.proofs.TableSteps.KeptSteps.{Leaves, KeepsLaw}
+use Rattle.wait_rule.proofs.StepKinds.EntryKinds.{with_words, words_leave}
 
 -- a word with one bit changed has no bits above its own
-pub low_still : (bits : ℕ → ℕ → Bool) (w b : ℕ) (v : Bool) → b < WORD_BITS
+low_still : (bits : ℕ → ℕ → Bool) (w b : ℕ) (v : Bool) → b < WORD_BITS
     → ((i k : ℕ) → WORD_BITS ≤ k → bits i k ≡ false) → (i k : ℕ) → WORD_BITS ≤ k
     → put bits w (put (bits w) b v) i k ≡ false
 low_still bits w b v small low i k far = put_at (λ (f : ℕ → Bool). f k ≡ false) bits w (put (bits w) b v) i
@@ -29,35 +30,18 @@ low_still bits w b v small low i k far = put_at (λ (f : ℕ → Bool). f k ≡ 
     (λ _. low i k far)
 
 -- what a step on a bit leaves
-bit_leaves : (s : Table) (a w b : ℕ) (v : Bool) (k : Book) (history : ℕ → List Step) (view : ℕ → Told)
-    → b < WORD_BITS → IsLawfulTable s → Fits (s.task a) k
-    → Leaves s (record s {
-      words = record (s.words) { bits = put s.words.bits w (put (s.words.bits w) b v) };
-      history = history;
-      view = view;
-    })
+pub bit_leaves : (s : Table) (a w b : ℕ) (v : Bool) (k : Book) (pages : ℕ → Option ℕ) (history : ℕ → List Step)
+    (view : ℕ → Told) → b < WORD_BITS → IsLawfulTable s → Fits (s.task a) k
+    → Leaves s
+    (with_words s (record (s.words) { bits = put s.words.bits w (put (s.words.bits w) b v) }) pages history view)
     a (place.Bits w) (bit_word WORD_BITS (put (s.words.bits w) b v)) k
-bit_leaves s a w b v k history view small l f = record {
-  lawful = record {
-    tasks = l.tasks;
-    entries = l.entries;
-    marks = l.marks;
-    spent = l.spent;
-    bits = low_still s.words.bits w b v small l.bits;
-  };
-  own = f;
-  others = λ t ne c g. g;
-  left = ap (bit_word WORD_BITS) (put_same s.words.bits w (put (s.words.bits w) b v));
-  rest = rest_of;
-}
+bit_leaves s a w b v k pages history view small l f = words_leave s a _ (place.Bits w) _ k pages history view l f
+    (low_still s.words.bits w b v small l.bits)
+    (ap (bit_word WORD_BITS) (put_same s.words.bits w (put (s.words.bits w) b v))) rest_of
   where
     rest_of : (j : Location) → j ≢ place.Bits w
-        → word_in (record s {
-          words = record (s.words) { bits = put s.words.bits w (put (s.words.bits w) b v) };
-          history = history;
-          view = view;
-        }) j
-        ≡ word_in s j
+        → word_in (with_words s (record (s.words) { bits = put s.words.bits w (put (s.words.bits w) b v) }) pages
+        history view) j ≡ word_in s j
     rest_of (place.Bits i) ne = ap (bit_word WORD_BITS)
         (put_other s.words.bits w (put (s.words.bits w) b v) i (λ e. ne (ap place.Bits e)))
     rest_of j ne = refl
@@ -77,7 +61,7 @@ module _ (s : Table) (items : ℕ → List Item) (ruled : IsRuled s items) (a : 
     orderly = λ bit. clear;
     places = still_places s a (step.Consume (watch.Bit w b) 1 found) refl refl;
     links = off_links s a (step.Consume (watch.Bit w b) 1 found) tt;
-    leaves = bit_leaves s a w b true k _ _ small ruled.lawful fits;
+    leaves = bit_leaves s a w b true k s.taken _ _ small ruled.lawful fits;
   }
 
   -- a clear, by a task that keeps the bit and is RUNNING
@@ -91,5 +75,5 @@ module _ (s : Table) (items : ℕ → List Item) (ruled : IsRuled s items) (a : 
     orderly = tt;
     places = still_places s a (step.Publish (watch.Bit w b) 0 found) refl refl;
     links = off_links s a (step.Publish (watch.Bit w b) 0 found) tt;
-    leaves = bit_leaves s a w b false k _ _ small ruled.lawful fits;
+    leaves = bit_leaves s a w b false k s.taken _ _ small ruled.lawful fits;
   }

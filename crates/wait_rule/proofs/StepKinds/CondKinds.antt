@@ -19,54 +19,30 @@ use Rattle.wait_rule.specs.Rule.{IsLawfulTable, IsRuled}
 use Rattle.wait_rule.proofs.KnownLaws.HeadLinks.{off_links}
 use Rattle.wait_rule.proofs.KnownLaws.MemberPlaces.{still_places}
 use Rattle.wait_rule.proofs.TableSteps.KeptSteps.{Leaves, KeepsLaw}
-use Rattle.wait_rule.proofs.StepKinds.EntryKinds.{load_leaves}
+use Rattle.wait_rule.proofs.StepKinds.EntryKinds.{load_leaves, with_words, words_leave}
 
 -- what a step on a plain condition leaves, and one on a variable
 plain_leaves : (s : Table) (a c n : ℕ) (b : Book) (history : ℕ → List Step) (view : ℕ → Told)
     → IsLawfulTable s → Fits (s.task a) b
-    → Leaves s (record s {
-      words = record (s.words) { plains = put s.words.plains c n };
-      history = history;
-      view = view;
-    })
-    a (place.Plain c) n b
-plain_leaves s a c n b history view l f = record {
-  lawful = record { tasks = l.tasks; entries = l.entries; marks = l.marks; spent = l.spent; bits = l.bits };
-  own = f;
-  others = λ t ne d g. g;
-  left = put_same s.words.plains c n;
-  rest = rest_of;
-}
+    → Leaves s (with_words s (record (s.words) { plains = put s.words.plains c n }) s.taken history view) a
+    (place.Plain c) n b
+plain_leaves s a c n b history view l f = words_leave s a _ (place.Plain c) n b s.taken history view l f l.bits
+    (put_same s.words.plains c n) rest_of
   where
     rest_of : (k : Location) → k ≢ place.Plain c
-        → word_in (record s {
-          words = record (s.words) { plains = put s.words.plains c n };
-          history = history;
-          view = view;
-        }) k
-        ≡ word_in s k
+        → word_in (with_words s (record (s.words) { plains = put s.words.plains c n }) s.taken history view) k ≡ word_in s k
     rest_of (place.Plain i) ne = put_other s.words.plains c n i (λ e. ne (ap place.Plain e))
     rest_of k ne = refl
 
 var_leaves : (s : Table) (a v n : ℕ) (b : Book) (history : ℕ → List Step) (view : ℕ → Told)
     → IsLawfulTable s → Fits (s.task a) b
-    → Leaves s (record s { words = record (s.words) { vars = put s.words.vars v n }; history = history; view = view })
-    a (place.Var v) n b
-var_leaves s a v n b history view l f = record {
-  lawful = record { tasks = l.tasks; entries = l.entries; marks = l.marks; spent = l.spent; bits = l.bits };
-  own = f;
-  others = λ t ne d g. g;
-  left = put_same s.words.vars v n;
-  rest = rest_of;
-}
+    → Leaves s (with_words s (record (s.words) { vars = put s.words.vars v n }) s.taken history view) a
+    (place.Var v) n b
+var_leaves s a v n b history view l f = words_leave s a _ (place.Var v) n b s.taken history view l f l.bits
+    (put_same s.words.vars v n) rest_of
   where
     rest_of : (k : Location) → k ≢ place.Var v
-        → word_in (record s {
-          words = record (s.words) { vars = put s.words.vars v n };
-          history = history;
-          view = view;
-        }) k
-        ≡ word_in s k
+        → word_in (with_words s (record (s.words) { vars = put s.words.vars v n }) s.taken history view) k ≡ word_in s k
     rest_of (place.Var i) ne = put_other s.words.vars v n i (λ e. ne (ap place.Var e))
     rest_of k ne = refl
 

@@ -21,32 +21,18 @@ use Rattle.wait_rule.specs.Rule.{IsLawfulTable, IsRuled}
 use Rattle.wait_rule.proofs.KnownLaws.HeadLinks.{off_links}
 use Rattle.wait_rule.proofs.KnownLaws.MemberPlaces.{still_places}
 use Rattle.wait_rule.proofs.TableSteps.KeptSteps.{Leaves, KeepsLaw}
-use Rattle.wait_rule.proofs.StepKinds.EntryKinds.{load_leaves}
+use Rattle.wait_rule.proofs.StepKinds.EntryKinds.{load_leaves, with_words, words_leave}
 
 -- what a step on a done count leaves
 count_leaves : (s : Table) (a d n : ℕ) (b : Book) (history : ℕ → List Step) (view : ℕ → Told)
     → IsLawfulTable s → Fits (s.task a) b
-    → Leaves s (record s {
-      words = record (s.words) { dones = put s.words.dones d n };
-      history = history;
-      view = view;
-    })
-    a (place.Done d) n b
-count_leaves s a d n b history view l f = record {
-  lawful = record { tasks = l.tasks; entries = l.entries; marks = l.marks; spent = l.spent; bits = l.bits };
-  own = f;
-  others = λ t ne c g. g;
-  left = put_same s.words.dones d n;
-  rest = rest_of;
-}
+    → Leaves s (with_words s (record (s.words) { dones = put s.words.dones d n }) s.taken history view) a
+    (place.Done d) n b
+count_leaves s a d n b history view l f = words_leave s a _ (place.Done d) n b s.taken history view l f l.bits
+    (put_same s.words.dones d n) rest_of
   where
     rest_of : (k : Location) → k ≢ place.Done d
-        → word_in (record s {
-          words = record (s.words) { dones = put s.words.dones d n };
-          history = history;
-          view = view;
-        }) k
-        ≡ word_in s k
+        → word_in (with_words s (record (s.words) { dones = put s.words.dones d n }) s.taken history view) k ≡ word_in s k
     rest_of (place.Done i) ne = put_other s.words.dones d n i (λ e. ne (ap place.Done e))
     rest_of k ne = refl
 

@@ -10,7 +10,7 @@ use Rattle.wait_model.specs.Functions.{put}
 use Rattle.wait_model.specs.Watches.{head_of, owner, is_page}
 use Rattle.wait_model.specs.Words.{entry_word, entry_of, Suited}
 use Rattle.wait_model.specs.Views.{View as Told, Look, off, shown}
-use Rattle.wait_model.specs.Tables.{Table}
+use Rattle.wait_model.specs.Tables.{AreBitsLow, Table, Words}
 use Rattle.wait_model.specs.Permits.{HandsOn}
 use Rattle.wait_model.specs.Rows.{Suits}
 use Rattle.wait_model.specs.Facts.{Agrees}
@@ -61,17 +61,34 @@ entry_leaves s a x o b history view l f standing = record {
     rest_of (place.Entry i) ne = ap entry_word (put_other s.entry x o i (λ e. ne (ap place.Entry e)))
     rest_of k ne = refl
 
--- what a load leaves
+-- what a step leaves that changes words of conditions, and one that changes nothing, as a load
+abbrev pub with_words : Table → Words → (ℕ → Option ℕ) → (ℕ → List Step) → (ℕ → Told) → Table
+with_words s w pages history view = record s { words = w; taken = pages; history = history; view = view }
+
+pub words_leave : (s : Table) (a : ℕ) (w : Words) (l : Location) (n : ℕ) (b : Book) (pages : ℕ → Option ℕ)
+    (history : ℕ → List Step) (view : ℕ → Told) → IsLawfulTable s → Fits (s.task a) b → AreBitsLow w
+    → word_in (with_words s w pages history view) l ≡ n
+    → ((k : Location) → k ≢ l → word_in (with_words s w pages history view) k ≡ word_in s k)
+    → Leaves s (with_words s w pages history view) a l n b
+words_leave s a w l n b pages history view lawful f low left rest = record {
+  lawful = record {
+    tasks = lawful.tasks;
+    entries = lawful.entries;
+    marks = lawful.marks;
+    spent = lawful.spent;
+    bits = low;
+  };
+  own = f;
+  others = λ t ne c g. g;
+  left = left;
+  rest = rest;
+}
+
 pub load_leaves : (s : Table) (a : ℕ) (l : Location) (b : Book) (history : ℕ → List Step) (view : ℕ → Told)
     → IsLawfulTable s → Fits (s.task a) b
     → Leaves s (record s { history = history; view = view }) a l (word_in s l) b
-load_leaves s a l b history view w f = record {
-  lawful = record { tasks = w.tasks; entries = w.entries; marks = w.marks; spent = w.spent; bits = w.bits };
-  own = f;
-  others = λ t ne c g. g;
-  left = same l;
-  rest = λ k ne. same k;
-}
+load_leaves s a l b history view w f = words_leave s a s.words l (word_in s l) b s.taken history view w f w.bits (same l)
+    (λ k ne. same k)
   where
     same : (k : Location) → word_in (record s { history = history; view = view }) k ≡ word_in s k
     same place.Base = refl

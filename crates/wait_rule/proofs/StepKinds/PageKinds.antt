@@ -30,45 +30,9 @@ use Rattle.wait_rule.proofs.KnownLaws.PageStates.{none_some}
 use Rattle.wait_rule.proofs.KnownLaws.PageSteps.{not_both, takes_none}
 use Rattle.wait_rule.proofs.KnownLaws.StandingKinds.{asks_none}
 use Rattle.wait_rule.proofs.TableSteps.KeptSteps.{Leaves, KeepsLaw}
-use Rattle.wait_rule.proofs.StepKinds.BitKinds.{low_still}
+use Rattle.wait_rule.proofs.StepKinds.BitKinds.{bit_leaves}
 use Rattle.wait_rule.proofs.StepKinds.EntryKinds.{fits_difference}
 use Rattle.wait_rule.proofs.StepKinds.FlagKinds.{unflags}
-
--- what a test-and-set of a page for a task leaves
-try_leaves : (s : Table) (a w : ℕ) (k : Book) (pages : ℕ → Option ℕ) (history : ℕ → List Step) (view : ℕ → Told)
-    → IsLawfulTable s → Fits (s.task a) k
-    → Leaves s (record s {
-      words = record (s.words) { bits = put s.words.bits w (put (s.words.bits w) 0 true) };
-      taken = pages;
-      history = history;
-      view = view;
-    })
-    a (place.Bits w) (bit_word WORD_BITS (put (s.words.bits w) 0 true)) k
-try_leaves s a w k pages history view l f = record {
-  lawful = record {
-    tasks = l.tasks;
-    entries = l.entries;
-    marks = l.marks;
-    spent = l.spent;
-    bits = low_still s.words.bits w 0 true (omega arith) l.bits;
-  };
-  own = f;
-  others = λ t ne c g. g;
-  left = ap (bit_word WORD_BITS) (put_same s.words.bits w (put (s.words.bits w) 0 true));
-  rest = rest_of;
-}
-  where
-    rest_of : (j : Location) → j ≢ place.Bits w
-        → word_in (record s {
-          words = record (s.words) { bits = put s.words.bits w (put (s.words.bits w) 0 true) };
-          taken = pages;
-          history = history;
-          view = view;
-        }) j
-        ≡ word_in s j
-    rest_of (place.Bits i) ne = ap (bit_word WORD_BITS)
-        (put_other s.words.bits w (put (s.words.bits w) 0 true) i (λ e. ne (ap place.Bits e)))
-    rest_of j ne = refl
 
 -- what a store of WOKEN and DONE leaves
 tell_leaves : (s : Table) (a x : ℕ) (b : Book) (history : ℕ → List Step) (view : ℕ → Told) → IsLawfulTable s
@@ -145,8 +109,8 @@ module _ (s : Table) (items : ℕ → List Item) (ruled : IsRuled s items) (a : 
       orderly = clear;
       places = still_places s a tried refl refl;
       links = off_links s a tried tt;
-      leaves = try_leaves s a p (with_difference (after_try x (was_clear (page p) found) b.differs) b)
-          (if was_clear (page p) found then put s.taken x (Some p) else s.taken) _ _ ruled.lawful
+      leaves = bit_leaves s a p 0 true (with_difference (after_try x (was_clear (page p) found) b.differs) b)
+          (if was_clear (page p) found then put s.taken x (Some p) else s.taken) _ _ (omega arith) ruled.lawful
           (fits_difference (s.task a) b (after_try x (was_clear (page p) found) b.differs) fits);
     }
       where

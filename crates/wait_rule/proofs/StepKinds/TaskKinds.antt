@@ -21,6 +21,7 @@ use Rattle.wait_rule.specs.Rule.{IsLawfulTable, IsRuled}
 use Rattle.wait_rule.proofs.KnownLaws.HeadLinks.{off_links, wake_links}
 use Rattle.wait_rule.proofs.KnownLaws.MemberPlaces.{still_places}
 use Rattle.wait_rule.proofs.TableSteps.KeptSteps.{Leaves, KeepsLaw}
+use Rattle.wait_rule.proofs.StepKinds.EntryKinds.{load_leaves}
 use Rattle.wait_rule.proofs.StepKinds.TaskBits.{word_lawful}
 
 raised_lawful : (fatal : Bool) (t : TaskRecord) → IsLawful t → IsLawful (raised fatal t)
@@ -57,23 +58,6 @@ task_leaves s a u x b history view l lx mine other theirs = record {
         → word_in (record s { task = put s.task u x; history = history; view = view }) k ≡ word_in s k
     rest_of (place.Task i) ne = ap task_word (put_other s.task u x i (λ e. ne (ap place.Task e)))
     rest_of k ne = refl
-
--- a step that leaves everything as it was
-still_leaves : (s : Table) (a u : ℕ) (b : Book) (history : ℕ → List Step) (view : ℕ → View)
-    → IsLawfulTable s → Fits (s.task a) b
-    → Leaves s (record s { history = history; view = view }) a (place.Task u) (task_word (s.task u)) b
-still_leaves s a u b history view l f = record {
-  lawful = record { tasks = l.tasks; entries = l.entries; marks = l.marks; spent = l.spent; bits = l.bits };
-  own = f;
-  others = λ t ne c g. g;
-  left = refl;
-  rest = λ k ne. same k;
-}
-  where
-    same : (k : Location) → word_in (record s { history = history; view = view }) k ≡ word_in s k
-    same place.Base = refl
-    same (place.Task i) = refl
-    same k = refl
 
 woken_fits : (mask : ℕ) (t : TaskRecord) (b : Book) → Fits t b → Fits (woken mask t) b
 woken_fits mask t b f = by (meets mask t.state)
@@ -180,7 +164,7 @@ module _ (s : Table) (items : ℕ → List Item) (ruled : IsRuled s items) (a : 
     orderly = tt;
     places = still_places s a (step.Look (task_word (s.task a))) refl refl;
     links = off_links s a (step.Look (task_word (s.task a))) tt;
-    leaves = still_leaves s a a b _ _ ruled.lawful fits;
+    leaves = load_leaves s a (place.Task a) b _ _ ruled.lawful fits;
   }
 
   pub accepts : (n : ℕ) → n ≡ task_word (accepted (s.task a))

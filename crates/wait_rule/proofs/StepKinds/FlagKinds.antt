@@ -27,37 +27,32 @@ use Rattle.wait_rule.proofs.KnownLaws.MemberPlaces.{still_places}
 use Rattle.wait_rule.proofs.TableSteps.KeptSteps.{Leaves, KeepsLaw}
 use Rattle.wait_rule.proofs.StepKinds.EntryKinds.{load_leaves}
 
--- a flag word without DONE
-without_done : (woken : Bool) → done_word woken false ≡ flag_word woken
-without_done true = refl
-without_done false = refl
-
--- what a step on a flag word leaves: DONE is not beside WOKEN
-abbrev flag_stored : Table → ℕ → Bool → (ℕ → Option ℕ) → (ℕ → List Step) → (ℕ → Told) → Table
-flag_stored s x woken pages history view = record s {
+-- what a step on a flag word leaves
+abbrev flag_stored : Table → ℕ → Bool → Bool → (ℕ → Option ℕ) → (ℕ → List Step) → (ℕ → Told) → Table
+flag_stored s x woken done pages history view = record s {
   flag = put s.flag x woken;
-  done = put s.done x false;
+  done = put s.done x done;
   taken = pages;
   history = history;
   view = view;
 }
 
-flag_leaves : (s : Table) (a x : ℕ) (woken : Bool) (b : Book) (pages : ℕ → Option ℕ) (history : ℕ → List Step)
-    (view : ℕ → Told) → IsLawfulTable s → Fits (s.task a) b
-    → Leaves s (flag_stored s x woken pages history view) a (place.Flag x) (flag_word woken) b
-flag_leaves s a x woken b pages history view l f = record {
+pub flag_leaves : (s : Table) (a x : ℕ) (woken done : Bool) (b : Book) (pages : ℕ → Option ℕ)
+    (history : ℕ → List Step) (view : ℕ → Told) → IsLawfulTable s → Fits (s.task a) b
+    → Leaves s (flag_stored s x woken done pages history view) a (place.Flag x) (done_word woken done) b
+flag_leaves s a x woken done b pages history view l f = record {
   lawful = record { tasks = l.tasks; entries = l.entries; marks = l.marks; spent = l.spent; bits = l.bits };
   own = f;
   others = λ t ne c g. g;
-  left = ap (λ (d : Bool). done_word (put s.flag x woken x) d) (put_same s.done x false)
-      ∙ (ap (λ (w : Bool). done_word w false) (put_same s.flag x woken) ∙ without_done woken);
+  left = ap (λ (d : Bool). done_word (put s.flag x woken x) d) (put_same s.done x done)
+      ∙ ap (λ (w : Bool). done_word w done) (put_same s.flag x woken);
   rest = rest_of;
 }
   where
     rest_of : (k : Location) → k ≢ place.Flag x
-        → word_in (flag_stored s x woken pages history view) k ≡ word_in s k
-    rest_of (place.Flag i) ne = ap (λ (w : Bool). done_word w (put s.done x false i)) (put_other s.flag x woken i other)
-        ∙ ap (λ (d : Bool). done_word (s.flag i) d) (put_other s.done x false i other)
+        → word_in (flag_stored s x woken done pages history view) k ≡ word_in s k
+    rest_of (place.Flag i) ne = ap (λ (w : Bool). done_word w (put s.done x done i)) (put_other s.flag x woken i other)
+        ∙ ap (λ (d : Bool). done_word (s.flag i) d) (put_other s.done x done i other)
       where
         other : i ≢ x
         other e = ne (ap place.Flag e)
@@ -87,7 +82,7 @@ flags s items ruled x a b fits h e held shows woken = record {
   orderly = (woken_untaken s items ruled x e agrees.0 woken, λ d is. one d is);
   places = still_places s a (step.Woken x) refl refl;
   links = off_links s a (step.Woken x) tt;
-  leaves = flag_leaves s a x true b s.taken _ _ ruled.lawful fits;
+  leaves = flag_leaves s a x true false b s.taken _ _ ruled.lawful fits;
 }
   where
     agrees : Agrees h (shown e) (s.entry x)
@@ -123,5 +118,5 @@ module _ (s : Table) (items : ℕ → List Item) (ruled : IsRuled s items) (x a 
     orderly = pageless;
     places = still_places s a (step.Unflag x o) refl refl;
     links = off_links s a (step.Unflag x o) tt;
-    leaves = flag_leaves s a x false b (put s.taken x None) _ _ ruled.lawful fits;
+    leaves = flag_leaves s a x false false b (put s.taken x None) _ _ ruled.lawful fits;
   }

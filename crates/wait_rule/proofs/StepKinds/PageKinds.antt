@@ -1,6 +1,6 @@
 -- Each kind of step by which a page is handed over keeps the law.
 use Rattle.std.proofs.Common.{refl, sym, ◌∙◌, ap, subst, arith, inl, inr}
-use Rattle.std.specs.Prelude.{ℕ, ◌≡◌, ◌≢◌, ◌⊎◌, ◌||◌, Bool, true, false, if◌then◌else◌, Option, Some, None, List}
+use Rattle.std.specs.Prelude.{ℕ, ◌≡◌, ◌⊎◌, ◌||◌, Bool, true, false, if◌then◌else◌, Some, None, List}
 use Rattle.wait_model.specs.declared.layout.TheConstants.{WORD_BITS, HANDED}
 use Rattle.wait_model.specs.declared.watches.Watch.{Watch}
 use Rattle.wait_model.specs.declared.watches.Entry.{Entry}
@@ -9,13 +9,12 @@ use Rattle.wait_model.specs.declared.steps.Step.TheVariants as step
 use Rattle.wait_model.specs.Functions.{put}
 use Rattle.wait_model.specs.Watches.{head_of, is_page, is_woken, owner, was_clear, page}
 use Rattle.wait_model.specs.Words.{bit_word, done_word}
-use Rattle.wait_model.specs.Views.{View as Told, Look, shown}
+use Rattle.wait_model.specs.Views.{Look, shown}
 use Rattle.wait_model.specs.Tables.{Table}
 use Rattle.wait_model.specs.Facts.{Agrees}
 use Rattle.wait_model.specs.Locations as place
 use Rattle.wait_model.specs.Locations.{Location, word_in}
 use Rattle.wait_model.proofs.WordLaws.CondWords.{tas_step}
-use Rattle.wait_model.proofs.Functions.{put_same, put_other}
 use Rattle.wait_rule.specs.declared.journal.Item.{Item}
 use Rattle.wait_rule.specs.Items.{nothing, page_taken, page_told, after_try, Book, with_difference, Fits}
 use Rattle.wait_rule.specs.MemberWords.{all_differences}
@@ -23,48 +22,16 @@ use Rattle.wait_rule.specs.Asked.{was_given_at, all_asked, nothing_asked}
 use Rattle.wait_rule.specs.Pages.{uses_flag, taken_entry, IsPageEntry, IsPageless, IsHandedBy, IsPageState}
 use Rattle.wait_rule.specs.Members.{IsOwnKind}
 use Rattle.wait_rule.specs.Quiet.{is_quiet_at, is_told}
-use Rattle.wait_rule.specs.Rule.{IsLawfulTable, IsRuled}
+use Rattle.wait_rule.specs.Rule.{IsRuled}
 use Rattle.wait_rule.proofs.KnownLaws.HeadLinks.{off_links, quiet_links, telling_marks, telling_own}
 use Rattle.wait_rule.proofs.KnownLaws.MemberPlaces.{still_places}
 use Rattle.wait_rule.proofs.KnownLaws.PageStates.{none_some}
 use Rattle.wait_rule.proofs.KnownLaws.PageSteps.{not_both, takes_none}
 use Rattle.wait_rule.proofs.KnownLaws.StandingKinds.{asks_none}
-use Rattle.wait_rule.proofs.TableSteps.KeptSteps.{Leaves, KeepsLaw}
+use Rattle.wait_rule.proofs.TableSteps.KeptSteps.{KeepsLaw}
 use Rattle.wait_rule.proofs.StepKinds.BitKinds.{bit_leaves}
 use Rattle.wait_rule.proofs.StepKinds.EntryKinds.{fits_difference}
-use Rattle.wait_rule.proofs.StepKinds.FlagKinds.{unflags}
-
--- what a store of WOKEN and DONE leaves
-tell_leaves : (s : Table) (a x : ℕ) (b : Book) (history : ℕ → List Step) (view : ℕ → Told) → IsLawfulTable s
-    → Fits (s.task a) b
-    → Leaves s (record s {
-      flag = put s.flag x true;
-      done = put s.done x true;
-      history = history;
-      view = view;
-    }) a (place.Flag x) HANDED b
-tell_leaves s a x b history view l f = record {
-  lawful = record { tasks = l.tasks; entries = l.entries; marks = l.marks; spent = l.spent; bits = l.bits };
-  own = f;
-  others = λ t ne c g. g;
-  left = ap (λ (d : Bool). done_word (put s.flag x true x) d) (put_same s.done x true)
-      ∙ ap (λ (w : Bool). done_word w true) (put_same s.flag x true);
-  rest = rest_of;
-}
-  where
-    rest_of : (k : Location) → k ≢ place.Flag x
-        → word_in (record s {
-          flag = put s.flag x true;
-          done = put s.done x true;
-          history = history;
-          view = view;
-        }) k ≡ word_in s k
-    rest_of (place.Flag i) ne = ap (λ (w : Bool). done_word w (put s.done x true i)) (put_other s.flag x true i other)
-        ∙ ap (λ (d : Bool). done_word (s.flag i) d) (put_other s.done x true i other)
-      where
-        other : i ≢ x
-        other e = ne (ap place.Flag e)
-    rest_of k ne = refl
+use Rattle.wait_rule.proofs.StepKinds.FlagKinds.{flag_leaves, unflags}
 
 module _ (s : Table) (items : ℕ → List Item) (ruled : IsRuled s items) (a : ℕ) (b : Book) (fits : Fits (s.task a) b)
     (same : all_differences items a ≡ b.differs) (x : ℕ) where
@@ -143,7 +110,7 @@ module _ (s : Table) (items : ℕ → List Item) (ruled : IsRuled s items) (a : 
       own = λ v k. telling_own k.walk x v k;
       marks = λ v k. telling_marks k.walk x v k;
     });
-    leaves = tell_leaves s a x (with_difference (page_told x) b) _ _ ruled.lawful
+    leaves = flag_leaves s a x true true (with_difference (page_told x) b) s.taken _ _ ruled.lawful
         (fits_difference (s.task a) b (page_told x) fits);
   }
     where

@@ -22,6 +22,7 @@ use Rattle.wait_rule.specs.Stays.{Carries, only, put_change, take_off_change, un
 use Rattle.wait_rule.specs.Stays.{with_page}
 use Rattle.wait_rule.specs.Stores.{StaysOver, StoresEntry, StoresMark, TriesNoBit, place_of_mark}
 use Rattle.wait_rule.proofs.KnownLaws.AfterSteps.{told_added}
+use Rattle.wait_rule.proofs.KnownLaws.CarriedTasks.{unchanged_first}
 use Rattle.wait_rule.proofs.KnownLaws.Debts.{LeavesNone, added_debts, begins_none, end_added, entries_debts}
 use Rattle.wait_rule.proofs.KnownLaws.Debts.{leaves_added, leaves_of, list_debts, queued_left, queues_quiet, step_debts}
 use Rattle.wait_rule.proofs.KnownLaws.Debts.{stored_debts}
@@ -279,27 +280,7 @@ entry_taken old new i is = off_carried old new i (stored_beside old new (step.Un
 -- behind a call that changes nothing
 pub off_after : (x y z : Known) (i : ℕ) → Carries unchanged x y → Carries (take_off_change i) y z
     → Carries (take_off_change i) x z
-off_after x y z i a b = record {
-  domain = b.domain ∙ a.domain;
-  number = b.number ∙ a.number;
-  awake = b.awake ∙ a.awake;
-  state = b.state ∙ a.state;
-  head = b.head ∙ a.head;
-  ticket = b.ticket ∙ a.ticket;
-  hold = b.hold ∙ a.hold;
-  at = b.at ∙ a.at;
-  mark = b.mark ∙ a.mark;
-  fewer = λ w σ p none. b.fewer w σ p (a.fewer w σ p none);
-  stored = λ j quiet away. b.stored j quiet away ∙ a.stored j quiet refl;
-  out = λ j away none. b.out j away (a.out j refl none);
-  stands = λ slot few away e at own.
-      subst (λ (m : ℕ). (told_of z).bits.stored (index m slot) ≡ Some e) a.number
-      (b.stands slot few (ap (λ (m : ℕ). only i (index m slot)) a.number ∙ away) e
-      (subst (λ (m : ℕ). (told_of y).bits.stored (index m slot) ≡ Some e) (sym a.number)
-      (a.stands slot few refl e at own)) own);
-  keeps = λ d p. b.keeps d p ∙ a.keeps d p;
-  owes = λ f o. b.owes f (a.owes (with_entry i f) o);
-}
+off_after x y z i a b = unchanged_first (take_off_change i) x y z a b
 
 -- a bookmark that is put or taken out
 marks_none : (o : Option Mark) → begins_none (marked o) ≡ true

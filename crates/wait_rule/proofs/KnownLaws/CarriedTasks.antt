@@ -138,33 +138,37 @@ step_carried state old new e is awake now head ticket hold mark quiet stored kee
     told : told_of new ≡ after e (told_of old)
     told = ap told_of is ∙ told_added old (item.Made e)
 
--- over no call, and over two calls that change nothing
+-- over no call
 pub unchanged_none : (k : Known) → Carries unchanged k k
 unchanged_none k = stays_carried (λ h. h) (λ t. t) (λ h. h) false k k (stays_same k) refl refl refl refl refl
     (λ c σ none. none) (λ x _. refl)
 
-pub unchanged_on : (x y z : Known) → Carries unchanged x y → Carries unchanged y z → Carries unchanged x z
-unchanged_on x y z a b = record {
+-- what changes nothing, and then a change
+pub unchanged_first : (c : Change) (x y z : Known) → Carries unchanged x y → Carries c y z → Carries c x z
+unchanged_first c x y z a b = record {
   domain = b.domain ∙ a.domain;
   number = b.number ∙ a.number;
-  awake = b.awake ∙ a.awake;
-  state = b.state ∙ a.state;
-  head = b.head ∙ a.head;
-  ticket = b.ticket ∙ a.ticket;
-  hold = b.hold ∙ a.hold;
-  at = b.at ∙ a.at;
+  awake = b.awake ∙ ap c.awake a.awake;
+  state = b.state ∙ ap c.state a.state;
+  head = b.head ∙ ap c.head a.head;
+  ticket = b.ticket ∙ ap c.ticket a.ticket;
+  hold = b.hold ∙ ap c.head a.hold;
+  at = b.at ∙ ap c.at a.at;
   mark = b.mark ∙ a.mark;
-  fewer = λ w σ p is. b.fewer w σ p (a.fewer w σ p is);
-  stored = λ i none p. b.stored i none p ∙ a.stored i none p;
-  out = λ i p is. b.out i p (a.out i p is);
-  stands = λ slot few p e is own.
+  fewer = λ w σ p none. b.fewer w σ p (a.fewer w σ refl none);
+  stored = λ i quiet away. b.stored i quiet away ∙ a.stored i refl refl;
+  out = λ i away none. b.out i away (a.out i refl none);
+  stands = λ slot few away e at own.
       subst (λ (m : ℕ). (told_of z).bits.stored (index m slot) ≡ Some e) a.number
-      (b.stands slot few refl e
+      (b.stands slot few (ap (λ (m : ℕ). c.but (index m slot)) a.number ∙ away) e
       (subst (λ (m : ℕ). (told_of y).bits.stored (index m slot) ≡ Some e) (sym a.number)
-      (a.stands slot few p e is own)) own);
-  keeps = λ d p. b.keeps d p ∙ a.keeps d p;
-  owes = λ f o. b.owes f (a.owes f o);
+      (a.stands slot few refl e at own)) own);
+  keeps = λ d p. b.keeps d p ∙ a.keeps d refl;
+  owes = λ f o. b.owes f (a.owes (c.from f) o);
 }
+
+pub unchanged_on : (x y z : Known) → Carries unchanged x y → Carries unchanged y z → Carries unchanged x z
+unchanged_on x y z a b = unchanged_first unchanged x y z a b
 
 -- a sleep
 slept_head : (s : Sleep) (b : Book) → (after_sleep s b).head ≡ b.head

@@ -41,38 +41,18 @@ use Rattle.wait_rule.proofs.TableSteps.KeptSteps.{IsOwn, ruled_seen, written}
 use Rattle.wait_rule.proofs.TableSteps.QueueMoves.{head_seen}
 
 -- words beside the table with one member word more
-with_member : (Location → ℕ) → ℕ → ℕ → Location → ℕ
+abbrev with_member : (Location → ℕ) → ℕ → ℕ → Location → ℕ
 with_member beside m n (place.Member j) = put (λ q. beside (place.Member q)) m n j
 with_member beside m n l = beside l
 
 other_words : (s : Table) (beside : Location → ℕ) (m n : ℕ) (l : Location) → l ≢ place.Member m
     → word_with s (with_member beside m n) l ≡ word_with s beside l
-unfolding with_member
 other_words s beside m n (place.Member j) ne =
     put_other (λ q. beside (place.Member q)) m n j (λ e. ne (ap place.Member e))
 other_words s beside m n l ne = refl
 
 this_word : (s : Table) (beside : Location → ℕ) (m n : ℕ) → word_with s (with_member beside m n) (place.Member m) ≡ n
-unfolding with_member
 this_word s beside m n = put_same (λ q. beside (place.Member q)) m n
-
-member_at : (beside : Location → ℕ) (m n j : ℕ)
-    → with_member beside m n (place.Member j) ≡ put (λ q. beside (place.Member q)) m n j
-unfolding with_member
-member_at beside m n j = refl
-
-member_next : (beside : Location → ℕ) (m n h : ℕ) → with_member beside m n (place.Next h) ≡ beside (place.Next h)
-unfolding with_member
-member_next beside m n h = refl
-
-member_serving : (beside : Location → ℕ) (m n h : ℕ)
-    → with_member beside m n (place.Serving h) ≡ beside (place.Serving h)
-unfolding with_member
-member_serving beside m n h = refl
-
-member_tally : (beside : Location → ℕ) (m n p : ℕ) → with_member beside m n (place.Tally p) ≡ beside (place.Tally p)
-unfolding with_member
-member_tally beside m n p = refl
 
 -- words of the same bits
 pub alike : (n : ℕ) (f g : ℕ → Bool) → ((k : ℕ) → k < n → f k ≡ g k) → bit_word n f ≡ bit_word n g
@@ -132,8 +112,7 @@ module _ (s : Table) (differs : ℕ → Difference) (beside : Location → ℕ) 
 
   spells_by : (g j : ℕ) → j < MEMBER_WORDS
       → with_member beside m W (place.Member (MEMBER_WORDS * g + j)) ≡ member_word (B g) j
-  spells_by g j less = member_at beside m W (MEMBER_WORDS * g + j)
-      ∙ put_at (λ (w : ℕ). w ≡ member_word (B g) j) (λ q. beside (place.Member q)) m W (MEMBER_WORDS * g + j)
+  spells_by g j less = put_at (λ (w : ℕ). w ≡ member_word (B g) j) (λ q. beside (place.Member q)) m W (MEMBER_WORDS * g + j)
       (λ e.
       let head : g ≡ h = omega arith in
       let word : j ≡ i = omega arith in
@@ -233,11 +212,11 @@ module _ (c : Scene) (law : Law c) (a h i k : ℕ) (on : Bool) (head : h < HEADS
     tickets = subst (λ (f : ℕ → Ticket). AreTickets law.table f (with_member law.beside (MEMBER_WORDS * h + i) W0))
         (sym (tickets_same c.items a (item.Member ∷ []) refl))
         (beside_tickets law.table (all_tickets c.items) law.beside (with_member law.beside (MEMBER_WORDS * h + i) W0)
-        (member_next law.beside (MEMBER_WORDS * h + i) W0) (member_serving law.beside (MEMBER_WORDS * h + i) W0)
+        (λ k. refl) (λ k. refl)
         law.tickets);
     tallies = tallies_same c.items a (item.Member ∷ []) law.beside
         (with_member law.beside (MEMBER_WORDS * h + i) W0) (λ p. refl)
-        (member_tally law.beside (MEMBER_WORDS * h + i) W0) law.tallies;
+        (λ k. refl) law.tallies;
     pipes = pipes_rest c.items a (item.Member ∷ []) (word_with law.table law.beside)
         (word_with law.table (with_member law.beside (MEMBER_WORDS * h + i) W0)) l refl
         (λ j ne. other_words law.table law.beside (MEMBER_WORDS * h + i) W0 j ne) (λ p. (λ e. refl, refl)) law.pipes;

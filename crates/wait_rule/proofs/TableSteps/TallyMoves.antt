@@ -31,34 +31,15 @@ use Rattle.wait_rule.proofs.TableSteps.TaskMoves.{shown_of}
 use Rattle.wait_rule.proofs.TableSteps.TicketMoves.{law_beside}
 
 -- words beside the table with another tally
-with_tally : (Location → ℕ) → ℕ → ℕ → Location → ℕ
+abbrev with_tally : (Location → ℕ) → ℕ → ℕ → Location → ℕ
 with_tally beside p n (place.Tally q) = put (λ i. beside (place.Tally i)) p n q
 with_tally beside p n l = beside l
 
 other_tally : (s : Table) (beside : Location → ℕ) (p n : ℕ) (l : Location) → l ≢ place.Tally p
     → word_with s (with_tally beside p n) l ≡ word_with s beside l
-unfolding with_tally
 other_tally s beside p n (place.Tally q) ne =
     put_other (λ i. beside (place.Tally i)) p n q (λ e. ne (ap place.Tally e))
 other_tally s beside p n l ne = refl
-
-tally_at : (beside : Location → ℕ) (p n q : ℕ)
-    → with_tally beside p n (place.Tally q) ≡ put (λ i. beside (place.Tally i)) p n q
-unfolding with_tally
-tally_at beside p n q = refl
-
-tally_member : (beside : Location → ℕ) (p n k : ℕ) → with_tally beside p n (place.Member k) ≡ beside (place.Member k)
-unfolding with_tally
-tally_member beside p n k = refl
-
-tally_ticket : (beside : Location → ℕ) (p n h : ℕ) → with_tally beside p n (place.Next h) ≡ beside (place.Next h)
-unfolding with_tally
-tally_ticket beside p n h = refl
-
-tally_serving : (beside : Location → ℕ) (p n h : ℕ)
-    → with_tally beside p n (place.Serving h) ≡ beside (place.Serving h)
-unfolding with_tally
-tally_serving beside p n h = refl
 
 -- sums modulo 2^64
 more_added : (w s k x : ℕ) → w ≡ s % 2 ^ 64 → x ≡ k → (w + k) % 2 ^ 64 ≡ (s + (x + 0)) % 2 ^ 64
@@ -80,7 +61,7 @@ module _ (items : ℕ → List Item) (beside : Location → ℕ) (r : AreTallies
   sum_then q = tally_next q items a (item.Tally p k w ∷ []) few
 
   tally_added : AreTallies more (with_tally beside p N)
-  tally_added q = tally_at beside p N q ∙ by (put_case (λ i. beside (place.Tally i)) p N q)
+  tally_added q = by (put_case (λ i. beside (place.Tally i)) p N q)
     where
       by : ((q ≡ p) × (put (λ i. beside (place.Tally i)) p N q ≡ N))
           ⊎ ((q ≢ p) × (put (λ i. beside (place.Tally i)) p N q ≡ beside (place.Tally q)))
@@ -103,7 +84,7 @@ module _ (c : Scene) (law : Law c) (a p k : ℕ) (page : p < PAGES) (few : a < T
 
   added_tickets : AreTickets law.table (all_tickets c.items) now
   added_tickets = beside_tickets law.table (all_tickets c.items) law.beside now
-      (tally_ticket law.beside p ((W + k) % 2 ^ 64)) (tally_serving law.beside p ((W + k) % 2 ^ 64)) law.tickets
+      (λ h. refl) (λ h. refl) law.tickets
 
   law_tally : Law (moved c a (position_of (place.Tally p))
       ((slice_index c.words (position_of (place.Tally p)) + k) % 2 ^ 64)
@@ -114,8 +95,8 @@ module _ (c : Scene) (law : Law c) (a p k : ℕ) (page : p < PAGES) (few : a < T
       (λ less. subst (λ (b : Book). Fits (law.table.task a) b)
       (sym (book_append first_book (c.items a) (item.Tally p k W ∷ []))) (law.ruled.fits a less))
       (notes_after a (c.items a) (item.Tally p k W)) (place.Tally p) ((W + k) % 2 ^ 64) now page
-      (tally_at law.beside p ((W + k) % 2 ^ 64) p ∙ put_same (λ i. law.beside (place.Tally i)) p ((W + k) % 2 ^ 64))
-      (other_tally law.table law.beside p ((W + k) % 2 ^ 64)) (tally_member law.beside p ((W + k) % 2 ^ 64))
+      (put_same (λ i. law.beside (place.Tally i)) p ((W + k) % 2 ^ 64))
+      (other_tally law.table law.beside p ((W + k) % 2 ^ 64)) (λ j. refl)
       (subst (λ f. AreTickets law.table f now)
       (sym (tickets_same c.items a (item.Tally p k W ∷ []) refl) ∙ tickets_next c.items a (item.Tally p k W ∷ []))
       added_tickets)

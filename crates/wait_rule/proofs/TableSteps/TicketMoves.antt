@@ -41,67 +41,25 @@ use Rattle.wait_rule.proofs.TableSteps.KeptSteps.{ruled_seen, written}
 use Rattle.wait_rule.proofs.TableSteps.TaskMoves.{shown_of}
 
 -- words beside the table with another next or served number
-pub with_next : (Location → ℕ) → ℕ → ℕ → Location → ℕ
+abbrev pub with_next : (Location → ℕ) → ℕ → ℕ → Location → ℕ
 with_next beside h n (place.Next g) = put (λ q. beside (place.Next q)) h n g
 with_next beside h n l = beside l
 
-pub with_serving : (Location → ℕ) → ℕ → ℕ → Location → ℕ
+abbrev pub with_serving : (Location → ℕ) → ℕ → ℕ → Location → ℕ
 with_serving beside h n (place.Serving g) = put (λ q. beside (place.Serving q)) h n g
 with_serving beside h n l = beside l
 
 other_next : (s : Table) (beside : Location → ℕ) (h n : ℕ) (l : Location) → l ≢ place.Next h
     → word_with s (with_next beside h n) l ≡ word_with s beside l
-unfolding with_next
 other_next s beside h n (place.Next g) ne =
     put_other (λ q. beside (place.Next q)) h n g (λ e. ne (ap place.Next e))
 other_next s beside h n l ne = refl
 
 other_serving : (s : Table) (beside : Location → ℕ) (h n : ℕ) (l : Location) → l ≢ place.Serving h
     → word_with s (with_serving beside h n) l ≡ word_with s beside l
-unfolding with_serving
 other_serving s beside h n (place.Serving g) ne =
     put_other (λ q. beside (place.Serving q)) h n g (λ e. ne (ap place.Serving e))
 other_serving s beside h n l ne = refl
-
-next_at : (beside : Location → ℕ) (h n g : ℕ)
-    → with_next beside h n (place.Next g) ≡ put (λ q. beside (place.Next q)) h n g
-unfolding with_next
-next_at beside h n g = refl
-
-next_serving : (beside : Location → ℕ) (h n g : ℕ)
-    → with_next beside h n (place.Serving g) ≡ beside (place.Serving g)
-unfolding with_next
-next_serving beside h n g = refl
-
-next_member : (beside : Location → ℕ) (h n k : ℕ)
-    → with_next beside h n (place.Member k) ≡ beside (place.Member k)
-unfolding with_next
-next_member beside h n k = refl
-
-serving_at : (beside : Location → ℕ) (h n g : ℕ)
-    → with_serving beside h n (place.Serving g) ≡ put (λ q. beside (place.Serving q)) h n g
-unfolding with_serving
-serving_at beside h n g = refl
-
-serving_next : (beside : Location → ℕ) (h n g : ℕ)
-    → with_serving beside h n (place.Next g) ≡ beside (place.Next g)
-unfolding with_serving
-serving_next beside h n g = refl
-
-serving_member : (beside : Location → ℕ) (h n k : ℕ)
-    → with_serving beside h n (place.Member k) ≡ beside (place.Member k)
-unfolding with_serving
-serving_member beside h n k = refl
-
-next_tally : (beside : Location → ℕ) (h n p : ℕ)
-    → with_next beside h n (place.Tally p) ≡ beside (place.Tally p)
-unfolding with_next
-next_tally beside h n p = refl
-
-serving_tally : (beside : Location → ℕ) (h n p : ℕ)
-    → with_serving beside h n (place.Tally p) ≡ beside (place.Tally p)
-unfolding with_serving
-serving_tally beside h n p = refl
 
 -- counting who has a ticket out
 one_out : (b : Bool) → flag b ≤ 1
@@ -194,7 +152,7 @@ module _ (s : Table) (tickets : ℕ → Ticket) (beside : Location → ℕ) (r :
       (λ e. subst (λ (i : ℕ). r.draws i ≤ r.draws h + 1) (sym e) (omega arith)) (λ _. omega arith)
 
   drawn_next : (g : ℕ) → with_next beside h W (place.Next g) ≡ D g % 2 ^ 64
-  drawn_next g = next_at beside h W g ∙ both_at (λ (w d : ℕ). w ≡ d % 2 ^ 64) (λ q. beside (place.Next q)) r.draws h W
+  drawn_next g = both_at (λ (w d : ℕ). w ≡ d % 2 ^ 64) (λ q. beside (place.Next q)) r.draws h W
       (r.draws h + 1) g (λ _. next_number N (r.draws h) (r.next h)) (λ _. r.next g)
 
   drawn_within : (b g : ℕ) → is_ticket_of g (T b) ≡ true → (r.serves g ≤ K b) × (K b < D g)
@@ -293,7 +251,7 @@ module _ (s : Table) (tickets : ℕ → Ticket) (beside : Location → ℕ) (r :
     serves = r.serves;
     number = K;
     next = drawn_next;
-    serving = λ g. next_serving beside h W g ∙ r.serving g;
+    serving = r.serving;
     within = drawn_within;
     each = drawn_each;
     once = drawn_once;
@@ -337,7 +295,7 @@ module _ (s : Table) (tickets : ℕ → Ticket) (beside : Location → ℕ) (r :
   far b ne out same = ne (r.once b a h out own_out (same ∙ sym own_turn))
 
   served_serving : (g : ℕ) → with_serving beside h V (place.Serving g) ≡ S g % 2 ^ 64
-  served_serving g = serving_at beside h V g ∙ both_at (λ (w d : ℕ). w ≡ d % 2 ^ 64) (λ q. beside (place.Serving q))
+  served_serving g = both_at (λ (w d : ℕ). w ≡ d % 2 ^ 64) (λ q. beside (place.Serving q))
       r.serves h V (r.serves h + 1) g (λ _. next_number (beside (place.Serving h)) (r.serves h) (r.serving h))
       (λ _. r.serving g)
 
@@ -433,7 +391,7 @@ module _ (s : Table) (tickets : ℕ → Ticket) (beside : Location → ℕ) (r :
     draws = r.draws;
     serves = S;
     number = r.number;
-    next = λ g. serving_next beside h V g ∙ r.next g;
+    next = r.next;
     serving = served_serving;
     within = served_within;
     each = served_each;
@@ -557,11 +515,11 @@ module _ (c : Scene) (law : Law c) (a h : ℕ) (head : h < HEADS) where
       record { up = f.up; stored = f.stored; rose = f.rose }))
       (notes_after a (c.items a) (item.Drawn h N)) (place.Next h) ((N + 1) % 2 ^ 64)
       (with_next law.beside h ((N + 1) % 2 ^ 64)) head
-      (next_at law.beside h ((N + 1) % 2 ^ 64) h ∙ put_same (λ q. law.beside (place.Next q)) h ((N + 1) % 2 ^ 64))
-      (other_next law.table law.beside h ((N + 1) % 2 ^ 64)) (next_member law.beside h ((N + 1) % 2 ^ 64))
+      (put_same (λ q. law.beside (place.Next q)) h ((N + 1) % 2 ^ 64))
+      (other_next law.table law.beside h ((N + 1) % 2 ^ 64)) (λ k. refl)
       (draw_tickets law.table (all_tickets c.items) law.beside law.tickets a h small free)
       (tallies_same c.items a (item.Drawn h N ∷ []) law.beside (with_next law.beside h ((N + 1) % 2 ^ 64)) (λ p. refl)
-      (next_tally law.beside h ((N + 1) % 2 ^ 64)) law.tallies)
+      (λ k. refl) law.tallies)
       (pipes_rest c.items a (item.Drawn h N ∷ []) (word_with law.table law.beside)
       (word_with law.table (with_next law.beside h ((N + 1) % 2 ^ 64))) (place.Next h) refl
       (other_next law.table law.beside h ((N + 1) % 2 ^ 64)) (λ k. (λ e. refl, refl)) law.pipes))
@@ -596,11 +554,11 @@ module _ (c : Scene) (law : Law c) (a h : ℕ) (head : h < HEADS) where
       record { up = f.up; stored = f.stored; rose = f.rose }))
       (notes_after a (c.items a) item.Served) (place.Serving h) ((N + 1) % 2 ^ 64)
       (with_serving law.beside h ((N + 1) % 2 ^ 64)) head
-      (serving_at law.beside h ((N + 1) % 2 ^ 64) h ∙ put_same (λ q. law.beside (place.Serving q)) h ((N + 1) % 2 ^ 64))
-      (other_serving law.table law.beside h ((N + 1) % 2 ^ 64)) (serving_member law.beside h ((N + 1) % 2 ^ 64))
+      (put_same (λ q. law.beside (place.Serving q)) h ((N + 1) % 2 ^ 64))
+      (other_serving law.table law.beside h ((N + 1) % 2 ^ 64)) (λ k. refl)
       (serve_tickets law.table (all_tickets c.items) law.beside law.tickets a h small is)
       (tallies_same c.items a (item.Served ∷ []) law.beside (with_serving law.beside h ((N + 1) % 2 ^ 64)) (λ p. refl)
-      (serving_tally law.beside h ((N + 1) % 2 ^ 64)) law.tallies)
+      (λ k. refl) law.tallies)
       (pipes_rest c.items a (item.Served ∷ []) (word_with law.table law.beside)
       (word_with law.table (with_serving law.beside h ((N + 1) % 2 ^ 64))) (place.Serving h) refl
       (other_serving law.table law.beside h ((N + 1) % 2 ^ 64)) (λ k. (λ e. refl, refl)) law.pipes))

@@ -37,7 +37,7 @@ use Rattle.wait_rule.proofs.StepKinds.EntryKinds.{fits_difference}
 use Rattle.wait_rule.proofs.TableSteps.StateLaws.{allows}
 use Rattle.wait_rule.proofs.KnownLaws.TallySteps.{tallies_same}
 use Rattle.wait_rule.proofs.KnownLaws.PipeTables.{pipes_rest}
-use Rattle.wait_rule.proofs.TableSteps.KeptSteps.{IsOwn, ruled_seen, written}
+use Rattle.wait_rule.proofs.TableSteps.KeptSteps.{IsOwn, ruled_seen, told_as, written}
 use Rattle.wait_rule.proofs.TableSteps.QueueMoves.{head_seen}
 
 -- words beside the table with one member word more
@@ -263,4 +263,4 @@ bit_moves slots id me lives h x p first on head few at held index is s r long at
     let a = member_moves slots id me lives h (x / WORD_BITS) (x % WORD_BITS) p on head (omega arith)
     (omega arith) at held
     (index ∙ ap (λ (n : ℕ). Some n) whole) is s r long at_id less in
-    (a.0, a.1, a.2, a.3, a.4.0)
+    told_as a (λ _ _ t. t.0)

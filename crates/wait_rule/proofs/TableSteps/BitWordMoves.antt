@@ -20,7 +20,7 @@ use Rattle.wait_rule.specs.Says.{told_of}
 use Rattle.wait_rule.specs.Rule.{Law, Holds}
 use Rattle.wait_rule.specs.Plays.{Sat, seat_with}
 use Rattle.wait_rule.specs.BitPlays.{bit_set_play, bit_cleared_play}
-use Rattle.wait_rule.proofs.TableSteps.KeptSteps.{KeepsLaw, steps}
+use Rattle.wait_rule.proofs.TableSteps.KeptSteps.{KeepsLaw, steps, told_as}
 use Rattle.wait_rule.proofs.TableSteps.QueueMoves.{head_seen}
 use Rattle.wait_rule.proofs.StepKinds.BitKinds.{bit_sets, bit_clears}
 
@@ -45,13 +45,8 @@ module _ (slots id : ℕ) (me : Sat) (lives : me.0.lives ≡ true) (w b p : ℕ)
             (bit_sets z items ruled me.0.number (book_of me.0.items) fits w b small
             (λ h held. clear h (sym (head_seen z items me (book_of me.0.items).head own refl) ∙ held))),
         tt,
-      )) s r long at_id less in (
-        a.0,
-        a.1,
-        a.2,
-        a.3,
-        a.4.0 ∙ ap (λ (k : Watch). seat_with me (item.Made (step.Consume k 1 (slice_index s.words p)))) same,
-      )
+      )) s r long at_id less in
+      told_as a (λ _ _ t. t.0 ∙ ap (λ (k : Watch). seat_with me (item.Made (step.Consume k 1 (slice_index s.words p)))) same)
 
   pub bit_clear_moves : (d : TableId) (at_last : ℕ) → (book_of me.0.items).head ≡ None
       → (book_of me.0.items).state ≡ 0
@@ -71,10 +66,5 @@ module _ (slots id : ℕ) (me : Sat) (lives : me.0.lives ≡ true) (w b p : ℕ)
             (running_still (z.task me.0.number).state (book_of me.0.items).state fits.stored running)
             (ap (λ (v : Told). v.bits.keeps (watch.Bit w b)) own.told ∙ keeps)),
         tt,
-      )) s r long at_id less in (
-        a.0,
-        a.1,
-        a.2,
-        a.3,
-        a.4.0 ∙ ap (λ (k : Watch). seat_with me (item.Made (step.Publish k 0 (slice_index s.words p)))) same,
-      )
+      )) s r long at_id less in
+      told_as a (λ _ _ t. t.0 ∙ ap (λ (k : Watch). seat_with me (item.Made (step.Publish k 0 (slice_index s.words p)))) same)

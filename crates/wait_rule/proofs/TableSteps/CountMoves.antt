@@ -21,7 +21,7 @@ use Rattle.wait_rule.specs.Rule.{IsRuled, Law, Holds}
 use Rattle.wait_rule.specs.Counts.{FindsCount, MayStoreCount, IsCountFor}
 use Rattle.wait_rule.specs.Plays.{Sat, seat_with}
 use Rattle.wait_rule.specs.CountPlays.{cell_of_place, count_loaded_play, count_stored_play}
-use Rattle.wait_rule.proofs.TableSteps.KeptSteps.{IsOwn, steps}
+use Rattle.wait_rule.proofs.TableSteps.KeptSteps.{IsOwn, steps, told_as}
 use Rattle.wait_rule.proofs.TableSteps.QueueMoves.{head_seen}
 use Rattle.wait_rule.proofs.StepKinds.CountKinds.{count_loads, count_stores}
 
@@ -71,16 +71,11 @@ module _ (slots id : ℕ) (me : Sat) (lives : me.0.lives ≡ true) (d p : ℕ) (
             (stored_for (count_in d (steps_of me.0.items)) (z.words.dones d) n may.value
             (λ v is. (finds t).1 may.held v is)),
         finds,
-      )) s r long at_id few in (
-        a.0,
-        a.1,
-        a.2,
-        a.3,
-        (
-          slice_index s.words p,
-          subst (λ (k : ℕ). (t : TableId) → FindsCount (known t me.0 0) k (slice_index s.words p)) count_there a.4.1,
-          a.4.0
-              ∙ ap (λ (k : ℕ). seat_with me (item.Made (set_step (watch.Done k) n (slice_index s.words p))))
-              count_there,
-        ),
-      )
+      )) s r long at_id few in
+      told_as a (λ _ _ t. (
+        slice_index s.words p,
+        subst (λ (k : ℕ). (t : TableId) → FindsCount (known t me.0 0) k (slice_index s.words p)) count_there t.1,
+        t.0
+            ∙ ap (λ (k : ℕ). seat_with me (item.Made (set_step (watch.Done k) n (slice_index s.words p))))
+            count_there,
+      ))

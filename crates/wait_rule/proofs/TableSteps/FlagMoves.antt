@@ -23,7 +23,7 @@ use Rattle.wait_rule.specs.Rule.{Holds, IsRuled, Law}
 use Rattle.wait_rule.specs.Says.{told_of}
 use Rattle.wait_rule.specs.Plays.{Sat, seat_with}
 use Rattle.wait_rule.specs.QueuePlays.{flag_loaded_play, flag_cleared_play}
-use Rattle.wait_rule.proofs.TableSteps.KeptSteps.{IsOwn, KeepsLaw, steps}
+use Rattle.wait_rule.proofs.TableSteps.KeptSteps.{IsOwn, KeepsLaw, steps, told_as}
 use Rattle.wait_rule.proofs.KnownLaws.StandingKinds.{asks_none}
 use Rattle.wait_rule.proofs.StepKinds.FlagKinds.{flag_loads, unflags, woken_untaken}
 
@@ -38,13 +38,8 @@ module _ (slots id : ℕ) (me : Sat) (lives : me.0.lives ≡ true) (x p : ℕ) (
       (λ z items ruled own fits. (
         flag_loads z items ruled x me.0.number (book_of me.0.items) fits mine,
         tt,
-      )) s r long at_id few in (
-        a.0,
-        a.1,
-        a.2,
-        a.3,
-        a.4.0 ∙ ap (λ (k : ℕ). seat_with me (item.Made (step.Flag k (slice_index s.words p)))) flag_there,
-      )
+      )) s r long at_id few in
+      told_as a (λ _ _ t. t.0 ∙ ap (λ (k : ℕ). seat_with me (item.Made (step.Flag k (slice_index s.words p)))) flag_there)
 
   -- No page is taken for a task that asks for none, or that has an entry of kind Woken stored there: such an entry
   -- stands until the task takes it off itself.
@@ -78,10 +73,5 @@ module _ (slots id : ℕ) (me : Sat) (lives : me.0.lives ≡ true) (x p : ℕ) (
             (unflags z items ruled x me.0.number (book_of me.0.items) fits mine None
             (nothing_taken z items ruled own d may).0 (inl (nothing_taken z items ruled own d may))),
         tt,
-      )) s r long at_id few in (
-        a.0,
-        a.1,
-        a.2,
-        a.3,
-        a.4.0 ∙ ap (λ (k : ℕ). seat_with me (item.Made (step.Unflag k None))) flag_there,
-      )
+      )) s r long at_id few in
+      told_as a (λ _ _ t. t.0 ∙ ap (λ (k : ℕ). seat_with me (item.Made (step.Unflag k None))) flag_there)

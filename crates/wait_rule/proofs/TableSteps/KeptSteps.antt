@@ -71,6 +71,11 @@ pub record KeepsLaw (s : Table) (a : ℕ) (l : Location) (n : ℕ) (e : Step) (b
   pub links : KeepsLinks s a e
   pub leaves : Leaves s (next s a e) a l n (learn_step e b)
 
+-- a move that the table allows, by what is known then told in other words
+pub told_as : {W A : Type 0} {V : A → Type 0} {H T U : W → A → Type 0} → (w : W) × (a : A) × V a × H w a × T w a
+    → ((w : W) (a : A) → T w a → U w a) → (w : W) × (a : A) × V a × H w a × U w a
+told_as m by = (m.0, m.1, m.2, m.3, by m.0 m.1 m.4)
+
 pub whole_next : (s : Table) (a : ℕ) (e : Step) → a < TASKS → Allowed s a e → IsFair s a e → IsWhole s
     → IsWhole (next s a e)
 whole_next s a e few al st w = record {
@@ -426,7 +431,7 @@ module _ (slots id : ℕ) (me : Sat) (lives : me.0.lives ≡ true) (l : Location
       (λ n m. m ≡ seat_tried me (item.Made (x n)) old n)
   tries is old new x always s r long at_id small =
       let a = all s r long at_id small in
-      (a.0, a.1, a.2, a.3, a.4.0 ∙ one_of (eqb (slice_index s.words p) old) (x (slice_index s.words p)))
+      told_as a (λ _ _ t. t.0 ∙ one_of (eqb (slice_index s.words p) old) (x (slice_index s.words p)))
     where
       one_of : (b : Bool) (e : Step) → ◌≡◌ {A = Sat} (pushed me.0 (cond b (item.Made e ∷ []) []), me.1)
           (cond b (pushed me.0 (item.Made e ∷ [])) me.0, me.1)

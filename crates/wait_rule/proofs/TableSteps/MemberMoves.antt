@@ -51,7 +51,7 @@ use Rattle.wait_rule.proofs.KnownLaws.HeldHeads.{head_told}
 use Rattle.wait_rule.proofs.KnownLaws.MemberPlaces.{mark_keeps, queue_keeps}
 use Rattle.wait_rule.proofs.KnownLaws.HeadLinks.{same_links}
 use Rattle.wait_rule.proofs.KnownLaws.OwnStored.{owned}
-use Rattle.wait_rule.proofs.TableSteps.KeptSteps.{IsOwn, KeepsLaw, ChangesNone, steps, all_steps, loads}
+use Rattle.wait_rule.proofs.TableSteps.KeptSteps.{ChangesNone, IsOwn, KeepsLaw, all_steps, loads, steps, told_as}
 use Rattle.wait_rule.proofs.StepKinds.EntryKinds.{reads, sees, queues, unqueues, is_entry}
 use Rattle.wait_rule.proofs.StepKinds.FlagKinds.{flags}
 use Rattle.wait_rule.proofs.StepKinds.MarkKinds.{is_mark, mark_reads, marks, unmarks}
@@ -147,17 +147,12 @@ module _ (slots id : ℕ) (me : Sat) (lives : me.0.lives ≡ true) (x p : ℕ) (
             (sym (head_told me.0.items) ∙ (held ∙ ap (λ (h : ℕ). Some h) here)) found)
             (λ uses. ap asked_by_items own.list ∙ asks uses)),
         tt,
-      )) s r long at_id few in (
-        a.0,
-        a.1,
-        a.2,
-        a.3,
-        (
-          e,
-          ap entry_of is ∙ entry_read e standing.lawful,
-          a.4.0 ∙ ap (λ (k : ℕ). seat_with me (item.Made (step.Queue k e))) entry_there,
-        ),
-      )
+      )) s r long at_id few in
+      told_as a (λ _ _ t. (
+        e,
+        ap entry_of is ∙ entry_read e standing.lawful,
+        t.0 ∙ ap (λ (k : ℕ). seat_with me (item.Made (step.Queue k e))) entry_there,
+      ))
 
   pub unqueue_moves : (h : ℕ) (e : Entry) (d : TableId) → (book_of me.0.items).head ≡ Some h
       → (told_of (known d me.0 0)).hold.book x ≡ shown e → (owner x ≡ me.0.number) ⊎ (IsOwnKind e.kind → ⊥)
@@ -173,7 +168,7 @@ module _ (slots id : ℕ) (me : Sat) (lives : me.0.lives ≡ true) (x p : ℕ) (
             (ap (λ (v : Told). v.hold.book x) own.told ∙ shows) may (clear, small),
         tt,
       )) s r long at_id few in
-      (a.0, a.1, a.2, a.3, a.4.0 ∙ ap (λ (k : ℕ). seat_with me (item.Made (step.Unqueue k))) entry_there)
+      told_as a (λ _ _ t. t.0 ∙ ap (λ (k : ℕ). seat_with me (item.Made (step.Unqueue k))) entry_there)
 
 -- a store in the flag word of an entry that the hold shows
 pub flag_moves : (slots id : ℕ) (me : Sat) → me.0.lives ≡ true → (x p word h : ℕ) (e : Entry) (d : TableId)
@@ -190,7 +185,7 @@ flag_moves slots id me lives x p word h e d small at is held shows woken s r lon
       tt,
     )) s r long at_id few in
     let there : x ≡ p - FLAG_AT = omega arith in
-    (a.0, a.1, a.2, a.3, a.4.0 ∙ ap (λ (k : ℕ). seat_with me (item.Made (step.Woken k))) there)
+    told_as a (λ _ _ t. t.0 ∙ ap (λ (k : ℕ). seat_with me (item.Made (step.Woken k))) there)
 
 -- what a load tells of a bookmark word stands
 glance_agrees : (h : ℕ) (o : Option Mark) → MarkAgrees h (glance_at (Some h) o) o
@@ -304,14 +299,9 @@ module _ (slots id : ℕ) (me : Sat) (lives : me.0.lives ≡ true) (u p : ℕ) (
             (ap (notes_of me.0.number) own.list) q m standing.low before) clear),
         tt,
       )) s r long at_id few in
-      let k = standing.head in (
-        a.0,
-        a.1,
-        a.2,
-        a.3,
-        a.4.0 ∙ ap (λ (o : Option Mark). seat_with me (item.Made (marked o)))
-            (sym (ap mark_of is ∙ mark_read (record { head = h; place = q }) (omega arith) standing.high)),
-      )
+      let k = standing.head in
+      told_as a (λ _ _ t. t.0 ∙ ap (λ (o : Option Mark). seat_with me (item.Made (marked o)))
+      (sym (ap mark_of is ∙ mark_read (record { head = h; place = q }) (omega arith) standing.high)))
 
   pub take_moves : (q : ℕ) → (noted (known d me.0 0)).own ≡ Some (record { head = h; place = q })
       → Allows (Holds Law) slots id me p (λ _. 0) (λ _. mark_stored_play (move slots p 0 0 none) me 0)
@@ -323,7 +313,7 @@ module _ (slots id : ℕ) (me : Sat) (lives : me.0.lives ≡ true) (u p : ℕ) (
             (own_mark s items (Some (record { head = h; place = q })) ruled own was) clear,
         tt,
       )) s r long at_id few in
-      (a.0, a.1, a.2, a.3, a.4.0 ∙ ap (λ (o : Option Mark). seat_with me (item.Made (marked o))) (sym no_mark_read))
+      told_as a (λ _ _ t. t.0 ∙ ap (λ (o : Option Mark). seat_with me (item.Made (marked o))) (sym no_mark_read))
 
   -- by what the word is
   pub store_moves : (word : ℕ) → MayStoreMark (known d me.0 h) word
@@ -365,14 +355,9 @@ module _ (slots id : ℕ) (me : Sat) (lives : me.0.lives ≡ true) (p : ℕ) whe
         cond_loads z items ruled me.0.number (book_of me.0.items) fits c is
             (λ h held. clear h (sym (head_seen z items me (book_of me.0.items).head own refl) ∙ held)),
         tt,
-      )) s r long at_id few in (
-        a.0,
-        a.1,
-        a.2,
-        a.3,
-        a.4.0
-            ∙ ap (λ (k : Watch). seat_with me (item.Made (step.Load k (slice_index s.words p)))) same,
-      )
+      )) s r long at_id few in
+      told_as a (λ _ _ t. t.0
+      ∙ ap (λ (k : Watch). seat_with me (item.Made (step.Load k (slice_index s.words p)))) same)
 
   free_stepped : (v : ℕ) → CLAIMS ≤ v → is_stepped (place.Var v) ≡ true
   free_stepped v is = grind (arith, nat_tests)
@@ -387,17 +372,12 @@ module _ (slots id : ℕ) (me : Sat) (lives : me.0.lives ≡ true) (p : ℕ) whe
         plain_publishes z items ruled me.0.number (book_of me.0.items) fits c value
             (head_seen z items me None own free),
         tt,
-      )) s r long at_id few in (
-        a.0,
-        a.1,
-        a.2,
-        a.3,
-        (
-          slice_index s.words p,
-          a.4.0
-              ∙ ap (λ (k : Watch). seat_with me (item.Made (step.Publish k value (slice_index s.words p)))) same,
-        ),
-      )
+      )) s r long at_id few in
+      told_as a (λ _ _ t. (
+        slice_index s.words p,
+        t.0
+            ∙ ap (λ (k : Watch). seat_with me (item.Made (step.Publish k value (slice_index s.words p)))) same,
+      ))
   publish_moves (watch.Var v o) named value same is at free s r long at_id few =
       let a = steps slots id me lives (place.Var v) is.1 p (at ∙ ap place.position_of (var_at v is.1))
       (free_stepped v is.0)
@@ -406,17 +386,12 @@ module _ (slots id : ℕ) (me : Sat) (lives : me.0.lives ≡ true) (p : ℕ) whe
         var_publishes z items ruled me.0.number (book_of me.0.items) fits v o value
             (head_seen z items me None own free),
         tt,
-      )) s r long at_id few in (
-        a.0,
-        a.1,
-        a.2,
-        a.3,
-        (
-          slice_index s.words p,
-          a.4.0
-              ∙ ap (λ (k : Watch). seat_with me (item.Made (step.Publish k value (slice_index s.words p)))) same,
-        ),
-      )
+      )) s r long at_id few in
+      told_as a (λ _ _ t. (
+        slice_index s.words p,
+        t.0
+            ∙ ap (λ (k : Watch). seat_with me (item.Made (step.Publish k value (slice_index s.words p)))) same,
+      ))
   publish_moves (watch.Done d) named value same is at free s r long at_id few = absurd is
   publish_moves (watch.Bit w b) named value same is at free s r long at_id few = absurd is
 
@@ -429,14 +404,9 @@ module _ (slots id : ℕ) (me : Sat) (lives : me.0.lives ≡ true) (p : ℕ) whe
         plain_consumes z items ruled me.0.number (book_of me.0.items) fits c,
         tt,
       )) s r long at_id few in
-      let there : c ≡ p - CONDITION_AT = omega arith in (
-        a.0,
-        a.1,
-        a.2,
-        a.3,
-        a.4.0
-            ∙ ap (λ (k : ℕ). seat_with me (item.Made (step.Consume (watch.Plain k) 0 (slice_index s.words p)))) there,
-      )
+      let there : c ≡ p - CONDITION_AT = omega arith in
+      told_as a (λ _ _ t. t.0
+      ∙ ap (λ (k : ℕ). seat_with me (item.Made (step.Consume (watch.Plain k) 0 (slice_index s.words p)))) there)
 
 pub public_there : (c : Watch) → IsPublic c → IsThere c
 public_there (watch.Plain c) is = is

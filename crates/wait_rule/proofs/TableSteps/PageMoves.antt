@@ -27,7 +27,7 @@ use Rattle.wait_rule.specs.QueuePlays.{unqueued_play}
 use Rattle.wait_rule.specs.Says.{told_of}
 use Rattle.wait_rule.specs.Rule.{Holds, Law}
 use Rattle.wait_rule.specs.Plays.{Sat, seat_with}
-use Rattle.wait_rule.proofs.TableSteps.KeptSteps.{IsOwn, KeepsLaw, steps}
+use Rattle.wait_rule.proofs.TableSteps.KeptSteps.{IsOwn, KeepsLaw, steps, told_as}
 use Rattle.wait_rule.proofs.TableSteps.QueueMoves.{head_seen}
 use Rattle.wait_rule.proofs.StepKinds.EntryKinds.{unqueues}
 use Rattle.wait_rule.proofs.StepKinds.FlagKinds.{flag_loads}
@@ -60,13 +60,8 @@ module _ (slots id : ℕ) (me : Sat) (lives : me.0.lives ≡ true) where
             clear),
         tt,
       )) s r long at_id less in
-      let there : w ≡ p - (CONDITION_AT + FIRST_BIT_WORD) = omega arith in (
-        a.0,
-        a.1,
-        a.2,
-        a.3,
-        a.4.0 ∙ (λ i. seat_with me (item.Made (step.TasFor (same i) (there i) (slice_index s.words p)))),
-      )
+      let there : w ≡ p - (CONDITION_AT + FIRST_BIT_WORD) = omega arith in
+      told_as a (λ _ _ t. t.0 ∙ (λ i. seat_with me (item.Made (step.TasFor (same i) (there i) (slice_index s.words p)))))
 
   module _ (x p : ℕ) (small : x < ENTRIES) (at : p ≡ FLAG_AT + x) where
     flag_there : x ≡ p - FLAG_AT
@@ -81,7 +76,7 @@ module _ (slots id : ℕ) (me : Sat) (lives : me.0.lives ≡ true) where
           tells z items ruled me.0.number (book_of me.0.items) fits (differs_own z items own) x taken,
           tt,
         )) s r long at_id few in
-        (a.0, a.1, a.2, a.3, a.4.0 ∙ ap (λ (k : ℕ). seat_with me (item.Made (step.Handed k))) flag_there)
+        told_as a (λ _ _ t. t.0 ∙ ap (λ (k : ℕ). seat_with me (item.Made (step.Handed k))) flag_there)
 
     module _ (mine : owner x ≡ me.0.number) where
       pub flag_word_moves : Allows (Holds Law) slots id me p (λ n. n) (flag_word_play (move slots p 0 0 none) me)
@@ -104,21 +99,16 @@ module _ (slots id : ℕ) (me : Sat) (lives : me.0.lives ≡ true) where
                     λ quiet. shows.1 (ap (is_quiet_at x) list ∙ quiet),
                   ),
             ),
-          )) s r long at_id few in (
-            a.0,
-            a.1,
-            a.2,
-            a.3,
+          )) s r long at_id few in
+          told_as a (λ _ _ t. (
+            t.0 ∙ ap (λ (k : ℕ). seat_with me (item.Made (step.Flag k (slice_index s.words p)))) flag_there,
             (
-              a.4.0 ∙ ap (λ (k : ℕ). seat_with me (item.Made (step.Flag k (slice_index s.words p)))) flag_there,
-              (
-                a.4.1.0,
-                λ d. subst (λ (k : ℕ). ShowsGiven (known d me.0 0) k (slice_index s.words p)) flag_there
-                    (a.4.1.1 d),
-                λ d. subst (λ (k : ℕ). ShowsNoFlag (known d me.0 0) k (slice_index s.words p)) flag_there (a.4.1.2 d),
-              ),
+              t.1.0,
+              λ d. subst (λ (k : ℕ). ShowsGiven (known d me.0 0) k (slice_index s.words p)) flag_there
+                  (t.1.1 d),
+              λ d. subst (λ (k : ℕ). ShowsNoFlag (known d me.0 0) k (slice_index s.words p)) flag_there (t.1.2 d),
             ),
-          )
+          ))
 
       pub note_moves : (q named word : ℕ) (d : TableId) → q ≡ named → word ≡ flag_word false
           → was_given_at x (asked_by_items me.0.items) ≡ Some q → IsPageless ((told_of (known d me.0 0)).bits.stored x)
@@ -134,7 +124,7 @@ module _ (slots id : ℕ) (me : Sat) (lives : me.0.lives ≡ true) where
                 (subst (λ (v : Told). IsPageless (v.bits.stored x)) (sym own.told) pageless)),
             tt,
           )) s r long at_id few in
-          (a.0, a.1, a.2, a.3, a.4.0 ∙ (λ i. seat_with me (item.Made (step.Unflag (flag_there i) (Some (same i))))))
+          told_as a (λ _ _ t. t.0 ∙ (λ i. seat_with me (item.Made (step.Unflag (flag_there i) (Some (same i))))))
 
   -- the entry of a task that was told of its page is taken off
   pub handed_moves : (x p : ℕ) → x < ENTRIES → p ≡ ENTRY_AT + x → (h : ℕ) (e : Entry) (d : TableId)
@@ -152,4 +142,4 @@ module _ (slots id : ℕ) (me : Sat) (lives : me.0.lives ≡ true) where
         tt,
       )) s r long at_id few in
       let there : x ≡ p - ENTRY_AT = omega arith in
-      (a.0, a.1, a.2, a.3, a.4.0 ∙ ap (λ (k : ℕ). seat_with me (item.Made (step.Unqueue k))) there)
+      told_as a (λ _ _ t. t.0 ∙ ap (λ (k : ℕ). seat_with me (item.Made (step.Unqueue k))) there)

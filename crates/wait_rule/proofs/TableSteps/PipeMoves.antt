@@ -39,7 +39,7 @@ use Rattle.wait_rule.proofs.KnownLaws.TicketSteps.{beside_tickets, tickets_next,
 use Rattle.wait_rule.proofs.KnownLaws.TallySteps.{tallies_same}
 use Rattle.wait_rule.proofs.StepKinds.CondKinds.{var_publishes}
 use Rattle.wait_rule.proofs.TableSteps.StateLaws.{allows, allows_some, pushed_none}
-use Rattle.wait_rule.proofs.TableSteps.KeptSteps.{IsOwn, KeepsLaw, law_step, law_still}
+use Rattle.wait_rule.proofs.TableSteps.KeptSteps.{IsOwn, KeepsLaw, law_step, law_still, told_as}
 use Rattle.wait_rule.proofs.TableSteps.QueueMoves.{head_seen}
 use Rattle.wait_rule.proofs.TableSteps.TicketMoves.{law_beside}
 
@@ -219,13 +219,8 @@ module _ (slots id : ℕ) (me : Sat) (lives : me.0.lives ≡ true) (at : ℕ) wh
       (λ n m. (m ≡ seat_with me (item.Piped k act.Claim n)) × Unit {0})) (sym is)
       (allows Law slots id me.0 me.1 (position_of (place.Claim k)) (λ _. 1) (λ n. item.Piped k act.Claim n ∷ [])
       (λ _. Unit {0}) lives (λ c law small own _. (law_claim c law me.0.number k few small, tt))) s r long at_id
-      less in (
-        a.0,
-        a.1,
-        a.2,
-        a.3,
-        a.4.0 ∙ ap (λ (i : ℕ). seat_with me (item.Piped i act.Claim (slice_index s.words at))) there,
-      )
+      less in
+      told_as a (λ _ _ t. t.0 ∙ ap (λ (i : ℕ). seat_with me (item.Piped i act.Claim (slice_index s.words at))) there)
 
   pub put_moves : (p k n : ℕ) → p < PIPES → (mine_of (write_end p)).mine ≡ true → IsCell n
       → length (mine_of (write_end p)).cells < (mine_of (write_end p)).seen + PIPE_CELLS
@@ -243,13 +238,8 @@ module _ (slots id : ℕ) (me : Sat) (lives : me.0.lives ≡ true) (at : ℕ) wh
             < (end_of (write_end p) xs).seen + PIPE_CELLS) (sym own) room) k
             (place_is ∙ ap (λ (xs : List Item). cell_of p (length (end_of (write_end p) xs).cells)) (sym own)),
         tt,
-      ))) s r long at_id less in (
-        a.0,
-        a.1,
-        a.2,
-        a.3,
-        a.4.0 ∙ ap (λ (i : ℕ). seat_with me (item.Piped (write_end i) act.Cell n)) there,
-      )
+      ))) s r long at_id less in
+      told_as a (λ _ _ t. t.0 ∙ ap (λ (i : ℕ). seat_with me (item.Piped (write_end i) act.Cell n)) there)
 
   pub get_moves : (p k : ℕ) → p < PIPES → (mine_of (read_end p)).mine ≡ true
       → length (mine_of (read_end p)).cells < (mine_of (read_end p)).seen
@@ -265,16 +255,11 @@ module _ (slots id : ℕ) (me : Sat) (lives : me.0.lives ≡ true) (at : ℕ) wh
       (ap (λ (xs : List Item). (end_of (read_end p) xs).mine) own ∙ mine)
       (subst (λ (xs : List Item). length (end_of (read_end p) xs).cells < (end_of (read_end p) xs).seen) (sym own)
       have) k (place_is ∙ ap (λ (xs : List Item). cell_of p (length (end_of (read_end p) xs).cells)) (sym own))))
-      s r long at_id less in (
-        a.0,
-        a.1,
-        a.2,
-        a.3,
-        (
-          a.4.0 ∙ ap (λ (i : ℕ). seat_with me (item.Piped (read_end i) act.Cell (slice_index s.words at))) there,
-          a.4.1,
-        ),
-      )
+      s r long at_id less in
+      told_as a (λ _ _ t. (
+        t.0 ∙ ap (λ (i : ℕ). seat_with me (item.Piped (read_end i) act.Cell (slice_index s.words at))) there,
+        t.1,
+      ))
 
   is_own : (c : Scene) (law : Law c) → c.items me.0.number ≡ me.0.items → IsOwn law.table c.items me
   is_own c law own = record {
@@ -308,20 +293,15 @@ module _ (slots id : ℕ) (me : Sat) (lives : me.0.lives ≡ true) (at : ℕ) wh
           law.table.words.vars k,
           (refl, sound),
         ),
-      ))) s r long at_id less in (
-        a.0,
-        a.1,
-        a.2,
-        a.3,
+      ))) s r long at_id less in
+      told_as a (λ _ _ t. (
+        t.2.0,
         (
-          a.4.2.0,
-          (
-            a.4.1 ∙ (ap (λ (xs : List Item). (pushed me.0 xs, me.1)) a.4.2.1.0
-                ∙ ap (λ (i : ℕ). seat_with me (item.Made (step.Publish (watch.Var i 0) n a.4.2.0))) there),
-            subst (λ (i : ℕ). IsSoundEnd i (mine_of i)) there a.4.2.1.1,
-          ),
+          t.1 ∙ (ap (λ (xs : List Item). (pushed me.0 xs, me.1)) t.2.1.0
+              ∙ ap (λ (i : ℕ). seat_with me (item.Made (step.Publish (watch.Var i 0) n t.2.0))) there),
+          subst (λ (i : ℕ). IsSoundEnd i (mine_of i)) there t.2.1.1,
         ),
-      )
+      ))
     where
       Stored : List Item → Type 0
       Stored xs = (found : ℕ) × ((xs ≡ item.Made (step.Publish (watch.Var k 0) n found) ∷ [])
@@ -340,17 +320,12 @@ module _ (slots id : ℕ) (me : Sat) (lives : me.0.lives ≡ true) (at : ℕ) wh
         subst (λ (xs : List Item). (slice_index c.words (position_of (place.Var k))
             ≡ end_word (end_of k xs).count (end_of k xs).shut) × IsSoundEnd k (end_of k xs)) own
             (knows_own c law me.0.number k few (ap (λ (xs : List Item). (end_of k xs).mine) own ∙ mine)),
-      ))) s r long at_id less in (
-        a.0,
-        a.1,
-        a.2,
-        a.3,
-        (
-          a.4.0 ∙ ap (λ w. (w, me.1)) (pushed_none me.0),
-          subst (λ (i : ℕ). (slice_index s.words at ≡ end_word (mine_of i).count (mine_of i).shut)
-              × IsSoundEnd i (mine_of i)) there a.4.1,
-        ),
-      )
+      ))) s r long at_id less in
+      told_as a (λ _ _ t. (
+        t.0 ∙ ap (λ w. (w, me.1)) (pushed_none me.0),
+        subst (λ (i : ℕ). (slice_index s.words at ≡ end_word (mine_of i).count (mine_of i).shut)
+            × IsSoundEnd i (mine_of i)) there t.1,
+      ))
     where
       Loaded : ℕ → Type 0
       Loaded n = (n ≡ end_word (mine_of k).count (mine_of k).shut) × IsSoundEnd k (mine_of k)

@@ -35,7 +35,7 @@ use Rattle.wait_rule.specs.Journals.{Scene, moved}
 use Rattle.wait_rule.specs.HandedPermits.{OwesNoPermit}
 use Rattle.wait_rule.proofs.KnownLaws.HandedPermits.{unlock_on}
 use Rattle.wait_rule.proofs.KnownLaws.TicketSteps.{free_head, holds_none}
-use Rattle.wait_rule.proofs.TableSteps.KeptSteps.{IsOwn, KeepsLaw, steps, loads, law_next}
+use Rattle.wait_rule.proofs.TableSteps.KeptSteps.{IsOwn, KeepsLaw, law_next, loads, steps, told_as}
 use Rattle.wait_rule.proofs.StepKinds.HeadKinds.{lock_word, locks, unlocks}
 use Rattle.wait_rule.proofs.StepKinds.HoldWalks.{aims_hold}
 
@@ -142,4 +142,4 @@ module _ (slots id : ℕ) (me : Sat) (lives : me.0.lives ≡ true) (h p : ℕ) (
             (unlock_on s items ruled (known d me.0 h) own.list spent owes)),
         tt,
       )) s r long at_id few in
-      (a.0, a.1, a.2, a.3, a.4.0 ∙ (λ i. seat_with me (item.Made (step.Unlock (head_there i) (same i)))))
+      told_as a (λ _ _ t. t.0 ∙ (λ i. seat_with me (item.Made (step.Unlock (head_there i) (same i)))))

@@ -31,7 +31,7 @@ use Rattle.wait_rule.proofs.KnownLaws.MemberSteps.{nothing_named, entry_names}
 use Rattle.wait_rule.proofs.KnownLaws.TicketSteps.{to_test}
 use Rattle.wait_rule.proofs.StepKinds.EntryKinds.{load_leaves}
 use Rattle.wait_rule.proofs.TableSteps.StateLaws.{allows}
-use Rattle.wait_rule.proofs.TableSteps.KeptSteps.{ChangesNone, KeepsLaw, IsOwn}
+use Rattle.wait_rule.proofs.TableSteps.KeptSteps.{ChangesNone, IsOwn, KeepsLaw, told_as}
 use Rattle.wait_rule.proofs.TableSteps.QueueMoves.{head_seen}
 use Rattle.wait_rule.proofs.TableSteps.LookedBits.{look_law, word_back}
 
@@ -162,11 +162,6 @@ scan_moves slots id me lives h i p head few at free s r long at_id less =
       scan_law c law me.0.number h i head few few_tasks
           (head_seen law.table c.items me None (own_of c law me own) free),
       tt,
-    ))) s r long at_id less in (
-      a.0,
-      a.1,
-      a.2,
-      a.3,
-      a.4.0 ∙ (λ j. seat_with me (item.Made (step.Scan (head_is j) (word_is j)
-          (slice_index s.words p)))),
-    )
+    ))) s r long at_id less in
+    told_as a (λ _ _ t. t.0 ∙ (λ j. seat_with me (item.Made (step.Scan (head_is j) (word_is j)
+    (slice_index s.words p)))))

@@ -27,6 +27,7 @@ use Rattle.wait_rule.proofs.KnownLaws.TicketSteps.{beside_tickets, tickets_next,
 use Rattle.wait_rule.proofs.KnownLaws.TallySteps.{tally_next}
 use Rattle.wait_rule.proofs.KnownLaws.PipeTables.{pipes_rest}
 use Rattle.wait_rule.proofs.TableSteps.StateLaws.{learns_more}
+use Rattle.wait_rule.proofs.TableSteps.KeptSteps.{told_as}
 use Rattle.wait_rule.proofs.TableSteps.TaskMoves.{shown_of}
 use Rattle.wait_rule.proofs.TableSteps.TicketMoves.{law_beside}
 
@@ -122,13 +123,8 @@ module _ (slots id : ℕ) (me : Sat) (lives : me.0.lives ≡ true) (p k at : ℕ
       (λ n m. (m ≡ seat_with me (item.Tally p k n)) × FindsTally me.0 p n)) (sym is)
       (learns_more Law slots id me.0 me.1 (position_of (place.Tally p)) (λ n. (n + k) % 2 ^ 64)
       (λ n. item.Tally p k n ∷ []) (λ n. FindsTally me.0 p n) lives
-      (λ c law few own _. (law_tally c law me.0.number p k page few, tt)) finds_tally) s r long at_id less in (
-        a.0,
-        a.1,
-        a.2,
-        a.3,
-        (
-          a.4.0 ∙ ap (λ (i : ℕ). seat_with me (item.Tally i k (slice_index s.words at))) there,
-          subst (λ (i : ℕ). FindsTally me.0 i (slice_index s.words at)) there a.4.1,
-        ),
-      )
+      (λ c law few own _. (law_tally c law me.0.number p k page few, tt)) finds_tally) s r long at_id less in
+      told_as a (λ _ _ t. (
+        t.0 ∙ ap (λ (i : ℕ). seat_with me (item.Tally i k (slice_index s.words at))) there,
+        subst (λ (i : ℕ). FindsTally me.0 i (slice_index s.words at)) there t.1,
+      ))

@@ -31,7 +31,7 @@ use Rattle.wait_rule.proofs.TableSteps.StateLaws.{learns, pushed_none}
 use Rattle.wait_rule.specs.Notes.{notes_of}
 use Rattle.wait_rule.proofs.KnownLaws.AfterSteps.{notes_after}
 use Rattle.wait_rule.proofs.KnownLaws.HeadLinks.{same_links}
-use Rattle.wait_rule.proofs.TableSteps.KeptSteps.{steps, loads, tries, law_still}
+use Rattle.wait_rule.proofs.TableSteps.KeptSteps.{law_still, loads, steps, told_as, tries}
 use Rattle.wait_rule.proofs.StepKinds.TaskKinds.{is_lawful, wakes, signals, looks, accepts, sleeps, stores, awakes}
 use Rattle.wait_rule.proofs.StepKinds.TaskBits.{run_word, state_word, raised_word, fatal_word, accepted_word}
 
@@ -189,7 +189,7 @@ module _ (slots id : ℕ) (me : Sat) (lives : me.0.lives ≡ true) (u p : ℕ) (
             (run_word (s.task me.0.number) (ruled.lawful.tasks me.0.number)),
         tt,
       )) s r long at_id few in
-      (a.0, a.1, a.2, a.3, a.4.0)
+      told_as a (λ _ _ t. t.0)
 
   pub state_moves : (v : ℕ) → IsState v → 0 < v → (book_of me.0.items).awake ≡ true
       → ((book_of me.0.items).state ≡ 0) ⊎ ((book_of me.0.items).state ≡ v)
@@ -203,7 +203,7 @@ module _ (slots id : ℕ) (me : Sat) (lives : me.0.lives ≡ true) (u p : ℕ) (
             fits.stored may)),
         tt,
       )) s r long at_id few in
-      (a.0, a.1, a.2, a.3, a.4.0)
+      told_as a (λ _ _ t. t.0)
     where
       is : (v ≡ 1) ⊎ ((v ≡ 2) ⊎ (v ≡ 0x102))
       is = elim any [ inl z ↦ absurd (omega arith) | inr q ↦ q ]

@@ -37,7 +37,7 @@ use Rattle.wait_rule.proofs.TableSteps.StateLaws.{allows, learns_more}
 use Rattle.wait_rule.proofs.KnownLaws.TallySteps.{tallies_same}
 use Rattle.wait_rule.specs.Pipes.{ArePipes}
 use Rattle.wait_rule.proofs.KnownLaws.PipeTables.{pipes_rest}
-use Rattle.wait_rule.proofs.TableSteps.KeptSteps.{ruled_seen, written}
+use Rattle.wait_rule.proofs.TableSteps.KeptSteps.{ruled_seen, told_as, written}
 use Rattle.wait_rule.proofs.TableSteps.TaskMoves.{shown_of}
 
 -- words beside the table with another next or served number
@@ -581,7 +581,7 @@ module _ (slots id : ℕ) (me : Sat) (lives : me.0.lives ≡ true) (h p : ℕ) (
       (λ _. Unit {0}) lives
       (λ c law few own _. (law_drawn c law me.0.number h head few (own_ticket c no_ticket free own), tt)))
       s r long at_id less in
-      (a.0, a.1, a.2, a.3, a.4.0 ∙ ap (λ (k : ℕ). seat_with me (item.Drawn k (slice_index s.words p))) there)
+      told_as a (λ _ _ t. t.0 ∙ ap (λ (k : ℕ). seat_with me (item.Drawn k (slice_index s.words p))) there)
 
   -- the served number counts the unlocks
   serves_unlocks : (c : Scene) (law : Law c) → ((t : ℕ) → 1 ≤ owns t me.0 → c.items t ≡ has_of t me.0)
@@ -603,16 +603,11 @@ module _ (slots id : ℕ) (me : Sat) (lives : me.0.lives ≡ true) (h p : ℕ) (
       (λ n m. (m ≡ seat_with me (item.Serving h n)) × ServesUnlocks me.0 h n)) (sym at)
       (learns_more Law slots id me.0 me.1 (position_of (place.Serving h)) (λ n. n) (λ n. item.Serving h n ∷ [])
       (λ n. ServesUnlocks me.0 h n) lives (λ c law few own _. (law_serving c law me.0.number h head, tt))
-      serves_unlocks) s r long at_id less in (
-        a.0,
-        a.1,
-        a.2,
-        a.3,
-        (
-          a.4.0 ∙ ap (λ (k : ℕ). seat_with me (item.Serving k (slice_index s.words p))) there,
-          subst (λ (k : ℕ). ServesUnlocks me.0 k (slice_index s.words p)) there a.4.1,
-        ),
-      )
+      serves_unlocks) s r long at_id less in
+      told_as a (λ _ _ t. (
+        t.0 ∙ ap (λ (k : ℕ). seat_with me (item.Serving k (slice_index s.words p))) there,
+        subst (λ (k : ℕ). ServesUnlocks me.0 k (slice_index s.words p)) there t.1,
+      ))
 
   pub serve_moves : p ≡ position_of (place.Serving h) → (book_of me.0.items).ticket ≡ given h
       → Allows (Holds Law) slots id me p (λ n. (n + 1) % 2 ^ 64) (served_play (move slots p 1 0 none) me)
@@ -623,4 +618,4 @@ module _ (slots id : ℕ) (me : Sat) (lives : me.0.lives ≡ true) (h p : ℕ) (
       (λ _. Unit {0}) lives
       (λ c law few own _. (law_served c law me.0.number h head few (own_ticket c (given h) is own), tt)))
       s r long at_id less in
-      (a.0, a.1, a.2, a.3, a.4.0)
+      told_as a (λ _ _ t. t.0)

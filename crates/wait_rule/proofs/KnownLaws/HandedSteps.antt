@@ -25,36 +25,12 @@ use Rattle.wait_model.proofs.WordLaws.DecodedWords.{owner_own}
 use Rattle.wait_rule.specs.LeftEntries.{Order}
 use Rattle.wait_rule.specs.Interleavings.{AreAllowed, AreHanded, TaskStep, table_of}
 use Rattle.wait_rule.proofs.KnownLaws.HandedPermits.{accounted_of, none_done}
-use Rattle.wait_rule.proofs.KnownLaws.Moments.{kept_of, views_of}
+use Rattle.wait_rule.proofs.KnownLaws.Moments.{kept_of, last_split, never_none, views_of}
 
 -- where one more step of the task follows such an order
 pub record OrderStep (a : ℕ) (front : List Step) (e : Step) : Type 0 where
   pub order : Order a front
   pub allowed : Allowed (table_of order.steps) a e
-
--- where a list with one step more is split before a step
-tail_is : (x y : Step) (xs ys : List Step) → x ∷ xs ≡ y ∷ ys → xs ≡ ys
-tail_is x y xs ys is = cc
-
-head_is : (x y : Step) (xs ys : List Step) → x ∷ xs ≡ y ∷ ys → x ≡ y
-head_is x y xs ys is = cc
-
-never_none : {A : Type 0} (front : List Step) (e : Step) (rest : List Step) → [] ≡ front ++ e ∷ rest → A
-never_none [] e rest is = absurd (cc)
-never_none (x ∷ front) e rest is = absurd (cc)
-
-last_split : (h : List Step) (y : Step) (front : List Step) (e : Step) (rest : List Step)
-    → h ++ y ∷ [] ≡ front ++ e ∷ rest
-    → ((h ≡ front) × (y ≡ e)) ⊎ ((more : List Step) × (h ≡ front ++ e ∷ more))
-last_split [] y [] e rest is = inl (refl, head_is y e [] rest is)
-last_split [] y (x ∷ front) e rest is = never_none front e rest (tail_is y x [] (front ++ e ∷ rest) is)
-last_split (z ∷ h) y [] e rest is = inr (h, ap (λ (d : Step). d ∷ h) (head_is z e (h ++ y ∷ []) rest is))
-last_split (z ∷ h) y (x ∷ front) e rest is =
-    let same = head_is z x (h ++ y ∷ []) (front ++ e ∷ rest) is in
-    elim (last_split h y front e rest (tail_is z x (h ++ y ∷ []) (front ++ e ∷ rest) is)) [
-      | inl all ↦ inl (λ i. same i ∷ all.0 i, all.1)
-      | inr part ↦ inr (part.0, λ i. same i ∷ part.1 i)
-    ]
 
 -- the latest step of all tasks is the task's own, or not
 module _ (xs : List TaskStep) (may : AreAllowed xs) (on : AreHanded xs) (x : TaskStep)

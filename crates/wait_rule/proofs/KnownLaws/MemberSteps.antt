@@ -71,23 +71,30 @@ IsOrderly s a (step.Consume c n r) b = is_bit c ≡ true → (h : ℕ) → (s.vi
     → b.differs ≡ nothing
 IsOrderly s a e b = Unit {0}
 
--- lists with more items
-pub differences_next : (items : ℕ → List Item) (a : ℕ) (xs : List Item)
-    → all_differences (put items a (items a ++ xs))
-    ≡ put (all_differences items) a (book_from (book_of (items a)) xs).differs
-differences_next items a xs = fun_ext (λ t. by t (put_case items a (items a ++ xs) t))
+-- what the books of all tasks say of one thing, with more items in one list
+pub books_next : {A : Type 0} (part : Book → A) (items : ℕ → List Item) (a : ℕ) (xs : List Item)
+    → (λ t. part (book_of (put items a (items a ++ xs) t)))
+    ≡ put (λ t. part (book_of (items t))) a (part (book_from (book_of (items a)) xs))
+books_next {A} part items a xs = fun_ext (λ t. by t (put_case items a (items a ++ xs) t))
   where
-    D : ℕ → Difference
-    D = put (all_differences items) a (book_from (book_of (items a)) xs).differs
+    old : ℕ → A
+    old t = part (book_of (items t))
+
+    new : ℕ → A
+    new = put old a (part (book_from (book_of (items a)) xs))
 
     by : (t : ℕ) → ((t ≡ a) × (put items a (items a ++ xs) t ≡ items a ++ xs))
         ⊎ ((t ≢ a) × (put items a (items a ++ xs) t ≡ items t))
-        → (book_of (put items a (items a ++ xs) t)).differs ≡ D t
-    by t (inl q) = ap (λ (ys : List Item). (book_of ys).differs) q.1
-        ∙ (ap (λ (b : Book). b.differs) (book_append first_book (items a) xs)
-        ∙ sym (ap D q.0 ∙ put_same (all_differences items) a (book_from (book_of (items a)) xs).differs))
-    by t (inr q) = ap (λ (ys : List Item). (book_of ys).differs) q.1
-        ∙ sym (put_other (all_differences items) a (book_from (book_of (items a)) xs).differs t q.0)
+        → part (book_of (put items a (items a ++ xs) t)) ≡ new t
+    by t (inl q) = ap (λ (ys : List Item). part (book_of ys)) q.1 ∙ (ap part (book_append first_book (items a) xs)
+        ∙ sym (ap new q.0 ∙ put_same old a (part (book_from (book_of (items a)) xs))))
+    by t (inr q) = ap (λ (ys : List Item). part (book_of ys)) q.1
+        ∙ sym (put_other old a (part (book_from (book_of (items a)) xs)) t q.0)
+
+pub differences_next : (items : ℕ → List Item) (a : ℕ) (xs : List Item)
+    → all_differences (put items a (items a ++ xs))
+    ≡ put (all_differences items) a (book_from (book_of (items a)) xs).differs
+differences_next items a xs = books_next (λ b. b.differs) items a xs
 
 pub put_again : {A : Type 0} (f : ℕ → A) (k : ℕ) (v : A) → v ≡ f k → put f k v ≡ f
 put_again f k v is = fun_ext (λ i. put_at (λ y. y ≡ f i) f k v i (λ e. is ∙ ap f (sym e)) (λ _. refl))

@@ -93,11 +93,11 @@ tail_is x y xs ys is = cc
 head_is : (x y : Step) (xs ys : List Step) → x ∷ xs ≡ y ∷ ys → x ≡ y
 head_is x y xs ys is = cc
 
-never_none : {A : Type 0} (front : List Step) (e : Step) (rest : List Step) → [] ≡ front ++ e ∷ rest → A
+pub never_none : {A : Type 0} (front : List Step) (e : Step) (rest : List Step) → [] ≡ front ++ e ∷ rest → A
 never_none [] e rest is = absurd (cc)
 never_none (x ∷ front) e rest is = absurd (cc)
 
-last_split : (h : List Step) (y : Step) (front : List Step) (e : Step) (rest : List Step)
+pub last_split : (h : List Step) (y : Step) (front : List Step) (e : Step) (rest : List Step)
     → h ++ y ∷ [] ≡ front ++ e ∷ rest
     → ((h ≡ front) × (y ≡ e)) ⊎ ((more : List Step) × (h ≡ front ++ e ∷ more))
 last_split [] y [] e rest is = inl (refl, head_is y e [] rest is)

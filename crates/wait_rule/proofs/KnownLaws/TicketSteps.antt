@@ -1,9 +1,8 @@
 -- What a step does to the tickets that are out.
-use Rattle.std.proofs.Common.{refl, sym, ◌∙◌, ap, subst, arith, inl, inr, add-zero}
-use Rattle.std.specs.Prelude.{ℕ, zero, suc, ◌≡◌, ◌≢◌, ◌+◌, ◌<◌, ◌≤◌, ◌⊎◌, Bool, true, false, ◌==◌, Option, Some, None}
+use Rattle.std.proofs.Common.{refl, sym, ◌∙◌, ap, subst, arith, add-zero}
+use Rattle.std.specs.Prelude.{ℕ, zero, suc, ◌≡◌, ◌≢◌, ◌+◌, ◌<◌, ◌≤◌, Bool, true, false, ◌==◌, Option, Some, None}
 use Rattle.std.specs.Prelude.{List, ◌++◌}
 use Rattle.std.proofs.lemmas.Bool.Decides.{nat_tests}
-use mathlib.Core.Path.{fun_ext}
 use Rattle.wait_model.specs.declared.layout.TheConstants.{TASKS}
 use Rattle.wait_model.specs.declared.steps.Step.{Step}
 use Rattle.wait_model.specs.declared.steps.Step.TheVariants as step
@@ -18,37 +17,24 @@ use Rattle.wait_model.specs.Fold.{after}
 use Rattle.wait_model.specs.Tables.{Table, next}
 use Rattle.wait_model.specs.Rows.{Allowed}
 use Rattle.wait_model.specs.Locations as place
-use Rattle.wait_model.proofs.Functions.{put_case, put_at, put_same, put_other}
+use Rattle.wait_model.proofs.Functions.{put_at, put_same, put_other}
 use Rattle.wait_model.proofs.HistoryLaws.StepTotals.{total_grown, sum_grown, sum_zero}
 use Rattle.wait_model.proofs.StepLaws.UnlockSteps.{unlock_hold}
 use Rattle.wait_rule.specs.declared.journal.Item.{Item}
 use Rattle.wait_rule.specs.Tickets.{Ticket, no_ticket, drawn, served, taken, given, is_ticket_of, is_served, is_given}
 use Rattle.wait_rule.specs.Tickets.{ShowsNumber, out_below}
 use Rattle.wait_rule.specs.TicketWords.{all_tickets, unlocks_at, unlocked_at, unserved, AreTickets}
-use Rattle.wait_rule.specs.Items.{Book, first_book, learn_step, after_sleep, book_from, book_of}
+use Rattle.wait_rule.specs.Items.{Book, learn_step, after_sleep, book_from, book_of}
 use Rattle.wait_rule.specs.Rule.{AreLinked}
 use Rattle.wait_rule.specs.Notes.{Notes}
-use Rattle.wait_rule.proofs.TableSteps.ItemLists.{book_append}
 use Rattle.wait_rule.proofs.KnownLaws.HeadLinks.{both_at}
-use Rattle.wait_rule.proofs.KnownLaws.MemberSteps.{IsOrderly, put_again}
+use Rattle.wait_rule.proofs.KnownLaws.MemberSteps.{IsOrderly, books_next, put_again}
 
 -- lists with more items
 pub tickets_next : (items : ℕ → List Item) (a : ℕ) (xs : List Item)
     → all_tickets (put items a (items a ++ xs))
     ≡ put (all_tickets items) a (book_from (book_of (items a)) xs).ticket
-tickets_next items a xs = fun_ext (λ t. by t (put_case items a (items a ++ xs) t))
-  where
-    D : ℕ → Ticket
-    D = put (all_tickets items) a (book_from (book_of (items a)) xs).ticket
-
-    by : (t : ℕ) → ((t ≡ a) × (put items a (items a ++ xs) t ≡ items a ++ xs))
-        ⊎ ((t ≢ a) × (put items a (items a ++ xs) t ≡ items t))
-        → (book_of (put items a (items a ++ xs) t)).ticket ≡ D t
-    by t (inl q) = ap (λ (ys : List Item). (book_of ys).ticket) q.1
-        ∙ (ap (λ (b : Book). b.ticket) (book_append first_book (items a) xs)
-        ∙ sym (ap D q.0 ∙ put_same (all_tickets items) a (book_from (book_of (items a)) xs).ticket))
-    by t (inr q) = ap (λ (ys : List Item). (book_of ys).ticket) q.1
-        ∙ sym (put_other (all_tickets items) a (book_from (book_of (items a)) xs).ticket t q.0)
+tickets_next items a xs = books_next (λ b. b.ticket) items a xs
 
 -- items that change no ticket
 pub tickets_same : (items : ℕ → List Item) (a : ℕ) (xs : List Item)

@@ -121,7 +121,7 @@ module _ (slots id : ℕ) (me : Sat) (lives : me.0.lives ≡ true) (x p : ℕ) (
       (λ s items ruled own. same_links s items me.0.number [] (ap (notes_of me.0.number)
       (append-nil (items me.0.number)))
       ruled.linked) s r long at_id few in
-      (a.0, a.1, a.2, a.3, (a.4.0 ∙ ap (λ w. (w, me.1)) (pushed_none me.0), a.4.1))
+      told_as a (λ _ _ t. (t.0 ∙ ap (λ w. (w, me.1)) (pushed_none me.0), t.1))
 
   pub queue_moves : (e : Entry) (word at_last slot : ℕ) (d : TableId) → word ≡ entry_word (Some e)
       → owner x ≡ me.0.number → x ≡ index me.0.number slot → head_of e.watch ≡ at_last

@@ -119,7 +119,7 @@ module _ (slots id : ℕ) (me : Sat) (lives : me.0.lives ≡ true) (h p : ℕ) (
       (λ s items ruled own. same_links s items me.0.number [] (ap (notes_of me.0.number)
       (append-nil (items me.0.number)))
       ruled.linked) s r long at_id few in
-      (a.0, a.1, a.2, a.3, (a.4.0 ∙ ap (λ w. (w, me.1)) (pushed_none me.0), a.4.1))
+      told_as a (λ _ _ t. (t.0 ∙ ap (λ w. (w, me.1)) (pushed_none me.0), t.1))
 
   -- the word of the held head becomes that of a free one, by whatever change of the word that was found
   pub unlock_moves : (spent named : Bool) (d : TableId) (f : ℕ → ℕ) → spent ≡ named → (book_of me.0.items).head ≡ Some h

@@ -69,7 +69,7 @@ witness_moves slots id me lives s r long at_id few =
     ))
     (λ s items ruled own. same_links s items me.0.number [] (ap (notes_of me.0.number) (append-nil (items me.0.number)))
     ruled.linked) s r long at_id few in
-    (a.0, a.1, a.2, a.3, (a.4.0 ∙ ap (λ w. (w, me.1)) (pushed_none me.0), a.4.1))
+    told_as a (λ _ _ t. (t.0 ∙ ap (λ w. (w, me.1)) (pushed_none me.0), t.1))
 
 pub whose_is : (u p : ℕ) → p ≡ TASK_AT + u → whose p ≡ u
 whose_is u p at = omega arith
@@ -96,7 +96,7 @@ module _ (slots id : ℕ) (me : Sat) (lives : me.0.lives ≡ true) (u p : ℕ) (
       (λ s items ruled own. same_links s items me.0.number [] (ap (notes_of me.0.number)
       (append-nil (items me.0.number)))
       ruled.linked) s r long at_id few in
-      (a.0, a.1, a.2, a.3, (a.4.0 ∙ ap (λ w. (w, me.1)) (pushed_none me.0), a.4.1))
+      told_as a (λ _ _ t. (t.0 ∙ ap (λ w. (w, me.1)) (pushed_none me.0), t.1))
 
   pub wake_moves : (mask old new : ℕ) (a : Ask) → a.number ≡ mask → new ≡ task_word (woken mask (task_of old))
       → Allows (Holds Law) slots id me p (λ n. either (eqb n old) new n) (woke_play (move slots p old new (some a)) me)

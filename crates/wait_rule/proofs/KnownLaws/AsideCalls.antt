@@ -107,15 +107,9 @@ looks_none : (xs : List Item) → AreLooks xs → signals_of xs ≡ []
 looks_none [] l = refl
 looks_none (item.Made (step.Saw x w) ∷ xs) l = looks_none xs l.1
 looks_none (item.Made e ∷ xs) l = absurd l.0
-looks_none (item.Awake w ∷ xs) l = looks_none xs l.1
-looks_none (item.Bookmark t w ∷ xs) l = looks_none xs l.1
-looks_none (item.Member ∷ xs) l = looks_none xs l.1
-looks_none (item.Word w ∷ xs) l = looks_none xs l.1
-looks_none (item.Drawn h w ∷ xs) l = looks_none xs l.1
-looks_none (item.Serving h w ∷ xs) l = looks_none xs l.1
-looks_none (item.Served ∷ xs) l = looks_none xs l.1
 looks_none (item.Tally p n w ∷ xs) l = absurd l.0
 looks_none (item.Piped k a w ∷ xs) l = absurd l.0
+looks_none (x ∷ xs) l = looks_none xs l.1
 
 pub scans_none : (h : ℕ) (xs : List Item) → AreScansOf h xs → signals_of xs ≡ []
 scans_none h [] l = refl

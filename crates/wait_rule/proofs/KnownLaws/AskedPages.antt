@@ -37,15 +37,7 @@ asked_added k i = asked_append nothing_asked k.view.items (i ∷ [])
 pub asked_quiet : (k : Asked) (xs : List Item) → steps_of xs ≡ [] → asked_from k xs ≡ k
 asked_quiet k [] none = refl
 asked_quiet k (item.Made e ∷ xs) none = absurd (cc)
-asked_quiet k (item.Awake w ∷ xs) none = asked_quiet k xs none
-asked_quiet k (item.Bookmark t w ∷ xs) none = asked_quiet k xs none
-asked_quiet k (item.Member ∷ xs) none = asked_quiet k xs none
-asked_quiet k (item.Word w ∷ xs) none = asked_quiet k xs none
-asked_quiet k (item.Drawn h w ∷ xs) none = asked_quiet k xs none
-asked_quiet k (item.Serving h w ∷ xs) none = asked_quiet k xs none
-asked_quiet k (item.Served ∷ xs) none = asked_quiet k xs none
-asked_quiet k (item.Tally p n w ∷ xs) none = asked_quiet k xs none
-asked_quiet k (item.Piped j a w ∷ xs) none = asked_quiet k xs none
+asked_quiet k (x ∷ xs) none = asked_quiet k xs none
 
 pub asked_next : (items : ℕ → List Item) (a : ℕ) (xs : List Item)
     → all_asked (put items a (items a ++ xs)) ≡ put (all_asked items) a (asked_from (asked_by_items (items a)) xs)

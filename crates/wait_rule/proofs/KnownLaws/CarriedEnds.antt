@@ -37,15 +37,9 @@ pub looks_ends : (k : ℕ) (e : End) (xs : List Item) → AreLooks xs → end_fr
 looks_ends k e [] l = refl
 looks_ends k e (item.Made (step.Saw x w) ∷ xs) l = looks_ends k e xs l.1
 looks_ends k e (item.Made s ∷ xs) l = absurd l.0
-looks_ends k e (item.Awake w ∷ xs) l = looks_ends k e xs l.1
-looks_ends k e (item.Bookmark t w ∷ xs) l = looks_ends k e xs l.1
-looks_ends k e (item.Member ∷ xs) l = looks_ends k e xs l.1
-looks_ends k e (item.Word w ∷ xs) l = looks_ends k e xs l.1
-looks_ends k e (item.Drawn h w ∷ xs) l = looks_ends k e xs l.1
-looks_ends k e (item.Serving h w ∷ xs) l = looks_ends k e xs l.1
-looks_ends k e (item.Served ∷ xs) l = looks_ends k e xs l.1
 looks_ends k e (item.Tally p n w ∷ xs) l = absurd l.0
 looks_ends k e (item.Piped j a w ∷ xs) l = absurd l.0
+looks_ends k e (x ∷ xs) l = looks_ends k e xs l.1
 
 pub scans_ends : (k : ℕ) (e : End) (h : ℕ) (xs : List Item) → AreScansOf h xs → end_from k e xs ≡ e
 scans_ends k e h [] l = refl
@@ -162,16 +156,12 @@ programs_keep_ends f v about old n ts new m goes = record {
 -- A program about no variable tells nothing of ends.
 no_load : (k r : ℕ) (e : End) (w : Watch) → ((v o : ℕ) → w ≢ watch.Var v o) → end_step k (step.Load w r) e ≡ e
 no_load k r e (watch.Var v o) ne = absurd (ne v o refl)
-no_load k r e (watch.Plain c) ne = refl
-no_load k r e (watch.Done c) ne = refl
-no_load k r e (watch.Bit w b) ne = refl
+no_load k r e w ne = refl
 
 no_publish : (k n r : ℕ) (e : End) (w : Watch) → ((v o : ℕ) → w ≢ watch.Var v o)
     → end_step k (step.Publish w n r) e ≡ e
 no_publish k n r e (watch.Var v o) ne = absurd (ne v o refl)
-no_publish k n r e (watch.Plain c) ne = refl
-no_publish k n r e (watch.Done c) ne = refl
-no_publish k n r e (watch.Bit w b) ne = refl
+no_publish k n r e w ne = refl
 
 pub programs_leave_ends : ProgramsLeaveEnds
 programs_leave_ends f none old new from to made goes k = goes_end k (λ e g. g ≡ e) (λ e g is. is) join_same f

@@ -497,15 +497,8 @@ items_debts old new xs quiet is x d = list_debts x (seen_with old new.view) new 
 pub looks_quiet : (xs : List Item) → steps_of xs ≡ [] → AddsNone xs → all_begin_none xs
 looks_quiet [] none adds = tt
 looks_quiet (item.Made e ∷ xs) none adds = absurd (cc)
-looks_quiet (item.Awake w ∷ xs) none adds = (refl, looks_quiet xs none adds.1)
-looks_quiet (item.Bookmark t w ∷ xs) none adds = (refl, looks_quiet xs none adds.1)
-looks_quiet (item.Member ∷ xs) none adds = (refl, looks_quiet xs none adds.1)
-looks_quiet (item.Word w ∷ xs) none adds = (refl, looks_quiet xs none adds.1)
-looks_quiet (item.Drawn h w ∷ xs) none adds = (refl, looks_quiet xs none adds.1)
-looks_quiet (item.Serving h w ∷ xs) none adds = (refl, looks_quiet xs none adds.1)
-looks_quiet (item.Served ∷ xs) none adds = (refl, looks_quiet xs none adds.1)
-looks_quiet (item.Tally p n w ∷ xs) none adds = (refl, looks_quiet xs none adds.1)
 looks_quiet (item.Piped k a w ∷ xs) none adds = absurd adds.0
+looks_quiet (x ∷ xs) none adds = (refl, looks_quiet xs none adds.1)
 
 pub looks_debts : (old new : Known) (looks : List Item) (b : Book) → steps_of looks ≡ [] → AddsNone looks
     → new ≡ grown old looks b → (x : Excuse) → Debts x old → Debts x new
@@ -517,15 +510,9 @@ are_looks_quiet : (xs : List Item) → AreLooks xs → all_begin_none xs
 are_looks_quiet [] l = tt
 are_looks_quiet (item.Made (step.Saw x w) ∷ xs) l = (refl, are_looks_quiet xs l.1)
 are_looks_quiet (item.Made e ∷ xs) l = absurd l.0
-are_looks_quiet (item.Awake w ∷ xs) l = (refl, are_looks_quiet xs l.1)
-are_looks_quiet (item.Bookmark t w ∷ xs) l = (refl, are_looks_quiet xs l.1)
-are_looks_quiet (item.Member ∷ xs) l = (refl, are_looks_quiet xs l.1)
-are_looks_quiet (item.Word w ∷ xs) l = (refl, are_looks_quiet xs l.1)
-are_looks_quiet (item.Drawn h w ∷ xs) l = (refl, are_looks_quiet xs l.1)
-are_looks_quiet (item.Serving h w ∷ xs) l = (refl, are_looks_quiet xs l.1)
-are_looks_quiet (item.Served ∷ xs) l = (refl, are_looks_quiet xs l.1)
 are_looks_quiet (item.Tally p n w ∷ xs) l = absurd l.0
 are_looks_quiet (item.Piped k a w ∷ xs) l = absurd l.0
+are_looks_quiet (x ∷ xs) l = (refl, are_looks_quiet xs l.1)
 
 pub looked_debts : (old new : Known) → OnlyLooks old new → (x : Excuse) → Debts x old → Debts x new
 looked_debts old new l = items_debts old new l.items (are_looks_quiet l.items l.looks)

@@ -112,23 +112,13 @@ publish_stand : (s : Table) (a : ℕ) (c : Watch) (n r : ℕ) → MayPublish (s.
     → CountsStand (next s a (step.Publish c n r))
 publish_stand s a (watch.Done c) n r may one stand = stand_next s a (step.Publish (watch.Done c) n r)
     (stored_others s a c n may one stand) (stored_own s a c n may one stand) stand
-publish_stand s a (watch.Plain c) n r may one stand = quiet_stand s a (step.Publish (watch.Plain c) n r) refl
-    (λ v. refl) (λ d o. refl) stand
-publish_stand s a (watch.Bit w b) n r may one stand = quiet_stand s a (step.Publish (watch.Bit w b) n r) refl
-    (λ v. refl) (λ d o. refl) stand
-publish_stand s a (watch.Var v o) n r may one stand = quiet_stand s a (step.Publish (watch.Var v o) n r) refl
-    (λ v. refl) (λ d o. refl) stand
+publish_stand s a c n r may one stand = quiet_stand s a (step.Publish c n r) refl (λ v. refl) (λ d o. refl) stand
 
 consume_stand : (s : Table) (a : ℕ) (c : Watch) (n r : ℕ) → MayConsume (s.view a) c → OneHolder s → CountsStand s
     → CountsStand (next s a (step.Consume c n r))
 consume_stand s a (watch.Done c) n r may one stand = stand_next s a (step.Consume (watch.Done c) n r)
     (stored_others s a c n may one stand) (stored_own s a c n may one stand) stand
-consume_stand s a (watch.Plain c) n r may one stand = quiet_stand s a (step.Consume (watch.Plain c) n r) refl
-    (λ v. refl) (λ d o. refl) stand
-consume_stand s a (watch.Bit w b) n r may one stand = quiet_stand s a (step.Consume (watch.Bit w b) n r) refl
-    (λ v. refl) (λ d o. refl) stand
-consume_stand s a (watch.Var v o) n r may one stand = quiet_stand s a (step.Consume (watch.Var v o) n r) refl
-    (λ v. refl) (λ d o. refl) stand
+consume_stand s a c n r may one stand = quiet_stand s a (step.Consume c n r) refl (λ v. refl) (λ d o. refl) stand
 
 pub counts_next : (s : Table) (a : ℕ) (e : Step) → Allowed s a e → OneHolder s → CountsStand s
     → CountsStand (next s a e)

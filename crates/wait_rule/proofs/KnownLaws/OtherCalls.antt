@@ -59,15 +59,9 @@ module _ (P : Entry → Type 0) where
   looks_add [] l = tt
   looks_add (item.Made (step.Saw x w) ∷ xs) l = (tt, looks_add xs l.1)
   looks_add (item.Made e ∷ xs) l = absurd l.0
-  looks_add (item.Awake w ∷ xs) l = looks_add xs l.1
-  looks_add (item.Bookmark t w ∷ xs) l = looks_add xs l.1
-  looks_add (item.Member ∷ xs) l = looks_add xs l.1
-  looks_add (item.Word w ∷ xs) l = looks_add xs l.1
-  looks_add (item.Drawn h w ∷ xs) l = looks_add xs l.1
-  looks_add (item.Serving h w ∷ xs) l = looks_add xs l.1
-  looks_add (item.Served ∷ xs) l = looks_add xs l.1
   looks_add (item.Tally p n w ∷ xs) l = absurd l.0
   looks_add (item.Piped j a w ∷ xs) l = absurd l.0
+  looks_add (x ∷ xs) l = looks_add xs l.1
 
   scans_add : (h : ℕ) (xs : List Item) → AreScansOf h xs → AllAddBy P (steps_of xs)
   scans_add h [] l = tt

@@ -29,15 +29,9 @@ looks_append (x ∷ xs) ys a b = (a.0, looks_append xs ys a.1 b)
 pub looks_of : (xs : List Item) → steps_of xs ≡ [] → AddsNone xs → AreLooks xs
 looks_of [] none adds = tt
 looks_of (item.Made e ∷ xs) none adds = absurd (cc)
-looks_of (item.Awake w ∷ xs) none adds = (tt, looks_of xs none adds.1)
-looks_of (item.Bookmark t w ∷ xs) none adds = (tt, looks_of xs none adds.1)
-looks_of (item.Member ∷ xs) none adds = (tt, looks_of xs none adds.1)
-looks_of (item.Word w ∷ xs) none adds = (tt, looks_of xs none adds.1)
-looks_of (item.Drawn h w ∷ xs) none adds = (tt, looks_of xs none adds.1)
-looks_of (item.Serving h w ∷ xs) none adds = (tt, looks_of xs none adds.1)
-looks_of (item.Served ∷ xs) none adds = (tt, looks_of xs none adds.1)
 looks_of (item.Tally p n w ∷ xs) none adds = absurd adds.0
 looks_of (item.Piped k a w ∷ xs) none adds = absurd adds.0
+looks_of (x ∷ xs) none adds = (tt, looks_of xs none adds.1)
 
 -- what a task knows of its word is what its list tells
 pub book_told : (old new : Known) (xs : List Item) → IsTold old → IsTold new → new.view.items ≡ old.view.items ++ xs

@@ -65,15 +65,9 @@ looks_head : (xs : List Item) → AreLooks xs → (v : Told) → (after_all v (s
 looks_head [] l v = refl
 looks_head (item.Made (step.Saw y w) ∷ xs) l v = looks_head xs l.1 (after (step.Saw y w) v)
 looks_head (item.Made e ∷ xs) l v = absurd l.0
-looks_head (item.Awake w ∷ xs) l v = looks_head xs l.1 v
-looks_head (item.Bookmark t w ∷ xs) l v = looks_head xs l.1 v
-looks_head (item.Member ∷ xs) l v = looks_head xs l.1 v
-looks_head (item.Word w ∷ xs) l v = looks_head xs l.1 v
-looks_head (item.Drawn h w ∷ xs) l v = looks_head xs l.1 v
-looks_head (item.Serving h w ∷ xs) l v = looks_head xs l.1 v
-looks_head (item.Served ∷ xs) l v = looks_head xs l.1 v
 looks_head (item.Tally p n w ∷ xs) l v = absurd l.0
 looks_head (item.Piped k a w ∷ xs) l v = absurd l.0
+looks_head (x ∷ xs) l v = looks_head xs l.1 v
 
 scans_head : (h : ℕ) (xs : List Item) → AreScansOf h xs → (v : Told)
     → (after_all v (steps_of xs)).hold.head ≡ v.hold.head

@@ -116,15 +116,9 @@ looks_off [] l v x out = out
 looks_off (item.Made (step.Saw y w) ∷ xs) l v x out = looks_off xs l.1 (after (step.Saw y w) v) x
     (off_after (step.Saw y w) v x refl out)
 looks_off (item.Made e ∷ xs) l v x out = absurd l.0
-looks_off (item.Awake w ∷ xs) l v x out = looks_off xs l.1 v x out
-looks_off (item.Bookmark t w ∷ xs) l v x out = looks_off xs l.1 v x out
-looks_off (item.Member ∷ xs) l v x out = looks_off xs l.1 v x out
-looks_off (item.Word w ∷ xs) l v x out = looks_off xs l.1 v x out
-looks_off (item.Drawn h w ∷ xs) l v x out = looks_off xs l.1 v x out
-looks_off (item.Serving h w ∷ xs) l v x out = looks_off xs l.1 v x out
-looks_off (item.Served ∷ xs) l v x out = looks_off xs l.1 v x out
 looks_off (item.Tally p n w ∷ xs) l v x out = absurd l.0
 looks_off (item.Piped k a w ∷ xs) l v x out = absurd l.0
+looks_off (i ∷ xs) l v x out = looks_off xs l.1 v x out
 
 scans_off : (h : ℕ) (xs : List Item) → AreScansOf h xs → (v : Told) (x : ℕ) → v.bits.stored x ≡ None
     → (after_all v (steps_of xs)).bits.stored x ≡ None

@@ -9,15 +9,7 @@ use Rattle.wait_rule.specs.Items.{Book, AddsNone, steps_of, learn, book_from}
 pub steps_append : (xs ys : List Item) → steps_of (xs ++ ys) ≡ steps_of xs ++ steps_of ys
 steps_append [] ys = refl
 steps_append (item.Made e ∷ xs) ys = ap (λ (es : List Step). e ∷ es) (steps_append xs ys)
-steps_append (item.Awake w ∷ xs) ys = steps_append xs ys
-steps_append (item.Bookmark t w ∷ xs) ys = steps_append xs ys
-steps_append (item.Member ∷ xs) ys = steps_append xs ys
-steps_append (item.Word w ∷ xs) ys = steps_append xs ys
-steps_append (item.Drawn h w ∷ xs) ys = steps_append xs ys
-steps_append (item.Serving h w ∷ xs) ys = steps_append xs ys
-steps_append (item.Served ∷ xs) ys = steps_append xs ys
-steps_append (item.Tally p n w ∷ xs) ys = steps_append xs ys
-steps_append (item.Piped k a w ∷ xs) ys = steps_append xs ys
+steps_append (x ∷ xs) ys = steps_append xs ys
 
 pub book_append : (b : Book) (xs ys : List Item) → book_from b (xs ++ ys) ≡ book_from (book_from b xs) ys
 book_append b [] ys = refl

@@ -20,29 +20,13 @@ told_after xs x = ap view_of (steps_append xs (x ∷ [])) ∙ by x
   where
     by : (x : Item) → view_of (steps_of xs ++ steps_of (x ∷ [])) ≡ tell x (view_of (steps_of xs))
     by (item.Made e) = after_snoc blank (steps_of xs) e
-    by (item.Awake w) = ap view_of (append-nil (steps_of xs))
-    by (item.Bookmark t w) = ap view_of (append-nil (steps_of xs))
-    by item.Member = ap view_of (append-nil (steps_of xs))
-    by (item.Word w) = ap view_of (append-nil (steps_of xs))
-    by (item.Drawn h w) = ap view_of (append-nil (steps_of xs))
-    by (item.Serving h w) = ap view_of (append-nil (steps_of xs))
-    by item.Served = ap view_of (append-nil (steps_of xs))
-    by (item.Tally p n w) = ap view_of (append-nil (steps_of xs))
-    by (item.Piped k a w) = ap view_of (append-nil (steps_of xs))
+    by x = ap view_of (append-nil (steps_of xs))
 
 -- the view is that of the steps
 pub told_from : (v : Told) (x : Item) (xs : List Item) → after_all v (steps_of (x ∷ xs))
     ≡ after_all (tell x v) (steps_of xs)
 told_from v (item.Made e) xs = refl
-told_from v (item.Awake w) xs = refl
-told_from v (item.Bookmark t w) xs = refl
-told_from v item.Member xs = refl
-told_from v (item.Word w) xs = refl
-told_from v (item.Drawn h w) xs = refl
-told_from v (item.Serving h w) xs = refl
-told_from v item.Served xs = refl
-told_from v (item.Tally p n w) xs = refl
-told_from v (item.Piped k a w) xs = refl
+told_from v x xs = refl
 
 pub notes_snoc : (me : ℕ) (v : Told) (k : Notes) (xs : List Item) (x : Item)
     → notes_from me v k (xs ++ x ∷ []) ≡ note me x (after_all v (steps_of xs)) (notes_from me v k xs)

@@ -76,44 +76,18 @@ unlock_fewer v (Some w) spent c σ none = either (spent || all_passed v w (λ _.
 
 pub wakes_after : (e : Step) (v : Told) → begins_none e ≡ true → (c : Watch) (σ : ℕ) → v.duty.owes c σ ≡ false
     → (after e v).duty.owes c σ ≡ false
-wakes_after (step.State n) v is c σ none = none
-wakes_after (step.Sleep w) v is c σ none = none
-wakes_after (step.Wake who mask w) v is c σ none = none
-wakes_after (step.Signal who fatal w) v is c σ none = none
-wakes_after (step.Accept w) v is c σ none = none
-wakes_after (step.Look w) v is c σ none = none
-wakes_after (step.Lock h aim w) v is c σ none = none
 wakes_after (step.Unlock h spent) v is c σ none = unlock_fewer v v.walk spent c σ none
-wakes_after (step.Saw x w) v is c σ none = none
 wakes_after (step.Peek x w) v is c σ none =
     ap (λ (b : Bool). b && not (all_cleared (peeks v.duty.cleared x (entry_of w) c))) none
 wakes_after (step.Scan h i w) v is c σ none =
     ap (λ (b : Bool). b && not (all_cleared (scanned v.duty.cleared h i w c))) none
-wakes_after (step.Queue x e) v is c σ none = none
-wakes_after (step.Unqueue x) v is c σ none = none
-wakes_after (step.Mark h q) v is c σ none = none
-wakes_after step.Unmark v is c σ none = none
-wakes_after (step.Load l r) v is c σ none = none
 wakes_after (step.Publish d n r) v is c σ none = absurd (cc)
-wakes_after (step.Consume d n r) v is c σ none = none
-wakes_after (step.Woken x) v is c σ none = none
-wakes_after (step.Unflag x o) v is c σ none = none
-wakes_after (step.Flag x w) v is c σ none = none
-wakes_after (step.TasFor x p r) v is c σ none = none
-wakes_after (step.Handed x) v is c σ none = none
+wakes_after e v is c σ none = none
 
 pub wakes_told : (x : Item) (v : Told) → item_begins_none x ≡ true → (c : Watch) (σ : ℕ) → v.duty.owes c σ ≡ false
     → (tell x v).duty.owes c σ ≡ false
 wakes_told (item.Made e) v is c σ none = wakes_after e v is c σ none
-wakes_told (item.Awake w) v is c σ none = none
-wakes_told (item.Bookmark t w) v is c σ none = none
-wakes_told item.Member v is c σ none = none
-wakes_told (item.Word w) v is c σ none = none
-wakes_told (item.Drawn h w) v is c σ none = none
-wakes_told (item.Serving h w) v is c σ none = none
-wakes_told item.Served v is c σ none = none
-wakes_told (item.Tally p n w) v is c σ none = none
-wakes_told (item.Piped k a w) v is c σ none = none
+wakes_told x v is c σ none = none
 
 -- a task that asks for no page asks for none then
 asks_none_step : (e : Step) (k : Asked) → ((x : ℕ) (f : Entry) → e ≡ step.Queue x f → is_page f.kind ≡ false)
@@ -149,12 +123,6 @@ step_closed k (step.Load (watch.Var v o) r) e none = either_closed (v == other_e
     (either_closed (is_unclosed e) (after_end_look r e) e none none) none
 step_closed k (step.Publish (watch.Var v o) n r) e none = either_closed (v == k) _ e
     (either_closed e.mine (after_end_publish n e) e (published_closed e.mine e.shut (n % 2 == 1) none) none) none
-step_closed k (step.Load (watch.Plain c) r) e none = none
-step_closed k (step.Load (watch.Done c) r) e none = none
-step_closed k (step.Load (watch.Bit w b) r) e none = none
-step_closed k (step.Publish (watch.Plain c) n r) e none = none
-step_closed k (step.Publish (watch.Done c) n r) e none = none
-step_closed k (step.Publish (watch.Bit w b) n r) e none = none
 step_closed k s e none = none
 
 item_closed : (k : ℕ) (x : Item) (e : End) → item_begins_none x ≡ true → is_unclosed e ≡ false

@@ -44,16 +44,9 @@ from_head : (xs : List Item) (b : Book) (v : View) → b.head ≡ v.hold.head
     → (book_from b xs).head ≡ (after_all v (steps_of xs)).hold.head
 from_head [] b v h = h
 from_head (item.Made e ∷ xs) b v h = from_head xs (learn_step e b) (after e v) (step_head e b v h)
-from_head (item.Bookmark t w ∷ xs) b v h = from_head xs b v h
-from_head (item.Member ∷ xs) b v h = from_head xs (learn item.Member b) v h
-from_head (item.Word w ∷ xs) b v h = from_head xs b v h
-from_head (item.Drawn k w ∷ xs) b v h = from_head xs (learn (item.Drawn k w) b) v h
-from_head (item.Serving k w ∷ xs) b v h = from_head xs (learn (item.Serving k w) b) v h
-from_head (item.Served ∷ xs) b v h = from_head xs (learn item.Served b) v h
-from_head (item.Tally p n w ∷ xs) b v h = from_head xs b v h
-from_head (item.Piped k a w ∷ xs) b v h = from_head xs b v h
 from_head (item.Awake w ∷ xs) b v h = from_head xs (learn (item.Awake w) b) v
     (awake_head b.awake (task_of w).runnable b ∙ h)
+from_head (i ∷ xs) b v h = from_head xs (learn i b) v h
 
 pub head_told : (xs : List Item) → (book_of xs).head ≡ (view_of (steps_of xs)).hold.head
 head_told xs = from_head xs first_book blank refl

@@ -92,15 +92,6 @@ inside_debt d x v w n (step.Publish (watch.Done c) m r) is others left debt =
     ap (λ (k : ℕ). if c == d then after_store m r k else k) debt
 inside_debt d x v w n (step.Consume (watch.Done c) m r) is others left debt =
     ap (λ (k : ℕ). if c == d then after_store m r k else k) debt
-inside_debt d x v w n (step.Load (watch.Plain c) r) is others left debt = debt
-inside_debt d x v w n (step.Load (watch.Bit c b) r) is others left debt = debt
-inside_debt d x v w n (step.Load (watch.Var c o) r) is others left debt = debt
-inside_debt d x v w n (step.Publish (watch.Plain c) m r) is others left debt = debt
-inside_debt d x v w n (step.Publish (watch.Bit c b) m r) is others left debt = debt
-inside_debt d x v w n (step.Publish (watch.Var c o) m r) is others left debt = debt
-inside_debt d x v w n (step.Consume (watch.Plain c) m r) is others left debt = debt
-inside_debt d x v w n (step.Consume (watch.Bit c b) m r) is others left debt = debt
-inside_debt d x v w n (step.Consume (watch.Var c o) m r) is others left debt = debt
 inside_debt d x v w n e is others left debt = debt
 
 -- the hold takes off entries of its head alone, and the own one is off

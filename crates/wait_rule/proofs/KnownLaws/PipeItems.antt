@@ -55,12 +55,6 @@ step_mine k (step.Load (watch.Var v o) r) e mine = either_mine (v == other_end k
     (either_mine (e.mine && not e.shut) (after_end_look r e) e mine mine) mine
 step_mine k (step.Publish (watch.Var v o) n r) e mine = either_mine (v == k) _ e
     (either_mine e.mine (after_end_publish n e) e mine mine) mine
-step_mine k (step.Load (watch.Plain c) r) e mine = mine
-step_mine k (step.Load (watch.Done d) r) e mine = mine
-step_mine k (step.Load (watch.Bit w b) r) e mine = mine
-step_mine k (step.Publish (watch.Plain c) n r) e mine = mine
-step_mine k (step.Publish (watch.Done d) n r) e mine = mine
-step_mine k (step.Publish (watch.Bit w b) n r) e mine = mine
 step_mine k s e mine = mine
 
 pub item_mine : (k : ℕ) (x : Item) (e : End) → e.mine ≡ true → (end_item k x e).mine ≡ true

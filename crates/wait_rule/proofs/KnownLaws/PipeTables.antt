@@ -83,13 +83,7 @@ module _ (s : Table) (beside : Location → ℕ) (a p : ℕ) (few : p < PIPES) w
       → ((v : ℕ) → v < CLAIMS → (next s a e).words.vars v ≡ s.words.vars v)
       → ReadsEnd (word_with s beside) p e
   reads_end (step.Load (watch.Var v o) r) may same = λ of. may
-  reads_end (step.Load (watch.Plain c) r) may same = tt
-  reads_end (step.Load (watch.Done d) r) may same = tt
-  reads_end (step.Load (watch.Bit w b) r) may same = tt
   reads_end (step.Publish (watch.Var v o) n r) may same = λ of. sym (put_same s.words.vars v n) ∙ same v (below v of)
-  reads_end (step.Publish (watch.Plain c) n r) may same = tt
-  reads_end (step.Publish (watch.Done d) n r) may same = tt
-  reads_end (step.Publish (watch.Bit w b) n r) may same = tt
   reads_end e may same = tt
 
 pub pipes_next : (s : Table) (beside : Location → ℕ) (items : ℕ → List Item) (a : ℕ) (e : Step) → Allowed s a e

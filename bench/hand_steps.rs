@@ -2,8 +2,8 @@
 //! make for it (`cond_wait`, `cond_broadcast`, `mutex_lock` and `mutex_unlock` of crates/futex_table, in a Domain whose
 //! tasks park at once): on words at the same positions, in the same order, all SeqCst, but written in plain Rust. It
 //! tells what such calls cost in whatever language they are written. It proves nothing, and has no more than two tasks
-//! need: no walk comes to a break, no signal is raised, and a list of members has room for two, where the library's is
-//! filled with zeros for all that there can be.
+//! need: no walk comes to a break, no signal is raised, and a list of members has room for two; the library makes none
+//! for one sleeper.
 use std::hint::spin_loop;
 use std::ptr::null;
 use std::sync::atomic::AtomicU64;

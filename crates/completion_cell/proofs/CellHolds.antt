@@ -219,6 +219,9 @@ module _ (d n : ℕ) (start a a2 b new : Known) (i : HoldsForCell call.TryWait d
       told = tried_carries.hold ∙ (i.took.held.told ∙ ap Some (sym tried_carries.at));
     }
 
+    pub tried_at : b.at ≡ cell_head d
+    tried_at = tried_carries.at ∙ i.took.carries.at
+
     tried_may : MayEndHold d i.base b
     tried_may = try_hold i.base a a2 b d n (cell_head d) refl (tried_peek.carries.hold ∙ none_held start i.told i.free)
         i.took.locked i.took.carries again loaded tried_counted took made

@@ -1,7 +1,7 @@
 -- To be believed.
 -- A call on a completion that is made by stretches: where it stands between two of them, and what each did.
 use Rattle.std.specs.Prelude.{ℕ, ◌≡◌, ◌≢◌, ◌<◌, Bool, true, false, Some}
-use Rattle.wait_model.specs.declared.layout.TheConstants.{COMPLETIONS}
+use Rattle.wait_model.specs.declared.layout.TheConstants.{COMPLETIONS, HEADS}
 use Rattle.wait_model.specs.declared.steps.Step.TheVariants as step
 use Rattle.wait_model.specs.declared.watches.Mode.TheVariants as mode
 use Rattle.wait_model.specs.declared.watches.Watch.TheVariants as watch
@@ -122,10 +122,22 @@ CellTurnsTo start new r turn.Locked = IsAtCell start new r stage.Turn
 CellTurnsTo start new r (turn.Done hit) = IsCellOver r.call r.cell hit start new
 CellTurnsTo start new r (turn.Starved failed) = HasCellStarved r.cell new failed
 
+-- the last that the task did is a load of the completion's count, which was 0
+abbrev pub EndsByLoad : Known → ℕ → Type 0
+EndsByLoad new d = (base : Known) × (new ≡ added base (item.Made (step.Load (watch.Done d) 0)))
+
 -- where another ticket was served, the last item is the look that found its number
 abbrev pub FoundServed : Known → CellRun → CellTurn → Type 0
 FoundServed new r turn.Locked = (base : Known) × FindsOther base new (cell_head r.cell) r.ticket r.served
 FoundServed new r _ = Unit {0}
+
+-- The head whose lock a stretch has passed on, for the caller to wake who parks for it: that of the completion where
+-- the stretch ended its hold, and else none. Where a call was over without a hold, the load of its count was the last
+-- that it did.
+abbrev pub PassedByCell : Known → CellRun → CellTurn → ℕ → Type 0
+PassedByCell new r turn.Locked h = h ≡ HEADS
+PassedByCell new r (turn.Done hit) h = (h ≡ cell_head r.cell) ⊎ ((h ≡ HEADS) × EndsByLoad new r.cell)
+PassedByCell new r (turn.Starved failed) h = h ≡ HEADS
 
 -- it is the same call
 pub record HasCellTurned (start new : Known) (r s : CellRun) (t : CellTurn) : Type 0 where

@@ -37,6 +37,7 @@ pub(crate) fn is_done_hold(
     ensures of { task.new.domain ≡ domain.now }
     ensures over { (start : Known) → HoldsForCell call.IsDone cell start task.old
         → IsCellOver call.IsDone cell result start task.new }
+    ensures passes { passing.new.head ≡ cell_head cell }
     ensures rouses { RousesNone task.old task.new }
 {
     let _ = cell;
@@ -53,6 +54,7 @@ pub(crate) fn reinit_hold(domain: &Domain, task: &mut Task, cell: u8, passing: &
     ensures of { task.new.domain ≡ domain.now }
     ensures over { (start : Known) → HoldsForCell call.Reinit cell start task.old
         → IsCellOver call.Reinit cell result start task.new }
+    ensures passes { passing.new.head ≡ cell_head cell }
     ensures rouses { RousesNone task.old task.new }
 {
     done_store(domain, task, cell, 0);
@@ -126,6 +128,7 @@ pub(crate) fn try_wait_hold(
     ensures of { task.new.domain ≡ domain.now }
     ensures over { (start : Known) → HoldsForCell call.TryWait cell start task.old
         → IsCellOver call.TryWait cell result start task.new }
+    ensures passes { passing.new.head ≡ cell_head cell }
     ensures rouses { RousesNone task.old task.new }
 {
     let count = done_load(domain, task, cell);

@@ -99,6 +99,7 @@ pub fn cell_stretch(
         → HasCellTurned start task.new run.old run.new result }
     ensures rests { CellRests task.new run.new result }
     ensures refused { FoundServed task.new run.new result }
+    ensures passes { PassedByCell task.new run.new result passing.new.head }
     ensures rouses { IsRousing task.old task.new rousing.new }
 {
     if !draw_turn(domain, task, run, stage) {
@@ -126,6 +127,7 @@ fn draw_turn(domain: &Domain, task: &mut Task, run: &mut CellRun, stage: CellSta
     ensures drawn { (start : Known) → IsAtCell start task.old run.old stage
         → MatchBool result (IsAtCell start task.new run.new stages.Turn)
         (IsCellOver run.old.call run.old.cell false start task.new) }
+    ensures ends { result ≡ false → EndsByLoad task.new run.new.cell }
     ensures rouses { RousesNone task.old task.new }
 {
     match stage {
@@ -156,6 +158,7 @@ fn begin(domain: &Domain, task: &mut Task, run: &mut CellRun) -> bool
     ensures fresh { IsFreshCell run.new run.old.call run.old.cell }
     ensures drawn { MatchBool result (IsAtCell task.old task.new run.new stages.Turn)
         (IsCellOver run.old.call run.old.cell false task.old task.new) }
+    ensures ends { result ≡ false → EndsByLoad task.new run.new.cell }
     ensures rouses { RousesNone task.old task.new }
 {
     task.told();
@@ -187,6 +190,7 @@ fn hold(
     ensures of { task.new.domain ≡ domain.now }
     ensures over { (start : Known) → HoldsForCell run.call run.cell start task.old
         → MatchResult result (λ hit. IsCellOver run.call run.cell hit start task.new) (HasCellStarved run.cell task.new) }
+    ensures passes { MatchResult result (λ _. passing.new.head ≡ cell_head run.cell) (λ _. PassesNone passing.new) }
     ensures rouses { IsRousing task.old task.new rousing.new }
 {
     match run.call {

@@ -62,6 +62,7 @@ pub(crate) fn complete_hold(
     ensures of { task.new.domain ≡ domain.now }
     ensures over { (start : Known) → HoldsForCell call.Complete cell start task.old
         → MatchResult result (λ hit. IsCellOver call.Complete cell hit start task.new) (HasCellStarved cell task.new) }
+    ensures passes { MatchResult result (λ _. passing.new.head ≡ cell_head cell) (λ _. PassesNone passing.new) }
     ensures rouses { IsRousing task.old task.new rousing.new }
 {
     let count = done_load(domain, task, cell);
@@ -87,6 +88,7 @@ pub(crate) fn complete_all_hold(
     ensures of { task.new.domain ≡ domain.now }
     ensures over { (start : Known) → HoldsForCell call.CompleteAll cell start task.old
         → MatchResult result (λ hit. IsCellOver call.CompleteAll cell hit start task.new) (HasCellStarved cell task.new) }
+    ensures passes { MatchResult result (λ _. passing.new.head ≡ cell_head cell) (λ _. PassesNone passing.new) }
     ensures rouses { IsRousing task.old task.new rousing.new }
 {
     done_store(domain, task, cell, ALL_DONE as u32);

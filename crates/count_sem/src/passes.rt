@@ -75,6 +75,8 @@ pub fn hand_on(
     requires none { tasks_in rousing.old ≡ [] }
     ensures passed { IfOk result (λ _. HasPassedOn task.old task.new wait.now.of) }
     ensures starved { IfErr result (λ failed. IsStarved failed) }
+    ensures passes { MatchResult result (λ _. passing.new.head ≡ cell_head wait.now.of.cell)
+        (λ _. PassesNone passing.new) }
     ensures rouses { IsRousing task.old task.new rousing.new }
     ensures clean { (c : _) → IsUnderWay down_table c task.old wait.now (turn.Done outcome.Passing)
         → IfOk result (λ _. IsClean task.new) }

@@ -2,8 +2,10 @@
 -- A wait for a condition variable that goes on by stretches: where it stands, how it came there, and what a stretch of
 -- it did.
 use Rattle.std.specs.Prelude.{ℕ, ◌≡◌, Bool, true, false, Result, []}
+use Rattle.wait_model.specs.declared.layout.TheConstants.{HEADS}
 use Rattle.wait_model.specs.declared.steps.Step.TheVariants as step
 use Rattle.wait_model.specs.declared.watches.Watch.TheVariants as watch
+use Rattle.wait_model.specs.Watches.{head_of}
 use Rattle.wait_rule.specs.declared.journal.Item.TheVariants as item
 use Rattle.wait_rule.specs.Known.{Known}
 use Rattle.wait_rule.specs.Queues.{IsIdle, IsTold, index}
@@ -18,6 +20,7 @@ use Rattle.wq_head.specs.declared.rousing.Rousing.{Rousing}
 use Rattle.wq_head.specs.Roused.{IsRousing, tasks_in}
 use Rattle.wq_head.specs.Turns.{HasTurned, IsAtWake}
 use Rattle.wq_head.specs.Walks.{HasStarved}
+use Rattle.wait_class.specs.Handing.{LastGiven}
 use Rattle.wait_class.specs.Posts.{IsOut}
 use Rattle.wait_class.specs.Tables.{SleepsNot, Turned}
 use Rattle.wait_class.specs.declared.stages.Run.{Run}
@@ -190,3 +193,15 @@ CondTurnedOut w old new s u = CondTurned w old new s u
 abbrev pub CondRouses : Known → Known → CondStage → Rousing → Type 0
 CondRouses old new (cond.Give seen r s) rousing = IsRousing old new rousing
 CondRouses old new s rousing = tasks_in rousing ≡ []
+
+-- The head whose lock a stretch has given back, for the caller to wake who parks for it: that of the mutex where a hold
+-- of the wake has ended, that which the stretch of the wait or of the lock gave back last, and else none.
+abbrev pub given_by_wake : CondWait → CondTurn → ℕ
+given_by_wake w (turn.Again s) = head_of (watch.Plain w.lock)
+given_by_wake w u = HEADS
+
+abbrev pub CondGives : CondWait → Known → Known → CondStage → CondTurn → ℕ → Type 0
+CondGives w old new cond.First u h = h ≡ HEADS
+CondGives w old new (cond.Give seen r s) u h = h ≡ given_by_wake w u
+CondGives w old new (cond.Wait q s) u h = LastGiven old new h
+CondGives w old new (cond.Lock end s) u h = LastGiven old new h

@@ -7,6 +7,7 @@ ghost use Rattle.wait_rule.specs.PassedLocks.{PassesNone};
 ghost use Rattle.wait_rule.specs.Queues.{IsIdle};
 ghost use Rattle.wait_rule.specs.Says.{IsClean, IsUp};
 ghost use Rattle.wq_head.specs.Roused.{IsRousing, tasks_in};
+ghost use Rattle.wait_class.specs.Handing.{LastGiven};
 ghost use Rattle.wait_class.specs.Posts.{IsOut};
 ghost use Rattle.wait_class.specs.Tables.{LooksAwake, SleepsNot};
 ghost use Rattle.wait_class.specs.declared.stages.Turn.TheVariants as turn;
@@ -14,6 +15,7 @@ ghost use Rattle.wait_leave.specs.declared.exits.Until.TheVariants as until;
 ghost use Rattle.futex_table.specs.declared.cond_stretches.CondStage.TheVariants as stages;
 ghost use Rattle.futex_table.specs.declared.cond_stretches.CondStop.TheVariants as stop;
 ghost use Rattle.futex_table.specs.CondStretches.{
+  CondGives,
   CondRouses,
   CondTurned,
   CondTurnedOut,
@@ -21,6 +23,7 @@ ghost use Rattle.futex_table.specs.CondStretches.{
   IsCondUnderWay,
   LeavesCond,
   awaited_to,
+  given_by_wake,
 };
 ghost use Rattle.futex_table.specs.CondVars.{WaitsForCond, is_mutex_held};
 ghost use Rattle.futex_table.specs.Holding.{HoldsMutex, holds_mutex};
@@ -115,6 +118,7 @@ pub fn stretch_cond_wait(
     ensures of { task.new.domain ≡ domain.now }
     ensures turned { CondTurned wait task.old task.new stage result }
     ensures rouses { CondRouses task.old task.new stage rousing.new }
+    ensures gives { CondGives wait task.old task.new stage result passing.new.head }
     ensures stands { IsCondUnderWay wait task.new result }
     ensures came { (b : _) → (start : _) → IsCondWaiting b wait start task.old (turn.Again stage)
         → IsCondWaiting b wait start task.new result }
@@ -153,6 +157,7 @@ pub fn stretch_cond_wait_out(
     ensures of { task.new.domain ≡ domain.now }
     ensures turned { CondTurnedOut wait task.old task.new stage result }
     ensures rouses { CondRouses task.old task.new stage rousing.new }
+    ensures gives { CondGives wait task.old task.new stage result passing.new.head }
     ensures stands { IsCondUnderWay wait task.new result }
     ensures came { (start : _) → IsCondWaiting true wait start task.old (turn.Again stage)
         → IsCondWaiting true wait start task.new result }
@@ -209,6 +214,7 @@ fn give_back(
     ensures of { task.new.domain ≡ domain.now }
     ensures turned { CondTurned wait task.old task.new (stages.Give seen wake stage) result }
     ensures rouses { IsRousing task.old task.new rousing.new }
+    ensures gives { passing.new.head ≡ given_by_wake wait result }
     ensures came { (b : _) → (start : _) → IsCondWaiting b wait start task.old (turn.Again (stages.Give seen wake stage))
         → IsCondWaiting b wait start task.new result }
 {
@@ -254,6 +260,7 @@ fn relock(
     requires at { IsCondUnderWay wait task.old (turn.Again (stages.Lock end stage)) }
     ensures of { task.new.domain ≡ domain.now }
     ensures turned { CondTurned wait task.old task.new (stages.Lock end stage) result }
+    ensures gives { LastGiven task.old task.new passing.new.head }
     ensures came { (b : _) → (start : _) → IsCondWaiting b wait start task.old (turn.Again (stages.Lock end stage))
         → IsCondWaiting b wait start task.new result }
 {

@@ -1,6 +1,7 @@
 -- To be believed.
 -- A wake of a simple queue that is made by stretches: where it stands between two of them, and what each did.
 use Rattle.std.specs.Prelude.{ℕ, ◌≡◌, Bool, Some}
+use Rattle.wait_model.specs.declared.layout.TheConstants.{HEADS}
 use Rattle.wait_model.specs.declared.watches.Mode.TheVariants as mode
 use Rattle.wait_model.specs.declared.watches.Watch.TheVariants as watch
 use Rattle.wait_model.specs.Watches.{head_of}
@@ -68,6 +69,13 @@ SwakeTurnsTo start new r (turn.Starved failed) = HasSwakeStarved r.cond new fail
 abbrev pub FoundOther : Known → SwakeRun → SwakeTurn → Type 0
 FoundOther new r turn.Locked = (base : Known) × FindsOther base new (swake_head r) r.ticket r.served
 FoundOther new r _ = Unit {0}
+
+-- the head whose lock a stretch has passed on, for the caller to wake who parks for it: that of the wake where the
+-- stretch ended its hold, and else none
+abbrev pub passed_by_swake : SwakeRun → SwakeTurn → ℕ
+passed_by_swake r turn.Locked = HEADS
+passed_by_swake r (turn.Done n) = swake_head r
+passed_by_swake r (turn.Starved failed) = HEADS
 
 -- it is the same wake
 pub record HasSwakeTurned (start new : Known) (r s : SwakeRun) (t : SwakeTurn) : Type 0 where

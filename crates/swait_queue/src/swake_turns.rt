@@ -85,6 +85,7 @@ pub fn swake_stretch(
         → HasSwakeTurned start task.new run.old run.new result }
     ensures rests { SwakeRests task.new run.new result }
     ensures refused { FoundOther task.new run.new result }
+    ensures passes { passing.new.head ≡ passed_by_swake run.new result }
     ensures rouses { IsRousing task.old task.new rousing.new }
 {
     draw_turn(domain, task, run, stage);
@@ -133,6 +134,7 @@ fn hold(
     ensures of { task.new.domain ≡ domain.now }
     ensures over { (start : Known) → HoldsForSwake start task.old run
         → MatchResult result (IsSwakeOver start task.new run.cond run.all) (HasSwakeStarved run.cond task.new) }
+    ensures passes { MatchResult result (λ _. passing.new.head ≡ swake_head run) (λ _. PassesNone passing.new) }
     ensures rouses { IsRousing task.old task.new rousing.new }
 {
     let head = head_of(Watch::Plain { cond: run.cond });

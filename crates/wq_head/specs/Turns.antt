@@ -1,6 +1,7 @@
 -- To be believed.
 -- A wake that is made hold by hold: where it stands between two of its holds, and what a turn of it did.
 use Rattle.std.specs.Prelude.{ℕ, ◌+◌, ◌^◌, ◌≡◌, ◌<◌, true, false, Some, None, List}
+use Rattle.wait_model.specs.declared.layout.TheConstants.{HEADS}
 use Rattle.wait_model.specs.declared.watches.Aim.{Aim}
 use Rattle.wait_model.specs.declared.queues.Walking.{Walking}
 use Rattle.wait_model.specs.declared.queues.Walked.{Walked}
@@ -166,6 +167,14 @@ WakeRests now r (turn.Locked s) = (start : Known) × IsAtWake start now r s
 WakeRests now r turn.Broken = (start : Known) × IsAtWake start now r stage.Next
 WakeRests now r (turn.Done result) = IsUp now × IsIdle now
 WakeRests now r (turn.Starved failed) = HasStarved r.aim now failed
+
+-- the head whose lock a turn has passed on, for the caller to wake who parks for it: that of the wake where the turn
+-- ended a hold, and else none
+abbrev pub passed_by_wake : WakeRun → WakeTurn → ℕ
+passed_by_wake r (turn.Locked s) = HEADS
+passed_by_wake r turn.Broken = head_of r.aim.watch
+passed_by_wake r (turn.Done result) = head_of r.aim.watch
+passed_by_wake r (turn.Starved failed) = HEADS
 
 -- the stages at which the ticket of the next hold's lock is drawn
 abbrev pub IsTurnStage : WakeStage → Type 0

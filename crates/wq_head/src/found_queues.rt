@@ -33,6 +33,9 @@ pub(crate) fn find_queue(domain: &Domain, task: &mut Task, head: u16) -> FoundQu
     ensures finds { IsFoundQueue task.new result }
 {
     let words = clear_words(domain, task);
+    if words == MEMBER_WORDS {
+        return FoundQueue::Empty;
+    }
     let mut looking = Looking::behind(words);
     match next_set(domain, task, &mut looking) {
         None => FoundQueue::Empty,

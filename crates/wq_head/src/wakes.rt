@@ -11,7 +11,7 @@ ghost use Rattle.wq_head.specs.declared.wakes.WakeStage.{WakeStage};
 ghost use Rattle.wq_head.specs.Roused.{IsRousing, RousesNone, tasks_in};
 ghost use Rattle.wq_head.specs.Walks.{IsFull, MayWake, HasWoken, HasEnded};
 ghost use Rattle.wq_head.specs.Turns.{InWalk, IsAtWake, IsServed, IsTurnStage, HasTurned, WakeRests, first_counts};
-ghost use Rattle.wq_head.specs.Turns.{IsRefused, drawn_by};
+ghost use Rattle.wq_head.specs.Turns.{IsRefused, drawn_by, passed_by_wake};
 
 use crate::locks::{give_back, pause};
 use crate::rousing::Rousing;
@@ -182,6 +182,7 @@ pub fn wake_stretch(
         → HasTurned start task.new run.old run.new result }
     ensures rests { WakeRests task.new run.new result }
     ensures refused { IsRefused task.old task.new run.new stage result }
+    ensures passes { passing.new.head ≡ passed_by_wake run.new result }
     ensures rouses { IsRousing task.old task.new rousing.new }
 {
     let head = head_of(run.aim.watch);
@@ -273,6 +274,7 @@ fn hold(
     ensures turned { (start : Known) → IsUp start → IsIdle start → MayWake run.old.aim.watch start
         → InWalk run.old.aim start task.old run.old.walk → HasTurned start task.new run.old run.new result }
     ensures refused { (k : Known) (s : WakeStage) → IsRefused k task.new run.new s result }
+    ensures passes { passing.new.head ≡ passed_by_wake run.new result }
     ensures rouses { IsRousing task.old task.new rousing.new }
 {
     match walk_hold(domain, task, run.aim, run.walk, rousing) {

@@ -1,4 +1,4 @@
-use Rattle.std.proofs.Common.{false, subst, sym}
+use Rattle.std.proofs.Common.{◌∙◌, false, subst, sym}
 use Rattle.wq_head.specs.Roused.{RousesNone}
 use Rattle.wq_head.proofs.RousedTasks.{none_unlocked}
 use Rattle.completion_cell.proofs.CellHolds.{done_over, done_owes}
@@ -24,6 +24,9 @@ give_back-requires-clause-permits c =
 pub returns-clause-over : goal.returns-clause-over
 returns-clause-over c start i =
     done_over c.args.cell start c.args.task.now c.give_back.new.task i c.give_back.ensures.given
+
+pub returns-clause-passes : goal.returns-clause-passes
+returns-clause-passes c = c.put.ensures ∙ (c.give_back.ensures.head ∙ c.requires.holds.1.took.carries.at)
 
 pub returns-clause-rouses : goal.returns-clause-rouses
 returns-clause-rouses c = subst (RousesNone c.args.task.now) (sym c.give_back.ensures.given)

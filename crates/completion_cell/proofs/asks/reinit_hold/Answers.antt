@@ -31,6 +31,11 @@ pub returns-clause-over : goal.returns-clause-over
 returns-clause-over c start i = reset_over c.args.cell start c.args.task.now c.done_store.new.task
     c.give_back.new.task i c.done_store.ensures true c.give_back.ensures.given
 
+pub returns-clause-passes : goal.returns-clause-passes
+returns-clause-passes c =
+    c.put.ensures
+    ∙ (c.give_back.ensures.head ∙ (c.done_store.ensures.publishes.at ∙ c.requires.holds.1.took.carries.at))
+
 pub returns-clause-rouses : goal.returns-clause-rouses
 returns-clause-rouses c =
     let m = c.done_store.new.task in

@@ -1,7 +1,7 @@
 use Rattle.std.proofs.Common.{◌∙◌, false, subst, sym}
 use Rattle.wq_head.specs.Roused.{RousesNone}
 use Rattle.wq_head.proofs.RousedTasks.{none_unlocked}
-use Rattle.completion_cell.proofs.CellHolds.{tried_counted, tried_holds, tried_over, tried_owes}
+use Rattle.completion_cell.proofs.CellHolds.{tried_at, tried_counted, tried_holds, tried_over, tried_owes}
 use Rattle.completion_cell.proofs.CellRousing.{none_counted, none_taken}
 use Rattle.completion_cell.proofs.Completing.{rise_none}
 use Rattle.completion_cell.proofs.asks.try_wait_hold.Goals as goal
@@ -56,6 +56,14 @@ returns-clause-over c start i =
     let t = c.take_one in
     tried_over c.args.cell l.result start k l.new.task t.new.task c.give_back.new.task i l.ensures.step
     l.ensures.finds l.ensures.carries t.result t.ensures.took t.ensures.stores c.give_back.ensures.given
+
+pub returns-clause-passes : goal.returns-clause-passes
+returns-clause-passes c =
+    let l = c.done_load-count in
+    let k = c.args.task.now in
+    let t = c.take_one in
+    c.put.ensures ∙ (c.give_back.ensures.head ∙ tried_at c.args.cell l.result c.requires.holds.0 k l.new.task t.new.task k
+    c.requires.holds.1 l.ensures.step l.ensures.finds l.ensures.carries t.result t.ensures.took t.ensures.stores)
 
 pub returns-clause-rouses : goal.returns-clause-rouses
 returns-clause-rouses c =

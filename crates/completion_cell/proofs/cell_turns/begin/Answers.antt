@@ -1,4 +1,8 @@
-use Rattle.std.proofs.Common.{◌∙◌}
+use Rattle.std.proofs.Common.{◌∙◌, ◌≡◌, ℕ, subst}
+use Rattle.wait_model.specs.declared.steps.Step.TheVariants as step
+use Rattle.wait_model.specs.declared.watches.Watch.TheVariants as watch
+use Rattle.wait_rule.specs.declared.journal.Item.TheVariants as item
+use Rattle.wait_rule.specs.Says.{added}
 use Rattle.wq_head.proofs.AwaitedLocks.{awaits_none}
 use Rattle.completion_cell.proofs.CellDraws.{fits, peeked_none}
 use Rattle.completion_cell.proofs.CellRousing.{none_counted}
@@ -22,6 +26,13 @@ returns-then-done_load-eq0-clause-drawn c =
     let l = c.done_load in
     peeked_none c.args.run.now.call c.args.run.now.cell l.result c.args.task.now l.new.task c.if-not-peeks_first.ensures
     c.requires.up c.requires.free c.told.ensures l.ensures.step l.ensures.carries c.if-done_load-eq0.true
+
+pub returns-then-done_load-eq0-clause-ends : goal.returns-then-done_load-eq0-clause-ends
+returns-then-done_load-eq0-clause-ends c _ = (
+  c.args.task.now,
+  subst (λ (n : ℕ). c.done_load.new.task ≡ added c.args.task.now (item.Made (step.Load
+      (watch.Done c.args.run.now.cell) n))) c.if-done_load-eq0.true c.done_load.ensures.step,
+)
 
 pub returns-then-done_load-eq0-clause-rouses : goal.returns-then-done_load-eq0-clause-rouses
 returns-then-done_load-eq0-clause-rouses c = none_counted c.args.run.now.cell c.done_load.result c.args.task.now

@@ -1,4 +1,4 @@
-use Rattle.std.proofs.Common.{◌∙◌, sym}
+use Rattle.std.proofs.Common.{◌∙◌, inl, inr, sym}
 use Rattle.wq_head.proofs.AwaitedLocks.{awaits_none, took_none}
 use Rattle.wq_head.proofs.RousedTasks.{rousing_from, rousing_none, rousing_on}
 use Rattle.completion_cell.proofs.CellDraws.{awaits, fits, holds_for, rests_of, waits_on}
@@ -7,6 +7,12 @@ use Rattle.completion_cell.proofs.cell_turns.cell_stretch.Goals as goal
 pub returns-then-not-draw_turn-clause-rouses : goal.returns-then-not-draw_turn-clause-rouses
 returns-then-not-draw_turn-clause-rouses c = rousing_on c.args.task.now c.args.task.now c.draw_turn.new.task
     c.args.rousing.now c.draw_turn.ensures.rouses (rousing_none c.args.task.now c.args.rousing.now c.requires.none)
+
+pub returns-then-not-draw_turn-clause-passes : goal.returns-then-not-draw_turn-clause-passes
+returns-then-not-draw_turn-clause-passes c = inr (c.requires.passes, c.draw_turn.ensures.ends c.if-not-draw_turn.true)
+
+pub returns-in-Ok-hold-clause-passes : goal.returns-in-Ok-hold-clause-passes
+returns-in-Ok-hold-clause-passes c = inl c.in-Ok-hold.ensures.passes
 
 pub lock_turn-requires-clause-head : goal.lock_turn-requires-clause-head
 lock_turn-requires-clause-head c = fits c.draw_turn.new.run.cell c.head_of-head.result

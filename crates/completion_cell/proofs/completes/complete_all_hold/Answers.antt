@@ -44,6 +44,13 @@ returns-clause-over c start i =
     c.give_back.new.task i c.done_store.ensures c.in_ok-select_tries.ensures.selected s.ensures.hold s.ensures.keeps
     c.give_back.ensures.given
 
+-- the lock that it gave back
+pub returns-clause-passes : goal.returns-clause-passes
+returns-clause-passes c =
+    let k = c.args.task.now in
+    c.put.ensures ∙ (c.give_back.ensures.head ∙ (c.select_tries.ensures.hold.at
+    ∙ every_at c.args.cell 0 c.requires.holds.0 k c.done_store.new.task k k c.requires.holds.1 c.done_store.ensures))
+
 -- whom it is to rouse
 pub returns-clause-rouses : goal.returns-clause-rouses
 returns-clause-rouses c =
@@ -65,6 +72,11 @@ returns-in_err-select_tries-clause-over c start i =
       tries = c.in_err-select_tries.ensures.starved;
       held = s.ensures.held.locked ∙ ap Some (s.ensures.hold.at ∙ at_b);
     })
+
+pub returns-in_err-select_tries-clause-passes : goal.returns-in_err-select_tries-clause-passes
+returns-in_err-select_tries-clause-passes c =
+    let p = err_from_is_err_and c.from_residual.result c.from_residual.ensures.1 in
+    rw (p.1, p.2) c.requires.passes
 
 pub returns-in_err-select_tries-clause-rouses : goal.returns-in_err-select_tries-clause-rouses
 returns-in_err-select_tries-clause-rouses c =

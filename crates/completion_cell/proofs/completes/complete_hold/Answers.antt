@@ -76,6 +76,16 @@ returns-clause-over c start i =
     i l.ensures.step l.ensures.finds l.ensures.carries r.result r.ensures.raises r.ensures.stores
     c.in_ok-selected.ensures.selected s.ensures.hold s.ensures.keeps c.give_back.ensures.given
 
+-- the lock that it gave back
+pub returns-clause-passes : goal.returns-clause-passes
+returns-clause-passes c =
+    let l = c.done_load-count in
+    let k = c.args.task.now in
+    let r = c.raise_one in
+    let at_r = one_at c.args.cell l.result 0 c.requires.holds.0 k l.new.task r.new.task k k c.requires.holds.1
+    l.ensures.step l.ensures.finds l.ensures.carries r.result r.ensures.raises r.ensures.stores in
+    c.put.ensures ∙ (c.give_back.ensures.head ∙ (c.select_tries.ensures.hold.at ∙ at_r))
+
 -- whom it is to rouse
 pub returns-clause-rouses : goal.returns-clause-rouses
 returns-clause-rouses c =
@@ -104,6 +114,11 @@ returns-in_err-selected-clause-over c start i =
       tries = c.in_err-selected.ensures.starved;
       held = s.ensures.held.locked ∙ ap Some (s.ensures.hold.at ∙ at_r);
     })
+
+pub returns-in_err-selected-clause-passes : goal.returns-in_err-selected-clause-passes
+returns-in_err-selected-clause-passes c =
+    let p = err_from_is_err_and c.from_residual.result c.from_residual.ensures.1 in
+    rw (p.1, p.2) c.requires.passes
 
 pub returns-in_err-selected-clause-rouses : goal.returns-in_err-selected-clause-rouses
 returns-in_err-selected-clause-rouses c =

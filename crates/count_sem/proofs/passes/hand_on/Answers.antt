@@ -1,4 +1,6 @@
-use Rattle.std.proofs.Common.{◌∙◌, ◌-◌, true, false, subst, sym}
+use Rattle.std.proofs.Common.{◌∙◌, ◌-◌, ap, true, false, subst, sym}
+use Rattle.std.proofs.lemmas.Result.{err_from_is_err_and}
+use Rattle.wait_rule.specs.Known.{Known}
 use Rattle.wq_head.specs.Roused.{RousesNone}
 use Rattle.wq_head.proofs.RousedTasks.{none_looked, none_unlocked, rousing_from, rousing_none, rousing_on}
 use Rattle.completion_cell.proofs.CellRousing.{none_set}
@@ -124,6 +126,19 @@ returns-then-finds_waiter-clause-rouses c = rousing_from c.args.task.now c.lower
     (subst (RousesNone c.select_tries.new.task) (sym c.give_back.ensures.given)
     (none_unlocked c.select_tries.new.task c.select_tries.new.task.at true)) c.select_tries.ensures.rouses)
 
+pub returns-then-finds_waiter-clause-passes : goal.returns-then-finds_waiter-clause-passes
+returns-then-finds_waiter-clause-passes c =
+    let at = lowered_head c.args.task.now c.args.wait.now c.requires.ended c.finds_waiter.new.task
+    c.finds_waiter.ensures.looks c.finds_waiter.ensures.whole
+    (waiter_in c.finds_waiter.new.task c.finds_waiter.result c.if-finds_waiter.true c.finds_waiter.ensures.tells)
+    c.lower_one.new.task c.lower_one.ensures c.head_of-head.result c.head_of-head.ensures in
+    c.put.ensures ∙ (c.give_back.ensures.head ∙ (c.select_tries.ensures.hold.at ∙ (sym at ∙ c.head_of-head.ensures)))
+
+pub returns-in_err-select_tries-clause-passes : goal.returns-in_err-select_tries-clause-passes
+returns-in_err-select_tries-clause-passes c =
+    let p = err_from_is_err_and c.from_residual.result c.from_residual.ensures.1 in
+    rw (p.1, p.2) c.requires.passes
+
 pub returns-in_err-select_tries-clause-rouses : goal.returns-in_err-select_tries-clause-rouses
 returns-in_err-select_tries-clause-rouses c = rousing_from c.args.task.now c.lower_one.new.task c.select_tries.new.task
     c.select_tries.new.rousing
@@ -174,6 +189,12 @@ alone c = kept_alone c.args.task.now c.args.wait.now c.requires.ended c.finds_wa
 
 pub returns-clause-passed : goal.returns-clause-passed
 returns-clause-passed c = alone c
+
+pub returns-clause-passes : goal.returns-clause-passes
+returns-clause-passes c =
+    let at = pass_head c.args.task.now c.args.wait.now c.requires.ended c.head_of-head.result c.head_of-head.ensures in
+    c.put-2.ensures ∙ (c.give_back-2.ensures.head
+    ∙ (ap (λ (k : Known). k.at) c.finds_waiter.ensures.looks.is ∙ (sym at ∙ c.head_of-head.ensures)))
 
 pub returns-clause-rouses : goal.returns-clause-rouses
 returns-clause-rouses c = rousing_on c.args.task.now c.args.task.now c.give_back-2.new.task c.args.rousing.now

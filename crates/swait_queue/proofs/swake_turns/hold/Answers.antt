@@ -48,6 +48,10 @@ returns-clause-over c start i =
     c.in_ok-selected.ensures.selected) c.select_tries.ensures.hold c.select_tries.ensures.keeps
     (c.give_back.ensures.given ∙ ap (unlocked_with last last.at) c.is_swake_spent.ensures)
 
+pub returns-clause-passes : goal.returns-clause-passes
+returns-clause-passes c =
+    c.put.ensures ∙ (c.give_back.ensures.head ∙ (c.select_tries.ensures.carries.at ∙ c.requires.holds.1.took.carries.at))
+
 pub returns-clause-rouses : goal.returns-clause-rouses
 returns-clause-rouses c =
     let last = c.select_tries.new.task in
@@ -63,3 +67,8 @@ returns-in_err-selected-clause-over c start i =
       tries = c.in_err-selected.ensures.starved;
       held = c.select_tries.ensures.held.locked ∙ ap Some (c.select_tries.ensures.carries.at ∙ i.took.carries.at);
     })
+
+pub returns-in_err-selected-clause-passes : goal.returns-in_err-selected-clause-passes
+returns-in_err-selected-clause-passes c =
+    let p = err_from_is_err_and c.from_residual.result c.from_residual.ensures.1 in
+    rw (p.1, p.2) c.requires.passes

@@ -17,6 +17,12 @@ none_up_to old new n to l before behind m over under = elim (below_or m n) [
   | inr high ↦ behind m high under
 ]
 
+pub returns-then-words-eq-MEMBER_WORDS-clause-finds : goal.returns-then-words-eq-MEMBER_WORDS-clause-finds
+returns-then-words-eq-MEMBER_WORDS-clause-finds c =
+    let k = c.clear_words-words.new.task in
+    none_found k (subst (λ (n : ℕ). AreNone k 0 (WORD_BITS * n)) c.if-words-eq-MEMBER_WORDS.true
+    c.clear_words-words.ensures.none)
+
 pub next_set-requires-clause-looked : goal.next_set-requires-clause-looked
 next_set-requires-clause-looked c = subst (IsLookingBy c.clear_words-words.new.task) (sym c.behind-looking.ensures)
     (record {

@@ -41,6 +41,8 @@ returns c =
     c.give_back.ensures.given in record {
       made = subst (λ (p : ℕ). c.give_back.new.task ≡ unlocked_with (stored_with c.args.task.now
           (step.Mark (head_of c.args.aim.watch) p)) c.args.task.now.at false) (sym r.place) made;
+      passes = c.put.ensures ∙ (c.give_back.ensures.head
+          ∙ (ap (λ (k : Known). k.at) c.mark_member.ensures.step ∙ q.calling.walking.held.at));
       place = r.place ∙ c.mark_place-place.ensures;
       counts = λ real n. subst (λ (p : ℕ). Counts c.resumed.result (next_at p real)) (sym r.place) (r.counts real n);
       left = r.left;

@@ -1,12 +1,16 @@
 -- For proofs alone.
 -- Whom a hold finds queued at its head.
-use Rattle.std.specs.Prelude.{ℕ, ◌≡◌, ◌+◌, ◌<◌, [], ◌∷◌}
+use Rattle.std.specs.Prelude.{ℕ, ◌≡◌, ◌+◌, ◌<◌, List, [], ◌∷◌, map}
+use Rattle.wait_model.specs.declared.queues.Member.{Member as Stand}
 use Rattle.wait_model.specs.declared.layout.TheConstants.{MEMBERS}
 use Rattle.wait_rule.specs.Known.{Known}
 use Rattle.wait_rule.specs.Queues.{IsWholeBook}
 use Rattle.wait_rule.specs.Shown.{shown_queue}
 use Rattle.wq_head.specs.declared.found_queues.FoundQueue.{FoundQueue}
 use Rattle.wq_head.specs.declared.found_queues.FoundQueue.TheVariants as found
+use Rattle.wq_head.specs.declared.found_queues.Queue.{Queue}
+use Rattle.wq_head.specs.declared.found_queues.Queue.TheVariants as queue
+use Rattle.wq_head.specs.Lists.{members_in, stand_in}
 use Rattle.wq_head.specs.Looking.{AreNone, IsSet}
 use Rattle.wq_head.specs.Members.{AreStanding, member_of}
 
@@ -19,3 +23,14 @@ abbrev pub IsFoundQueue : Known → FoundQueue → Type 0
 IsFoundQueue k found.Empty = IsWholeBook k × AreStanding k MEMBERS × (shown_queue k ≡ [])
 IsFoundQueue k (found.Sole s) = IsWholeBook k × AreStanding k MEMBERS × (shown_queue k ≡ member_of s ∷ [])
 IsFoundQueue k found.Several = Unit {0}
+
+-- the members that are gone over, with their places
+abbrev pub queue_of : Queue → List Stand
+queue_of (queue.Sole s) = member_of s ∷ []
+queue_of (queue.Listed l) = map stand_in (members_in l.now)
+
+-- they are those that the hold shows
+pub record IsQueueOf (k : Known) (q : Queue) : Type 0 where
+  pub whole : IsWholeBook k
+  pub stands : AreStanding k MEMBERS
+  pub queue : queue_of q ≡ shown_queue k

@@ -1,13 +1,15 @@
 //! Whom a hold finds queued: most wakes find one member at most, and need no list of members.
 
-ghost use Rattle.std.specs.Prelude.{◌≡◌, ◌≤◌, ◌*◌};
+ghost use Rattle.std.specs.Prelude.{◌≡◌, ◌<◌, ◌≤◌, ◌*◌, length, slice_index_or};
 ghost use Rattle.wait_model.specs.declared.layout.TheConstants.{MEMBER_WORDS, WORD_BITS};
 ghost use Rattle.wait_rule.specs.Says.{IsUp};
-ghost use Rattle.wq_head.specs.FoundQueues.{IsFoundQueue, IsSole};
+ghost use Rattle.wq_head.specs.FoundQueues.{IsFoundQueue, IsSole, queue_of};
+ghost use Rattle.wq_head.specs.Members.{member_of};
 ghost use Rattle.wq_head.specs.Holds.{IsHolding};
 ghost use Rattle.wq_head.specs.Looking.{AreNone};
 ghost use Rattle.wq_head.specs.Looks.{Looks};
 
+use crate::lists::Members;
 use crate::looking::{Looking, next_bit, next_set};
 use crate::looks::{ShownMember, look_at};
 use wait_model::layout::{MEMBER_WORDS, WORD_BITS};
@@ -20,6 +22,36 @@ pub(crate) enum FoundQueue {
     Empty,
     Sole(ShownMember),
     Several,
+}
+
+/// The members of a head in the order of its queue: one that is alone, or those of a list.
+#[derive(Clone, Copy)]
+pub(crate) enum Queue<'a> {
+    Sole(ShownMember),
+    Listed(&'a Members),
+}
+
+impl Queue<'_> {
+    /// How many there are.
+    pub(crate) fn len(&self) -> usize
+        ensures { result ≡ length (queue_of self.now) }
+    {
+        match self {
+            Queue::Sole(_) => 1,
+            Queue::Listed(list) => list.len(),
+        }
+    }
+
+    /// The number and the place of the one at a position.
+    pub(crate) fn stand(&self, index: usize) -> ShownMember
+        requires { index < length (queue_of self.now) }
+        ensures { member_of result ≡ slice_index_or (queue_of self.now) index (member_of result) }
+    {
+        match self {
+            Queue::Sole(stand) => *stand,
+            Queue::Listed(list) => list.stand(index),
+        }
+    }
 }
 
 /// Looks whether the head whose lock the task holds has no member, one, or several. It loads the words by which the head

@@ -104,7 +104,6 @@ fn read_headed(alloc: Global, bytes: &[u8]) -> Result<Script, ReadScript>
 /// line and the first reason that stands there, or that memory ran out. What is read has its numbers in the version's
 /// ranges and is spelled just so; and whatever is spelled so, with its numbers in those ranges, is read. A core can
 /// open each of its calls.
-#[tactic(auto, using(crate::proofs::Spelled::spelled, crate::proofs::Spelled::fits, crate::proofs::Spelled::plays, crate::proofs::Spelled::again))]
 pub fn read_script(alloc: Global, bytes: &[u8]) -> Result<Script, ReadScript>
     requires { length bytes.now ≤ INPUT_BYTES }
     ensures script { AnswersAs (λ s. s) result (script_of bytes.now) }

@@ -1,6 +1,6 @@
 -- To be believed.
 -- A call on a completion that is made by stretches: where it stands between two of them, and what each did.
-use Rattle.std.specs.Prelude.{ℕ, ◌≡◌, ◌≢◌, ◌<◌, Bool, true, false, Some}
+use Rattle.std.specs.Prelude.{ℕ, ◌≡◌, ◌≢◌, ◌<◌, ◌⊎◌, Bool, true, false, Some}
 use Rattle.wait_model.specs.declared.layout.TheConstants.{COMPLETIONS, HEADS}
 use Rattle.wait_model.specs.declared.steps.Step.TheVariants as step
 use Rattle.wait_model.specs.declared.watches.Mode.TheVariants as mode

@@ -12,7 +12,7 @@ ghost use Rattle.wait_rule.specs.Stays.{Carries};
 ghost use Rattle.wait_event.specs.Entries.{hold_change};
 ghost use Rattle.wq_head.specs.Roused.{RousesNone};
 ghost use Rattle.completion_cell.specs.declared.cell_turns.CellCall.TheVariants as call;
-ghost use Rattle.completion_cell.specs.CellTurns.{HoldsForCell, IsCellOver};
+ghost use Rattle.completion_cell.specs.CellTurns.{HoldsForCell, IsCellOver, cell_head};
 ghost use Rattle.completion_cell.specs.Asks.{HasAsked, HasTriedCell, HasReset, HasCountedDone, TakesOne};
 
 use crate::cell_turns::{CellCall, run_cell};

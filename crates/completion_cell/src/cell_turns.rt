@@ -9,7 +9,7 @@ ghost use Rattle.wait_rule.specs.Says.{IsFree, IsUp};
 ghost use Rattle.wq_head.specs.Roused.{IsRousing, RousesNone, tasks_in};
 ghost use Rattle.completion_cell.specs.declared.cell_turns.CellStage.TheVariants as stages;
 ghost use Rattle.completion_cell.specs.CellTurns.{HasCellStarved, HasCellTurned, HoldsForCell, IsAtCell, IsFreshCell, IsCellOver, CellRests, peeks_first};
-ghost use Rattle.completion_cell.specs.CellTurns.{FoundServed};
+ghost use Rattle.completion_cell.specs.CellTurns.{EndsByLoad, FoundServed, PassedByCell, cell_head};
 
 use crate::asks::{is_done_hold, reinit_hold, try_wait_hold};
 use crate::completes::{complete_all_hold, complete_hold};

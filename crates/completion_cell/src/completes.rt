@@ -15,7 +15,7 @@ ghost use Rattle.wait_event.specs.Conds.{set_change};
 ghost use Rattle.wq_head.specs.Roused.{IsRousing, tasks_in};
 ghost use Rattle.completion_cell.specs.declared.cell_turns.CellCall.TheVariants as call;
 ghost use Rattle.completion_cell.specs.Asks.{HasCountedDone};
-ghost use Rattle.completion_cell.specs.CellTurns.{HasCellStarved, HoldsForCell, IsCellOver};
+ghost use Rattle.completion_cell.specs.CellTurns.{HasCellStarved, HoldsForCell, IsCellOver, cell_head};
 ghost use Rattle.completion_cell.specs.Completes.{HasCompleted, HasCompletedAll, RaisesOne};
 
 use crate::cell_turns::{CellCall, run_cell};

@@ -1,6 +1,6 @@
 //! A permit handed on: what a `down` does in its last hold that was given a permit and found that more are counted.
 
-ghost use Rattle.std.specs.Prelude.{◌≡◌, ◌≤◌, [], IfErr, IfOk, MatchBool, Ok};
+ghost use Rattle.std.specs.Prelude.{◌≡◌, ◌≤◌, [], IfErr, IfOk, MatchBool, MatchResult, Ok};
 ghost use Rattle.wait_model.specs.declared.layout.TheConstants.{FIRST_SIMPLE_HEAD};
 ghost use Rattle.wait_rule.specs.PassedLocks.{PassesNone};
 ghost use Rattle.wait_rule.specs.Queues.{IsWholeBook};
@@ -17,6 +17,7 @@ ghost use Rattle.count_sem.specs.declared.downs.DownOutcome.TheVariants as outco
 ghost use Rattle.count_sem.specs.declared.downs.DownStage.TheVariants as stage;
 ghost use Rattle.wait_leave.specs.OnTheWay.{IsOnWay, OnTheWay};
 ghost use Rattle.wait_leave.specs.declared.exits.Until.TheVariants as until;
+ghost use Rattle.completion_cell.specs.CellTurns.{cell_head};
 ghost use Rattle.count_sem.specs.DownEnds.{EndsDown};
 ghost use Rattle.count_sem.specs.DownLeaves.{EndsDownUntil, down_exits};
 ghost use Rattle.count_sem.specs.Downs.{IsFreshDown, down_table};

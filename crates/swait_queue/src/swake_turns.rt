@@ -6,7 +6,7 @@ ghost use Rattle.wait_rule.specs.PassedLocks.{PassesNone};
 ghost use Rattle.wq_head.specs.Roused.{IsRousing, RousesNone, tasks_in};
 ghost use Rattle.swait_queue.specs.declared.swake_turns.SwakeStage.TheVariants as stages;
 ghost use Rattle.swait_queue.specs.SwakeTurns.{HasSwakeStarved, HasSwakeTurned, HoldsForSwake, IsAtSwake, IsFreshSwake, IsSwakeOver, SwakeRests};
-ghost use Rattle.swait_queue.specs.SwakeTurns.{FoundOther};
+ghost use Rattle.swait_queue.specs.SwakeTurns.{FoundOther, passed_by_swake, swake_head};
 ghost use Rattle.swait_queue.specs.SimpleWakes.{is_swake_spent, most_of};
 
 use wait_model::heads::head_of;

@@ -76,7 +76,7 @@ returns-in_err-select_tries-clause-over c start i =
 pub returns-in_err-select_tries-clause-passes : goal.returns-in_err-select_tries-clause-passes
 returns-in_err-select_tries-clause-passes c =
     let p = err_from_is_err_and c.from_residual.result c.from_residual.ensures.1 in
-    rw (p.1, p.2) c.requires.passes
+    rw p.1 c.requires.passes
 
 pub returns-in_err-select_tries-clause-rouses : goal.returns-in_err-select_tries-clause-rouses
 returns-in_err-select_tries-clause-rouses c =

@@ -71,4 +71,4 @@ returns-in_err-selected-clause-over c start i =
 pub returns-in_err-selected-clause-passes : goal.returns-in_err-selected-clause-passes
 returns-in_err-selected-clause-passes c =
     let p = err_from_is_err_and c.from_residual.result c.from_residual.ensures.1 in
-    rw (p.1, p.2) c.requires.passes
+    rw p.1 c.requires.passes

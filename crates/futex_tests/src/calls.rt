@@ -6,10 +6,11 @@ ghost use Rattle.wait_rule.specs.Says.{IsClean};
 ghost use Rattle.futex_table.specs.Holding.{HoldsMutex};
 
 use futex_table::{
-    cond_broadcast, cond_signal, cond_wait, futex_wake, mutex_lock, mutex_open, mutex_try,
-    mutex_unlock,
+    cond_broadcast, cond_signal, cond_wait, futex_wait, futex_wake, mutex_lock, mutex_open,
+    mutex_try, mutex_unlock,
 };
 use std::sync::Wait;
+use std::sync::atomic::{AtomicU64, Ordering};
 use std::thread;
 use wait_model::tasks::SleepState;
 use wait_rule::{Domain, Task};
@@ -107,6 +108,28 @@ pub(crate) fn broadcast<R: Wait>(rt: &R, domain: &Domain, task: &mut Task)
     ensures holds { HoldsMutex task.new 6 }
 {
     cond_broadcast(rt, domain, task, COND, LOCK);
+}
+
+/// Sleeps on the futex, whose word is 0: true where a wake ended it, which is counted.
+pub(crate) fn sleep<R: Wait>(
+    rt: &R,
+    domain: &Domain,
+    task: &mut Task,
+    state: SleepState,
+    wakes: &AtomicU64,
+) -> bool
+    requires of { task.old.domain ≡ domain.now }
+    requires clean { IsClean task.old }
+    ensures of { task.new.domain ≡ domain.now }
+    ensures clean { IsClean task.new }
+{
+    match futex_wait(rt, domain, task, FUTEX, 0, state) {
+        Ok(()) => {
+            wakes.fetch_add(1, Ordering::SeqCst);
+            true
+        }
+        Err(_end) => false,
+    }
 }
 
 /// Wakes one who sleeps on the futex: whether one did.

@@ -12,7 +12,7 @@ ghost use Rattle.futex_tests.specs.CondTasks.{IsInMonitor, IsTestedCond, tested_
 use crate::calls::{open, signal, try_lock, unlock};
 use crate::left_locks::has_mutex;
 use crate::monitors::{Whose, add_if_own};
-use crate::turns::{is_free_lock, is_free_wait, next_number, open_and_take};
+use crate::turns::{is_free_lock, is_free_wait, open_and_take};
 use crate::wants::{all_so, another};
 use futex_table::cond_stretches::{
     CondStage, CondStop, CondTurn, CondWait, begin_cond_wait, end_cond_wait, end_cond_wait_until,
@@ -24,6 +24,7 @@ use futex_table::waits::FutexStage;
 use std::sync::Wait;
 use std::sync::atomic::{AtomicU64, Ordering};
 use std::test::Fail;
+use test_tasks::draws::next_number;
 use test_tasks::ends::end_both;
 use wait_class::stages::Turn;
 use wait_leave::Until;

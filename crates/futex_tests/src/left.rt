@@ -6,15 +6,15 @@ ghost use Rattle.wait_rule.specs.Says.{IsClean};
 ghost use Rattle.wait_class.specs.Tables.{Lands};
 ghost use Rattle.futex_table.specs.FutexTables.{futex_table};
 
-use crate::calls::wake_soon;
+use crate::calls::{sleep, wake_soon};
 use crate::wants::{all_so, another};
-use futex_table::futexes::{FutexEnd, begin_futex, futex_wait, futex_wake};
+use futex_table::futexes::{FutexEnd, begin_futex, futex_wake};
 use futex_table::leaves::{end_futex_wait_until, futex_wait_until, leave_futex_wait};
 use futex_table::waits::{FutexRun, FutexStage, FutexTurn};
 use std::sync::Wait;
 use std::sync::atomic::{AtomicU64, Ordering};
 use std::test::Fail;
-use std::thread;
+use test_tasks::late::ask_late;
 use test_tasks::meetings::{Part, four_meet, two_meet};
 use wait_class::runs::{stretch, woke};
 use wait_class::stages::Turn;
@@ -70,46 +70,10 @@ impl Part for Leaving<'_> {
             Leaving::Wakes => wake_soon(rt, domain, task),
             Leaving::Asks { flag, who, late } => ask_late(rt, domain, task, flag, who, late),
             Leaving::Passes { flag, wakes } => leave_or_pass(rt, domain, task, flag, wakes),
-            Leaving::Sleeps(wakes) => sleep(rt, domain, task, wakes),
+            Leaving::Sleeps(wakes) => sleep(rt, domain, task, STATE, wakes),
             Leaving::Leaves(flag) => leave(rt, domain, task, flag),
         }
     }
-}
-
-/// Yields so often, asks the task to leave, and wakes it.
-fn ask_late<R: Wait>(
-    rt: &R,
-    domain: &Domain,
-    task: &mut Task,
-    flag: &AtomicU64,
-    who: u8,
-    late: u32,
-) -> bool
-    requires of { task.old.domain ≡ domain.now }
-    requires clean { IsClean task.old }
-    ensures of { task.new.domain ≡ domain.now }
-    ensures clean { IsClean task.new }
-{
-    for _ in 0..late {
-        thread::yield_now();
-    }
-    flag.store(1, Ordering::SeqCst);
-    wake_task(rt, domain, task, who, Mode::Normal);
-    true
-}
-
-/// Sleeps until a wake comes, which is counted.
-fn sleep<R: Wait>(rt: &R, domain: &Domain, task: &mut Task, wakes: &AtomicU64) -> bool
-    requires of { task.old.domain ≡ domain.now }
-    requires clean { IsClean task.old }
-    ensures of { task.new.domain ≡ domain.now }
-    ensures clean { IsClean task.new }
-{
-    if futex_wait(rt, domain, task, FUTEX, 0, STATE).is_ok() {
-        wakes.fetch_add(1, Ordering::SeqCst);
-        return true;
-    }
-    false
 }
 
 /// Sleeps until a wake comes or it is asked to leave. A wake is counted, and passed on.

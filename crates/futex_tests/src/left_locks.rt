@@ -16,11 +16,11 @@ use std::sync::Wait;
 use std::sync::atomic::{AtomicU64, Ordering};
 use std::test::Fail;
 use std::thread;
+use test_tasks::late::{ask_two_late, yield_often};
 use test_tasks::meetings::{Part, four_meet};
 use wait_leave::Until;
 use wait_model::tasks::SleepState;
-use wait_model::watches::Mode;
-use wait_rule::{Domain, Task, wake_task};
+use wait_rule::{Domain, Task};
 use wq_head::Worn;
 
 /// How many rounds each test makes, and how often each task adds in a round.
@@ -76,7 +76,9 @@ impl Part for Locking<'_> {
             }
             Locking::Waits(shared) => wait_once(rt, domain, task, shared),
             Locking::Tells { shared, late } => tell_late(rt, domain, task, shared, late),
-            Locking::Asks { shared, who, late } => ask_late(rt, domain, task, shared, who, late),
+            Locking::Asks { shared, who, late } => {
+                ask_two_late(rt, domain, task, shared.flag, who, late)
+            }
         }
     }
 }
@@ -212,38 +214,13 @@ fn tell_late<R: Wait>(
     ensures of { task.new.domain ≡ domain.now }
     ensures clean { IsClean task.new }
 {
-    for _ in 0..late {
-        thread::yield_now();
-    }
+    yield_often(late);
     if lock(rt, domain, task) {
         broadcast(rt, domain, task);
         add_and_unlock(rt, domain, task, shared);
         return true;
     }
     false
-}
-
-/// Yields so often, asks both tasks to leave, and wakes them.
-fn ask_late<R: Wait>(
-    rt: &R,
-    domain: &Domain,
-    task: &mut Task,
-    shared: Shared<'_>,
-    who: (u8, u8),
-    late: u32,
-) -> bool
-    requires of { task.old.domain ≡ domain.now }
-    requires clean { IsClean task.old }
-    ensures of { task.new.domain ≡ domain.now }
-    ensures clean { IsClean task.new }
-{
-    for _ in 0..late {
-        thread::yield_now();
-    }
-    shared.flag.store(1, Ordering::SeqCst);
-    wake_task(rt, domain, task, who.0, Mode::Normal);
-    wake_task(rt, domain, task, who.1, Mode::Normal);
-    true
 }
 
 /// Whatever the order of the steps, each lock that was not left adds once, no add is lost, and nobody has the mutex in

@@ -12,7 +12,7 @@ ghost use Rattle.futex_table.specs.LockLeaves.{is_locked_until};
 ghost use Rattle.futex_table.specs.LockStretches.{IsLockUnderWay};
 
 use crate::calls::open;
-use crate::turns::{is_free_lock, next_number, open_and_take};
+use crate::turns::{is_free_lock, open_and_take};
 use crate::wants::{all_so, another};
 use futex_table::futexes::futex_wake;
 use futex_table::lock_stretches::{
@@ -22,6 +22,7 @@ use futex_table::lock_stretches::{
 use futex_table::mutexes::{mutex_try, mutex_unlock};
 use std::sync::Wait;
 use std::test::Fail;
+use test_tasks::draws::next_number;
 use wait_class::stages::Turn;
 use wait_leave::Until;
 use wait_model::watches::Mode;

@@ -4,16 +4,16 @@
 ghost use Rattle.std.specs.Prelude.{◌≡◌};
 ghost use Rattle.wait_rule.specs.Says.{IsClean};
 
-use crate::calls::wake_soon;
+use crate::calls::{sleep, wake_soon};
 use crate::wants::all_so;
-use futex_table::{futex_wait, futex_wake};
+use futex_table::futex_wake;
 use std::sync::Wait;
 use std::sync::atomic::{AtomicU64, Ordering};
 use std::test::Fail;
-use std::thread;
+use test_tasks::late::signal_late;
 use test_tasks::meetings::{Part, four_meet};
 use wait_model::tasks::SleepState;
-use wait_rule::{Domain, Task, send_signal};
+use wait_rule::{Domain, Task};
 
 /// How many rounds the test makes.
 const ROUNDS: u32 = 300;
@@ -42,42 +42,6 @@ impl Part for Racing<'_> {
             Racing::Passes(wakes) => pass_on(rt, domain, task, wakes),
             Racing::Sleeps(wakes) => sleep(rt, domain, task, SleepState::Uninterruptible, wakes),
         }
-    }
-}
-
-/// Yields so often, and sends a plain signal.
-fn signal_late<R: Wait>(rt: &R, domain: &Domain, task: &mut Task, who: u8, late: u32) -> bool
-    requires of { task.old.domain ≡ domain.now }
-    requires clean { IsClean task.old }
-    ensures of { task.new.domain ≡ domain.now }
-    ensures clean { IsClean task.new }
-{
-    for _ in 0..late {
-        thread::yield_now();
-    }
-    send_signal(rt, domain, task, who, false);
-    true
-}
-
-/// Sleeps on the futex: true where a wake ended it, which is counted.
-fn sleep<R: Wait>(
-    rt: &R,
-    domain: &Domain,
-    task: &mut Task,
-    state: SleepState,
-    wakes: &AtomicU64,
-) -> bool
-    requires of { task.old.domain ≡ domain.now }
-    requires clean { IsClean task.old }
-    ensures of { task.new.domain ≡ domain.now }
-    ensures clean { IsClean task.new }
-{
-    match futex_wait(rt, domain, task, FUTEX, 0, state) {
-        Ok(()) => {
-            wakes.fetch_add(1, Ordering::SeqCst);
-            true
-        }
-        Err(_end) => false,
     }
 }
 

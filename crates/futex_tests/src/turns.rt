@@ -1,5 +1,5 @@
-//! What the tests on one thread share, in which calls that go on by stretches take turns: the numbers by which an order
-//! is drawn, and whether a call has drawn a ticket, for which the task of a whole call would wait in vain.
+//! What the tests on one thread share, in which calls that go on by stretches take turns: whether a call has drawn a
+//! ticket, for which the task of a whole call would wait in vain, and the mutex that is taken before them.
 
 ghost use Rattle.std.specs.Prelude.{◌≡◌};
 ghost use Rattle.wait_rule.specs.Says.{IsClean};
@@ -11,13 +11,6 @@ use futex_table::waits::FutexStage;
 use std::process::Abort;
 use std::sync::Wait;
 use wait_rule::{Domain, Task};
-
-/// The next number of a small generator, by which the order of the turns is drawn.
-pub(crate) fn next_number(seed: u32) -> u32 {
-    let mixed = seed ^ seed.wrapping_shl(13);
-    let mixed = mixed ^ mixed.wrapping_shr(17);
-    mixed ^ mixed.wrapping_shl(5)
-}
 
 /// Whether a wait has drawn no ticket at a stage, so that another task of the thread can wait for the lock of the head.
 pub(crate) fn is_free_wait(stage: FutexStage) -> bool {

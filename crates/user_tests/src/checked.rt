@@ -127,78 +127,52 @@ fn a_condition_is_waited_for_and_set(rt: HostRuntime) -> Result<(), Fail> {
     play(&rt, rt.alloc(), WAITED_FOR_AND_SET)
 }
 
+/// The calls about bit 16 of word 2, and about page 5.
+const TAKES_BIT: Deed = Deed::Begins(Call::TryBit { word: 2, bit: 16 }, Told::Took);
+
+const LOCKS_BIT: Deed = Deed::Begins(
+    Call::LockBit {
+        word: 2,
+        bit: 16,
+        state: DEEP,
+    },
+    Told::Begun,
+);
+
+const CLEARS_BIT: Deed = Deed::Begins(Call::ClearBit { word: 2, bit: 16 }, Told::Begun);
+
+const TAKES_PAGE: Deed = Deed::Begins(Call::TryBit { word: 5, bit: 0 }, Told::Took);
+
+const LOCKS_PAGE: Deed = Deed::Begins(
+    Call::LockPage {
+        page: 5,
+        state: KILLABLE,
+    },
+    Told::Begun,
+);
+
+const CLEARS_PAGE: Deed = Deed::Begins(Call::ClearBit { word: 5, bit: 0 }, Told::Begun);
+
 const HANDED_ON: Script = &[
-    (
-        Who::First,
-        Deed::Begins(Call::TryBit { word: 2, bit: 16 }, Told::Took),
-    ),
-    (
-        Who::Other,
-        Deed::Begins(
-            Call::LockBit {
-                word: 2,
-                bit: 16,
-                state: DEEP,
-            },
-            Told::Begun,
-        ),
-    ),
+    (Who::First, TAKES_BIT),
+    (Who::Other, LOCKS_BIT),
     (Who::Other, Deed::Dozes),
-    (
-        Who::First,
-        Deed::Begins(Call::ClearBit { word: 2, bit: 16 }, Told::Begun),
-    ),
+    (Who::First, CLEARS_BIT),
     (Who::First, Deed::Ends(End::Woke(1))),
     (Who::Other, Deed::Ends(End::Got)),
-    (
-        Who::Other,
-        Deed::Keeps {
-            word: 2,
-            bit: 16,
-            kept: true,
-        },
-    ),
-    (
-        Who::First,
-        Deed::Begins(Call::TryBit { word: 5, bit: 0 }, Told::Took),
-    ),
-    (
-        Who::Other,
-        Deed::Begins(
-            Call::LockPage {
-                page: 5,
-                state: KILLABLE,
-            },
-            Told::Begun,
-        ),
-    ),
+    (Who::Other, Deed::Keeps(2, 16, true)),
+    (Who::First, TAKES_PAGE),
+    (Who::Other, LOCKS_PAGE),
     (Who::Other, Deed::Dozes),
-    (
-        Who::First,
-        Deed::Begins(Call::ClearBit { word: 5, bit: 0 }, Told::Begun),
-    ),
+    (Who::First, CLEARS_PAGE),
     (Who::First, Deed::Ends(End::Woke(1))),
     (Who::Other, Deed::Ends(End::Got)),
     (
         Who::Other,
         Deed::Begins(Call::AddTally { page: 5, amount: 2 }, Told::Value(0)),
     ),
-    (
-        Who::First,
-        Deed::Keeps {
-            word: 5,
-            bit: 0,
-            kept: false,
-        },
-    ),
-    (
-        Who::Other,
-        Deed::Keeps {
-            word: 5,
-            bit: 0,
-            kept: true,
-        },
-    ),
+    (Who::First, Deed::Keeps(5, 0, false)),
+    (Who::Other, Deed::Keeps(5, 0, true)),
 ];
 
 /// A bit that its keeper clears is taken by the other one, who waited for it; and so is a page, whose tally the other

@@ -11,47 +11,6 @@ use wait_model::tasks::Taken;
 use wait_model::watches::Watch;
 use wq_checked::calls::Call;
 
-/// The calls about completion 3.
-const COMPLETES: Deed = Deed::Begins(
-    Call::Cell {
-        call: CellCall::Complete,
-        cell: 3,
-    },
-    Told::Begun,
-);
-
-const COMPLETES_ALL: Deed = Deed::Begins(
-    Call::Cell {
-        call: CellCall::CompleteAll,
-        cell: 3,
-    },
-    Told::Begun,
-);
-
-const REINITS: Deed = Deed::Begins(
-    Call::Cell {
-        call: CellCall::Reinit,
-        cell: 3,
-    },
-    Told::Begun,
-);
-
-const TRIES: Deed = Deed::Begins(
-    Call::Cell {
-        call: CellCall::TryWait,
-        cell: 3,
-    },
-    Told::Begun,
-);
-
-const ASKS: Deed = Deed::Begins(
-    Call::Cell {
-        call: CellCall::IsDone,
-        cell: 3,
-    },
-    Told::Begun,
-);
-
 /// A completion that is not there, and the first condition with a simple head.
 const NONE: u8 = COMPLETIONS as u8;
 
@@ -69,20 +28,20 @@ const WAITED_FOR_AND_MADE: Script = &[
         ),
     ),
     (Who::First, Deed::Dozes),
-    (Who::Other, ASKS),
+    (Who::Other, Deed::BeginsCell(CellCall::IsDone)),
     (Who::Other, Deed::Ends(End::Cell(false))),
-    (Who::Other, COMPLETES),
+    (Who::Other, Deed::BeginsCell(CellCall::Complete)),
     (Who::Other, Deed::Ends(End::Cell(true))),
     (Who::First, Deed::Ends(End::Waited)),
-    (Who::Other, TRIES),
+    (Who::Other, Deed::BeginsCell(CellCall::TryWait)),
     (Who::Other, Deed::Ends(End::Cell(false))),
-    (Who::Other, COMPLETES_ALL),
+    (Who::Other, Deed::BeginsCell(CellCall::CompleteAll)),
     (Who::Other, Deed::Ends(End::Cell(true))),
-    (Who::First, TRIES),
+    (Who::First, Deed::BeginsCell(CellCall::TryWait)),
     (Who::First, Deed::Ends(End::Cell(true))),
-    (Who::First, REINITS),
+    (Who::First, Deed::BeginsCell(CellCall::Reinit)),
     (Who::First, Deed::Ends(End::Cell(true))),
-    (Who::First, ASKS),
+    (Who::First, Deed::BeginsCell(CellCall::IsDone)),
     (Who::First, Deed::Ends(End::Cell(false))),
 ];
 
@@ -94,7 +53,7 @@ fn a_completion_is_waited_for_and_made(rt: HostRuntime) -> Result<(), Fail> {
 }
 
 const GIVEN_BACK: Alone = &[
-    COMPLETES,
+    Deed::BeginsCell(CellCall::Complete),
     Deed::Passes(Some(Watch::Done { cell: 3 })),
     Deed::Begins(
         Call::WaitFor {
@@ -104,7 +63,7 @@ const GIVEN_BACK: Alone = &[
         Told::Begun,
     ),
     Deed::Passes(Some(Watch::Done { cell: 3 })),
-    TRIES,
+    Deed::BeginsCell(CellCall::TryWait),
     Deed::Passes(None),
     Deed::Begins(
         Call::WaitBit {

@@ -8,6 +8,7 @@ use super::{MOST, begins, took};
 use std::alloc::{AllocError, Global};
 use std::process::Abort;
 use std::test::Fail;
+use test_tasks::draws::next_number;
 use wait_model::watches::Mode;
 use wq_checked::calls::{Answer, Call, Progress};
 use wq_checked::tasks::CheckedTask;
@@ -59,13 +60,6 @@ fn start(rt: &impl Abort, alloc: Global) -> Result<Players, AllocError> {
         second,
         kicker,
     })
-}
-
-/// The next number of a small generator.
-fn next_number(seed: u32) -> u32 {
-    let mixed = seed ^ seed.wrapping_shl(13);
-    let mixed = mixed ^ mixed.wrapping_shr(17);
-    mixed ^ mixed.wrapping_shl(5)
 }
 
 /// One stretch of a call that is not over, which is asked to leave or is not: its answer, once it is over.

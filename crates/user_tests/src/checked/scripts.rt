@@ -1,7 +1,8 @@
 //! Scripts of two tasks on one thread: what one of them does at a time, and what is to be seen of it.
 
-use super::{doze, finish, go_to_pass, refuses_to_go_on};
+use super::{begins, doze, finish, go_to_pass, refuses_to_go_on};
 use bit_wait::BitEnd;
+use completion_cell::cell_turns::CellCall;
 use std::alloc::{AllocError, Global};
 use std::process::Abort;
 use std::test::Fail;
@@ -66,6 +67,8 @@ pub(super) enum End {
 pub(super) enum Deed {
     /// It begins a call.
     Begins(Call, Told),
+    /// It begins one about completion 3.
+    BeginsCell(CellCall),
     /// It goes on with its call until it is put asleep.
     Dozes,
     /// It goes on with its call to the end.
@@ -76,8 +79,8 @@ pub(super) enum Deed {
     IsIdle,
     /// It makes no further task to which so many numbers are spare: its call is under way, or there are not as many.
     ForksNot { share: u8, busy: bool },
-    /// It keeps a bit, or does not.
-    Keeps { word: u8, bit: u8, kept: bool },
+    /// It keeps this bit of this word, or does not.
+    Keeps(u8, u8, bool),
     /// It has this number.
     HasNumber(u8),
 }
@@ -164,12 +167,13 @@ fn passes(task: &mut CheckedTask, watch: Option<Watch>) -> bool {
 fn does(task: &mut CheckedTask, deed: Deed) -> bool {
     match deed {
         Deed::Begins(call, told) => is_told(task.begin(call), told),
+        Deed::BeginsCell(call) => begins(task, Call::Cell { call, cell: 3 }),
         Deed::Dozes => doze(task),
         Deed::Ends(end) => is_end(finish(task), end),
         Deed::Passes(watch) => passes(task, watch),
         Deed::IsIdle => refuses_to_go_on(task),
         Deed::ForksNot { share, busy } => forks_not(task, share, busy),
-        Deed::Keeps { word, bit, kept } => task.keeps(word, bit) == kept,
+        Deed::Keeps(word, bit, kept) => task.keeps(word, bit) == kept,
         Deed::HasNumber(number) => task.number() == number,
     }
 }

@@ -102,63 +102,58 @@ fn plain_signal_stays_pending_over_a_killable_wait(rt: HostRuntime) -> Result<()
     play(&rt, rt.alloc(), PLAIN_STAYS)
 }
 
+/// A signal that rouses the other task: a plain one, and a fatal one.
+const ROUSES_OTHER: Deed = Deed::Begins(PLAIN_AT_OTHER, Told::Raised(Some(1)));
+
+const KILLS_OTHER: Deed = Deed::Begins(FATAL_AT_OTHER, Told::Raised(Some(1)));
+
+/// The calls about bit 5 of word 2, and about page 5.
+const TAKES_BIT: Deed = Deed::Begins(Call::TryBit { word: 2, bit: 5 }, Told::Took);
+
+const WAITS_FOR_BIT: Deed = Deed::Begins(
+    Call::WaitBit {
+        word: 2,
+        bit: 5,
+        state: LIGHT,
+    },
+    Told::Begun,
+);
+
+const LOCKS_BIT: Deed = Deed::Begins(
+    Call::LockBit {
+        word: 2,
+        bit: 5,
+        state: KILLABLE,
+    },
+    Told::Begun,
+);
+
+const TAKES_PAGE: Deed = Deed::Begins(Call::TryBit { word: 5, bit: 0 }, Told::Took);
+
+const LOCKS_PAGE: Deed = Deed::Begins(
+    Call::LockPage {
+        page: 5,
+        state: LIGHT,
+    },
+    Told::Begun,
+);
+
+const CLEARS_PAGE: Deed = Deed::Begins(Call::ClearBit { word: 5, bit: 0 }, Told::Begun);
+
 const BIT_WAITS: Script = &[
-    (
-        Who::First,
-        Deed::Begins(Call::TryBit { word: 2, bit: 5 }, Told::Took),
-    ),
-    (
-        Who::Other,
-        Deed::Begins(
-            Call::WaitBit {
-                word: 2,
-                bit: 5,
-                state: LIGHT,
-            },
-            Told::Begun,
-        ),
-    ),
+    (Who::First, TAKES_BIT),
+    (Who::Other, WAITS_FOR_BIT),
     (Who::Other, Deed::Dozes),
-    (
-        Who::First,
-        Deed::Begins(PLAIN_AT_OTHER, Told::Raised(Some(1))),
-    ),
+    (Who::First, ROUSES_OTHER),
     (Who::Other, Deed::Ends(End::Interrupted(32))),
     (Who::Other, TAKES_PLAIN),
-    (
-        Who::Other,
-        Deed::Begins(
-            Call::LockBit {
-                word: 2,
-                bit: 5,
-                state: KILLABLE,
-            },
-            Told::Begun,
-        ),
-    ),
+    (Who::Other, LOCKS_BIT),
     (Who::Other, Deed::Dozes),
     (Who::First, Deed::Begins(PLAIN_AT_OTHER, Told::Raised(None))),
-    (
-        Who::First,
-        Deed::Begins(FATAL_AT_OTHER, Told::Raised(Some(1))),
-    ),
+    (Who::First, KILLS_OTHER),
     (Who::Other, Deed::Ends(End::Interrupted(32))),
-    (
-        Who::First,
-        Deed::Keeps {
-            word: 2,
-            bit: 5,
-            kept: true,
-        },
-    ),
-    (
-        Who::Other,
-        Deed::Keeps {
-            word: 2,
-            bit: 5,
-            kept: false,
-        },
-    ),
+    (Who::First, Deed::Keeps(2, 5, true)),
+    (Who::Other, Deed::Keeps(2, 5, false)),
 ];
 
 /// A signal that its state admits ends a wait for a bit that has slept, and one to take it, which is killable, so that a
@@ -169,58 +164,17 @@ fn signals_end_waits_for_a_bit(rt: HostRuntime) -> Result<(), Fail> {
 }
 
 const PAGE_LOCK: Script = &[
-    (
-        Who::First,
-        Deed::Begins(Call::TryBit { word: 5, bit: 0 }, Told::Took),
-    ),
-    (
-        Who::Other,
-        Deed::Begins(
-            Call::LockPage {
-                page: 5,
-                state: LIGHT,
-            },
-            Told::Begun,
-        ),
-    ),
+    (Who::First, TAKES_PAGE),
+    (Who::Other, LOCKS_PAGE),
     (Who::Other, Deed::Dozes),
-    (
-        Who::First,
-        Deed::Begins(PLAIN_AT_OTHER, Told::Raised(Some(1))),
-    ),
+    (Who::First, ROUSES_OTHER),
     (Who::Other, Deed::Ends(End::Interrupted(1))),
-    (
-        Who::First,
-        Deed::Keeps {
-            word: 5,
-            bit: 0,
-            kept: true,
-        },
-    ),
-    (
-        Who::Other,
-        Deed::Keeps {
-            word: 5,
-            bit: 0,
-            kept: false,
-        },
-    ),
-    (
-        Who::First,
-        Deed::Begins(Call::ClearBit { word: 5, bit: 0 }, Told::Begun),
-    ),
+    (Who::First, Deed::Keeps(5, 0, true)),
+    (Who::Other, Deed::Keeps(5, 0, false)),
+    (Who::First, CLEARS_PAGE),
     (Who::First, Deed::Ends(End::None)),
     (Who::Other, TAKES_PLAIN),
-    (
-        Who::Other,
-        Deed::Begins(
-            Call::LockPage {
-                page: 5,
-                state: LIGHT,
-            },
-            Told::Begun,
-        ),
-    ),
+    (Who::Other, LOCKS_PAGE),
     (Who::Other, Deed::Ends(End::Got)),
 ];
 

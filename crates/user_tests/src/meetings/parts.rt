@@ -1,11 +1,15 @@
 //! The parts that tasks play.
 
 use crate::pipes::{full_pieces, streams};
-use crate::users::rounds::{complete_for_one, swait_for_zero, swake_twice, wait_for_permit};
-use crate::users::strangers::{change_once, see_change};
+use crate::users::rounds::swake_twice;
+use crate::users::strangers::{VALUE, change_once};
 use std::sync::Wait;
 use test_tasks::meetings;
+use wait_model::tasks::SleepState;
 use wait_rule::{Domain, Task};
+use wq_user::completions::{complete_one, wait_for_one};
+use wq_user::hashed::wait_until_changed;
+use wq_user::simple::swait;
 
 /// What a task does, which owes nothing before it and after it.
 #[derive(Clone, Copy)]
@@ -20,7 +24,7 @@ pub(crate) enum Part {
     UserWaits,
     /// It changes the variable of a user's tests.
     Changes,
-    /// It waits for that.
+    /// It waits for that, and sees the value of the tests.
     SeesChange,
     /// It sends the bytes of a stream in pieces.
     Sends { round: u32 },
@@ -36,11 +40,14 @@ impl meetings::Part for Part {
     fn play<R: Wait>(self, rt: &R, domain: &Domain, task: &mut Task) -> bool {
         match self {
             Part::UserSwakes { all } => swake_twice(rt, domain, task, all),
-            Part::UserSwaits => swait_for_zero(rt, domain, task),
-            Part::UserCompletes => complete_for_one(rt, domain, task),
-            Part::UserWaits => wait_for_permit(rt, domain, task),
+            Part::UserSwaits => swait(rt, domain, task),
+            Part::UserCompletes => {
+                complete_one(rt, domain, task);
+                true
+            }
+            Part::UserWaits => wait_for_one(rt, domain, task, SleepState::Uninterruptible),
             Part::Changes => change_once(rt, domain, task),
-            Part::SeesChange => see_change(rt, domain, task),
+            Part::SeesChange => wait_until_changed(rt, domain, task) == VALUE,
             Part::Sends { round } => streams::send(rt, domain, task, round),
             Part::Receives { round } => streams::receive(rt, domain, task, round),
             Part::SendsFull => full_pieces::send(rt, domain, task),

@@ -11,11 +11,10 @@ use crate::wants::all_so;
 use std::sync::Wait;
 use std::sync::atomic::{AtomicU64, Ordering};
 use std::test::Fail;
-use std::thread;
+use test_tasks::late::ask_two_late;
 use test_tasks::meetings::{Part, four_meet};
 use wait_leave::Until;
-use wait_model::watches::Mode;
-use wait_rule::{Domain, Task, wake_task};
+use wait_rule::{Domain, Task};
 
 /// How many rounds each test makes.
 const ROUNDS: u32 = 300;
@@ -163,12 +162,7 @@ fn ask<R: Wait>(
     ensures clean { IsClean task.new }
 {
     for time in 0..times {
-        for _ in 0..late.wrapping_add(time) % 9 {
-            thread::yield_now();
-        }
-        asked.fetch_add(1, Ordering::SeqCst);
-        wake_task(rt, domain, task, whom.0, Mode::Normal);
-        wake_task(rt, domain, task, whom.1, Mode::Normal);
+        ask_two_late(rt, domain, task, asked, whom, late.wrapping_add(time) % 9);
     }
     true
 }

@@ -9,10 +9,9 @@ use crate::wants::{all_so, another};
 use std::sync::Wait;
 use std::test::Fail;
 use test_tasks::meetings::{meet_two, two_meet};
-use wait_model::tasks::SleepState;
 use wait_rule::{Domain, Task};
 use wq_user::completions::{
-    complete_and_clear, complete_and_join, complete_one, take_and_join, take_one, wait_for_one,
+    complete_and_clear, complete_and_join, complete_one, take_and_join, take_one,
 };
 use wq_user::simple::{
     set_and_swake, set_and_swake_all, swait, swake, swake_and_join, swake_in_hold,
@@ -20,16 +19,6 @@ use wq_user::simple::{
 
 /// How many rounds each test in threads makes.
 const ROUNDS: u32 = 300;
-
-/// Waits in the simple queue: true where the condition was set.
-pub(crate) fn swait_for_zero<R: Wait>(rt: &R, domain: &Domain, task: &mut Task) -> bool
-    requires of { task.old.domain ≡ domain.now }
-    requires clean { IsClean task.old }
-    ensures of { task.new.domain ≡ domain.now }
-    ensures clean { IsClean task.new }
-{
-    swait(rt, domain, task)
-}
 
 /// Sets the condition and wakes the first or all, and wakes again with nothing more set.
 pub(crate) fn swake_twice<R: Wait>(rt: &R, domain: &Domain, task: &mut Task, all: bool) -> bool
@@ -44,27 +33,6 @@ pub(crate) fn swake_twice<R: Wait>(rt: &R, domain: &Domain, task: &mut Task, all
         set_and_swake(rt, domain, task);
     }
     swake(rt, domain, task);
-    true
-}
-
-/// Waits for the completion: true where it took one.
-pub(crate) fn wait_for_permit<R: Wait>(rt: &R, domain: &Domain, task: &mut Task) -> bool
-    requires of { task.old.domain ≡ domain.now }
-    requires clean { IsClean task.old }
-    ensures of { task.new.domain ≡ domain.now }
-    ensures clean { IsClean task.new }
-{
-    wait_for_one(rt, domain, task, SleepState::Uninterruptible)
-}
-
-/// Completes it for one.
-pub(crate) fn complete_for_one<R: Wait>(rt: &R, domain: &Domain, task: &mut Task) -> bool
-    requires of { task.old.domain ≡ domain.now }
-    requires clean { IsClean task.old }
-    ensures of { task.new.domain ≡ domain.now }
-    ensures clean { IsClean task.new }
-{
-    complete_one(rt, domain, task);
     true
 }
 

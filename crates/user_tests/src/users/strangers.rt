@@ -27,17 +27,7 @@ const ROUNDS: u32 = 300;
 const DEPTH: u8 = 20;
 
 /// What the variable is changed to.
-const VALUE: u64 = 7;
-
-/// Waits for the variable: true where it is the value of the tests.
-pub(crate) fn see_change<R: Wait>(rt: &R, domain: &Domain, task: &mut Task) -> bool
-    requires of { task.old.domain ≡ domain.now }
-    requires clean { IsClean task.old }
-    ensures of { task.new.domain ≡ domain.now }
-    ensures clean { IsClean task.new }
-{
-    wait_until_changed(rt, domain, task) == VALUE
-}
+pub(crate) const VALUE: u64 = 7;
 
 /// Looks at most 2^depth times whether both waiters stand at their head: true once they do.
 fn see_both<R: Wait>(rt: &R, domain: &Domain, task: &mut Task, depth: u8) -> bool

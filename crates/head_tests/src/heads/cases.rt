@@ -23,22 +23,8 @@ const AWAKE: Deed = Deed::Queues {
     asleep: false,
 };
 
-/// What a wake does in one hold: it wakes one exclusive waiter and has used up its count; it wakes one that is not
-/// exclusive; it wakes nobody, or calls nobody behind a page that is taken.
-const SPENT: Did = Did {
-    woken: 1,
-    selected: 1,
-    holds: 1,
-    end: End::Spent,
-};
-
-const FREE: Did = Did {
-    woken: 1,
-    selected: 0,
-    holds: 1,
-    end: End::End,
-};
-
+/// What a wake does in one hold: it wakes nobody, or calls nobody behind a page that is taken; it wakes one that is not
+/// exclusive.
 const NOBODY: Did = Did {
     woken: 0,
     selected: 0,
@@ -47,19 +33,47 @@ const NOBODY: Did = Did {
 };
 
 const STOPPED: Did = Did {
-    woken: 0,
-    selected: 0,
-    holds: 1,
     end: End::Stopped,
+    ..NOBODY
 };
 
-/// It wakes one plain and two exclusive waiters, and its count is not used up.
+const FREE: Did = Did { woken: 1, ..NOBODY };
+
+/// It wakes one exclusive waiter, and has used up its count; also with a plain waiter before it.
+const SPENT: Did = Did {
+    woken: 1,
+    selected: 1,
+    holds: 1,
+    end: End::Spent,
+};
+
+const BEHIND: Did = Did { woken: 2, ..SPENT };
+
+/// It wakes one plain and two exclusive waiters, and its count is not used up, or is.
 const ALL: Did = Did {
     woken: 3,
     selected: 2,
-    holds: 1,
-    end: End::End,
+    ..NOBODY
 };
+
+const ALL_SPENT: Did = Did {
+    end: End::Spent,
+    ..ALL
+};
+
+/// It hands a page to one, and ends at the next one who waits for it, or with the last entry; or it wakes another one
+/// before it.
+const HANDED: Did = Did {
+    end: End::Stopped,
+    ..SPENT
+};
+
+const HANDED_LAST: Did = Did {
+    end: End::End,
+    ..SPENT
+};
+
+const HANDED_BEHIND: Did = Did { woken: 2, ..ALL };
 
 const CASES: &[Case] = &[
     // Nobody is there, and the wake makes one hold.
@@ -74,28 +88,11 @@ const CASES: &[Case] = &[
     },
     Case {
         name: "counts_go_by_exclusive_waiters: 1",
-        script: &[
-            SHARED,
-            ONE,
-            ONE,
-            Deed::Wakes(What::Condition, 1, Did { woken: 2, ..SPENT }),
-        ],
+        script: &[SHARED, ONE, ONE, Deed::Wakes(What::Condition, 1, BEHIND)],
     },
     Case {
         name: "counts_go_by_exclusive_waiters: 2",
-        script: &[
-            SHARED,
-            ONE,
-            ONE,
-            Deed::Wakes(
-                What::Condition,
-                2,
-                Did {
-                    end: End::Spent,
-                    ..ALL
-                },
-            ),
-        ],
+        script: &[SHARED, ONE, ONE, Deed::Wakes(What::Condition, 2, ALL_SPENT)],
     },
     Case {
         name: "counts_go_by_exclusive_waiters: 3",
@@ -219,14 +216,7 @@ const CASES: &[Case] = &[
         script: &[
             Deed::QueuesForPage(Page::Five),
             Deed::QueuesForPage(Page::Five),
-            Deed::Wakes(
-                What::Page(Page::Five),
-                0,
-                Did {
-                    end: End::Stopped,
-                    ..SPENT
-                },
-            ),
+            Deed::Wakes(What::Page(Page::Five), 0, HANDED),
             Deed::Wakes(What::Page(Page::Five), 1, STOPPED),
         ],
     },
@@ -237,26 +227,10 @@ const CASES: &[Case] = &[
         script: &[
             Deed::LocksPageBit(Page::Seven),
             Deed::QueuesForPage(Page::Seven),
-            Deed::Wakes(
-                What::Page(Page::Seven),
-                0,
-                Did {
-                    woken: 2,
-                    selected: 2,
-                    holds: 1,
-                    end: End::End,
-                },
-            ),
+            Deed::Wakes(What::Page(Page::Seven), 0, HANDED_BEHIND),
             Deed::QueuesForPage(Page::Nine),
             Deed::LocksPageBit(Page::Nine),
-            Deed::Wakes(
-                What::Page(Page::Nine),
-                0,
-                Did {
-                    end: End::End,
-                    ..SPENT
-                },
-            ),
+            Deed::Wakes(What::Page(Page::Nine), 0, HANDED_LAST),
         ],
     },
 ];

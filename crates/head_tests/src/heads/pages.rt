@@ -8,12 +8,13 @@ ghost use Rattle.wq_head.specs.Readied.{IsUpAndIdle, IsReadyToCall, IsUpAndFree}
 
 use crate::heads::errands::{Errand, run_two};
 use crate::heads::scripts::Did;
-use crate::heads::sleepers::{sees_queued, yield_often};
+use crate::heads::sleepers::sees_queued;
 use crate::heads::strangers::{wake_for, wakes};
 use crate::wants::{all_so, another};
 use std::sync::Wait;
 use std::test::Fail;
 use std::thread;
+use test_tasks::late::yield_often;
 use wait_model::heads::head_of;
 use wait_model::layout::{HANDED, UNINTERRUPTIBLE};
 use wait_model::queues::End;

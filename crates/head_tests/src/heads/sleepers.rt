@@ -12,6 +12,7 @@ use std::sync::Wait;
 use std::test::Fail;
 use std::thread;
 use std::thread::Threads;
+use test_tasks::late::yield_often;
 use wait_model::layout::{RUNNING, UNINTERRUPTIBLE};
 use wait_model::watches::{Kind, Mode, Watch};
 use wait_rule::queues::{cond_load, entry_load, publish};
@@ -78,13 +79,6 @@ fn look_for_three(domain: &Domain, task: &mut Task, looks: u32)
         if one && two && three {
             return;
         }
-        thread::yield_now();
-    }
-}
-
-/// Lets other threads run.
-pub(crate) fn yield_often(count: u32) {
-    for _ in 0..count {
         thread::yield_now();
     }
 }

@@ -1,7 +1,7 @@
 //! The parts that tasks play.
 
 use crate::heads::tickets::holds;
-use crate::steps::parks::{sleeps, turns, wakes};
+use crate::steps::parks::{Round, go_rounds};
 use std::sync::Wait;
 use test_tasks::meetings;
 use wait_rule::{Domain, Task};
@@ -13,12 +13,8 @@ pub(crate) enum Part {
     Rests,
     /// It takes a head's lock and gives it back, again and again.
     Holds,
-    /// It sleeps again and again.
-    Sleeps,
-    /// It wakes a task again and again.
-    WakesOften { who: u8 },
-    /// It wakes two tasks in turn, and sleeps.
-    Turns { next: u8, last: u8, first: bool },
+    /// It sleeps and wakes others, again and again.
+    GoesRounds(Round),
 }
 
 impl meetings::Part for Part {
@@ -26,9 +22,7 @@ impl meetings::Part for Part {
         match self {
             Part::Rests => true,
             Part::Holds => holds(rt, domain, task),
-            Part::Sleeps => sleeps(rt, domain, task),
-            Part::WakesOften { who } => wakes(rt, domain, task, who),
-            Part::Turns { next, last, first } => turns(rt, domain, task, next, last, first),
+            Part::GoesRounds(round) => go_rounds(rt, domain, task, round),
         }
     }
 }

@@ -66,44 +66,6 @@ fn wake_up<R: Wait>(rt: &R, domain: &Domain, task: &mut Task, who: u8)
     unreachable!()
 }
 
-/// Sleeps in each round.
-pub(crate) fn sleeps<R: Wait>(rt: &R, domain: &Domain, task: &mut Task) -> bool
-    requires of { task.old.domain ≡ domain.now }
-    requires clean { IsClean task.old }
-    ensures of { task.new.domain ≡ domain.now }
-    ensures clean { IsClean task.new }
-{
-    for _ in 0..ROUNDS {
-        doze(rt, domain, task);
-    }
-    true
-}
-
-/// Wakes another task in each round.
-pub(crate) fn wakes<R: Wait>(rt: &R, domain: &Domain, task: &mut Task, who: u8) -> bool
-    requires of { task.old.domain ≡ domain.now }
-    requires clean { IsClean task.old }
-    ensures of { task.new.domain ≡ domain.now }
-    ensures clean { IsClean task.new }
-{
-    for _ in 0..ROUNDS {
-        wake_up(rt, domain, task, who);
-    }
-    true
-}
-
-/// A wake ends the sleep of a task whose waker has a thread of its own, between whatever steps of it the wake falls.
-#[test]
-fn sleeps_end(rt: HostRuntime) -> Result<(), Fail> {
-    for _ in 0..BATCHES {
-        let (domain, task) = Domain::with_looks(rt.alloc(), 0)?;
-        let parts = (Part::WakesOften { who: 1 }, Part::Sleeps);
-        let (_task, went) = two_meet(&rt, &domain, task, parts);
-        all_so(&rt, &went);
-    }
-    Ok(())
-}
-
 /// The one whose turn it is wakes another and sleeps. Any other sleeps until its turn comes.
 fn turn<R: Wait>(rt: &R, domain: &Domain, task: &mut Task, other: u8, first: bool)
     requires of { task.old.domain ≡ domain.now }
@@ -120,31 +82,64 @@ fn turn<R: Wait>(rt: &R, domain: &Domain, task: &mut Task, other: u8, first: boo
     }
 }
 
-/// In each round the turn goes round three tasks, and then round them the other way. So each of them is woken while
-/// each other one stays asleep.
-pub(crate) fn turns<R: Wait>(
-    rt: &R,
-    domain: &Domain,
-    task: &mut Task,
-    next: u8,
-    last: u8,
-    first: bool,
-) -> bool
+/// What a task does in each round.
+#[derive(Clone, Copy)]
+pub(crate) enum Round {
+    /// It sleeps.
+    Sleeps,
+    /// It wakes another task.
+    Wakes { who: u8 },
+    /// The turn goes round three tasks, and then round them the other way. So each of them is woken while each other one
+    /// stays asleep.
+    Turns { next: u8, last: u8, first: bool },
+}
+
+/// What a task does in one round.
+fn go_round<R: Wait>(rt: &R, domain: &Domain, task: &mut Task, round: Round)
+    requires of { task.old.domain ≡ domain.now }
+    requires clean { IsClean task.old }
+    ensures of { task.new.domain ≡ domain.now }
+    ensures clean { IsClean task.new }
+{
+    match round {
+        Round::Sleeps => doze(rt, domain, task),
+        Round::Wakes { who } => wake_up(rt, domain, task, who),
+        Round::Turns { next, last, first } => {
+            turn(rt, domain, task, next, first);
+            turn(rt, domain, task, last, first);
+        }
+    }
+}
+
+/// The same in each round.
+pub(crate) fn go_rounds<R: Wait>(rt: &R, domain: &Domain, task: &mut Task, round: Round) -> bool
     requires of { task.old.domain ≡ domain.now }
     requires clean { IsClean task.old }
     ensures of { task.new.domain ≡ domain.now }
     ensures clean { IsClean task.new }
 {
     for _ in 0..ROUNDS {
-        turn(rt, domain, task, next, first);
-        turn(rt, domain, task, last, first);
+        go_round(rt, domain, task, round);
     }
     true
 }
 
+/// A wake ends the sleep of a task whose waker has a thread of its own, between whatever steps of it the wake falls.
+#[test]
+fn sleeps_end(rt: HostRuntime) -> Result<(), Fail> {
+    for _ in 0..BATCHES {
+        let (domain, task) = Domain::with_looks(rt.alloc(), 0)?;
+        let wakes = Part::GoesRounds(Round::Wakes { who: 1 });
+        let parts = (wakes, Part::GoesRounds(Round::Sleeps));
+        let (_task, went) = two_meet(&rt, &domain, task, parts);
+        all_so(&rt, &went);
+    }
+    Ok(())
+}
+
 /// The part of one of the three.
 fn in_turn(next: u8, last: u8, first: bool) -> Part {
-    Part::Turns { next, last, first }
+    Part::GoesRounds(Round::Turns { next, last, first })
 }
 
 /// A thread parks on the word of its own task, and a wake of that task wakes it.

@@ -54,34 +54,27 @@ fn fall_asleep<R: Abort>(rt: &R, domain: &Domain, task: &mut Task, call: &mut Do
     next
 }
 
-/// It was given a permit, and is left then: whether it took that.
-fn left_with_a_permit<R: Abort + Wait>(
-    rt: &R,
-    domain: &Domain,
-    task: &mut Task,
-    waiter: &mut Task,
-) -> bool
-    requires of { (task.old.domain ≡ domain.now) × (waiter.old.domain ≡ domain.now) }
-    requires clean { IsClean task.old × IsClean waiter.old }
+/// Gives back a permit, or only wakes this task: whether that went so.
+fn wake_waiter<R: Wait>(rt: &R, domain: &Domain, task: &mut Task, who: u8, gives: bool) -> bool
+    requires of { task.old.domain ≡ domain.now }
+    requires clean { IsClean task.old }
     ensures of { task.new.domain ≡ domain.now }
     ensures clean { IsClean task.new }
 {
-    let mut call = begin_down(waiter, CELL, SleepState::Uninterruptible);
-    let next = fall_asleep(rt, domain, waiter, &mut call);
-    let gave = up(rt, domain, task, CELL).is_ok();
-    if !woke(domain, waiter, &call, next) {
-        panic!(rt; "it was woken")
+    if gives {
+        up(rt, domain, task, CELL).is_ok()
+    } else {
+        wake_task(rt, domain, task, who, Mode::Normal)
     }
-    let end = leave_down(rt, domain, waiter, &mut call, next);
-    gave && matches!(end, Until::Over(Ok(())))
 }
 
-/// It was woken with no permit, and is left then: whether it was left with the count found 0.
-fn left_with_none<R: Abort + Wait>(
+/// It was given a permit or woken with none, and is left then: whether it took that, or was left with the count found 0.
+fn is_left<R: Abort + Wait>(
     rt: &R,
     domain: &Domain,
     task: &mut Task,
     waiter: &mut Task,
+    gives: bool,
 ) -> bool
     requires of { (task.old.domain ≡ domain.now) × (waiter.old.domain ≡ domain.now) }
     requires clean { IsClean task.old × IsClean waiter.old }
@@ -90,12 +83,17 @@ fn left_with_none<R: Abort + Wait>(
 {
     let mut call = begin_down(waiter, CELL, SleepState::Uninterruptible);
     let next = fall_asleep(rt, domain, waiter, &mut call);
-    let woken = wake_task(rt, domain, task, waiter.number(), Mode::Normal);
+    let woken = wake_waiter(rt, domain, task, waiter.number(), gives);
     if !woke(domain, waiter, &call, next) {
         panic!(rt; "it was woken")
     }
     let end = leave_down(rt, domain, waiter, &mut call, next);
-    woken && matches!(end, Until::Left { seen: 0 })
+    woken
+        && if gives {
+            matches!(end, Until::Over(Ok(())))
+        } else {
+            matches!(end, Until::Left { seen: 0 })
+        }
 }
 
 /// A `down` that is left takes the permit that it was given, and none is counted then.
@@ -103,7 +101,7 @@ fn left_with_none<R: Abort + Wait>(
 fn left_down_takes_the_permit_that_it_was_given(rt: HostRuntime) -> Result<(), Fail> {
     let (domain, mut task) = Domain::new(rt.alloc())?;
     let mut waiter = another(&rt, &domain, &mut task);
-    let took = left_with_a_permit(&rt, &domain, &mut task, &mut waiter);
+    let took = is_left(&rt, &domain, &mut task, &mut waiter, true);
     let none = !tries(&rt, &domain, &mut task, CELL);
     all_so(&rt, &[took, none]);
     Ok(())
@@ -114,7 +112,7 @@ fn left_down_takes_the_permit_that_it_was_given(rt: HostRuntime) -> Result<(), F
 fn left_down_has_taken_its_entry_off(rt: HostRuntime) -> Result<(), Fail> {
     let (domain, mut task) = Domain::new(rt.alloc())?;
     let mut waiter = another(&rt, &domain, &mut task);
-    let left = left_with_none(&rt, &domain, &mut task, &mut waiter);
+    let left = is_left(&rt, &domain, &mut task, &mut waiter, false);
     let gave = gives(&rt, &domain, &mut task, CELL).is_ok();
     let one = tries(&rt, &domain, &mut task, CELL);
     let two = tries(&rt, &domain, &mut task, CELL);

@@ -5,18 +5,17 @@ ghost use Rattle.std.specs.Prelude.{◌≡◌, ◌<◌};
 ghost use Rattle.wait_model.specs.declared.layout.TheConstants.{COMPLETIONS};
 ghost use Rattle.wait_rule.specs.Says.{IsClean};
 
-use crate::calls::tries;
+use crate::calls::{takes, tries};
 use crate::wants::{all_so, another};
 use count_sem::{SemEnd, down, down_until, up};
 use std::sync::Wait;
 use std::sync::atomic::{AtomicU64, Ordering};
 use std::test::Fail;
-use std::thread;
+use test_tasks::late::{ask_late, signal_late, yield_often};
 use test_tasks::meetings::{Part, meet_four};
 use wait_leave::Until;
 use wait_model::tasks::SleepState;
-use wait_model::watches::Mode;
-use wait_rule::{Domain, Task, send_signal, wake_task};
+use wait_rule::{Domain, Task};
 
 /// How many rounds each test makes.
 const ROUNDS: u32 = 400;
@@ -65,7 +64,7 @@ pub(crate) enum Plays<'a> {
 impl Part for Plays<'_> {
     fn play<R: Wait>(self, rt: &R, domain: &Domain, task: &mut Task) -> bool {
         match self {
-            Plays::Takes => take(rt, domain, task),
+            Plays::Takes => takes(rt, domain, task, CELL, SleepState::Uninterruptible).is_ok(),
             Plays::TakesUnlessSignalled { took } => take_unless_signalled(rt, domain, task, took),
             Plays::TakesAndAsks {
                 flag,
@@ -78,29 +77,9 @@ impl Part for Plays<'_> {
             }
             Plays::Gives { late } => give_late(rt, domain, task, late),
             Plays::Signals { who, late } => signal_late(rt, domain, task, who, late),
-            Plays::Asks { flag, who, late } => {
-                yields(late);
-                ask(rt, domain, task, flag, who)
-            }
+            Plays::Asks { flag, who, late } => ask_late(rt, domain, task, flag, who, late),
         }
     }
-}
-
-/// Yields so often.
-fn yields(late: u32) {
-    for _ in 0..late {
-        thread::yield_now();
-    }
-}
-
-/// Takes a permit.
-fn take<R: Wait>(rt: &R, domain: &Domain, task: &mut Task) -> bool
-    requires of { task.old.domain ≡ domain.now }
-    requires clean { IsClean task.old }
-    ensures of { task.new.domain ≡ domain.now }
-    ensures clean { IsClean task.new }
-{
-    down(rt, domain, task, CELL, SleepState::Uninterruptible).is_ok()
 }
 
 /// Yields so often, and gives one back.
@@ -110,20 +89,8 @@ fn give_late<R: Wait>(rt: &R, domain: &Domain, task: &mut Task, late: u32) -> bo
     ensures of { task.new.domain ≡ domain.now }
     ensures clean { IsClean task.new }
 {
-    yields(late);
+    yield_often(late);
     up(rt, domain, task, CELL).is_ok()
-}
-
-/// Yields so often, and sends the signal.
-fn signal_late<R: Wait>(rt: &R, domain: &Domain, task: &mut Task, who: u8, late: u32) -> bool
-    requires of { task.old.domain ≡ domain.now }
-    requires clean { IsClean task.old }
-    ensures of { task.new.domain ≡ domain.now }
-    ensures clean { IsClean task.new }
-{
-    yields(late);
-    send_signal(rt, domain, task, who, false);
-    true
 }
 
 /// Takes a permit, unless a signal ends that.
@@ -146,18 +113,6 @@ fn take_unless_signalled<R: Wait>(
         Err(SemEnd::Interrupted) => true,
         Err(SemEnd::Worn { .. }) => false,
     }
-}
-
-/// Asks the task to leave, and wakes it.
-fn ask<R: Wait>(rt: &R, domain: &Domain, task: &mut Task, flag: &AtomicU64, who: u8) -> bool
-    requires of { task.old.domain ≡ domain.now }
-    requires clean { IsClean task.old }
-    ensures of { task.new.domain ≡ domain.now }
-    ensures clean { IsClean task.new }
-{
-    flag.store(1, Ordering::SeqCst);
-    wake_task(rt, domain, task, who, Mode::Normal);
-    true
 }
 
 /// Takes a permit, or leaves once it is asked: whether it took one.
@@ -199,7 +154,7 @@ fn take_and_ask<R: Wait>(
     ensures clean { IsClean task.new }
 {
     if take_until(rt, domain, task, flag, took) {
-        ask(rt, domain, task, other, who)
+        ask_late(rt, domain, task, other, who, 0)
     } else {
         true
     }

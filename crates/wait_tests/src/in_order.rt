@@ -14,7 +14,7 @@ use wait_rule::Domain;
 use wq_head::{lock, unlock, wake};
 
 /// Whether a walk of so many holds came to its end and woke nobody.
-fn met_nobody(walked: Walked, holds: u32) -> bool {
+pub(crate) fn met_nobody(walked: Walked, holds: u32) -> bool {
     walked.selected == 0
         && walked.woken == 0
         && walked.holds == holds

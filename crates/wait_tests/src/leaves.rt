@@ -1,7 +1,7 @@
 //! Waits that their tasks leave: by stretches, beside a waker of one and a second waiter by threads, and a pool that is shut
 //! down so.
 
-pub(crate) mod asking;
+mod conditions;
 mod holders;
 mod pool;
 mod stretches;

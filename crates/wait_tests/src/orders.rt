@@ -10,7 +10,7 @@ ghost use Rattle.wait_tests.specs.EventTasks.{IsReadyForEvent, IsTestedWait, IsW
 
 use crate::events::stretches::{is_over, set_and_wake_all};
 use crate::simple_queues::stretches::{COND, wake_waiters};
-use crate::turns::{go_on, next_number};
+use crate::turns::go_on;
 use crate::variables::alone::VAR;
 use crate::variables::stretches::{announce_value, has_found};
 use crate::wants::another;
@@ -19,6 +19,7 @@ use std::process::Abort;
 use std::sync::Wait;
 use std::test::Fail;
 use swait_queue::waits::begin_swait;
+use test_tasks::draws::next_number;
 use var_wait::waits::begin_var;
 use wait_class::stages::Turn;
 use wait_event::wait_events::begin_wait;

@@ -1,4 +1,4 @@
-//! One turn of a wait that others take turns with on one thread, and the numbers by which the order is drawn.
+//! One turn of a wait that others take turns with on one thread.
 
 ghost use Rattle.std.specs.Prelude.{◌≡◌};
 ghost use Rattle.wait_rule.specs.PassedLocks.{PassesNone};
@@ -76,11 +76,4 @@ pub(crate) fn go_often<C: Machine>(
         at = go_on(domain, task, run, at);
     }
     at
-}
-
-/// The next number of a small generator, by which the order of the turns is drawn.
-pub(crate) fn next_number(seed: u32) -> u32 {
-    let mixed = seed ^ seed.wrapping_shl(13);
-    let mixed = mixed ^ mixed.wrapping_shr(17);
-    mixed ^ mixed.wrapping_shl(5)
 }

@@ -6,9 +6,8 @@ ghost use Rattle.wait_rule.specs.Bits.{KeepsBitOf};
 ghost use Rattle.wq_head.specs.Readied.{IsUpAndIdle};
 ghost use Rattle.wait_tests.specs.BitTasks.{IsReadyForBit};
 
-use crate::bits::alone::{give, take};
-use crate::bits::rousing::rouse_and_go;
-use crate::turns::go_often;
+use crate::bits::alone::take;
+use crate::bits::rousing::play_order;
 use crate::wants::another;
 use bit_wait::lock_calls::begin_lock;
 use bit_wait::lock_waits::{LockOutcome, LockTest};
@@ -22,9 +21,6 @@ use wait_rule::{Domain, Task};
 /// How many orders are tried.
 const ORDERS: u32 = 400;
 
-/// How many turns the wait has at most before the bit is given back.
-const BEFORE: u32 = 12;
-
 /// Plays one order: whether the wait has ended with the bit taken, so that nobody else can take it.
 fn play<R: Wait>(rt: &R, domain: &Domain, holder: &mut Task, waiter: &mut Task, seed: u32) -> bool
     requires of { (holder.old.domain ≡ domain.now) × (waiter.old.domain ≡ domain.now) }
@@ -34,9 +30,7 @@ fn play<R: Wait>(rt: &R, domain: &Domain, holder: &mut Task, waiter: &mut Task, 
 {
     let mut run = begin_lock(waiter, 0, 0, SleepState::Uninterruptible);
     let begins = Turn::Again(Stage::Test(LockTest::First));
-    let at = go_often(domain, waiter, &mut run, begins, seed % BEFORE);
-    give(domain, holder, 0, 0);
-    let at = rouse_and_go(rt, domain, holder, waiter, &mut run, at, seed);
+    let at = play_order(rt, domain, holder, waiter, &mut run, begins, seed);
     let taken = !take(domain, holder, 0, 0);
     taken && matches!(at, Turn::Done(LockOutcome::Over))
 }

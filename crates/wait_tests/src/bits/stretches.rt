@@ -6,9 +6,8 @@ ghost use Rattle.wait_rule.specs.Bits.{KeepsBitOf};
 ghost use Rattle.wq_head.specs.Readied.{IsUpAndIdle};
 ghost use Rattle.wait_tests.specs.BitTasks.{IsReadyForBit};
 
-use crate::bits::alone::{give, take};
-use crate::bits::rousing::rouse_and_go;
-use crate::turns::go_often;
+use crate::bits::alone::take;
+use crate::bits::rousing::play_order;
 use crate::wants::another;
 use bit_wait::wait_calls::begin_bit;
 use bit_wait::waits::{BitOutcome, BitTest};
@@ -22,9 +21,6 @@ use wait_rule::{Domain, Task};
 /// How many orders are tried.
 const ORDERS: u32 = 400;
 
-/// How many turns the wait has at most before the bit is given back.
-const BEFORE: u32 = 12;
-
 /// Plays one order: whether the wait has ended with its bit clear.
 fn play<R: Wait>(rt: &R, domain: &Domain, holder: &mut Task, waiter: &mut Task, seed: u32) -> bool
     requires of { (holder.old.domain ≡ domain.now) × (waiter.old.domain ≡ domain.now) }
@@ -34,9 +30,7 @@ fn play<R: Wait>(rt: &R, domain: &Domain, holder: &mut Task, waiter: &mut Task, 
 {
     let mut run = begin_bit(waiter, 0, 0, SleepState::Uninterruptible);
     let begins = Turn::Again(Stage::Test(BitTest::First));
-    let at = go_often(domain, waiter, &mut run, begins, seed % BEFORE);
-    give(domain, holder, 0, 0);
-    let at = rouse_and_go(rt, domain, holder, waiter, &mut run, at, seed);
+    let at = play_order(rt, domain, holder, waiter, &mut run, begins, seed);
     matches!(at, Turn::Done(BitOutcome::Over))
 }
 

@@ -5,13 +5,12 @@ ghost use Rattle.std.specs.Prelude.{◌≡◌};
 ghost use Rattle.wait_rule.specs.Says.{IsClean};
 
 use crate::completions::calls::{complete, try_wait, wait_for};
-use crate::leaves::asking::ask_late;
 use crate::meetings::four_meet;
 use completion_cell::leaves::wait_for_until;
 use std::sync::Wait;
 use std::sync::atomic::{AtomicU64, Ordering};
 use std::test::Fail;
-use std::thread;
+use test_tasks::late::{ask_late, yield_often};
 use test_tasks::meetings::Part;
 use wait_leave::Until;
 use wait_model::tasks::SleepState;
@@ -63,9 +62,7 @@ fn complete_late<R: Wait>(rt: &R, domain: &Domain, task: &mut Task, late: u32) -
     ensures of { task.new.domain ≡ domain.now }
     ensures clean { IsClean task.new }
 {
-    for _ in 0..late {
-        thread::yield_now();
-    }
+    yield_often(late);
     complete(rt, domain, task, CELL);
     true
 }

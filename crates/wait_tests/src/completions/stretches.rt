@@ -3,13 +3,14 @@
 ghost use Rattle.std.specs.Prelude.{◌≡◌};
 ghost use Rattle.wait_tests.specs.CompletionTasks.{IsReadyForCell, MayComplete};
 
-use crate::turns::{go_on, next_number};
+use crate::turns::go_on;
 use completion_cell::asks::try_wait;
 use completion_cell::await_calls::begin_await;
 use completion_cell::awaits::{AwaitOutcome, AwaitStage, AwaitTurn};
 use completion_cell::completes::complete;
 use std::sync::Wait;
 use std::test::Fail;
+use test_tasks::draws::next_number;
 use wait_class::stages::Turn;
 use wait_model::tasks::SleepState;
 use wait_rule::{Domain, Task};

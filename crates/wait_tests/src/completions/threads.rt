@@ -4,29 +4,18 @@
 ghost use Rattle.std.specs.Prelude.{◌≡◌};
 ghost use Rattle.wait_rule.specs.Says.{IsClean};
 
-use crate::completions::calls::{complete, complete_all, is_done, reinit, try_wait, wait_for};
+use crate::completions::calls::{complete, complete_all, is_done, reinit, try_wait};
 use crate::meetings::{Part, four_meet};
 use crate::wants::all_so;
 use std::sync::Wait;
 use std::test::Fail;
-use wait_model::tasks::SleepState;
 use wait_rule::{Domain, Task};
 
 /// How many rounds the test makes.
 const ROUNDS: u32 = 300;
 
 /// The completion of the tests.
-const CELL: u8 = 2;
-
-/// Waits for the completion: true where it took one.
-pub(crate) fn take_one<R: Wait>(rt: &R, domain: &Domain, task: &mut Task) -> bool
-    requires of { task.old.domain ≡ domain.now }
-    requires clean { IsClean task.old }
-    ensures of { task.new.domain ≡ domain.now }
-    ensures clean { IsClean task.new }
-{
-    wait_for(rt, domain, task, CELL, SleepState::Uninterruptible)
-}
+pub(crate) const CELL: u8 = 2;
 
 /// Completes it three times.
 pub(crate) fn complete_thrice<R: Wait>(rt: &R, domain: &Domain, task: &mut Task) -> bool

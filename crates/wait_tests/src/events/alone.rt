@@ -4,6 +4,7 @@ ghost use Rattle.std.specs.Prelude.{◌≡◌, ◌<◌};
 ghost use Rattle.wait_model.specs.declared.layout.TheConstants.{FIRST_SIMPLE};
 ghost use Rattle.wait_tests.specs.EventTasks.{IsReadyForEvent};
 
+use crate::in_order::met_nobody;
 use crate::wants::all_so;
 use std::sync::Wait;
 use std::test::Fail;
@@ -13,7 +14,7 @@ use wait_event::prepares::{
     Prepared, finish_wait, prepare_event, prepare_exclusive, prepare_to_wait,
 };
 use wait_event::wait_events::wait_event;
-use wait_model::queues::{End, Form};
+use wait_model::queues::Form;
 use wait_model::tasks::{How, SleepState};
 use wait_model::watches::{Kind, Mode, Watch};
 use wait_rule::{Domain, Task};
@@ -127,13 +128,7 @@ fn prepares_of_one_task(rt: HostRuntime) -> Result<(), Fail> {
 fn set_before_the_wait(rt: HostRuntime) -> Result<(), Fail> {
     let (domain, mut task) = Domain::new(rt.alloc())?;
     let walked = set_and_wake(&rt, &domain, &mut task, 0, 1, Mode::Normal, 1);
-    let seen = [
-        walked.selected == 0,
-        walked.woken == 0,
-        walked.holds == 1,
-        matches!(walked.end, End::End),
-    ];
-    all_so(&rt, &seen);
+    assert!(rt; met_nobody(walked, 1));
     let how = How {
         state: SleepState::Interruptible,
         exclusive: true,

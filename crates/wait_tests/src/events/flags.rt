@@ -5,13 +5,13 @@ ghost use Rattle.std.specs.Prelude.{◌≡◌, MatchBool, None};
 ghost use Rattle.wait_rule.specs.Says.{IsClean, told_of};
 ghost use Rattle.wait_tests.specs.EventTasks.{IsCleanHearer, IsHearer};
 
+use crate::in_order::met_nobody;
 use crate::meetings::{Part, two_meet};
-use crate::wants::all_so;
 use std::sync::Wait;
 use std::test::Fail;
 use wait_event::entries::{add_entry, remove_entry};
 use wait_event::woken_waits::wait_woken;
-use wait_model::queues::{End, Form, Walked};
+use wait_model::queues::{Form, Walked};
 use wait_model::tasks::SleepState;
 use wait_model::watches::{Kind, Mode, Watch};
 use wait_rule::queues::cond_load;
@@ -95,13 +95,7 @@ fn woken_before_the_sleep(rt: HostRuntime) -> Result<(), Fail> {
     let (domain, mut task) = Domain::new(rt.alloc())?;
     if enter(&rt, &domain, &mut task) {
         let walked = wake_all(&rt, &domain, &mut task);
-        let seen = [
-            walked.selected == 0,
-            walked.woken == 0,
-            walked.holds == 1,
-            matches!(walked.end, End::End),
-        ];
-        all_so(&rt, &seen);
+        assert!(rt; met_nobody(walked, 1));
         hear_and_leave(&rt, &domain, &mut task);
         return Ok(());
     }

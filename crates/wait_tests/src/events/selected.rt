@@ -9,7 +9,6 @@ use std::sync::Wait;
 use std::test::Fail;
 use wait_event::wait_events::{WaitEnd, wait_event};
 use wait_model::tasks::{How, SleepState};
-use wait_rule::running::send_signal;
 use wait_rule::{Domain, Task};
 
 /// How many rounds the test makes.
@@ -37,17 +36,6 @@ fn is_not_lost(end: &Result<(), WaitEnd>) -> bool {
         Err(WaitEnd::Signal { seen, selected: _ }) => *seen == 0,
         Err(WaitEnd::Worn { head: _, place: _ }) => false,
     }
-}
-
-/// Sends a task a plain signal.
-pub(crate) fn signal<R: Wait>(rt: &R, domain: &Domain, task: &mut Task, who: u8) -> bool
-    requires of { task.old.domain ≡ domain.now }
-    requires clean { IsClean task.old }
-    ensures of { task.new.domain ≡ domain.now }
-    ensures clean { IsClean task.new }
-{
-    send_signal(rt, domain, task, who, false);
-    true
 }
 
 /// Whenever the signal comes, the wait ends with its condition set, or by the signal with the condition not set; and

@@ -7,8 +7,9 @@ ghost use Rattle.wq_head.specs.Turns.{WakeRests};
 ghost use Rattle.wait_tests.specs.EventTasks.{IsReadyForEvent, IsTestedWait, IsWaker};
 
 use crate::events::stretches::is_over;
-use crate::turns::{go_on, next_number};
+use crate::turns::go_on;
 use std::test::Fail;
+use test_tasks::draws::next_number;
 use test_tasks::ends::end_both;
 use wait_class::stages::Turn;
 use wait_event::wait_events::begin_wait;

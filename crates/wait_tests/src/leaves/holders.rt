@@ -8,7 +8,6 @@ ghost use Rattle.wait_rule.specs.Says.{IsClean};
 ghost use Rattle.bit_wait.specs.Holders.{IsHolder};
 
 use crate::bits::alone::{lock, unlock};
-use crate::leaves::asking::ask_late;
 use crate::meetings::four_meet;
 use crate::pages::alone::{give, take};
 use bit_wait::lock_calls::wait_on_bit_lock;
@@ -22,6 +21,7 @@ use std::sync::atomic::{AtomicU64, Ordering};
 use std::test::Fail;
 use std::thread;
 use std::thread::Threads;
+use test_tasks::late::ask_late;
 use test_tasks::meetings::Part;
 use wait_leave::Until;
 use wait_model::tasks::SleepState;

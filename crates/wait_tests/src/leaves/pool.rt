@@ -4,11 +4,12 @@
 ghost use Rattle.std.specs.Prelude.{◌≡◌};
 ghost use Rattle.wait_rule.specs.Says.{IsClean};
 
-use crate::leaves::asking::{ask_late, set_one, take};
+use crate::leaves::conditions::{set_one, take};
 use crate::meetings::four_meet;
 use std::sync::Wait;
 use std::sync::atomic::{AtomicU64, Ordering};
 use std::test::Fail;
+use test_tasks::late::ask_late;
 use test_tasks::meetings::Part;
 use wait_event::{WaitUntil, wait_event, wait_event_until};
 use wait_model::tasks::{How, SleepState};

@@ -4,14 +4,14 @@
 ghost use Rattle.std.specs.Prelude.{◌≡◌};
 ghost use Rattle.wait_rule.specs.Says.{IsClean};
 
-use crate::leaves::asking::{ask_late, set_one, take};
+use crate::leaves::conditions::{set_one, take};
 use crate::meetings::two_meet;
 use crate::wants::{all_so, another};
 use std::sync::Wait;
 use std::sync::atomic::{AtomicU64, Ordering};
 use std::test::Fail;
-use std::thread;
 use swait_queue::{swait_event_until, swake_one};
+use test_tasks::late::{ask_late, yield_often};
 use test_tasks::meetings::{Part, meet_four};
 use var_wait::wait_var_until;
 use wait_event::{WaitEnd, WaitUntil, set_and_wake, wait_event, wait_event_until};
@@ -82,9 +82,7 @@ fn set_late<R: Wait>(rt: &R, domain: &Domain, task: &mut Task, late: u32) -> boo
     ensures of { task.new.domain ≡ domain.now }
     ensures clean { IsClean task.new }
 {
-    for _ in 0..late {
-        thread::yield_now();
-    }
+    yield_often(late);
     set_one(rt, domain, task, 0, 1);
     true
 }

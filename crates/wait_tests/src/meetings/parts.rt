@@ -2,18 +2,22 @@
 
 use crate::bits::lock_threads::take_turns;
 use crate::bits::tallies;
-use crate::completions::threads::{complete_thrice, take_one};
+use crate::completions::calls::wait_for;
+use crate::completions::threads::{CELL, complete_thrice};
 use crate::events::flags::hear_until_set;
 use crate::events::parts::{see_by_turns, wait_by_turns};
-use crate::events::selected::{signal, wait_exclusive};
+use crate::events::selected::wait_exclusive;
 use crate::events::threads::{set_condition, wait_for_condition};
 use crate::pages::threads::add_often;
-use crate::signals::threads::{lock_in_vain, wait_killable, wake_then_signal};
+use crate::signals::threads::{lock_in_vain, wake_then_signal};
 use crate::simple_queues::threads::swake_all_or_two;
 use crate::variables::threads::{announce_twice, wait_twice};
 use std::sync::Wait;
+use test_tasks::late::signal_late;
 use test_tasks::meetings;
+use wait_model::tasks::SleepState;
 use wait_rule::{Domain, Task};
+use wq_user::events::wait_for_zero;
 use wq_user::simple::swait;
 
 /// What a task does, which owes nothing before it and after it.
@@ -69,15 +73,17 @@ impl meetings::Part for Part {
             Part::Waits => wait_for_condition(rt, domain, task),
             Part::WaitsByTurns => wait_by_turns(rt, domain, task),
             Part::WaitsExclusively => wait_exclusive(rt, domain, task),
-            Part::Signals { who } => signal(rt, domain, task, who),
+            Part::Signals { who } => signal_late(rt, domain, task, who, 0),
             Part::Hears => hear_until_set(rt, domain, task),
-            Part::WaitsKillable { is_set } => wait_killable(rt, domain, task, is_set),
+            Part::WaitsKillable { is_set } => {
+                wait_for_zero(rt, domain, task, SleepState::Killable) == is_set
+            }
             Part::WakesThenSignals { who, fatal } => wake_then_signal(rt, domain, task, who, fatal),
             Part::LocksInVain => lock_in_vain(rt, domain, task),
             Part::Swakes { all } => swake_all_or_two(rt, domain, task, all),
             Part::Swaits => swait(rt, domain, task),
             Part::CompletesThrice => complete_thrice(rt, domain, task),
-            Part::TakesOne => take_one(rt, domain, task),
+            Part::TakesOne => wait_for(rt, domain, task, CELL, SleepState::Uninterruptible),
             Part::AnnouncesTwice => announce_twice(rt, domain, task),
             Part::WaitsTwice => wait_twice(rt, domain, task),
             Part::SeesByTurns => see_by_turns(rt, domain, task),

@@ -6,6 +6,7 @@ ghost use Rattle.wait_model.specs.declared.watches.Watch.TheVariants as watch;
 ghost use Rattle.wait_rule.specs.Says.{IsClean};
 ghost use Rattle.bit_wait.specs.Holders.{IsHolder};
 
+use crate::in_order::met_nobody;
 use crate::wants::{all_so, another};
 use bit_wait::BitEnd;
 use page_lock::tallies::add_tally;
@@ -13,7 +14,7 @@ use page_lock::unlocks::unlock_page;
 use page_lock::wait_calls::lock_page;
 use std::sync::Wait;
 use std::test::Fail;
-use wait_model::queues::{End, Walked};
+use wait_model::queues::Walked;
 use wait_model::tasks::SleepState;
 use wait_rule::running::send_signal;
 use wait_rule::{Domain, Task};
@@ -62,13 +63,7 @@ fn clear_page_is_taken_at_once(rt: HostRuntime) -> Result<(), Fail> {
         panic!(rt; "the page is clear")
     }
     let walked = give(&rt, &domain, &mut task, 1);
-    let seen = [
-        walked.selected == 0,
-        walked.woken == 0,
-        walked.holds == 0,
-        matches!(walked.end, End::End),
-    ];
-    all_so(&rt, &seen);
+    assert!(rt; met_nobody(walked, 0));
     Ok(())
 }
 

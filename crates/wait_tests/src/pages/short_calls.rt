@@ -1,11 +1,11 @@
 //! The calls that wait for nobody but the lock of a head: a page is taken, its tally added to, and the page given back.
 
+use crate::in_order::met_nobody;
 use crate::wants::{all_so, another};
 use page_lock::tallies::add_tally;
 use page_lock::tries::try_lock_page;
 use page_lock::unlocks::unlock_page;
 use std::test::Fail;
-use wait_model::queues::End;
 use wait_rule::Domain;
 
 /// The last page of all.
@@ -37,13 +37,7 @@ fn unlock_takes_no_lock_for_nobody(rt: HostRuntime) -> Result<(), Fail> {
         panic!(rt; "the page is clear")
     }
     let walked = unlock_page(&rt, &domain, &mut task, 1);
-    let seen = [
-        walked.selected == 0,
-        walked.woken == 0,
-        walked.holds == 0,
-        matches!(walked.end, End::End),
-    ];
-    all_so(&rt, &seen);
+    assert!(rt; met_nobody(walked, 0));
     Ok(())
 }
 

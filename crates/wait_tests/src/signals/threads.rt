@@ -16,23 +16,12 @@ use test_tasks::meetings::meet_two;
 use wait_model::tasks::SleepState;
 use wait_model::watches::Mode;
 use wait_rule::{Domain, Task, send_signal, wake_task};
-use wq_user::events::wait_for_zero;
 
 /// How many rounds each test makes.
 const ROUNDS: u32 = 300;
 
 /// The page.
 const PAGE: u8 = 3;
-
-/// Waits killable for condition 0: whether it was set, or not, as is wanted.
-pub(crate) fn wait_killable<R: Wait>(rt: &R, domain: &Domain, task: &mut Task, wanted: bool) -> bool
-    requires of { task.old.domain ≡ domain.now }
-    requires clean { IsClean task.old }
-    ensures of { task.new.domain ≡ domain.now }
-    ensures clean { IsClean task.new }
-{
-    wait_for_zero(rt, domain, task, SleepState::Killable) == wanted
-}
 
 /// Wakes task `who` until a wake has met it, in mid-wait, and raises a signal at it then.
 pub(crate) fn wake_then_signal<R: Wait>(

@@ -3,13 +3,14 @@
 ghost use Rattle.std.specs.Prelude.{◌≡◌};
 ghost use Rattle.wait_rule.specs.Says.{IsClean};
 
-use crate::wants::{all_so, another};
+use crate::in_order::met_nobody;
+use crate::wants::another;
 use std::sync::Wait;
 use std::test::Fail;
 use var_wait::publishes::publish_var_and_wake;
 use var_wait::waits::wait_var;
 use wait_event::wait_events::WaitEnd;
-use wait_model::queues::{End, Walked};
+use wait_model::queues::Walked;
 use wait_model::tasks::SleepState;
 use wait_rule::running::send_signal;
 use wait_rule::{Domain, Task};
@@ -64,13 +65,7 @@ fn store_and_wait<R: Wait>(
 fn nobody_is_walked_over(rt: HostRuntime) -> Result<(), Fail> {
     let (domain, mut task) = Domain::new(rt.alloc())?;
     let walked = announce(&rt, &domain, &mut task, 2);
-    let seen = [
-        walked.holds == 0,
-        walked.woken == 0,
-        walked.selected == 0,
-        matches!(walked.end, End::End),
-    ];
-    all_so(&rt, &seen);
+    assert!(rt; met_nobody(walked, 0));
     Ok(())
 }
 

@@ -236,11 +236,15 @@ expect "who proves finds what was built" 1 "" "left is false"
 expect_number "what was kept, of proofs that did not end" \
     "$(cat -- "$toy"/crates/{left,right}/out/incremental/work | xargs)" "written written"
 
-# While fewer crates are ready than there are jobs, one has a second job.
+# While fewer crates are ready than there are jobs, one has a second job, if it is large; the program is not.
+for name in lower left right; do
+    mkdir -p -- "$toy/crates/$name/specs"
+    seq 6000 >"$toy/crates/$name/specs/Many.antt"
+done
 : >"$work/calls"
 WAITQ_LANES=4 run "$stand_in"
 expect "four jobs" 0 "stand-in 5" "waitq: 1 of 4 proved, under way: left, right"
-expect_number "jobs" "$(sed -n 's/.*--jobs \([0-9]*\).*/\1/p' "$work/calls" | sort | xargs)" "1 2 2 2"
+expect_number "jobs" "$(sed -n 's/.*--jobs \([0-9]*\).*/\1/p' "$work/calls" | sort | xargs)" "1 1 2 2"
 
 write_program 6 7
 WAITQ_LANES=none run "$stand_in"

@@ -89,10 +89,33 @@ pub fn select_tries(
     ensures starved { IfErr result (λ failed. IsStarved failed) }
 {
     match find_queue(domain, task, head) {
-        FoundQueue::Empty => return Ok(0),
-        FoundQueue::Sole(stand) => return take_sole(domain, task, stand, rousing),
-        FoundQueue::Several => {}
+        FoundQueue::Empty => Ok(0),
+        FoundQueue::Sole(stand) => take_sole(domain, task, stand, rousing),
+        FoundQueue::Several => select_several(domain, task, head, most, rousing),
     }
+}
+
+/// The same where several are queued, of whom it makes a list: a function of its own, since a frame with room for the list
+/// costs who needs none.
+fn select_several(
+    domain: &Domain,
+    task: &mut Task,
+    head: u16,
+    most: u32,
+    rousing: &mut Rousing,
+) -> Result<u32, FailedTries>
+    requires of { task.old.domain ≡ domain.now }
+    requires up { IsUp task.old }
+    requires held { IsHolding task.old }
+    requires head { head ≡ task.old.at }
+    requires simple { FIRST_SIMPLE_HEAD ≤ head }
+    requires none { tasks_in rousing.old ≡ [] }
+    ensures selected { IfOk result (λ n. HasSelected task.old task.new most n) }
+    ensures hold { KeepsHold task.old task.new }
+    ensures rises { IfOk result (λ n. 0 < n → IsSimpleHold task.old → MayRise task.new true) }
+    ensures rouses { (start : Known) → IsRousing start task.old rousing.old → IsRousing start task.new rousing.new }
+    ensures starved { IfErr result (λ failed. IsStarved failed) }
+{
     let mut list = Members::new();
     members(domain, task, head, &mut list);
     let mut selected = 0;

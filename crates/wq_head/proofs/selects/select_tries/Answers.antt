@@ -1,13 +1,10 @@
-use Rattle.std.proofs.Common.{◌∙◌, ◌≡◌, ◌+◌, ◌<◌, ◌≤◌, ℕ, ap, sym, subst, inl, inr, length, List, arith}
+use Rattle.std.proofs.Common.{◌≡◌, ◌<◌, ◌≤◌, ℕ, ap, sym, subst, inl, inr, length, List, arith}
 use Rattle.std.proofs.Common.{slice_index_or, refl, true, Result, Ok, Err, IfOk, IfErr, MatchResult}
-use Rattle.std.proofs.lemmas.List.{length-map}
 use Rattle.wait_model.specs.declared.layout.TheConstants.{ENTRIES, FIRST_SIMPLE_HEAD}
 use Rattle.wait_model.specs.declared.queues.Member.{Member}
 use Rattle.wait_rule.specs.Known.{Known}
 use Rattle.wait_rule.specs.Shown.{shown_queue}
-use Rattle.wq_head.specs.declared.rousing.Rousing.{Rousing}
 use Rattle.wq_head.specs.Members.{member_of}
-use Rattle.wq_head.specs.Lists.{members_in, stand_in}
 use Rattle.wait_rule.specs.declared.tries.FailedTries.{FailedTries}
 use Rattle.wait_rule.specs.Queues.{MayRise}
 use Rattle.wait_rule.specs.Tried.{IsStarved}
@@ -19,15 +16,12 @@ use Rattle.wq_head.specs.Looks.{Looks}
 use Rattle.wq_head.specs.Selecting.{HasSelectedSole, IsFirstEntry}
 use Rattle.wq_head.specs.Selects.{EndsSelection, HasSelected, IsSimpleHold, KeepsHold, ShowsNoEntry}
 use Rattle.wq_head.proofs.FirstAndLast.{below_or}
-use Rattle.wq_head.specs.Roused.{IsRousing, tasks_in}
-use Rattle.wq_head.proofs.KeptHolds.{hold_carried, hold_holds, hold_on, hold_simple}
-use Rattle.wq_head.proofs.OneMoreLook.{looks_on}
+use Rattle.wq_head.proofs.KeptHolds.{hold_carried, hold_holds, hold_looks, hold_on, hold_simple}
+use Rattle.wq_head.proofs.OneMoreLook.{holding_on, looks_on}
 use Rattle.wq_head.proofs.RousedTasks.{none_looked, rousing_none, rousing_on}
 use Rattle.wq_head.proofs.SelectingHold.{InSelection, selection_starts, first_here, passes_mark, takes_entry}
-use Rattle.wq_head.proofs.SelectingHold.{selection_is, selection_rises, none_left, queue_few}
+use Rattle.wq_head.proofs.SelectingHold.{selection_is, selection_rises, none_left}
 use Rattle.wq_head.proofs.selects.select_tries.Goals as goal
-use Rattle.wq_head.proofs.selects.select_tries.Goals.{then-stand-lt-ENTRIES+in_ok-take_first+else-selected-most}
-use Rattle.wq_head.proofs.selects.select_tries.Goals.{else-stand-lt-ENTRIES}
 
 -- where nobody is queued
 pub returns-in-Empty : goal.returns-in-Empty
@@ -148,195 +142,44 @@ returns-in-Sole c =
       starved = sole_starves old mid s c.requires.held simple looks sole new r t;
     }
 
-pub loop-i-init : goal.loop-i-init
-loop-i-init c =
-    let l = c.members.ensures in
+-- where several are
+module _ (old mid : Known) (looks : Looks old mid) (new : Known) where
+  several_selects : (most : ℕ) (r : Result ℕ FailedTries) → IfOk r (λ (n : ℕ). HasSelected mid new most n)
+      → IfOk r (λ (n : ℕ). HasSelected old new most n)
+  several_selects most (Ok n) s = record {
+    seen = s.seen;
+    looks = looks_on old mid s.seen looks s.looks;
+    selects = s.selects;
+    whole = s.whole;
+    ends = s.ends;
+  }
+  several_selects most (Err failed) s = tt
+
+  several_rises : (r : Result ℕ FailedTries) → IfOk r (λ (n : ℕ). 0 < n → IsSimpleHold mid → MayRise new true)
+      → IfOk r (λ (n : ℕ). 0 < n → IsSimpleHold old → MayRise new true)
+  several_rises (Ok n) s = λ some was. s some (hold_simple old mid (hold_looks old mid looks) was)
+  several_rises (Err failed) s = tt
+
+pub select_several-requires-clause-held : goal.select_several-requires-clause-held
+select_several-requires-clause-held c = holding_on c.args.task.now c.find_queue.new.task c.in-Several.ensures.looks
+    c.requires.held
+
+pub returns-in-Several : goal.returns-in-Several
+returns-in-Several c =
     let old = c.args.task.now in
-    let new = c.members.new.task in
-    let looks = looks_on old c.find_queue.new.task new c.find_queue.ensures.looks l.looks in (
-      new,
-      l.queue,
-      selection_starts old new c.requires.held
-          (subst (λ (h : ℕ). FIRST_SIMPLE_HEAD ≤ h) c.requires.head c.requires.simple) looks l.whole l.stands,
-      λ some. omega arith,
-      rousing_on old old new c.args.rousing.now (none_looked old new looks)
-          (rousing_none old c.args.rousing.now c.requires.none),
-      (let none = ap length c.requires.none in omega (arith, none)),
-    )
-
-pub overflow_add-selected : goal.overflow_add-selected
-overflow_add-selected c =
-    let i = c.loop-i.invariant in
-    let inside = ap length (sym i.1) ∙ length-map (members_in c.members.new.into) stand_in in
-    let few = i.2.few in
-    let all = queue_few i.0 in
-    omega (arith, few, all, inside, c.loop-i-test.true, c.len-i-end.ensures)
-
-pub take_first-requires-clause-first : goal.take_first-requires-clause-first
-take_first-requires-clause-first c =
-    let i = c.loop-i.invariant in
-    let inside = ap length (sym i.1) ∙ length-map (members_in c.members.new.into) stand_in in
-    first_here c.args.task.now c.loop-i.task i.0 c.loop-i.i c.loop-i.selected i.2 c.stand-stand.result
-    (omega (arith, inside, c.loop-i-test.true, c.len-i-end.ensures))
-    (subst (λ (q : List Member). member_of c.stand-stand.result ≡ slice_index_or q c.loop-i.i
-    (member_of c.stand-stand.result)) i.1 c.stand-stand.ensures) c.if-stand-lt-ENTRIES.true
-
-pub loop-i-preserved : goal.loop-i-preserved
-loop-i-preserved c =
-    let i = c.loop-i.invariant in
-    let inside = ap length (sym i.1) ∙ length-map (members_in c.members.new.into) stand_in in
-    let in_queue : c.loop-i.i < length (shown_queue i.0) =
-    omega (arith, inside, c.loop-i-test.true, c.len-i-end.ensures) in
-    let here = subst (λ (q : List Member). member_of c.stand-stand.result ≡ slice_index_or q c.loop-i.i
-    (member_of c.stand-stand.result)) i.1 c.stand-stand.ensures in
-    let set = λ (t : Known) (n : ℕ) (at : c.if-stand-lt-ENTRIES.task ≡ t) (by : c.if-stand-lt-ENTRIES.selected ≡ n)
-    (h : InSelection c.args.task.now t i.0 (c.loop-i.i + 1) n).
-    subst (λ (k : Known). InSelection c.args.task.now k i.0 (c.loop-i.i + 1) c.if-stand-lt-ENTRIES.selected)
-    (sym at) (subst (λ (m : ℕ). InSelection c.args.task.now t i.0 (c.loop-i.i + 1) m) (sym by) h) in
-    let told = λ (t : Known) (r : Rousing) (at : c.if-stand-lt-ENTRIES.task ≡ t)
-    (by : c.if-stand-lt-ENTRIES.rousing ≡ r) (h : IsRousing c.args.task.now t r).
-    subst (λ (k : Known). IsRousing c.args.task.now k c.if-stand-lt-ENTRIES.rousing) (sym at)
-    (subst (λ (q : Rousing). IsRousing c.args.task.now t q) (sym by) h) in (
-      i.0,
-      i.1,
-      elim c.if-stand-lt-ENTRIES.branch [
-        | then-stand-lt-ENTRIES+in_ok-take_first+else-selected-most w ↦
-            set w.take_first.new.task (c.loop-i.selected + 1) w.task-is w.selected-is
-            (takes_entry c.args.task.now c.loop-i.task i.0 c.loop-i.i c.loop-i.selected i.2 c.stand-stand.result
-            in_queue here w.if-stand-lt-ENTRIES.true w.take_first.new.task w.in_ok-take_first.ensures.taken)
-        | else-stand-lt-ENTRIES w ↦
-            set c.loop-i.task c.loop-i.selected w.task-is w.selected-is
-            (passes_mark c.args.task.now c.loop-i.task i.0 c.loop-i.i c.loop-i.selected i.2 c.stand-stand.result
-            in_queue here (omega (arith, w.if-stand-lt-ENTRIES.false)))
-      ],
-      elim c.if-stand-lt-ENTRIES.branch [
-        | then-stand-lt-ENTRIES+in_ok-take_first+else-selected-most w ↦ λ some.
-            let was = i.3 some in omega (arith, was, w.if-selected-most.false, w.selected-is)
-        | else-stand-lt-ENTRIES w ↦ λ some. let was = i.3 some in omega (arith, was, w.selected-is)
-      ],
-      elim c.if-stand-lt-ENTRIES.branch [
-        | then-stand-lt-ENTRIES+in_ok-take_first+else-selected-most w ↦ told w.take_first.new.task w.take_first.new.rousing
-            w.task-is w.rousing-is (w.take_first.ensures.rouses.tells c.args.task.now i.4)
-        | else-stand-lt-ENTRIES w ↦ told c.loop-i.task c.loop-i.rousing w.task-is w.rousing-is i.4
-      ],
-      elim c.if-stand-lt-ENTRIES.branch [
-        | then-stand-lt-ENTRIES+in_ok-take_first+else-selected-most w ↦
-            let was = i.5 in
-            let more = w.take_first.ensures.rouses.room in
-            let by = ap (λ (r : Rousing). length (tasks_in r)) w.rousing-is in
-            omega (arith, was, more, by, w.selected-is)
-        | else-stand-lt-ENTRIES w ↦
-            let was = i.5 in
-            let by = ap (λ (r : Rousing). length (tasks_in r)) w.rousing-is in
-            omega (arith, was, by, w.selected-is)
-      ],
-    )
-
-pub returns-then-selected-most-clause-selected : goal.returns-then-selected-most-clause-selected
-returns-then-selected-most-clause-selected c =
-    let i = c.loop-i.invariant in
-    let inside = ap length (sym i.1) ∙ length-map (members_in c.members.new.into) stand_in in
-    let in_queue : c.loop-i.i < length (shown_queue i.0) =
-    omega (arith, inside, c.loop-i-test.true, c.len-i-end.ensures) in
-    let here = subst (λ (q : List Member). member_of c.stand-stand.result ≡ slice_index_or q c.loop-i.i
-    (member_of c.stand-stand.result)) i.1 c.stand-stand.ensures in
-    let h = takes_entry c.args.task.now c.loop-i.task i.0 c.loop-i.i c.loop-i.selected i.2 c.stand-stand.result
-    in_queue here c.if-stand-lt-ENTRIES.true c.take_first.new.task c.in_ok-take_first.ensures.taken in
-    selection_is c.args.task.now c.take_first.new.task i.0 (c.loop-i.i + 1) (c.loop-i.selected + 1) h c.args.most
-    (inl ((λ none. omega (arith, none, c.if-selected-most.true)), c.if-selected-most.true))
-
-pub returns-then-selected-most-clause-carries : goal.returns-then-selected-most-clause-carries
-returns-then-selected-most-clause-carries c =
-    hold_carried c.args.task.now c.take_first.new.task
-    (hold_on c.args.task.now c.loop-i.task c.take_first.new.task c.loop-i.invariant.2.keeps c.in_ok-take_first.ensures.taken.keeps)
-
-pub returns-then-selected-most-clause-keeps : goal.returns-then-selected-most-clause-keeps
-returns-then-selected-most-clause-keeps c =
-    hold_simple c.args.task.now c.take_first.new.task
-    (hold_on c.args.task.now c.loop-i.task c.take_first.new.task c.loop-i.invariant.2.keeps c.in_ok-take_first.ensures.taken.keeps)
-
-pub returns-then-selected-most-clause-rises : goal.returns-then-selected-most-clause-rises
-returns-then-selected-most-clause-rises c =
-    let i = c.loop-i.invariant in
-    let inside = ap length (sym i.1) ∙ length-map (members_in c.members.new.into) stand_in in
-    let in_queue : c.loop-i.i < length (shown_queue i.0) =
-    omega (arith, inside, c.loop-i-test.true, c.len-i-end.ensures) in
-    let here = subst (λ (q : List Member). member_of c.stand-stand.result ≡ slice_index_or q c.loop-i.i
-    (member_of c.stand-stand.result)) i.1 c.stand-stand.ensures in
-    let h = takes_entry c.args.task.now c.loop-i.task i.0 c.loop-i.i c.loop-i.selected i.2 c.stand-stand.result
-    in_queue here c.if-stand-lt-ENTRIES.true c.take_first.new.task c.in_ok-take_first.ensures.taken in
-    λ some simple. selection_rises c.args.task.now c.take_first.new.task i.0 (c.loop-i.i + 1) (c.loop-i.selected + 1) h
-    some (hold_simple c.args.task.now c.take_first.new.task h.keeps simple)
-
-pub returns-clause-selected : goal.returns-clause-selected
-returns-clause-selected c =
-    let i = c.loop-i.invariant in
-    let inside = ap length (sym i.1) ∙ length-map (members_in c.members.new.into) stand_in in
-    selection_is c.args.task.now c.loop-i.task i.0 c.loop-i.i c.loop-i.selected i.2 c.args.most
-    (inr (
-      none_left c.args.task.now c.loop-i.task i.0 c.loop-i.i c.loop-i.selected i.2
-          (omega (arith, inside, c.loop-i-test.false, c.len-i-end.ensures)),
-      i.3,
-    ))
-
-pub returns-clause-carries : goal.returns-clause-carries
-returns-clause-carries c = hold_carried c.args.task.now c.loop-i.task c.loop-i.invariant.2.keeps
-
-pub returns-clause-keeps : goal.returns-clause-keeps
-returns-clause-keeps c = hold_simple c.args.task.now c.loop-i.task c.loop-i.invariant.2.keeps
-
-pub returns-clause-rises : goal.returns-clause-rises
-returns-clause-rises c = λ some simple.
-    let i = c.loop-i.invariant in
-    selection_rises c.args.task.now c.loop-i.task i.0 c.loop-i.i c.loop-i.selected i.2 some
-    (hold_simple c.args.task.now c.loop-i.task i.2.keeps simple)
-
-pub returns-then-selected-most-clause-hold : goal.returns-then-selected-most-clause-hold
-returns-then-selected-most-clause-hold c = hold_on c.args.task.now c.loop-i.task c.take_first.new.task
-    c.loop-i.invariant.2.keeps c.in_ok-take_first.ensures.taken.keeps
-
-pub returns-clause-hold : goal.returns-clause-hold
-returns-clause-hold c = c.loop-i.invariant.2.keeps
-
--- whom it is to rouse
-pub take_first-requires-clause-room : goal.take_first-requires-clause-room
-take_first-requires-clause-room c =
-    let i = c.loop-i.invariant in
-    let inside = ap length (sym i.1) ∙ length-map (members_in c.members.new.into) stand_in in
-    let few = i.2.few in
-    let room = i.5 in
-    let all = queue_few i.0 in
-    omega (arith, few, room, all, inside, c.loop-i-test.true, c.len-i-end.ensures)
-
-pub returns-then-selected-most-clause-rouses : goal.returns-then-selected-most-clause-rouses
-returns-then-selected-most-clause-rouses c =
-    c.take_first.ensures.rouses.tells c.args.task.now c.loop-i.invariant.4
-
-pub returns-in_err-take_first-clause-rouses : goal.returns-in_err-take_first-clause-rouses
-returns-in_err-take_first-clause-rouses c = c.take_first.ensures.rouses.tells c.args.task.now c.loop-i.invariant.4
-
-pub returns-clause-rouses : goal.returns-clause-rouses
-returns-clause-rouses c = c.loop-i.invariant.4
-
--- where the tries of a wake failed
-pub returns-in_err-take_first-clause-hold : goal.returns-in_err-take_first-clause-hold
-returns-in_err-take_first-clause-hold c = hold_on c.args.task.now c.loop-i.task c.take_first.new.task
-    c.loop-i.invariant.2.keeps c.in_err-take_first.ensures.taken.1
-
-pub returns-in_err-take_first-clause-carries : goal.returns-in_err-take_first-clause-carries
-returns-in_err-take_first-clause-carries c =
-    hold_carried c.args.task.now c.take_first.new.task
-    (hold_on c.args.task.now c.loop-i.task c.take_first.new.task c.loop-i.invariant.2.keeps
-    c.in_err-take_first.ensures.taken.1)
-
-pub returns-in_err-take_first-clause-keeps : goal.returns-in_err-take_first-clause-keeps
-returns-in_err-take_first-clause-keeps c =
-    hold_simple c.args.task.now c.take_first.new.task
-    (hold_on c.args.task.now c.loop-i.task c.take_first.new.task c.loop-i.invariant.2.keeps
-    c.in_err-take_first.ensures.taken.1)
-
-pub returns-in_err-take_first-clause-held : goal.returns-in_err-take_first-clause-held
-returns-in_err-take_first-clause-held c =
-    hold_holds c.args.task.now c.take_first.new.task
-    (hold_on c.args.task.now c.loop-i.task c.take_first.new.task c.loop-i.invariant.2.keeps
-    c.in_err-take_first.ensures.taken.1) c.requires.held
+    let mid = c.find_queue.new.task in
+    let new = c.select_several.new.task in
+    let looks = c.in-Several.ensures.looks in
+    let s = c.select_several.ensures in
+    let keeps = hold_on old mid new (hold_looks old mid looks) s.hold in
+    record {
+      selected = several_selects old mid looks new c.args.most c.select_several.result s.selected;
+      held = hold_holds old new keeps c.requires.held;
+      hold = keeps;
+      keeps = hold_simple old new keeps;
+      rises = several_rises old mid looks new c.select_several.result s.rises;
+      carries = hold_carried old new keeps;
+      rouses = s.rouses old (rousing_on old old mid c.args.rousing.now (none_looked old mid looks)
+          (rousing_none old c.args.rousing.now c.requires.none));
+      starved = s.starved;
+    }

@@ -4,9 +4,10 @@ use Rattle.wait_rule.specs.Shown.{shown_queue}
 use Rattle.wq_head.specs.Lists.{members_in, stand_in}
 use Rattle.wq_head.specs.Roused.{IsRousing, tasks_in}
 use Rattle.wq_head.proofs.SelectingHold.{InSelection}
-use Rattle.wq_head.proofs.selects.select_tries.Given as goal
+use Rattle.wq_head.proofs.selects.select_several.Given as goal
 
 abbrev pub invariant-loop-i : goal.invariant-loop-i
 invariant-loop-i l = (found : Known) × (map stand_in (members_in l.list) ≡ shown_queue found)
     × InSelection l.fn.task l.task found l.i l.selected × (l.most ≢ 0 → l.selected < l.most)
-    × IsRousing l.fn.task l.task l.rousing × (length (tasks_in l.rousing) ≤ l.selected)
+    × ((start : Known) → IsRousing start l.fn.task l.fn.rousing → IsRousing start l.task l.rousing)
+    × (length (tasks_in l.rousing) ≤ l.selected)

@@ -54,6 +54,21 @@ both_parts true true true is = absurd (cc)
 both_parts true false c is = absurd (cc)
 both_parts false b c is = absurd (cc)
 
+false_not : false ≡ true → ⊥
+false_not e = cc
+
+called_not : (b : Bool) → b ≡ true → b ≡ false → ⊥
+called_not b was now = cc
+
+places_ordered : (p q : ℕ) → p < q → (is_sooner (Some p) (Some q) ≡ true) × (is_sooner (Some q) (Some p) ≡ false)
+places_ordered p q later = (grind (arith, nat_tests), grind (arith, nat_tests))
+
+from_ahead : (p q : ℕ) → nat_le p q ≡ true → p ≤ q
+from_ahead p q ahead = grind (arith, nat_tests)
+
+ahead_from : (p q r : ℕ) → p ≤ q → q ≤ r → nat_le p r ≡ true
+ahead_from p q r low later = grind (arith, nat_tests)
+
 -- the call of the entry at hand
 module _ (a : Aim) (k : Known) (v : ShownEntry) (w : Walking) (n : IsNextEntry a k w v) where
   abbrev pub rest_now : Aim
@@ -179,7 +194,7 @@ module _ (a : Aim) (k : Known) (v : ShownEntry) (w : Walking) (n : IsNextEntry a
       (calls.ahead v.member v.entry n.counts (shows_entry a k v w n) n.behind)
     where
       ahead_here : nat_le notes.from v.entry.place ≡ true
-      ahead_here = let low = calls.from in let later = n.behind in grind (arith, nat_tests, low, later)
+      ahead_here = ahead_from notes.from w.place v.entry.place calls.from n.behind
 
   -- another one that is due stands after it; where the walk is for a bit, no other slot of a task has an entry for it
   other_due : (y : ℕ) → y < ENTRIES → (y ≡ v.member → ⊥) → owner y ≡ owner v.member
@@ -212,17 +227,14 @@ module _ (a : Aim) (k : Known) (v : ShownEntry) (w : Walking) (n : IsNextEntry a
               apart (yes past_it) least = omega (arith, past_it)
               apart (no not_past) least = absurd (other (n.apart y e low is (omega (arith, not_past, least))))
           decide (no sooner) =
-              let from_low : notes.from ≤ e.place = grind (arith, nat_tests, ahead) in
-              let was = calls.before (of_bit (is_bit a.watch) refl) y e low is_shown sought from_low
-              (omega (arith, sooner)) in
-              let now = parts.1 in
-              absurd (cc)
+              absurd (called_not (notes.called y) (calls.before (of_bit (is_bit a.watch) refl) y e low is_shown sought
+              (from_ahead notes.from e.place ahead) (omega (arith, sooner))) parts.1)
 
       by : (l : Look) → view.hold.book y ≡ l
           → (e : Entry) × (view.hold.book y ≡ shown e) × (v.entry.place < e.place)
-      by unseen is = let clash = ap (is_ahead notes.from) (sym is) ∙ parts.0 in absurd (cc)
-      by off is = let clash = ap (is_ahead notes.from) (sym is) ∙ parts.0 in absurd (cc)
-      by elsewhere is = let clash = ap (is_ahead notes.from) (sym is) ∙ parts.0 in absurd (cc)
+      by unseen is = absurd (false_not (ap (is_ahead notes.from) (sym is) ∙ parts.0))
+      by off is = absurd (false_not (ap (is_ahead notes.from) (sym is) ∙ parts.0))
+      by elsewhere is = absurd (false_not (ap (is_ahead notes.from) (sym is) ∙ parts.0))
       by (shown e) is = (
         e,
         is,
@@ -238,9 +250,9 @@ module _ (a : Aim) (k : Known) (v : ShownEntry) (w : Walking) (n : IsNextEntry a
       → is_due view notes a.watch y ≡ true → (sooner_of v.member y ≡ true) × (sooner_of y v.member ≡ false)
   sooner_here y low other of_task due =
       let d = other_due y low other of_task due in
-      let later = d.2 in (
-        (λ i. is_sooner (look_place (n.shows i)) (look_place (d.1 i))) ∙ grind (arith, nat_tests, later),
-        (λ i. is_sooner (look_place (d.1 i)) (look_place (n.shows i))) ∙ grind (arith, nat_tests, later),
+      let ordered = places_ordered v.entry.place d.0.place d.2 in (
+        (λ i. is_sooner (look_place (n.shows i)) (look_place (d.1 i))) ∙ ordered.0,
+        (λ i. is_sooner (look_place (d.1 i)) (look_place (n.shows i))) ∙ ordered.1,
       )
 
   -- so it is the one that the wake calls

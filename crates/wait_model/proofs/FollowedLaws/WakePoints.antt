@@ -187,27 +187,32 @@ walks_home (next.Go (at.Walk p)) h = refl
 walks_home (next.Go p) h = absurd (cc)
 walks_home (next.Ends a) h = refl
 
+walk_home : (me : ℕ) (call : Call) (p : Point) (seen : Seen) → is_of_walk p ≡ true
+    → goes is_of_walk (program me call p seen).next ≡ true
+walk_home me call (at.Walk p) seen h = (walk_step (call_aim call) p seen).next
+walk_home me call p seen h = absurd (cc)
+
+select_home : (me : ℕ) (call : Call) (p : Point) (seen : Seen) → is_of_selection p ≡ true
+    → goes is_of_selection (program me call p seen).next ≡ true
+select_home me call (at.Select p) seen h = select_step call p seen
+select_home me call p seen h = absurd (cc)
+
+publisher_home : (me : ℕ) (call : Call) (p : Point) (seen : Seen) → is_of_publisher p ≡ true
+    → goes is_of_publisher (program me call p seen).next ≡ true
+publisher_home me call at.Publish seen h = refl
+publisher_home me call at.Active seen h = active_step call seen.members
+publisher_home me call (at.Walk p) seen h = walks_home _ (walk_step (call_aim call) p seen).next
+publisher_home me call p seen h = absurd (cc)
+
 -- each event leaves a call at home
 pub home_next : (me : ℕ) (call : Call) (p : Point) (seen : Seen) → is_at_home call p ≡ true
     → goes (is_at_home call) (program me call p seen).next ≡ true
-home_next me (calls.Wake c m n) (at.Walk p) seen h = (walk_step (call_aim (calls.Wake c m n)) p seen).next
-home_next me (calls.Wake c m n) p seen h = absurd (cc)
-home_next me (calls.SimpleWake c all) (at.Select p) seen h = select_step (calls.SimpleWake c all) p seen
-home_next me (calls.SimpleWake c all) p seen h = absurd (cc)
-home_next me (calls.Complete d) (at.Select p) seen h = select_step (calls.Complete d) p seen
-home_next me (calls.Complete d) p seen h = absurd (cc)
-home_next me (calls.CompleteAll d) (at.Select p) seen h = select_step (calls.CompleteAll d) p seen
-home_next me (calls.CompleteAll d) p seen h = absurd (cc)
-home_next me (calls.ClearBit w b) at.Publish seen h = refl
-home_next me (calls.ClearBit w b) at.Active seen h = active_step (calls.ClearBit w b) seen.members
-home_next me (calls.ClearBit w b) (at.Walk p) seen h =
-    walks_home _ (walk_step (call_aim (calls.ClearBit w b)) p seen).next
-home_next me (calls.ClearBit w b) p seen h = absurd (cc)
-home_next me (calls.SetVar v x) at.Publish seen h = refl
-home_next me (calls.SetVar v x) at.Active seen h = active_step (calls.SetVar v x) seen.members
-home_next me (calls.SetVar v x) (at.Walk p) seen h =
-    walks_home _ (walk_step (call_aim (calls.SetVar v x)) p seen).next
-home_next me (calls.SetVar v x) p seen h = absurd (cc)
+home_next me (calls.Wake c m n) p seen h = walk_home me (calls.Wake c m n) p seen h
+home_next me (calls.SimpleWake c all) p seen h = select_home me (calls.SimpleWake c all) p seen h
+home_next me (calls.Complete d) p seen h = select_home me (calls.Complete d) p seen h
+home_next me (calls.CompleteAll d) p seen h = select_home me (calls.CompleteAll d) p seen h
+home_next me (calls.ClearBit w b) p seen h = publisher_home me (calls.ClearBit w b) p seen h
+home_next me (calls.SetVar v x) p seen h = publisher_home me (calls.SetVar v x) p seen h
 home_next me call p seen h = anywhere (program me call p seen).next
   where
     anywhere : (x : Next) → goes (is_at_home call) x ≡ true

@@ -43,6 +43,9 @@ told es x e σ h = of_parts (parts ((view_of es).duty.owes e.watch σ) ((view_of
           (gone_not es e σ (gone (view_of es) x e) p.0);
     }
 
+from_zero : (n : ℕ) → (nat_le 0 n && true) ≡ true
+from_zero n = grind arith
+
 -- what is not passed is ahead
 ahead_of : (es : List Step) (x : ℕ) (e : Entry) (σ : ℕ) → Lacks is_mark es → (CalledNow es x e σ → ⊥)
     → (o : Option Walk) → (view_of es).walk ≡ o → AtFirst o
@@ -55,7 +58,7 @@ ahead_of es x e σ l none (Some w) is f = by (concerns w e.watch σ) refl (gone 
         → (not (concerns w e.watch σ) || (nat_le w.from e.place && not (gone (view_of es) x e))) ≡ true
     by false p g q = rw p refl
     by true p true q = absurd (none (called_now es x e σ w (locked_of es l (w, is)) is p (is_woken e.kind) (is_page e.kind) refl refl q))
-    by true p false q = rw (q, f) (grind arith)
+    by true p false q = rw (p, q, f) (from_zero e.place)
 
 told_back : (es : List Step) (x : ℕ) (e : Entry) (σ : ℕ) → Lacks is_mark es → Covering es x e σ
     → covers (view_of es) x e σ ≡ true

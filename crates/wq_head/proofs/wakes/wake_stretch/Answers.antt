@@ -1,9 +1,15 @@
 use Rattle.std.proofs.Common.{◌∙◌, ap, sym, refl, subst, arith}
+use Rattle.std.specs.Prelude.{ℕ, ◌≡◌}
 use Rattle.wait_model.specs.declared.watches.Aim.{Aim}
 use Rattle.wait_model.specs.Watches.{head_of}
 use Rattle.wait_rule.specs.declared.journal.Item.TheVariants as item
+use Rattle.wait_rule.specs.Known.{Known}
+use Rattle.wait_rule.specs.Says.{added}
+use Rattle.wq_head.specs.declared.wakes.WakeRun.{WakeRun}
+use Rattle.wq_head.specs.declared.wakes.WakeStage.{WakeStage}
+use Rattle.wq_head.specs.declared.wakes.WakeStage.TheVariants as stage
 use Rattle.wq_head.specs.Roused.{RousesNone}
-use Rattle.wq_head.specs.Turns.{InWalk}
+use Rattle.wq_head.specs.Turns.{InWalk, drawn_by}
 use Rattle.wq_head.specs.Walks.{IsFull, MayWake}
 use Rattle.wq_head.proofs.FullHeads.{head_small}
 use Rattle.wq_head.proofs.RousedTasks.{none_added, rousing_on, rousing_from, rousing_none}
@@ -46,6 +52,23 @@ returns-then-run-clause-rouses c =
     (subst (RousesNone d.new.task) (sym c.serving_load-run.ensures.step) (none_added d.new.task
     (item.Serving c.head_of-head.result c.serving_load-run.result) refl) ∙ d.ensures.rouses)
     (rousing_none c.args.task.now c.args.rousing.now c.requires.none)
+
+drawn_again : (old : Known) (r : WakeRun) (served : ℕ) (at : WakeStage) → drawn_by old r at
+    ≡ drawn_by old (record { aim = r.aim; ticket = r.ticket; served = served; walk = r.walk }) at
+drawn_again old r served stage.First = refl
+drawn_again old r served stage.FirstTurn = refl
+drawn_again old r served stage.Next = refl
+drawn_again old r served stage.NextTurn = refl
+
+pub returns-then-run-clause-refused : goal.returns-then-run-clause-refused
+returns-then-run-clause-refused c =
+    let d = c.draw_turn-at in
+    let served = c.serving_load-run.result in
+    let at_h = c.head_of-head.ensures ∙ ap (λ (a : Aim). head_of a.watch) (sym d.ensures.aim) in
+    let drawn = d.ensures.draws ∙ drawn_again c.args.task.now d.new.run served c.args.stage in record {
+      looked = c.serving_load-run.ensures.step ∙ (λ i. added (drawn i) (item.Serving (at_h i) served));
+      other = c.if-run.true;
+    }
 
 -- the ticket is served
 pub begin_hold-requires-clause-head : goal.begin_hold-requires-clause-head

@@ -54,6 +54,25 @@ use Rattle.wait_model.proofs.WaitLaws.WaitStages.{FitsStage}
 use Rattle.wait_model.proofs.WaitLaws.Waiters.{page_zone, fits_of}
 use Rattle.wait_model.proofs.WaitLaws.PageTurns.{A, flag_stays, no_zone, paging_locks}
 
+false_not : false ≡ true → ⊥
+false_not e = cc
+
+none_not : (n : ℕ) → (o : Option ℕ) → o ≡ None → o ≡ Some n → ⊥
+none_not n o is e = cc
+
+some_not : (it : Entry) (o : Option Entry) → o ≡ None → o ≡ Some it → ⊥
+some_not it o is e = cc
+
+abbrev is_unflag : Event → Bool
+is_unflag event.Unflag = true
+is_unflag _ = false
+
+unflags_not : (e : Event) → is_unflag e ≡ false → e ≡ event.Unflag → ⊥
+unflags_not e other is = false_not (sym other ∙ ap is_unflag is)
+
+try_parts : (p q who v x y : ℕ) → event.TasFor p who x ≡ event.TasFor q v y → (p ≡ q) × (who ≡ v)
+try_parts p q who v x y is = (cc, cc)
+
 -- the places at which a page may have been taken for the call that locks it
 abbrev pub may_hold : PagePoint → Bool
 may_hold (paging.Unlock false) = true
@@ -100,14 +119,14 @@ module _ (s : State) (me : ℕ) (g : Given) where
           → ((s.table.taken (own v) ≡ Some w) × (event.TasFor p who x ≡ event.Unflag → v ≢ me))
           ⊎ ((y : ℕ) × (event.TasFor p who x ≡ event.TasFor w v y)
           × (was_clear (page w) (value_of s.table.words (page w)) ≡ true))
-      by false q k = inl (k, λ z. absurd (cc))
+      by false q k = inl (k, λ z. absurd (unflags_not (event.TasFor p who x) refl z))
       by true q k = elim (put_case s.table.taken (own who) (Some p) (own v)) [
         | inl i ↦ inr (let z : Some p ≡ Some w = sym i.1 ∙ k in let y : p ≡ w = cc in (
           x,
           ap (λ (j : ℕ). event.TasFor j who x) y ∙ ap (λ (j : ℕ). event.TasFor w j x) (sym (own_one v who i.0)),
           subst (λ (j : ℕ). was_clear (page j) (value_of s.table.words (page j)) ≡ true) y q,
         ))
-        | inr i ↦ inl (sym i.1 ∙ k, λ z. absurd (cc))
+        | inr i ↦ inl (sym i.1 ∙ k, λ z. absurd (unflags_not (event.TasFor p who x) refl z))
       ]
   taken_or event.Unflag v w h = elim (put_case s.table.taken (own me) None (own v)) [
     | inl i ↦ absurd (let z : None ≡ Some w = sym i.1 ∙ h in cc)
@@ -116,11 +135,11 @@ module _ (s : State) (me : ℕ) (g : Given) where
   taken_or (event.Lock k) v w h = inl (
     sym (ap (λ (f : ℕ → Option ℕ). f (own v)) (looks_same (tables.next s.table me (step.Lock k g.walk
         (head_word (s.table.holder k) (s.table.spent k)))) s.table.entry me).taken) ∙ h,
-    λ z. absurd (cc),
+    λ z. absurd (unflags_not (event.Lock k) refl z),
   )
   taken_or (event.Active k hit) v w h = inl (
     sym (ap (λ (f : ℕ → Option ℕ). f (own v)) (peeks_same s.table s.table.entry me).taken) ∙ h,
-    λ z. absurd (cc),
+    λ z. absurd (unflags_not (event.Active k hit) refl z),
   )
   taken_or (event.Set c n) v w h = by (is_publishing g.watch (value_of s.table.words g.watch) n) h
     where
@@ -130,9 +149,9 @@ module _ (s : State) (me : ℕ) (g : Given) where
           → ((s.table.taken (own v) ≡ Some w) × (event.Set c n ≡ event.Unflag → v ≢ me))
           ⊎ ((x : ℕ) × (event.Set c n ≡ event.TasFor w v x)
           × (was_clear (page w) (value_of s.table.words (page w)) ≡ true))
-      by true k = inl (k, λ z. absurd (cc))
-      by false k = inl (k, λ z. absurd (cc))
-  taken_or e v w h = inl (h, λ z. absurd (cc))
+      by true k = inl (k, λ z. absurd (unflags_not (event.Set c n) refl z))
+      by false k = inl (k, λ z. absurd (unflags_not (event.Set c n) refl z))
+  taken_or e v w h = inl (h, λ z. absurd (unflags_not e refl z))
 
 -- only a walk at a page's entry tries one for another task
 abbrev is_try : Event → Bool
@@ -271,14 +290,14 @@ module _ (s : State) (n me : ℕ) (e : Event) (value : ℕ) (sound : IsSound s n
       → LocksPage (s.progress v) w × (tells_next np ≡ Some v) × (v ≢ me)
   tried w v x is cl now.Fresh at_q c = absurd c
   tried w v x is cl now.Idle at_q c = absurd c
-  tried w v x is cl (now.Open call (at.Page p)) at_q c = absurd (let z : false ≡ true =
-      sym (page_tries me call p (seen_by s me call (at.Page p))) ∙ ap is_try (sym c.0 ∙ is) in cc)
+  tried w v x is cl (now.Open call (at.Page p)) at_q c = absurd (false_not
+      (sym (page_tries me call p (seen_by s me call (at.Page p))) ∙ ap is_try (sym c.0 ∙ is)))
   tried w v x is cl (now.Open call (at.Walk (walking.Page staging.Hand k d))) at_q c =
-      absurd (let z : event.Handed d.who ≡ event.TasFor w v x = sym c.0 ∙ is in cc)
+      absurd (false_not (ap is_try (sym c.0 ∙ is)))
   tried w v x is cl (now.Open call (at.Walk (walking.Page staging.Wake k d))) at_q c =
-      absurd (let z : false ≡ true = ap is_try (sym c.0 ∙ is) in cc)
+      absurd (false_not (ap is_try (sym c.0 ∙ is)))
   tried w v x is cl (now.Open call (at.Walk (walking.Page staging.Off k d))) at_q c =
-      absurd (let z : event.Unqueue d.who ≡ event.TasFor w v x = sym c.0 ∙ is in cc)
+      absurd (false_not (ap is_try (sym c.0 ∙ is)))
   tried w v x is cl (now.Open call (at.Walk (walking.Page staging.Try k d))) at_q c =
       (locks (lent_at n (s.progress v) f.it w pg watch_is (sound.calls v) home), tells, apart)
     where
@@ -289,11 +308,14 @@ module _ (s : State) (n me : ℕ) (e : Event) (value : ℕ) (sound : IsSound s n
           ≡ event.TasFor w v x
       same_event = sym c.0 ∙ is
 
+      parts : (word_of (call_watch call) ≡ w) × (d.who ≡ v)
+      parts = try_parts (word_of (call_watch call)) w d.who v (flag (bit_at r (bit_of (call_watch call)))) x same_event
+
       who_is : d.who ≡ v
-      who_is = cc
+      who_is = parts.1
 
       word_is : word_of (call_watch call) ≡ w
-      word_is = cc
+      word_is = parts.0
 
       k_sound : IsSoundCall n (now.Open call (at.Walk (walking.Page staging.Try k d)))
       k_sound = subst (IsSoundCall n) at_q (sound.calls me)
@@ -323,8 +345,7 @@ module _ (s : State) (n me : ℕ) (e : Event) (value : ℕ) (sound : IsSound s n
 
       apart : v ≢ me
       apart q = let z = subst (λ (i : Progress). HomeAt i (Some f.it)) (ap s.progress q ∙ at_q) home in
-          let y : is_page f.it.kind ≡ false = standing_plain f.it.kind z in
-          let x : is_page f.it.kind ≡ true = pg in cc
+          false_not (sym (standing_plain f.it.kind z) ∙ pg)
 
       locks : LocksPage (s.progress v) w ⊎ (held_at (s.progress v) ≡ Some (head_of f.it.watch))
           → LocksPage (s.progress v) w
@@ -340,9 +361,9 @@ module _ (s : State) (n me : ℕ) (e : Event) (value : ℕ) (sound : IsSound s n
       tells = ap tells_next (ap (progress_after s me) at_q
           ∙ ap (λ (b : Bool). now.Open call (at.Walk (if b then walking.Stopped k else walking.Page staging.Hand k d)))
           missed) ∙ ap (λ (i : ℕ). Some i) who_is
-  tried w v x is cl (now.Open call p) at_q c = absurd (let z : false ≡ true =
-      sym (sober_tries (planned s me call p).event (program_apart call me (seen_by s me call p) p tt).event)
-      ∙ ap is_try (sym c.0 ∙ is) in cc)
+  tried w v x is cl (now.Open call p) at_q c = absurd (false_not
+      (sym (sober_tries (planned s me call p).event (program_apart call me (seen_by s me call p) p tt).event)
+      ∙ ap is_try (sym c.0 ∙ is)))
 
   -- who is told of its page
   told_on : (v w : ℕ) → (e ≡ event.Unflag → v ≢ me)
@@ -364,12 +385,12 @@ module _ (s : State) (n me : ℕ) (e : Event) (value : ℕ) (sound : IsSound s n
           (put_at (λ b. b ≡ true) s.table.flag (own d.who) true (own v) (λ _. refl)
           (λ ne. absurd (ne (sym (ap own y)))))
       tells t (now.Open call (at.Walk (walking.Page staging.Try k d))) at_q c =
-          absurd (let z : None ≡ Some v = sym (ap tells_next at_q) ∙ t in cc)
+          absurd (none_not v (tells_next (s.progress me)) (ap tells_next at_q) t)
       tells t (now.Open call (at.Walk (walking.Page staging.Wake k d))) at_q c =
-          absurd (let z : None ≡ Some v = sym (ap tells_next at_q) ∙ t in cc)
+          absurd (none_not v (tells_next (s.progress me)) (ap tells_next at_q) t)
       tells t (now.Open call (at.Walk (walking.Page staging.Off k d))) at_q c =
-          absurd (let z : None ≡ Some v = sym (ap tells_next at_q) ∙ t in cc)
-      tells t (now.Open call p) at_q c = absurd (let z : None ≡ Some v = sym (ap tells_next at_q) ∙ t in cc)
+          absurd (none_not v (tells_next (s.progress me)) (ap tells_next at_q) t)
+      tells t (now.Open call p) at_q c = absurd (none_not v (tells_next (s.progress me)) (ap tells_next at_q) t)
       tells t now.Idle at_q c = absurd c
       tells t now.Fresh at_q c = absurd c
 
@@ -384,7 +405,7 @@ module _ (s : State) (n me : ℕ) (e : Event) (value : ℕ) (sound : IsSound s n
           let f : IsHanding s.table.entry me (s.table.view h.0).hold.head =
           handing_of s.table.entry (s.table.view h.0) n h.0 me (s.progress h.0) (sound.placed h.0) (sound.calls h.0)
           (tells_hands (s.progress h.0) me h.1) in
-          absurd (let z : None ≡ Some f.it = sym none ∙ f.stands in cc)
+          absurd (some_not f.it (s.table.entry (own me)) none f.stands)
 
   own_locks : (w : ℕ) → s.table.taken (own me) ≡ Some w → (e ≡ event.Unflag → ⊥) → (q : Progress) → s.progress me ≡ q
       → LocksPage q w → Continues s me q e value → LocksPage np w

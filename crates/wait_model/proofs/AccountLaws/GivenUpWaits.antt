@@ -1,4 +1,5 @@
 -- A wait for a bit gives up only after a turn that a signal ended: what its latest events are at each place.
+use Rattle.std.proofs.lemmas.Bool.{both_ways}
 use Rattle.std.proofs.Common.{refl, sym, ◌∙◌, ap, arith, inl}
 use Rattle.std.proofs.lemmas.List.Elements.{All-nil, All-cons}
 use Rattle.std.specs.Prelude.{ℕ, ◌≡◌, ◌≢◌, Bool, true, false, not, ◌&&◌, if◌then◌else◌, is_some, List, [], ◌∷◌, Option}
@@ -253,7 +254,7 @@ module _ (s : State) (me : ℕ) (call : Call) (a : Account) where
     waits = w;
     turn = h;
     off = none;
-    last = λ k. absurd (let y : false ≡ true = sym l ∙ k in cc);
+    last = λ k. absurd (both_ways false refl (sym l ∙ k));
   })
 
   gives_off : (e d : Event) (p : Point) (b : Bool) → is_some (s.table.entry (own me)) ≡ b → is_bit_wait call ≡ true
@@ -297,7 +298,7 @@ module _ (s : State) (me : ℕ) (call : Call) (a : Account) where
       → PageTrailAt (now.Open call (at.Page paging.Last)) (s.table.flag (own me)) (a.trail me)
       → s.table.entry (own me) ≡ None → Gives (page_last b)
   gives_page true q l t none = gives_on _ _
-  gives_page false q l (inl z) none = absurd (let y : false ≡ true = sym q ∙ z in cc)
+  gives_page false q l (inl z) none = absurd (both_ways false refl (sym q ∙ z))
   gives_page false q l (inr t) none = λ z. inr (record { waits = l; turn = t; off = none; flag = refl })
 
   pub given_up : (p : Point) → IsFitted call p → FitsStage (now.Open call p) → IsBroken call p (a.trail me)

@@ -1,5 +1,7 @@
 -- A page that a walk took for a task is one that its open call locks, and whoever has not taken note of it is told of
 -- it.
+use Rattle.std.proofs.lemmas.Option.{none-some}
+use Rattle.std.proofs.lemmas.Bool.{both_ways}
 use Rattle.std.proofs.lemmas.Bool.Decides.{eqb_tells}
 use Rattle.std.proofs.Common.{refl, sym, ◌∙◌, ap, subst, arith, inl, inr}
 use Rattle.std.specs.Prelude.{ℕ, ◌≡◌, ◌≢◌, ◌+◌, ◌≤◌, ◌⊎◌, Bool, true, false, not, if◌then◌else◌, is_some, Option, Some}
@@ -129,7 +131,7 @@ module _ (s : State) (me : ℕ) (g : Given) where
         | inr i ↦ inl (sym i.1 ∙ k, λ z. absurd (unflags_not (event.TasFor p who x) refl z))
       ]
   taken_or event.Unflag v w h = elim (put_case s.table.taken (own me) None (own v)) [
-    | inl i ↦ absurd (let z : None ≡ Some w = sym i.1 ∙ h in cc)
+    | inl i ↦ absurd (none-some w (sym i.1 ∙ h))
     | inr i ↦ inl (sym i.1 ∙ h, λ _ q. i.0 (ap own q))
   ]
   taken_or (event.Lock k) v w h = inl (
@@ -245,7 +247,7 @@ module _ (s : State) (me : ℕ) (call : Call) where
   locks_next : (p : PagePoint) (w : ℕ) → LocksPage (now.Open call (at.Page p)) w → ((X p).event ≡ event.Unflag → ⊥)
       → (p ≡ paging.Last → s.table.flag (own me) ≡ true) → LocksPage (progress_at call (X p).next) w
   locks_next (paging.Unlock false) w l u f = (l.0, refl)
-  locks_next (paging.Unlock true) w l u f = absurd (let z : false ≡ true = l.1 in cc)
+  locks_next (paging.Unlock true) w l u f = absurd (both_ways false refl l.1)
   locks_next paging.State w l u f = (l.0, refl)
   locks_next paging.Flag w l u f = by (s.table.flag (own me)) (looks_in (state_in call))
     where
@@ -274,7 +276,7 @@ module _ (s : State) (me : ℕ) (call : Call) where
       by true z = (l.0, refl)
       by false z = absurd (cc)
   locks_next paging.Clear w l u f = absurd (u refl)
-  locks_next p w l u f = absurd (let z : false ≡ true = l.1 in cc)
+  locks_next p w l u f = absurd (both_ways false refl l.1)
 
 -- one event of a run
 module _ (s : State) (n me : ℕ) (e : Event) (value : ℕ) (sound : IsSound s n) (lent : ArePagesLent s) where

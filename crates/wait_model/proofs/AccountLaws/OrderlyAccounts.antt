@@ -1,4 +1,5 @@
 -- What an account that fits its state says of selections and of interrupted waits.
+use Rattle.std.proofs.lemmas.Bool.{both_ways}
 use Rattle.std.proofs.Common.{refl, sym, ◌∙◌, ap, subst, arith, inl, inr}
 use Rattle.std.specs.Prelude.{ℕ, ◌≡◌, ◌<◌, ◌≤◌, ◌≢◌, ◌⊎◌, Bool, true, false, if◌then◌else◌, is_some, List, Option, Some}
 use Rattle.std.specs.Prelude.{None}
@@ -97,7 +98,7 @@ chosen_below call (walking.Spent w) k h c = let b : w.selected ≤ count_of call
 
 -- a walk that goes on answers nothing
 goes_on : (x : Next) (w : Walked) → is_walk_end x ≡ false → x ≡ next.Ends (answer.Walk w) → ⊥
-goes_on x w h e = let z : false ≡ true = sym h ∙ ap is_walk_end e in cc
+goes_on x w h e = absurd (both_ways false refl (sym h ∙ ap is_walk_end e))
 
 entry_goes_on : (call : Call) (w : Walking) (c : CalledEntry) (j : Kind) (seen : Seen) (hit : Bool)
     → is_walk_end (call_entry (call_aim call) w c j seen hit).next ≡ false

@@ -1,4 +1,5 @@
 -- Accounts follow runs: turns that a signal ends, whom a walk has selected, and the signals of each task.
+use Rattle.std.proofs.lemmas.Bool.{both_ways}
 use Rattle.std.proofs.lemmas.Bool.Decides.{nat_tests, eqb_tells}
 use Rattle.std.proofs.Common.{refl, sym, ◌∙◌, ap, subst, arith, inl, inr}
 use Rattle.std.specs.Prelude.{ℕ, ◌≡◌, ◌≢◌, ◌+◌, ◌-◌, ◌<◌, ◌⊎◌, Bool, true, false, not, ◌&&◌, ◌==◌, if◌then◌else◌}
@@ -95,12 +96,12 @@ module _ (s : State) (me : ℕ) (call : Call) (trail : List Event) where
   Led e q = IsTurn call q me (e ∷ trail)
 
   turn_signalled : (c : Call) → IsLooking c trail → IsTurn c (signalled_at c) me (event.Look true ∷ trail)
-  turn_signalled (calls.WaitFor d st) (inl h) = absurd (let z : true ≡ false = h.0 in cc)
+  turn_signalled (calls.WaitFor d st) (inl h) = absurd (both_ways true h.0 refl)
   turn_signalled (calls.WaitFor d st) (inr h) = (h.1, ap (λ l. event.Look true ∷ l) h.2)
   turn_signalled calls.Remove (inl h) = (h.1, ap (λ l. event.Look true ∷ l) h.2)
-  turn_signalled calls.Remove (inr h) = absurd (let z : false ≡ true = h.0 in cc)
+  turn_signalled calls.Remove (inr h) = absurd (both_ways false refl h.0)
   turn_signalled c (inl h) = (h.1, ap (λ l. event.Look true ∷ l) h.2)
-  turn_signalled c (inr h) = absurd (let z : false ≡ true = h.0 in cc)
+  turn_signalled c (inr h) = absurd (both_ways false refl h.0)
 
   turn_prepared : (c : Call) (l : List Event) → IsTurn c (prepared_at c) me l
   turn_prepared (calls.WaitFor d st) l = tt

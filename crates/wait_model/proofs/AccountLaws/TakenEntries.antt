@@ -1,4 +1,5 @@
 -- What a selection from a simple queue has taken off: at each place of its call, and by its answer.
+use Rattle.std.proofs.lemmas.Bool.{both_ways}
 use Rattle.std.proofs.lemmas.Bool.Decides.{nat_tests}
 use Rattle.std.proofs.Common.{refl, sym, ◌∙◌, ap, arith}
 use Rattle.std.specs.Prelude.{ℕ, ◌≡◌, ◌+◌, ◌<◌, ◌≤◌, Bool, true, false, not, ◌&&◌, ◌==◌, if◌then◌else◌, is_some, pos}
@@ -254,7 +255,7 @@ module _ (s : State) (me : ℕ) (call : Call) (k : ℕ) where
       either Below (is_enough call i) _ _ (omega (arith, h.0)) (next_below i _ _ (omega (arith, h.0)))
   off_below (at.Select (selecting.Off i who)) h is c =
       let l : i ≤ count_of call = h.1 c in omega (arith, h.0)
-  off_below p h is c = absurd (let z : true ≡ false = sym is ∙ h in cc)
+  off_below p h is c = absurd (both_ways true (sym is ∙ h) refl)
 
 -- whether a call ends there, and what it answers then
 abbrev ends : Next → Bool
@@ -285,14 +286,14 @@ module _ (s : State) (me c : ℕ) (all : Bool) (k : ℕ) where
 
   next_told : (i : ℕ) (o : Option CalledEntry) (hit : Bool) → k ≡ i → Told (select_next call i o hit)
   next_told i None hit q x e = ended i x q e
-  next_told i (Some d) hit q x e = absurd (let z : false ≡ true = ap ends e in cc)
+  next_told i (Some d) hit q x e = absurd (both_ways false refl (ap ends e))
 
   pub off_told : (p : Point) (x : Answer) → TookOff call p k → (planned s me call p).next ≡ next.Ends x
       → x ≡ answer.Number (pos k)
-  off_told (at.Select selecting.Lock) x h e = absurd (let z : false ≡ true = ap ends e in cc)
-  off_told (at.Select selecting.Load) x h e = absurd (let z : false ≡ true = ap ends e in cc)
-  off_told (at.Select selecting.Store) x h e = absurd (let z : false ≡ true = ap ends e in cc)
+  off_told (at.Select selecting.Lock) x h e = absurd (both_ways false refl (ap ends e))
+  off_told (at.Select selecting.Load) x h e = absurd (both_ways false refl (ap ends e))
+  off_told (at.Select selecting.Store) x h e = absurd (both_ways false refl (ap ends e))
   off_told (at.Select (selecting.Next i)) x h e = either Told (is_enough call i) _ _ (λ y. ended i y h.0)
       (next_told i _ _ h.0) x e
-  off_told (at.Select (selecting.Off i who)) x h e = absurd (let z : false ≡ true = ap ends e in cc)
-  off_told p x h e = absurd (let z : true ≡ false = h in cc)
+  off_told (at.Select (selecting.Off i who)) x h e = absurd (both_ways false refl (ap ends e))
+  off_told p x h e = absurd (both_ways true h refl)

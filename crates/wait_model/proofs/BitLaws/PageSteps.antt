@@ -1,4 +1,5 @@
 -- The facts on pages that walks took for tasks, step by step.
+use Rattle.std.proofs.lemmas.Option.{none-some}
 use Rattle.std.proofs.Common.{refl, sym, ◌∙◌, ap, subst, arith, inl, inr}
 use Rattle.std.specs.Prelude.{ℕ, ◌≡◌, ◌≢◌, ◌⊎◌, Option, Some, None, Bool, true, false, cond, ◌&&◌, ◌||◌}
 use Rattle.wait_model.specs.declared.watches.Watch.{Watch}
@@ -205,7 +206,7 @@ unflag_pages s a y o k al = record {
   where
     was : (x q : ℕ) → put s.taken y None x ≡ Some q → (x ≢ y) × (s.taken x ≡ Some q)
     was x q h = elim (put_case s.taken y None x) [
-      | inl e ↦ absurd (let z : None ≡ Some q = sym e.1 ∙ h in cc)
+      | inl e ↦ absurd (none-some q (sym e.1 ∙ h))
       | inr e ↦ (e.0, sym e.1 ∙ h)
     ]
 

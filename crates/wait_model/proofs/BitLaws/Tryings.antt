@@ -1,4 +1,5 @@
 -- Whom the fold takes for trying a bit is who tries it plainly.
+use Rattle.std.proofs.lemmas.Bool.{both_ways}
 use Rattle.std.proofs.Common.{refl, ◌∙◌, ap, subst, arith, inl, inr}
 use Rattle.std.specs.Prelude.{ℕ, ◌≡◌, ◌⊎◌, Option, Some, None, Bool, true, false, cond, not, ◌&&◌, ◌||◌, ◌==◌, List}
 use Rattle.wait_model.specs.declared.watches.Watch.{Watch}
@@ -191,7 +192,7 @@ of_lost w b (step.Saw y f) v k = of_parts k.at y v.bits.stored w b (is_off (entr
     (v.bits.keeps (watch.Bit w b)) k.off k.queued k.unkept
 of_lost w b (step.Peek y f) v k = of_parts k.at y v.bits.stored w b (is_off (entry_of f))
     (v.bits.keeps (watch.Bit w b)) k.off k.queued k.unkept
-of_lost w b e v k = absurd (let z : false ≡ true = k.off in cc)
+of_lost w b e v k = absurd (both_ways false refl k.off)
 
 pending_found : (w b : ℕ) (es : List Step) → (view_of es).bits.pending (watch.Bit w b) ≡ true
     → IsUnanswered es w b
@@ -219,7 +220,7 @@ pending_found w b es h = by (seen_in (pending w b) (loses w b) (answers w b) (pe
     by : Seen (loses w b) (answers w b) blank es ⊎ ((false ≡ true) × Lacks (answers w b) es)
         → IsUnanswered es w b
     by (inl s) = at s (lost_of w b s.it (view_of s.earlier) s.sets)
-    by (inr q) = absurd (let z : false ≡ true = q.0 in cc)
+    by (inr q) = absurd (both_ways false refl q.0)
 
 -- what is not so
 not_true : (b : Bool) → (b ≡ true → ⊥) → b ≡ false

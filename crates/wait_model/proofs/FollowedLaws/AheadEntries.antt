@@ -1,5 +1,7 @@
 -- A walk that wakes whoever waits for a watch has each of them before it: behind its place no owner of an entry waits.
 -- This holds after each event of the walk's own, where the watch is set.
+use Rattle.std.proofs.lemmas.Option.{none-some}
+use Rattle.std.proofs.lemmas.Bool.{both_ways}
 use Rattle.std.proofs.Common.{refl, sym, ◌∙◌, ap, subst, arith, inl, inr}
 use Rattle.std.specs.Prelude.{ℕ, ◌≡◌, ◌≢◌, ◌+◌, ◌<◌, ◌≤◌, ◌⊎◌, ◌&&◌, Bool, true, false, if◌then◌else◌, Option, Some}
 use Rattle.std.specs.Prelude.{None}
@@ -121,8 +123,8 @@ pub walks_none_done : (call : Call) (on : Watch) → walks_for call on ≡ true 
 walks_none_done call on h d =
     let c : same on (call_watch call) ≡ true = both_right (is_walk call) (same on (call_watch call)) h in
     let e : on ≡ call_watch call = same_done_is on (call_watch call) d c in
-    let z : true ≡ false = sym d ∙ ap is_done e
-    ∙ walk_done call (both_left (is_walk call) (same on (call_watch call)) h) in cc
+    absurd (both_ways true (sym d ∙ ap is_done e
+    ∙ walk_done call (both_left (is_walk call) (same on (call_watch call)) h)) refl)
 
 -- a task whose word is lawful runs after a wake with the ordinary mask
 meets_normal : (v : ℕ) → (v ≡ INTERRUPTIBLE) ⊎ ((v ≡ UNINTERRUPTIBLE) ⊎ (v ≡ KILLABLE)) → meets NORMAL v ≡ true
@@ -139,7 +141,7 @@ woken_runs t l = by (meets NORMAL t.state) refl l.state
         → (if b then record t { state = RUNNING; runnable = true } else t).state ≡ 0
     by true h k = refl
     by false h (inl e) = e
-    by false h (inr k) = absurd (let z : true ≡ false = sym (meets_normal t.state k) ∙ h in cc)
+    by false h (inr k) = absurd (both_ways true (sym (meets_normal t.state k) ∙ h) refl)
 
 -- an entry whose watch's count is spent is for no page
 counted_kind : (c d : Watch) (k : Kind) → same c d ≡ true → counted d ≡ true → Suited c k → is_page k ≡ false
@@ -275,8 +277,8 @@ module _ (s : State) (n me : ℕ) (call : Call) (on : Watch) (sound : IsSound s 
       (λ y e i σ z stands ah. λ _. from_here y e stands z.watches ah),
       (λ y e i z stands ah. λ _. elim (turn y e stands z.watches ah) [
         | inl q ↦ absurd (let no : put s.table.flag (own d.who) true y ≡ false = z.quiet in
-            let k : true ≡ false = sym (put_same s.table.flag (own d.who) true)
-            ∙ ap (put s.table.flag (own d.who) true) (sym q) ∙ no in cc)
+            absurd (both_ways true (sym (put_same s.table.flag (own d.who) true)
+            ∙ ap (put s.table.flag (own d.who) true) (sym q) ∙ no) refl))
         | inr lt ↦ lt
       ]),
     )
@@ -293,7 +295,7 @@ module _ (s : State) (n me : ℕ) (call : Call) (on : Watch) (sound : IsSound s 
         (value_of s.table.words (call_watch call)) (call_watch call)
         (reads_value s.table.words sound.low (call_watch call) there.watch)
         (misses_fails (call_watch call) (value_of s.table.words (call_watch call)) fails) in
-        let z : true ≡ false = sym set ∙ ap (met s.table.words) one ∙ un in cc
+        absurd (both_ways true (sym set ∙ ap (met s.table.words) one ∙ un) refl)
 
     test_both : d.kind ≡ kind.Bit → (seen : Seen) → seen ≡ seen_by s me call (at.Walk (walking.Call w))
         → Both (walking.Call w) (tests (call_aim call) u d seen)
@@ -457,8 +459,8 @@ module _ (s : State) (n me : ℕ) (call : Call) (on : Watch) (sound : IsSound s 
       behind : (y : ℕ) (e : Entry) → put s.table.entry (own c.who) None y ≡ Some e → s.table.entry y ≡ Some e
           → same on e.watch ≡ true → c.place ≤ e.place → c.place + 1 ≤ e.place
       behind y e left stands watches ah = elim (turn y e stands watches ah) [
-        | inl is ↦ absurd (let off : None ≡ Some e = sym (put_same s.table.entry (own c.who) None)
-            ∙ ap (put s.table.entry (own c.who) None) (sym is) ∙ left in cc)
+        | inl is ↦ absurd (none-some e (sym (put_same s.table.entry (own c.who) None)
+            ∙ ap (put s.table.entry (own c.who) None) (sym is) ∙ left))
         | inr lt ↦ omega arith
       ]
 
@@ -495,8 +497,8 @@ module _ (s : State) (n me : ℕ) (call : Call) (on : Watch) (sound : IsSound s 
       (λ y e stands watches wo ah. ah) (counted_unpaged c (pl.flagged c refl) z.1)
   walk_both (walking.Bit w c) k pl z = off_both (walking.Bit w c) w c
       (meets (mask_of (mode_of call)) (s.table.task c.who).state) (flagged_turn c (pl.flagged c refl))
-      (λ y e stands watches wo ah. absurd (let no : true ≡ false = sym wo
-      ∙ (sound.kept.facts.suits y e stands).1 (same_bit e.watch (call_watch call) (key_of e watches) z.1) in cc))
+      (λ y e stands watches wo ah. absurd (both_ways true (sym wo
+      ∙ (sound.kept.facts.suits y e stands).1 (same_bit e.watch (call_watch call) (key_of e watches) z.1)) refl))
       (seen_unpaged c (pl.flagged c refl) z.3)
   walk_both (walking.Page st w c) k pl z = hands_both st w c (seen_by s me call (at.Walk (walking.Page st w c)))
       (flagged_turn c (pl.flagged c refl))

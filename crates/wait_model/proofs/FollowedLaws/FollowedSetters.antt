@@ -1,4 +1,6 @@
 -- From a publish on, whoever waits for a watch that stays set is before the setter's walk; after its wake nobody waits.
+use Rattle.std.proofs.lemmas.Option.{none-some}
+use Rattle.std.proofs.lemmas.Bool.{both_ways}
 use Rattle.std.proofs.Common.{refl, sym, ◌∙◌, ap, subst, arith, inl, inr}
 use Rattle.std.proofs.lemmas.Bool.Decides.{eqb_tells}
 use Rattle.std.specs.Prelude.{ℕ, ◌≡◌, ◌≢◌, ◌+◌, ◌<◌, ◌≤◌, true, false, Option, Some, None, List, [], ◌∷◌, ◌++◌}
@@ -111,7 +113,7 @@ away_ahead mark on place call (next.Ends a) h = tt
 -- a call whose walk is not for the watch
 other_ahead : (mark : Option Mark) (on : Watch) (place : ℕ) (call : Call) (x : Next) → walks_for call on ≡ false
     → IsFlagAhead mark (progress_at call x) on place
-other_ahead mark on place call (next.Go p) h = λ w. absurd (let z : true ≡ false = sym w ∙ h in cc)
+other_ahead mark on place call (next.Go p) h = λ w. absurd (both_ways true (sym w ∙ h) refl)
 other_ahead mark on place call (next.Ends a) h = tt
 
 start_ahead : (mark : Option Mark) (on : Watch) (place : ℕ) (call : Call)
@@ -390,7 +392,7 @@ module _ (me : ℕ) (on : Watch) where
         (g.sound.placed me).head ∙ ap held_at idle in
         let at : ((happens s (ran.Made me e found)).table.view me).hold.head ≡ Some (head_of on) =
         (g.sound.kept.facts.views me).zero.held on z.0 z.2 in
-        let q : None ≡ Some (head_of on) = sym out ∙ at in cc
+        absurd (none-some (head_of on) (sym out ∙ at))
 
     ended_zero : (t : ℕ) → FoundZero (happens s (ran.Made me e found)).table t on → ⊥
     ended_zero t z = elim (eqb_tells t me) [
@@ -417,7 +419,7 @@ module _ (me : ℕ) (on : Watch) where
             → Before (event_steps s me (given_by (s.progress me)) e) s.table me y g on i σ → ⊥
         by y g i σ (inl k) = gone.0 y g k.stands k.watches (ahead g.place (w.waits y g i σ k))
         by y g i σ (inr (inl u)) = unheard y g i u
-        by y g i σ (inr (inr d)) = let z : true ≡ false = sym d.1 ∙ stores_not in cc
+        by y g i σ (inr (inr d)) = absurd (both_ways true (sym d.1 ∙ stores_not) refl)
 
   -- a call that is opened
   opened_watched : (s : State) (t : ℕ) (call : Call) → IsWatched s → IsWatched (happens s (ran.Opened t call))

@@ -1,5 +1,6 @@
 -- While a watch is set nobody begins to wait for it: who waits after a step waited before it, or had loaded the watch
 -- before, as the owner of a Woken entry that finds its flag clear, or of an entry for a completion in its hold.
+use Rattle.std.proofs.lemmas.Bool.{both_ways}
 use Rattle.std.proofs.Common.{refl, sym, ◌∙◌, ap, subst, arith, inl, inr}
 use Rattle.std.specs.Prelude.{ℕ, zero, suc, ◌≡◌, ◌≢◌, ◌⊎◌, Option, Some, None, Bool, true, false, ◌&&◌, List, [], ◌∷◌}
 use Rattle.wait_model.specs.declared.layout.TheConstants.{ENTRIES}
@@ -50,7 +51,7 @@ abbrev pub Before : List Step → Table → ℕ → ℕ → Entry → Watch → 
 Before es s a x e on n σ = Waits s x e on n σ ⊎ (Unheard s x e on n ⊎ (FoundZero s a on × (has_store es ≡ true)))
 
 unmet_absurd : (w : Words) (on : Watch) (P : Type 0) → met w on ≡ true → met w on ≡ false → P
-unmet_absurd w on P h k = absurd (let z : true ≡ false = sym h ∙ k in cc)
+unmet_absurd w on P h k = absurd (both_ways true (sym h ∙ k) refl)
 
 module _ (s : Table) (a x : ℕ) (e : Entry) (on : Watch) (n σ : ℕ) (was : met s.words on ≡ true) where
   -- the store of the own state is no step of a wait for a page, which sleeps by its flag
@@ -185,7 +186,7 @@ module _ (s : Table) (a x : ℕ) (e : Entry) (on : Watch) (n σ : ℕ) (was : me
   ]
   unheard_before (step.Woken y) al z = elim (put_case s.flag y true x) [
     | inl q ↦ absurd (let is : (next s a (step.Woken y)).flag x ≡ false = z.quiet in
-        let no : true ≡ false = sym q.1 ∙ is in cc)
+        absurd (both_ways true (sym q.1 ∙ is) refl))
     | inr q ↦ back_unheard s a (step.Woken y) x e on n (λ h. h) (λ h. h) (λ h. sym q.1 ∙ h) (λ h. h) z
   ]
   unheard_before (step.Unflag y o) al z = elim (put_case s.flag y false x) [
@@ -195,7 +196,7 @@ module _ (s : Table) (a x : ℕ) (e : Entry) (on : Watch) (n σ : ℕ) (was : me
   ]
   unheard_before (step.Handed y) al z = elim (put_case s.flag y true x) [
     | inl q ↦ absurd (let is : (next s a (step.Handed y)).flag x ≡ false = z.quiet in
-        let no : true ≡ false = sym q.1 ∙ is in cc)
+        absurd (both_ways true (sym q.1 ∙ is) refl))
     | inr q ↦ back_unheard s a (step.Handed y) x e on n (λ h. h) (λ h. h) (λ h. sym q.1 ∙ h) (λ h. h) z
   ]
   unheard_before ev al z = back_unheard s a ev x e on n (λ q. q) (λ q. q) (λ q. q) (λ _. was) z

@@ -1,4 +1,5 @@
 -- Which entries a walk has called, by the fold and by the history.
+use Rattle.std.proofs.lemmas.Bool.{both_ways}
 use Rattle.std.proofs.Common.{refl, sym, ◌∙◌, ap, subst, arith, inl, inr}
 use Rattle.std.specs.Prelude.{ℕ, ◌≡◌, ◌⊎◌, Option, Some, None, Bool, true, false, not, ◌&&◌, ◌||◌, ◌==◌, List, ◌∷◌}
 use Rattle.std.specs.Prelude.{◌++◌, if◌then◌else◌}
@@ -396,7 +397,7 @@ flag_seen es x h = by (seen_in (flagged x) (λ e v. flags x e) renews (flagged_b
     by : Seen (λ e v. flags x e) renews blank es ⊎ ((flagged x blank ≡ true) × Lacks renews es)
         → Seen (λ e v. flags x e) renews blank es
     by (inl s) = s
-    by (inr q) = absurd (let z : false ≡ true = q.0 in cc)
+    by (inr q) = absurd (both_ways false refl q.0)
 
 -- the walk has called the entry in this hold
 pub called_now : (es : List Step) (x : ℕ) (e : Entry) (σ : ℕ) (w : Walk) → Locked es
@@ -432,7 +433,7 @@ called_now es x e σ w l is con false true kind pg g =
         let c = sight_walk s.it (view_of s.earlier) s.sets in
         found s (locked_front es l s.earlier s.it s.later s.split c.1
         (lacks_more renews turns_lock turns_of s.later s.none_since)) c.1
-    by (inr q) = absurd (let z : false ≡ true = q.0 in cc)
+    by (inr q) = absurd (both_ways false refl q.0)
 called_now es x e σ w l is con false false kind pg g =
     by (seen_in (called x) (sets_called x) renews (called_by x) es blank
     (let z : ((view_of es).hold.called (owner x) || (view_of es).hold.moot) ≡ true = (rw (kind, pg) at g) in z))
@@ -463,7 +464,7 @@ called_now es x e σ w l is con false false kind pg g =
         let c = call_walk x s.it (view_of s.earlier) s.sets in
         found s (locked_front es l s.earlier s.it s.later s.split c.1
         (lacks_more renews turns_lock turns_of s.later s.none_since)) c.1
-    by (inr q) = absurd (let z : false ≡ true = q.0 in cc)
+    by (inr q) = absurd (both_ways false refl q.0)
 called_now es x e σ w l is con true j kind pg g =
     by (seen_in (rung x) (sets_rung x) renews (rung_by x) es blank
     (let z : (view_of es).hold.rung x ≡ true = (rw kind at g) in z))
@@ -509,4 +510,4 @@ called_now es x e σ w l is con true j kind pg g =
     by (inl s) =
         let r = rung_walk x s.it (view_of s.earlier) s.sets in
         found s r.1 (flag_seen s.earlier x r.2)
-    by (inr q) = absurd (let z : false ≡ true = q.0 in cc)
+    by (inr q) = absurd (both_ways false refl q.0)

@@ -1,4 +1,5 @@
 -- A look at all member words of a head that finds no bit ends what is owed there, and nothing else.
+use Rattle.std.proofs.lemmas.Bool.{both_ways}
 use Rattle.std.proofs.Common.{refl, sym, ◌∙◌, ap, subst, arith, inl, inr}
 use Rattle.std.proofs.lemmas.List.{append_assoc}
 use Rattle.std.specs.Prelude.{ℕ, zero, suc, ◌≡◌, ◌+◌, ◌-◌, ◌<◌, ◌≤◌, ◌⊎◌, Option, Bool, true, false, not}
@@ -65,8 +66,8 @@ due_after e v c σ old owes = by (publishes e c) refl (v.duty.owes c σ) refl (e
         → all_cleared ((after e v).duty.cleared c) ≡ false
     by true p o q n r h = due_published e v c p
     by false p true q false r h = due_on e v c σ (old q) r
-    by false p true q true r h = absurd (let z : false ≡ true = (rw (p, q, r) at h) in cc)
-    by false p false q n r h = absurd (let z : false ≡ true = (rw (p, q) at h) in cc)
+    by false p true q true r h = absurd (both_ways false refl ((rw (p, q, r) at h)))
+    by false p false q n r h = absurd (both_ways false refl ((rw (p, q) at h)))
 
 due_in : (es : List Step) (v : View) (c : Watch) (σ : ℕ) → IsDue v c σ → IsDue (after_all v es) c σ
 due_in [] v c σ old = old

@@ -1,4 +1,5 @@
 -- What a hold's book shows of an entry word is what the hold's last step on it tells.
+use Rattle.std.proofs.lemmas.Option.{none-some}
 use Rattle.std.proofs.Common.{refl, sym, ◌∙◌, ap, subst, arith, inl, inr}
 use Rattle.std.specs.Prelude.{ℕ, zero, suc, ◌≡◌, ◌<◌, ◌⊎◌, Some, None, Bool, true, false, ◌&&◌, List, [], ◌∷◌, ◌++◌}
 use Rattle.wait_model.specs.declared.layout.TheConstants.{ENTRIES}
@@ -106,7 +107,7 @@ lock_held es h held = by (last_in turns_lock es)
 
     by : Since turns_lock turns_lock es ⊎ Lacks turns_lock es → Since takes_any_lock turns_lock es
     by (inl s) = last s.it s.earlier s.later s.split s.passes s.none_since (kept s)
-    by (inr n) = absurd (let z : None ≡ Some h = sym (heads_kept es blank n) ∙ held in cc)
+    by (inr n) = absurd (none-some h (sym (heads_kept es blank n) ∙ held))
 
 -- the last step that tells of an entry word, or none
 pub telling : (es : List Step) (x : ℕ) → Since (tells x) (tells x) es ⊎ Lacks (tells x) es

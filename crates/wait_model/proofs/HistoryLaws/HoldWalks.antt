@@ -1,4 +1,5 @@
 -- The walk of a hold is the one for which its lock was taken.
+use Rattle.std.proofs.lemmas.Option.{none-some}
 use Rattle.std.proofs.Common.{refl, sym, ◌∙◌, ap, subst, arith, inl, inr}
 use Rattle.std.specs.Prelude.{ℕ, ◌≡◌, ◌⊎◌, Option, Some, None, Bool, true, false, ◌&&◌, ◌==◌, List, [], ◌∷◌}
 use Rattle.std.specs.Prelude.{◌++◌, if◌then◌else◌}
@@ -30,7 +31,7 @@ begun_for a (Some w) = by (same a.watch w.watch && (w.mask == mask_of a.mode)) r
     by false h = record { walk = _; is = refl; watch = same_refl a.watch; mask = refl }
 
 again_for : (a : Aim) (o : Option Walk) → IsForWalk a o → IsForWalk a (begun_anew o)
-again_for a None f = absurd (let z : None ≡ Some f.walk = f.is in cc)
+again_for a None f = absurd (none-some f.walk f.is)
 again_for a (Some w) f =
     let e : w ≡ f.walk = (let z : Some w ≡ Some f.walk = f.is in cc) in
     record {
@@ -54,7 +55,7 @@ walks_for a (e ∷ es) v l f = walks_for a es (after e v) l.1 (walk_for a e v l.
 
 -- the walk before a step in a hold, and before several
 for_again : (a : Aim) (o : Option Walk) → IsForWalk a (begun_anew o) → IsForWalk a o
-for_again a None f = absurd (let z : None ≡ Some f.walk = f.is in cc)
+for_again a None f = absurd (none-some f.walk f.is)
 for_again a (Some w) f =
     let e : record w { from = 0 } ≡ f.walk = (let z : Some (record w { from = 0 }) ≡ Some f.walk = f.is in cc)
     in
@@ -109,7 +110,7 @@ again_has (Some w) h = (w, refl)
 first_step : (e : Step) (es : List Step) (v : View) → v.mark ≡ None → Lacks turns_lock es
     → HasWalk (after e v).walk
     → Locked (e ∷ es) ⊎ (HasWalk v.walk × (turns_lock e ≡ false))
-first_step (step.Lock h None f) es v m l w = absurd (let z : None ≡ Some w.0 = w.1 in cc)
+first_step (step.Lock h None f) es v m l w = absurd (none-some w.0 w.1)
 first_step (step.Lock h (Some a) f) es v m l w = inl (record {
   before = [];
   head = h;
@@ -120,7 +121,7 @@ first_step (step.Lock h (Some a) f) es v m l w = inl (record {
   within = l;
 })
 first_step (step.Unlock h sp) es v m l w =
-    absurd (let z : None ≡ Some w.0 = sym (unlock_walk v v.walk sp m) ∙ w.1 in cc)
+    absurd (none-some w.0 (sym (unlock_walk v v.walk sp m) ∙ w.1))
 first_step (step.Publish c n r) es v m l w = inr (again_has v.walk w, refl)
 first_step e es v m l w = inr (w, refl)
 
@@ -153,7 +154,7 @@ locked_of es l w = by (locked_in es blank refl l w)
   where
     by : Locked es ⊎ (HasWalk blank.walk × Lacks turns_lock es) → Locked es
     by (inl k) = k
-    by (inr k) = absurd (let z : None ≡ Some k.0.0 = k.0.1 in cc)
+    by (inr k) = absurd (none-some k.0.0 k.0.1)
 
 pub locked_for : (es : List Step) (k : Locked es) → IsForWalk k.aim (after_all blank es).walk
 locked_for es k =
@@ -226,7 +227,7 @@ locked_held es s w = by s.it s.split s.passes
         let z : (after_all blank es).walk ≡ None = ap (λ (t : List Step). (after_all blank t).walk) eq
         ∙ ap (λ (v : View). v.walk) (after_append blank s.earlier (step.Lock h None f ∷ s.later))
         ∙ none_stays s.later (after (step.Lock h None f) (after_all blank s.earlier)) s.none_since refl in
-        absurd (let y : None ≡ Some w.0 = sym z ∙ w.1 in cc)
+        absurd (none-some w.0 (sym z ∙ w.1))
     by (step.Lock h (Some a) f) eq i = record {
       before = s.earlier;
       head = h;

@@ -1,4 +1,5 @@
 -- Walks of several holds: where a walk goes on by the view, its earlier holds have gone by all before by the history.
+use Rattle.std.proofs.lemmas.Option.{none-some}
 use Rattle.std.proofs.Common.{refl, sym, ◌∙◌, ap, subst, arith, inl, inr}
 use Rattle.std.proofs.lemmas.List.{append_assoc, append-nil}
 use Rattle.std.specs.Prelude.{ℕ, suc, ◌≡◌, ◌<◌, ◌≤◌, ◌⊎◌, Option, Some, None, Bool, true, false, not, ◌&&◌, ◌||◌, ◌==◌, List, [], ◌∷◌, ◌++◌, nat_le, nat_lt, if◌then◌else◌}
@@ -160,7 +161,7 @@ mark_told es q m = by (mark_in es blank q m)
   where
     by : Since (marks q) is_mark es ⊎ ((blank.mark ≡ Some q) × Lacks is_mark es) → Since (marks q) is_mark es
     by (inl s) = s
-    by (inr r) = absurd (let z : None ≡ Some q = r.0 in cc)
+    by (inr r) = absurd (none-some q r.0)
 
 -- The last unlock left the walk at its bookmark, after n holds before that one.
 pub record IsLeft (n : ℕ) (es : List Step) (c : Watch) (σ : ℕ) (w : Walk) : Type 0 where

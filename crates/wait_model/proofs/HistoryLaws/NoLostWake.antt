@@ -1,4 +1,5 @@
 -- No wakeup is lost, in the words of histories.
+use Rattle.std.proofs.lemmas.Bool.{both_ways}
 use Rattle.std.proofs.Common.{refl, sym, ◌∙◌, ap, subst, arith, inl, inr}
 use Rattle.std.specs.Prelude.{ℕ, ◌≡◌, ◌<◌, ◌⊎◌, ◌-◌, ◌^◌, Some, None, Bool, true, false, cond, ◌==◌, List, [], ◌∷◌}
 use Rattle.std.specs.Prelude.{◌||◌, ◌&&◌, not}
@@ -165,7 +166,7 @@ tas_told es x c h = elim (seen_in (tas_failed x c) (λ e v. finds_set c e) (queu
     passes = k.sets;
     none_since = k.none_since;
   }
-  | inr k ↦ absurd (let z : false ≡ true = k.0 in cc)
+  | inr k ↦ absurd (both_ways false refl k.0)
 ]
 
 -- the spent count that the last lock of the head before the load found; for a page, whose walks spend none, 0
@@ -268,10 +269,10 @@ tried_plainly s d (watch.Bit w b) told h t = (
       (subst (λ (v : View). TryingBy s.entry t.0 v (watch.Bit w b)) (told t.0)
       (subst (λ (c : Watch). Trying s t.0 c) (sym (same_bit_is (watch.Bit w b) d refl h)) t.1)),
 )
-tried_plainly s d (watch.Plain c) told h t = absurd (let z : false ≡ true = same_bit (watch.Plain c) d h t.1.0 in cc)
-tried_plainly s d (watch.Done c) told h t = absurd (let z : false ≡ true = same_bit (watch.Done c) d h t.1.0 in cc)
+tried_plainly s d (watch.Plain c) told h t = absurd (both_ways false refl (same_bit (watch.Plain c) d h t.1.0))
+tried_plainly s d (watch.Done c) told h t = absurd (both_ways false refl (same_bit (watch.Done c) d h t.1.0))
 tried_plainly s d (watch.Var v o) told h t =
-    absurd (let z : false ≡ true = same_bit (watch.Var v o) d h t.1.0 in cc)
+    absurd (both_ways false refl (same_bit (watch.Var v o) d h t.1.0))
 
 -- a table in which each view is that of its history and no wake is lost loses none in plain words
 pub no_wake_is_lost : (s : Table) → IsLookTold s → NoLostWake s → NoWakeIsLost s

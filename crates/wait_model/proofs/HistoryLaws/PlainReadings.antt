@@ -1,4 +1,6 @@
 -- The fold's readings are the ones that are stated plainly.
+use Rattle.std.proofs.lemmas.Option.{none-some}
+use Rattle.std.proofs.lemmas.Bool.{both_ways}
 use Rattle.std.proofs.Common.{refl, sym, ◌∙◌, ap, subst, arith, inl, inr}
 use Rattle.std.specs.Prelude.{ℕ, ◌≡◌, ◌⊎◌, Option, Some, None, Bool, true, false, cond, not, ◌&&◌, ◌||◌, List, [], ◌∷◌}
 use Rattle.std.specs.Prelude.{◌++◌}
@@ -92,7 +94,7 @@ failed_told es x c = (λ n h. by n (find es blank x c n h), failed_of es x c)
     by : (n : ℕ) → Found blank es x c n → (l : FailedLoad es x c)
         × (n ≡ (view_of l.before).checks.found (head_of c))
     by n (inl l) = l
-    by n (inr q) = absurd (let z : None ≡ Some n = q.0 in cc)
+    by n (inr q) = absurd (none-some n q.0)
 
 -- what any step does to what is owed
 owes_unlocked : (v : View) (o : Option Walk) (sp : Bool) (c : Watch) (σ : ℕ)
@@ -196,4 +198,4 @@ owing_told es c σ = (λ h. by (owed es blank c σ h), owes_of es c σ)
       is_publish = o.is_publish;
       unended = o.unended;
     }
-    by (inr q) = absurd (let z : false ≡ true = q.0 in cc)
+    by (inr q) = absurd (both_ways false refl q.0)

@@ -1,4 +1,5 @@
 -- A failed load in the hold in which the state was stored: the fold's reading is the one that is stated plainly.
+use Rattle.std.proofs.lemmas.Option.{none-some}
 use Rattle.std.proofs.Common.{refl, sym, ◌∙◌, ap, subst, arith, inl, inr}
 use Rattle.std.proofs.lemmas.List.{append_assoc, append-nil}
 use Rattle.std.specs.Prelude.{ℕ, ◌≡◌, ◌⊎◌, Option, Some, None, Bool, true, false, cond, ◌&&◌, ◌==◌, List, [], ◌∷◌, ◌++◌}
@@ -405,7 +406,7 @@ old_reading (step.Queue y d) v x c n k p q = by (x == y) refl
   where
     by : (b : Bool) → (x == y) ≡ b → put v.checks.zero_failed y (λ _. None) x c ≡ Some n
         → (v.checks.zero_failed x c ≡ Some n) × ((x == y) ≡ false)
-    by true g r = absurd (let z : None ≡ Some n = (rw g at r) in cc)
+    by true g r = absurd (none-some n ((rw g at r)))
     by false g r = ((rw g at r), g)
 old_reading (step.Load l r) v x c n k p q = ((rw p at q), refl)
 old_reading (step.Unlock i sp) v x c n k p q =

@@ -1,4 +1,5 @@
 -- Each event of a selection at a completion's head, and of a look at its count, hands permits on.
+use Rattle.std.proofs.lemmas.Option.{none-some}
 use Rattle.std.proofs.Common.{refl, sym, ◌∙◌, ap, subst, arith, inl, inr}
 use Rattle.std.proofs.lemmas.Bool.Decides.{eqb_tells, nat_tests}
 use Rattle.std.specs.Prelude.{ℕ, ◌≡◌, ◌+◌, ◌-◌, ◌<◌, ◌≤◌, Bool, true, false, not, ◌&&◌, ◌==◌, if◌then◌else◌, nat_lt}
@@ -192,7 +193,7 @@ module _ (s : State) (n me : ℕ) (call : Call) (d : ℕ) (sound : IsSound s n) 
             let it = member_is s.table.entry s.table.mark s.queue n
             (call_head call) m sound.linked.ordered small first.0
             in
-            let z : None ≡ Some it.entry = sym q ∙ it.stands in cc)
+            absurd (none-some it.entry (sym q ∙ it.stands)))
         by (Some g) q = still s n me call d sound mine acc is about (at.Select (selecting.Next j)) pl dl _
             (tt, tt) refl refl
             (to s n me call d sound mine acc is about s.table.entry w (at.Select (selecting.Off (j + 1)

@@ -1,5 +1,6 @@
 -- Where a walk goes on: behind the entries of other watches, before a member at which it breaks, or at an entry of
 -- its watch.
+use Rattle.std.proofs.lemmas.Bool.{both_ways}
 use Rattle.std.proofs.lemmas.Bool.Decides.{nat_tests}
 use Rattle.std.proofs.Common.{refl, sym, ◌∙◌, ap, subst, arith, inl, inr}
 use Rattle.std.specs.Prelude.{ℕ, ◌≡◌, ◌+◌, ◌<◌, ◌≤◌, ◌&&◌, Bool, true, false, cond, nat_le, nat_lt, if◌then◌else◌, List}
@@ -173,7 +174,7 @@ module _ (key : Member → Bool) where
           → IsIn x (m ∷ ms) → is_called x ≡ true
           → (y : Member) × ((arrive key (if is_entry m then calls + 1 else calls) ms).member ≡ Some y)
           × (rank y ≤ rank x)
-      behind r x (inl s) k = absurd (let z : true ≡ false = sym k ∙ ap is_called s ∙ u in cc)
+      behind r x (inl s) k = absurd (both_ways true (sym k ∙ ap is_called s ∙ u) refl)
       behind r x (inr i) k = r.ahead x i k
 
   pub arrives : (calls : ℕ) (q : List Member) → calls ≤ BREAK + 1 → IsInOrder q

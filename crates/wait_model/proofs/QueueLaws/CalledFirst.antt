@@ -1,5 +1,6 @@
 -- A walk comes to each entry of its watch in turn: none stands from where it goes on and before the one that it calls,
 -- before the bookmark that it puts, or where it ends.
+use Rattle.std.proofs.lemmas.Option.{none-some}
 use Rattle.std.proofs.lemmas.Bool.Decides.{nat_tests}
 use Rattle.std.proofs.Common.{refl, sym, ◌∙◌, ap, subst, arith, inl, inr}
 use Rattle.std.specs.Prelude.{ℕ, ◌≡◌, ◌+◌, ◌-◌, ◌<◌, ◌≤◌, ◌⊎◌, Option, Some, None, Bool, true, false, List, nat_lt}
@@ -126,7 +127,7 @@ module _ (entry : ℕ → Option Entry) (mark : ℕ → Option Mark) (queue : �
             seen = ap (called_by entry) (sym f.1) ∙ is
 
             by : (o : Option Entry) → entry f.0.at ≡ o → (x ≡ own d.who) ⊎ (d.place < e.place)
-            by None s = absurd (let z : None ≡ Some d = sym (ap (called_as (owner f.0.at)) s) ∙ seen in cc)
+            by None s = absurd (none-some d (sym (ap (called_as (owner f.0.at)) s) ∙ seen))
             by (Some g) s = from_entry apart d f.0 g s
                 (called_parts (called_of (owner f.0.at) g) d (sym (ap (called_as (owner f.0.at)) s) ∙ seen))
                 (mark_parts (record { head = head_of g.watch; place = g.place })

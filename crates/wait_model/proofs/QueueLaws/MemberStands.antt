@@ -1,4 +1,5 @@
 -- What stands at a head and its queue keep agreeing where a member is put in and where one is taken out.
+use Rattle.std.proofs.lemmas.Option.{none-some}
 use Rattle.std.proofs.lemmas.Bool.Decides.{nat_tests}
 use Rattle.std.proofs.Common.{refl, sym, ◌∙◌, ap, subst, arith, inl, inr}
 use Rattle.std.specs.Prelude.{ℕ, ◌≡◌, ◌≢◌, ◌+◌, ◌-◌, ◌<◌, ◌⊎◌, Bool, true, false, nat_lt, if◌then◌else◌, Option, Some}
@@ -121,7 +122,7 @@ module _ (stand other : ℕ → Option Mark) (queue : ℕ → List Member) (n x 
     still_there : (y : ℕ) (d : Mark) → other y ≡ Some d → y ≢ x
     still_there y d s e =
         let t : other x ≡ Some d = subst (λ (i : ℕ). other i ≡ Some d) e s in
-        let z : None ≡ Some d = sym off ∙ t in cc
+        absurd (none-some d (sym off ∙ t))
 
     kept_inside : (y : ℕ) (d : Mark) → other y ≡ Some d → IsInside left (n + 1) y d
     kept_inside y d s =

@@ -1,4 +1,5 @@
 -- The last member within places, and an add at the tail.
+use Rattle.std.proofs.lemmas.Bool.{both_ways}
 use Rattle.std.proofs.lemmas.Bool.Decides.{nat_tests}
 use Rattle.std.proofs.Common.{refl, sym, ◌∙◌, ap, arith, inl, inr}
 use Rattle.std.specs.Prelude.{ℕ, ◌≡◌, ◌<◌, ◌≤◌, ◌⊎◌, Option, Some, None, Bool, true, false, ◌&&◌, nat_le, nat_lt}
@@ -82,7 +83,7 @@ kept_here : (x m : Member) (ms : List Member) (b : Bool) → is_entry m ≡ b �
     → (IsIn x ms → IsIn x (entries_of ms)) → IsIn x (m ∷ ms) → IsIn x (if b then m ∷ entries_of ms else entries_of ms)
 kept_here x m ms true is e h (inl s) = inl s
 kept_here x m ms true is e h (inr i) = inr (h i)
-kept_here x m ms false is e h (inl s) = absurd (let z : true ≡ false = sym e ∙ ap is_entry s ∙ is in cc)
+kept_here x m ms false is e h (inl s) = absurd (both_ways true (sym e ∙ ap is_entry s ∙ is) refl)
 kept_here x m ms false is e h (inr i) = h i
 
 pub in_entries : (x : Member) (q : List Member) → is_entry x ≡ true → IsIn x q → IsIn x (entries_of q)

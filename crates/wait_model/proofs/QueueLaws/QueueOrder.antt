@@ -1,4 +1,5 @@
 -- Queues in order: the first member from a rank on, an add at the front, and a removal.
+use Rattle.std.proofs.lemmas.Bool.{both_ways}
 use Rattle.std.proofs.lemmas.Bool.Decides.{nat_tests}
 use Rattle.std.proofs.Common.{refl, sym, ◌∙◌, ap, subst, arith, inl, inr}
 use Rattle.std.specs.Prelude.{ℕ, ◌≡◌, ◌≢◌, ◌<◌, ◌≤◌, ◌⊎◌, ◌&&◌, Option, Some, None, Bool, true, false, cond, not, ◌==◌}
@@ -69,7 +70,7 @@ first_here test p m ms true false d t o h =
     let under : rank m < p = grind (arith, nat_tests) in
     further test p m ms (first_from test p ms) (λ _. under) h
 first_here test p m ms false b d t o h =
-    further test p m ms (first_from test p ms) (λ y. absurd (let z : true ≡ false = sym y ∙ d in cc)) h
+    further test p m ms (first_from test p ms) (λ y. absurd (both_ways true (sym y ∙ d) refl)) h
 
 pub first_is : (test : Member → Bool) (p : ℕ) (q : List Member) → IsInOrder q
     → IsFirstFrom test p q (first_from test p q)

@@ -1,4 +1,6 @@
 -- The facts and the laws hold in every state that a run reaches.
+use Rattle.std.proofs.lemmas.Option.{none-some}
+use Rattle.std.proofs.lemmas.Bool.{both_ways}
 use Rattle.std.proofs.lemmas.Bool.Decides.{nat_tests, eqb_tells}
 use Rattle.std.proofs.Common.{refl, sym, ◌∙◌, ap, subst, arith, inl, inr}
 use Rattle.std.specs.Prelude.{ℕ, ◌≡◌, ◌≢◌, ◌+◌, ◌<◌, ◌≤◌, Option, Some, None, Bool, true, false, not, ◌&&◌, nat_lt}
@@ -222,9 +224,9 @@ begun_placed : (entry : ℕ → Option Entry) (v : View) (me : ℕ) (call : Call
 begun_placed entry v me call p closed twice lacks pl = record {
   head = pl.head ∙ no_hold_at p closed ∙ sym (start_held call);
   home = start_home call (entry (own me)) (idle_home p (entry (own me)) closed pl.home) twice lacks;
-  off_book = λ pr z. absurd (let c : true ≡ false = sym pr ∙ start_calm call in cc);
-  taken = λ who t. absurd (let c : None ≡ Some who = sym (start_takes call) ∙ t in cc);
-  flagged = λ c t. absurd (let d : None ≡ Some c = sym (start_flags call) ∙ t in cc);
+  off_book = λ pr z. absurd (both_ways true (sym pr ∙ start_calm call) refl);
+  taken = λ who t. absurd (none-some who (sym (start_takes call) ∙ t));
+  flagged = λ c t. absurd (none-some c (sym (start_flags call) ∙ t));
 }
   where
     no_hold_at : (q : Progress) → is_open q ≡ false → held_at q ≡ None

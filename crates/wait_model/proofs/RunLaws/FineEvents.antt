@@ -1,5 +1,6 @@
 -- What an event that continues a program owes: it is allowed, as are its word steps, and it leads to the
 -- program's next place.
+use Rattle.std.proofs.lemmas.Bool.{both_ways}
 use Rattle.wait_model.specs.declared.layout.TheConstants.{TASKS, FIRST_DONE, FIRST_BIT_WORD, HEADS}
 use Rattle.wait_model.specs.DoneCounts.{IsStored}
 use Rattle.std.proofs.Common.{refl, sym, ◌∙◌, ap, subst, arith}
@@ -172,7 +173,7 @@ module _ (s : State) (n me : ℕ) (call : Call) (sound : IsSound s n) (mine : me
     led q l v same = record {
       head = same ∙ pl.head ∙ l.same;
       home = l.home;
-      off_book = λ pr none. absurd (let z : true ≡ false = sym pr ∙ l.calm in cc);
+      off_book = λ pr none. absurd (both_ways true (sym pr ∙ l.calm) refl);
       taken = nobody q s.table.entry l.taken;
       flagged = unflagged q s.table.entry l.taken;
     }
@@ -368,7 +369,7 @@ module _ (s : State) (n me : ℕ) (call : Call) (sound : IsSound s n) (mine : me
       placed = record {
         head = unlocked_head spent ∙ sym held;
         home = home;
-        off_book = λ pr off. absurd (let z : true ≡ false = sym pr ∙ calm in cc);
+        off_book = λ pr off. absurd (both_ways true (sym pr ∙ calm) refl);
         taken = nobody (progress_at call x) s.table.entry none;
         flagged = unflagged (progress_at call x) s.table.entry none;
       };
@@ -410,7 +411,7 @@ module _ (s : State) (n me : ℕ) (call : Call) (sound : IsSound s n) (mine : me
         home = entry_at q home
             (entry_for (given_at call p) (form_of call) (place_for (form_of call) (s.queue (call_head call))))
             refl refl;
-        off_book = λ pr2 off. absurd (let z : true ≡ false = sym pr2 ∙ calm in cc);
+        off_book = λ pr2 off. absurd (both_ways true (sym pr2 ∙ calm) refl);
         taken = nobody (now.Open call q) _ nobody_taken;
         flagged = unflagged (now.Open call q) _ nobody_taken;
       };
@@ -433,7 +434,7 @@ module _ (s : State) (n me : ℕ) (call : Call) (sound : IsSound s n) (mine : me
       placed = record {
         head = pl.head ∙ same;
         home = home;
-        off_book = λ pr off. absurd (let z : true ≡ false = sym pr ∙ calm in cc);
+        off_book = λ pr off. absurd (both_ways true (sym pr ∙ calm) refl);
         taken = nobody (now.Open call q) _ none;
         flagged = unflagged (now.Open call q) _ none;
       };

@@ -1,4 +1,5 @@
 -- No program answers Worn, or goes on after an add for which no place was left, by what a core's task finds.
+use Rattle.std.proofs.lemmas.Bool.{both_ways}
 use Rattle.std.proofs.Common.{refl, sym, ◌∙◌, ap, subst, arith}
 use Rattle.std.specs.Prelude.{ℕ, ◌≡◌, ◌≢◌, Bool, true, false, is_some}
 use Rattle.wait_model.specs.declared.calls.Call.{Call}
@@ -46,7 +47,7 @@ module _ (s : State) (me : ℕ) (call : Call) where
   finish_unworn finishing.Unlock = either U (is_lock call) _ _ refl refl
 
   told : (p : Point) → U (planned s me call p) → (planned s me call p).next ≢ next.Ends answer.Worn
-  told p u z = let y : false ≡ true = sym u ∙ ap is_worn z in cc
+  told p u z = absurd (both_ways false refl (sym u ∙ ap is_worn z))
 
   elsewhere : (p : Point) → IsOther p → (planned s me call p).next ≢ next.Ends answer.Worn
   elsewhere p i z = let y : 0 ≡ 1 = sym (other s me call p i) ∙ ap refusal z in omega (arith, y)

@@ -1,4 +1,5 @@
 -- Another task's event leaves what a task's place in its program says.
+use Rattle.std.proofs.lemmas.Bool.{both_ways}
 use Rattle.std.proofs.Common.{sym, ◌∙◌, ap, subst, arith, inl, inr, refl}
 use Rattle.std.specs.Prelude.{ℕ, ◌≡◌, ◌≢◌, ◌<◌, ◌≤◌, ◌⊎◌, Option, Some, None, true, false}
 use Rattle.wait_model.specs.declared.layout.TheConstants.{FIRST_DONE, FIRST_BIT_WORD}
@@ -48,7 +49,7 @@ own_one a b e = omega arith
 
 -- an entry that goes when it is woken is none that stands
 pub goes_not_stands : (k : Kind) → IsGoing k → IsStandingKind k → ⊥
-goes_not_stands k is s = let z : true ≡ false = sym s ∙ is in cc
+goes_not_stands k is s = absurd (both_ways true (sym s ∙ is) refl)
 
 -- where such an entry may be queued, it may be off too, but for a page's in the hold in which it was queued
 home_dropped : (z : Zone) (c : Watch) (e : Entry) → IsGoing e.kind → (z ≡ seated → ⊥) → IsHome z c (Some e)

@@ -1,4 +1,5 @@
 -- Each event of a call that locks a page is fine.
+use Rattle.std.proofs.lemmas.Bool.{both_ways}
 use Rattle.std.proofs.Common.{refl, sym, ◌∙◌, ap, subst, inl, inr}
 use Rattle.std.specs.Prelude.{ℕ, ◌≡◌, ◌+◌, ◌<◌, Bool, true, false, is_some, if◌then◌else◌, Option, Some, None}
 use Rattle.wait_model.specs.declared.layout.TheConstants.{TASKS}
@@ -37,9 +38,9 @@ use Rattle.wait_model.specs.declared.steps.Step.TheVariants as step
 
 page_suits : (c : Watch) → IsThere c → c ≡ page (word_of c) → Suited (bare c) kind.Page
 page_suits (watch.Bit w b) h e = (h.0, h.1, inr (refl, ap bit_of e))
-page_suits (watch.Plain c) h e = absurd (let z : false ≡ true = ap is_bit e in cc)
-page_suits (watch.Done d) h e = absurd (let z : false ≡ true = ap is_bit e in cc)
-page_suits (watch.Var v o) h e = absurd (let z : false ≡ true = ap is_bit e in cc)
+page_suits (watch.Plain c) h e = absurd (both_ways false refl (ap is_bit e))
+page_suits (watch.Done d) h e = absurd (both_ways false refl (ap is_bit e))
+page_suits (watch.Var v o) h e = absurd (both_ways false refl (ap is_bit e))
 
 seated_pages : (c : Watch) (o : Option Entry) → IsHome seated c o → IsHome pages c o
 seated_pages c None h = absurd h

@@ -1,4 +1,5 @@
 -- While the entry of a task for whom a page was taken is queued, a walk is about to take it off.
+use Rattle.std.proofs.lemmas.Option.{none-some}
 use Rattle.std.proofs.Common.{refl, sym, ◌∙◌, ap, subst, inl, inr}
 use Rattle.std.specs.Prelude.{ℕ, ◌≡◌, ◌≢◌, Option, Some, None, Bool, true, false, ◌⊎◌, if◌then◌else◌, nat_lt, is_some}
 use Rattle.std.specs.Prelude.{cond, not, ◌+◌}
@@ -116,7 +117,7 @@ entry_left s me g (event.Queue h form) u d st = elim (put_case s.table.entry (ow
       | inr q ↦ inl (sym q.1 ∙ st)
     ]
 entry_left s me g (event.Unqueue who) u d st = elim (put_case s.table.entry (own who) None (own u)) [
-  | inl q ↦ absurd (let z : None ≡ Some d = sym q.1 ∙ st in cc)
+  | inl q ↦ absurd (none-some d (sym q.1 ∙ st))
   | inr q ↦ inl (sym q.1 ∙ st)
 ]
 entry_left s me g (event.Lock h) u d st = inl (sym (ap (λ (f : ℕ → Option Entry). f (own u)) (looks_same
@@ -179,7 +180,7 @@ module _ (s : State) (n me : ℕ) (g : Given) (e : Event) (np : Progress)
         | inr un ↦ let z : put s.table.taken (own me) None (own u) ≡ Some q =
             subst (λ (f : ℕ → Option ℕ). f (own u) ≡ Some q) un.1 t in
             elim (put_case s.table.taken (own me) None (own u)) [
-              | inl i ↦ absurd (let y : None ≡ Some q = sym i.1 ∙ z in cc)
+              | inl i ↦ absurd (none-some q (sym i.1 ∙ z))
               | inr i ↦ sym i.1 ∙ z
             ]
       ]
@@ -537,7 +538,7 @@ module _ (s : State) (n me : ℕ) (e : Event) (found : ℕ)
       sober = subst IsSober (sym c) (page_sober me call (seen_by s me call (at.Page p)) p)
 
       none : (v : ℕ) → handed_by (s.progress me) ≡ Some v → ⊥
-      none v i = let z : None ≡ Some v = sym (ap handed_by is) ∙ i in cc
+      none v i = absurd (none-some v (sym (ap handed_by is) ∙ i))
 
       queues : (y : ℕ) (f : Form) → e ≡ event.Queue y f → is_page g.kind ≡ true → s.table.taken (own me) ≡ None
       queues y f q pg = page_queues me call (seen_by s me call (at.Page p)) s.table.taken p y f (sym c ∙ q)
@@ -590,7 +591,7 @@ module _ (s : State) (n me : ℕ) (e : Event) (found : ℕ)
           (clear_is true q))
           (λ v t st. subst (λ (f : ℕ → Option Entry). f (own v) ≡ Some t) entry_is st)
           (subst (HandsAt s.table.taken me) (sym (goes_to_is true q)) tt)
-          (λ v t st i. absurd (let z : None ≡ Some v = sym (ap handed_by is) ∙ i in cc))
+          (λ v t st i. absurd (none-some v (sym (ap handed_by is) ∙ i)))
       by false q = tried_handed s n me g e np h pl k changes call w d p is facts (goes_to_is false q)
           (taken_is ∙ ap (λ (i : Bool). cond i (put s.table.taken (own d.who) (Some p)) s.table.taken)
           (clear_is false q))
@@ -622,7 +623,7 @@ module _ (s : State) (n me : ℕ) (e : Event) (found : ℕ)
       left : (v : ℕ) (t : Entry) → u.table.entry (own v) ≡ Some t
           → (v ≢ d.who) × (s.table.entry (own v) ≡ Some t)
       left v t st = elim (put_case s.table.entry (own d.who) None (own v)) [
-        | inl q ↦ absurd (let z : None ≡ Some t = sym q.1 ∙ there in cc)
+        | inl q ↦ absurd (none-some t (sym q.1 ∙ there))
         | inr q ↦ ((λ i. q.0 (ap own i)), sym q.1 ∙ there)
       ]
         where

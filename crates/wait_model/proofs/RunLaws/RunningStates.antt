@@ -1,4 +1,5 @@
 -- At points where a call does not stir, a task that is awake is in state RUNNING.
+use Rattle.std.proofs.lemmas.Bool.{both_ways}
 use Rattle.std.proofs.Common.{refl, sym, ◌∙◌, ap, subst, arith, inl, inr}
 use Rattle.std.proofs.lemmas.Bool.Decides.{nat_tests}
 use Rattle.std.specs.Prelude.{ℕ, ◌≡◌, ◌≢◌, ◌⊎◌, Bool, true, false, ◌==◌, if◌then◌else◌}
@@ -65,7 +66,7 @@ module _ (s : State) (me : ℕ) (g : Given) where
   settles : (e : Event) (t : ℕ) → (t ≡ me → stores_state e ≡ false)
       → Settles (s.table.task t) ((after_event s me g e).table.task t)
   settles (event.State v) t n = put_at (λ u. Settles (s.table.task t) u) s.table.task me _ t
-      (λ q. absurd (let z : true ≡ false = n q in cc)) (λ _. inr (refl, refl))
+      (λ q. absurd (both_ways true (n q) refl)) (λ _. inr (refl, refl))
   settles (event.Sleep x) t n = one me (slept (s.table.task me)) t
       (inl (slept_rests (s.table.task me)))
   settles (event.Wake who hit) t n = one who (woken g.mask (s.table.task who)) t
@@ -107,7 +108,7 @@ module _ (s : State) (me : ℕ) (g : Given) (before behind : Bool)
   rests_after : (e : Event) → KeepsState before e behind → behind ≡ false
       → ((after_event s me g e).table.task me).runnable ≡ true → ((after_event s me g e).table.task me).state ≡ 0
   rests_after (event.State v) (inl z) still r = ap (λ (t : TaskRecord). t.state) (put_same s.table.task me _) ∙ z
-  rests_after (event.State v) (inr z) still r = absurd (let c : true ≡ false = sym z ∙ still in cc)
+  rests_after (event.State v) (inr z) still r = absurd (both_ways true (sym z ∙ still) refl)
   rests_after (event.Sleep x) k still r = put_at (λ (u : TaskRecord). u.runnable ≡ true → u.state ≡ 0) s.table.task me
       (slept (s.table.task me)) me (λ _. slept_rests (s.table.task me)) (λ n. absurd (n refl)) r
   rests_after e k still r = settled (s.table.task me) ((after_event s me g e).table.task me)

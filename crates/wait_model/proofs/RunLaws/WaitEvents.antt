@@ -1,4 +1,5 @@
 -- Each event of a wait, and of a call on an entry that stands, is fine.
+use Rattle.std.proofs.lemmas.Bool.{both_ways}
 use Rattle.wait_model.specs.declared.layout.TheConstants.{TASKS, PLAIN_CONDITIONS, FIRST_SIMPLE, CONDITIONS}
 use Rattle.wait_model.specs.declared.layout.TheConstants.{FIRST_PLAIN_HEAD, HEADS}
 use Rattle.wait_model.specs.Reached.{is_amid_function}
@@ -102,7 +103,7 @@ stands_suited c kind.Page h s = absurd (cc)
 
 -- an entry that stands is one of a plain condition
 not_standing : (k j : Kind) → k ≡ j → is_standing j ≡ false → IsStandingKind k → ⊥
-not_standing k j e never s = let z : true ≡ false = sym s ∙ ap is_standing e ∙ never in cc
+not_standing k j e never s = absurd (both_ways true (sym s ∙ ap is_standing e ∙ never) refl)
 
 stands_plain : (w : Watch) (k : Kind) → Suited w k → IsStandingKind k
     → (w ≡ watch.Plain (plain_cond w)) × (plain_cond w < PLAIN_CONDITIONS)

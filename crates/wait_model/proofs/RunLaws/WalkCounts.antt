@@ -1,4 +1,6 @@
 -- What a walk knows of its count: at each event that its task makes, and at each of another task.
+use Rattle.std.proofs.lemmas.Option.{none-some}
+use Rattle.std.proofs.lemmas.Bool.{both_ways}
 use Rattle.std.proofs.Common.{refl, sym, ◌∙◌, ap, subst, arith, inl, inr}
 use Rattle.std.specs.Prelude.{ℕ, zero, suc, ◌≡◌, ◌≢◌, ◌<◌, Bool, true, false, not, ◌&&◌, ◌||◌, ◌==◌, if◌then◌else◌}
 use Rattle.std.specs.Prelude.{Option, Some, None}
@@ -111,10 +113,10 @@ kind_counted : (c d : Watch) (k : Kind) → Suited c k → same c d ≡ true →
 kind_counted (watch.Plain c) (watch.Plain d) k s h i = refl
 kind_counted (watch.Done c) (watch.Done d) k s h i = refl
 kind_counted (watch.Bit w b) d k s h i = absurd (elim s.2 [
-  | inl e ↦ let z : true ≡ false = sym (ap is_keyed e) ∙ i in cc
-  | inr e ↦ let z : true ≡ false = sym (ap is_keyed e.0) ∙ i in cc
+  | inl e ↦ absurd (both_ways true (sym (ap is_keyed e) ∙ i) refl)
+  | inr e ↦ absurd (both_ways true (sym (ap is_keyed e.0) ∙ i) refl)
 ])
-kind_counted (watch.Var v o) d k s h i = absurd (let z : true ≡ false = sym (ap is_keyed s.2) ∙ i in cc)
+kind_counted (watch.Var v o) d k s h i = absurd (both_ways true (sym (ap is_keyed s.2) ∙ i) refl)
 kind_counted _ _ k s h i = absurd (cc)
 
 pub one_of_bits : (c d : Watch) → same c d ≡ true → is_bit c ≡ true → is_bit d ≡ true
@@ -249,7 +251,7 @@ module _ (s : State) (n me : ℕ) (call : Call) (sound : IsSound s n) (mine : me
         ∙ both_left c.exclusive (w.left == 1) spent in
         record {
           shared = not_var (call_watch call)
-              (λ b. let z : true ≡ false = sym x ∙ q.shared (one_of_vars it.watch (call_watch call) key b) in cc);
+              (λ b. absurd (both_ways true (sym x ∙ q.shared (one_of_vars it.watch (call_watch call) key b)) refl));
           it = it;
           stands = stands;
           exclusive = x;
@@ -342,7 +344,7 @@ module _ (s : State) (n me : ℕ) (call : Call) (sound : IsSound s n) (mine : me
             let mine : own c.who ≡ own me = ap own (sym (owner_own c.who) ∙ same) in
             let there : s.table.entry (own me) ≡ Some d.it = sym (ap s.table.entry mine) ∙ d.stands in
             let h : IsStandingKind d.it.kind = subst (IsHome free (call_watch call)) there pl.home in
-            let z : true ≡ false = sym h ∙ is in cc
+            absurd (both_ways true (sym h ∙ is) refl)
 
     kind_met : (j : Kind) → d.it.kind ≡ j → is_keyed j ≡ false → counted (call_watch call) ≡ true
     kind_met j is other = kind_counted d.it.watch (call_watch call) d.it.kind d.queued.lawful.suited d.key
@@ -509,7 +511,7 @@ others_counted s me g (event.Queue h form) b ne c k pl z =
     keep : (who : ℕ) (d : Entry) → taken_by (s.progress b) ≡ Some who → s.table.entry (own who) ≡ Some d
         → put s.table.entry (own me) (Some it) (own who) ≡ Some d
     keep who d t stands = put_at (λ o. o ≡ Some d) s.table.entry (own me) (Some it) (own who)
-        (λ q. absurd (let y : None ≡ Some d = sym c ∙ sym (ap s.table.entry q) ∙ stands in cc)) (λ _. stands)
+        (λ q. absurd (none-some d (sym c ∙ sym (ap s.table.entry q) ∙ stands))) (λ _. stands)
 others_counted s me g (event.Unqueue u) b ne c k pl z =
     kept_counted s.table.entry (put s.table.entry (own u) None) (s.table.view b) (s.progress b) keep z
   where

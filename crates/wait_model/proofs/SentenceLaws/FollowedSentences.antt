@@ -1,5 +1,6 @@
 -- What a program makes for findings that a task may have follows the sentence of its call.
-use Rattle.std.proofs.Common.{sym, ◌∙◌, subst}
+use Rattle.std.proofs.lemmas.Bool.{both_ways}
+use Rattle.std.proofs.Common.{refl, sym, ◌∙◌, subst}
 use Rattle.std.specs.Prelude.{ℕ, ◌≡◌, true, false, List, [], ◌∷◌}
 use Rattle.wait_model.specs.declared.calls.Call.{Call}
 use Rattle.wait_model.specs.declared.calls.Event.{Event}
@@ -20,8 +21,8 @@ module _ (me : ℕ) (call : Call) (plain : is_done (call_watch call) ≡ false) 
   knows : (p : Point) (m : Noted) (seen : Seen) → MayFind call p m seen → Knows call p m seen
   knows p m seen f = record {
     off = f.0.0;
-    range = λ d. absurd (let z : true ≡ false = sym d ∙ plain in cc);
-    count = λ d. absurd (let z : true ≡ false = sym d ∙ plain in cc);
+    range = λ d. absurd (both_ways true (sym d ∙ plain) refl);
+    count = λ d. absurd (both_ways true (sym d ∙ plain) refl);
     walk = f.1;
   }
 

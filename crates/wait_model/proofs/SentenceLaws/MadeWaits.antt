@@ -1,4 +1,5 @@
 -- The program of a `wait`, a `swait` and a `waitvar` makes whatever follows its sentence.
+use Rattle.std.proofs.lemmas.Bool.{both_ways}
 use Rattle.std.proofs.Common.{refl, sym, ap, ◌∙◌, subst}
 use Rattle.std.specs.Prelude.{ℕ, zero, suc, ◌≡◌, Bool, true, false, not, List, [], ◌∷◌, Some, if◌then◌else◌, ◌&&◌}
 use Rattle.wait_model.specs.declared.calls.Call.{Call}
@@ -249,9 +250,9 @@ module _ (me : ℕ) (call : Call) (k : IsLoop call) where
   back (at.Leave leaving.Load) m x w a h =
       let y = left_back m h.1.0 h.1.1.0 (misses (call_watch call) h.1.1.0) w a h.1.1.1.1 in
       (record (sees m) { value = h.1.1.0 }, (shown call m h.1.1.0 k.plain, tt), (h.1.1.1.0 ∙ y.0, y.1))
-  back (at.Finish finishing.State true) m x w a h = absurd (let z : true ≡ false = h.0 in cc)
-  back (at.Finish finishing.Look true) m x w a h = absurd (let z : true ≡ false = h.0 in cc)
-  back (at.Finish p true) m x w a h = absurd (let z : true ≡ false = h.0.0 in cc)
+  back (at.Finish finishing.State true) m x w a h = absurd (both_ways true h.0 refl)
+  back (at.Finish finishing.Look true) m x w a h = absurd (both_ways true h.0 refl)
+  back (at.Finish p true) m x w a h = absurd (both_ways true h.0.0 refl)
   back (at.Finish p false) m x w a h = finish_back m p h.0 x w a h.1
   back p m x w a h = absurd h.0
 

@@ -1,4 +1,5 @@
 -- In every state of a run a task knows what the sentence of its call needs of what it finds.
+use Rattle.std.proofs.lemmas.Bool.{both_ways}
 use Rattle.std.proofs.lemmas.Bool.Decides.{eqb_tells, nat_tests}
 use Rattle.std.proofs.Common.{refl, sym, ap, ◌∙◌, subst, arith, inl, inr}
 use Rattle.std.specs.Prelude.{ℕ, ◌≡◌, ◌≢◌, ◌==◌, ◌+◌, ◌<◌, ◌≤◌, nat_lt, Bool, true, false, ◌&&◌, if◌then◌else◌, List}
@@ -316,7 +317,7 @@ stays_at key n (x ∷ ms) all = by (nat_lt BREAK n) (is_entry x) (key x) (all x 
         else arrive key (if b then n + 1 else n) ms).calls ≡ n
     by true b c q h = refl
     by false true true q h = refl
-    by false true false q h = absurd (let z : false ≡ true = q refl in cc)
+    by false true false q h = absurd (both_ways false refl (q refl))
     by false false c q h = h
 
 no_strangers : (s : State) (n : ℕ) (call : Call) (place calls : ℕ) → IsLinked s.table.entry s.table.mark s.queue n

@@ -1,4 +1,5 @@
 -- What the stepping task's view tells after a step, group by group.
+use Rattle.std.proofs.lemmas.Option.{none-some}
 use Rattle.std.proofs.Common.{refl, sym, ◌∙◌, ap, subst, arith, inl, inr}
 use Rattle.std.specs.Prelude.{ℕ, ◌≡◌, ◌≢◌, ◌≤◌, ◌⊎◌, Option, Some, None, Bool, true, false, cond, not, ◌&&◌, ◌||◌, ◌==◌}
 use Rattle.wait_model.specs.declared.watches.Watch.{Watch}
@@ -399,7 +400,7 @@ module _ (holder : ℕ → Bool) (entry : ℕ → Option Entry) (spent : ℕ →
     hold = record {
       held = o.hold.held;
       agrees = λ h x e. book_put v.hold.book entry (put entry y None) y h off
-          (λ d r. absurd (let z : None ≡ Some d = sym (put_same entry y None) ∙ r in cc))
+          (λ d r. absurd (none-some d (sym (put_same entry y None) ∙ r)))
           (λ i ne. put_other entry y None i ne) (λ i. o.hold.agrees h i e) x;
       aimed = o.hold.aimed;
       uncleared = o.hold.uncleared;

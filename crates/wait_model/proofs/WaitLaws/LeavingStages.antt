@@ -1,4 +1,6 @@
 -- What an event of a task leaves of its wait, and the events that leave it outside of all stages.
+use Rattle.std.proofs.lemmas.Option.{none-some}
+use Rattle.std.proofs.lemmas.Bool.{both_ways}
 use Rattle.wait_model.specs.Admission.{IsGoing}
 use Rattle.std.proofs.lemmas.List.{append_assoc}
 use Rattle.std.proofs.Common.{refl, sym, ◌∙◌, ap, subst, arith}
@@ -102,7 +104,7 @@ module _ (s : State) (me : ℕ) (call : Call) (p : Point) where
 
   module _ (up : (s.table.task me).runnable ≡ true) where
     nobody : (q : Progress) (who : ℕ) → taken_by q ≡ None → taken_by q ≡ Some who → ⊥
-    nobody q who none some = let z : None ≡ Some who = sym none ∙ some in cc
+    nobody q who none some = absurd (none-some who (sym none ∙ some))
 
     pub calm : (x : Planned) → IsAwake s me (given_at call p) x.event → Takes x.event → Stores x.event
         → stage_in (progress_at call x.next) ≡ outside → taken_by (progress_at call x.next) ≡ None
@@ -181,7 +183,7 @@ module _ (s : State) (me : ℕ) (call : Call) (p : Point) where
     awake_good e q a t st doze none f = record {
       staged = subst (λ (g : Stage). IsAt g ((then_by e).table.task me) ((then_by e).table.entry (own me))
           ((then_by e).table.history me) (own me) call) (sym doze)
-          (λ d. absurd (let z : true ≡ false = sym (own_up s me (given_at call p) e a up) ∙ d in cc));
+          (λ d. absurd (both_ways true (sym (own_up s me (given_at call p) e a up) ∙ d) refl));
       taken = λ who some. absurd (nobody (now.Open call q) who none some);
       takes = t;
       stores = st;

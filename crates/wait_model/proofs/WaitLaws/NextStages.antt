@@ -1,4 +1,5 @@
 -- A task's own event takes its wait to the next stage.
+use Rattle.std.proofs.lemmas.Option.{none-some}
 use Rattle.wait_model.proofs.WordLaws.CondWords.{head_of_bare}
 use Rattle.wait_model.specs.Tables.{value_of}
 use Rattle.wait_model.specs.Counts.{taken_done}
@@ -240,7 +241,7 @@ module _ (s : State) (me : ℕ) (call : Call) where
               (sym (put_same s.table.history me (s.table.history me ++ step.Load (call_watch call) v ∷ [])))
               (load_failed (s.table.history me) (own me) (call_watch call) v h),
         );
-    taken = λ who some. absurd (let z : None ≡ Some who = sym none ∙ some in cc);
+    taken = λ who some. absurd (none-some who (sym none ∙ some));
     takes = tt;
     stores = tt;
     fits = f;
@@ -254,7 +255,7 @@ module _ (s : State) (me : ℕ) (call : Call) where
         (own me) call) (sym doze)
         (λ d. by (slept_down (s.table.task me) k.up
         (ap (λ (t : TaskRecord). t.runnable) (sym (put_same s.table.task me (slept (s.table.task me)))) ∙ d)));
-    taken = λ who some. absurd (let z : None ≡ Some who = sym none ∙ some in cc);
+    taken = λ who some. absurd (none-some who (sym none ∙ some));
     takes = tt;
     stores = tt;
     fits = f;
@@ -326,7 +327,7 @@ module _ (s : State) (me : ℕ) (call : Call) where
     staged = prepared_staged call (s.table.task me) (s.table.entry (own me))
         ((then_by s me call (at.Prepare preparing.Unlock) (event.Unlock (call_head call) false)).table.history me)
         (own me) k.up k.old.1;
-    taken = λ who some. absurd (let z : None ≡ Some who = sym (prepared_takes call) ∙ some in cc);
+    taken = λ who some. absurd (none-some who (sym (prepared_takes call) ∙ some));
     takes = tt;
     stores = tt;
     fits = prepared_fits call;

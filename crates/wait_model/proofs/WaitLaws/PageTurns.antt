@@ -1,5 +1,6 @@
 -- The turns of a wait for a page: whoever is told of its page before its entry is taken off does not sleep any more,
 -- and whoever sleeps has found the page set since its entry was queued.
+use Rattle.std.proofs.lemmas.Bool.{both_ways}
 use Rattle.std.proofs.lemmas.Bool.Decides.{nat_tests}
 use Rattle.std.proofs.Common.{refl, sym, ◌∙◌, ap, subst, arith, inl, inr}
 use Rattle.std.specs.Prelude.{ℕ, ◌≡◌, ◌≢◌, ◌⊎◌, Bool, true, false, ◌||◌, ◌==◌, if◌then◌else◌, is_some, Option}
@@ -140,7 +141,7 @@ apart_told call (next.Ends a) u n t = cc
 pub paging_locks : (call : Call) (p : PagePoint) → IsListening call → call_watch call ≡ page (word_of (call_watch call))
     → is_page_lock call ≡ true
 paging_locks (calls.LockPage w st) p l f = refl
-paging_locks (calls.Woken st) p l f = absurd (let z : false ≡ true = ap is_bit f in cc)
+paging_locks (calls.Woken st) p l f = absurd (both_ways false refl (ap is_bit f))
 paging_locks calls.Remove p l f = absurd l
 paging_locks call p l f = absurd l
 
@@ -316,7 +317,7 @@ module _ (s : State) (me : ℕ) (call : Call) (runs : (s.table.task me).runnable
 
   calm : (p : PagePoint) (x : Planned) → IsAwake s me (G p) x.event → has_asked (progress_at call x.next) ≡ false
       → Calm p x
-  calm p x w h = (own_up s me (G p) x.event w runs, λ z. absurd (let y : false ≡ true = sym h ∙ z in cc))
+  calm p x w h = (own_up s me (G p) x.event w runs, λ z. absurd (both_ways false refl (sym h ∙ z)))
 
   calm_both : (p : PagePoint) (b : Bool) (x y : Planned) → IsAwake s me (G p) x.event
       → has_asked (progress_at call x.next) ≡ false → IsAwake s me (G p) y.event

@@ -1,4 +1,5 @@
 -- In every run whoever waits for a page is told of it before its entry is taken off.
+use Rattle.std.proofs.lemmas.Option.{none-some}
 use Rattle.std.proofs.lemmas.Bool.Decides.{eqb_tells}
 use Rattle.std.proofs.Common.{refl, sym, ◌∙◌, ap, subst, arith, inl, inr}
 use Rattle.std.specs.Prelude.{ℕ, ◌≡◌, ◌≢◌, ◌+◌, ◌≤◌, Bool, true, false, if◌then◌else◌, Option, Some, None, List, []}
@@ -252,7 +253,7 @@ module _ (s : State) (n me : ℕ) (e : Event) (found : ℕ) (sound : IsSound s n
     awake = λ _ t. own_up s me (given_at call (at.Page p)) (X s me call runs p).event (awake_event s me call runs p t)
         runs;
     up_own = λ f h _. up_next s me call runs p f (subst (λ (q : Progress). IsUp q (s.table.task me)) is h);
-    off_by = λ v w h. absurd (let y : None ≡ Some v = sym (ap handed_by is) ∙ h in cc);
+    off_by = λ v w h. absurd (none-some v (sym (ap handed_by is) ∙ h));
   })
     where
       lands : Lands (X s me call runs p).next

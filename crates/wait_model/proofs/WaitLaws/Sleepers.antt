@@ -1,4 +1,5 @@
 -- Whoever is asleep in a wait sleeps on the watch of its call, whatever it waits for.
+use Rattle.std.proofs.lemmas.Bool.{both_ways}
 use Rattle.std.proofs.lemmas.Bool.Decides.{nat_tests}
 use Rattle.std.proofs.Common.{refl, sym, ◌∙◌, ap, subst, arith}
 use Rattle.std.specs.Prelude.{ℕ, ◌≡◌, ◌≢◌, ◌≤◌, Bool, true, false, nat_lt, if◌then◌else◌, Option, Some, None, List}
@@ -96,7 +97,7 @@ module _ (call : Call) (v : View) (x : ℕ) (w : is_await call ≡ true) where
   Failed = (n : ℕ) × (v.checks.zero_failed x (call_watch call) ≡ Some n)
 
   dozing_zero : (p : Point) → stage p ≡ dozing → IsFitted call p → IsZero call p v x → Failed
-  dozing_zero (at.Prepare preparing.Lock) g f h = absurd (let z : false ≡ true = sym f ∙ w in cc)
+  dozing_zero (at.Prepare preparing.Lock) g f h = absurd (both_ways false refl (sym f ∙ w))
   dozing_zero (at.Prepare preparing.Look) g f h = absurd (cc)
   dozing_zero (at.Prepare preparing.Queue) g f h = absurd (cc)
   dozing_zero (at.Prepare preparing.State) g f h = absurd (cc)
@@ -205,14 +206,14 @@ module _ (run : List Ran) (r : IsRun run) (few : made_in run ≤ EVENTS) (t : �
 
   turns : (b : Bool) → is_turning (now.Open call p) ≡ b → is_turning (now.Open call p) ≡ true
   turns true q = q
-  turns false q = absurd (let z : true ≡ false = sym (told.awake t (ap is_paging is
-      ∙ lock_pages call p lock (subst IsPaged is (told.paged t))) (ap is_turning is ∙ q)) ∙ down in cc)
+  turns false q = absurd (both_ways true (sym (told.awake t (ap is_paging is
+      ∙ lock_pages call p lock (subst IsPaged is (told.paged t))) (ap is_turning is ∙ q)) ∙ down) refl)
 
   turning : is_turning (now.Open call p) ≡ true
   turning = turns (is_turning (now.Open call p)) refl
 
   low : ((state_of run).table.task t).state ≡ 0 → ⊥
-  low z = let y : true ≡ false = sym ((sound.lawful t).runnable z) ∙ down in cc
+  low z = absurd (both_ways true (sym ((sound.lawful t).runnable z) ∙ down) refl)
 
   found : ((state_of run).table.view t).checks.tas_failed (own t) (call_watch call) ≡ true
   found = subst (λ (q : Progress). FoundSet q ((state_of run).table.view t) t) is (told.found t) turning
@@ -237,7 +238,7 @@ module _ (run : List Ran) (r : IsRun run) (few : made_in run ≤ EVENTS) (t : �
       }
 
   page_safe : (o : Option Entry) → (state_of run).table.entry (own t) ≡ o → IsSafe (state_of run) t (call_watch call)
-  page_safe None st = absurd (let z : true ≡ false = sym (told.off t (ap is_turning is ∙ turning) st).1.0 ∙ down in cc)
+  page_safe None st = absurd (both_ways true (sym (told.off t (ap is_turning is ∙ turning) st).1.0 ∙ down) refl)
   page_safe (Some e) st = record {
     entry = e;
     sleeps = asleep e st;

@@ -1,4 +1,6 @@
 -- What every run keeps of its waits: only after its sleep is a wait's task down, and then its entry is queued.
+use Rattle.std.proofs.lemmas.Option.{none-some}
+use Rattle.std.proofs.lemmas.Bool.{both_ways}
 use Rattle.wait_model.specs.declared.layout.TheConstants.{EVENTS}
 use Rattle.wait_model.specs.Tables.{value_of}
 use Rattle.wait_model.specs.Admission.{IsGoing}
@@ -409,7 +411,7 @@ opened_alert s me call al item = record {
       (λ _. al.staged t);
   fits = λ t. put_at FitsStage s.progress me _ t (λ _. start_fits call) (λ _. al.fits t);
   taken = λ t who. put_at (λ q. taken_by q ≡ Some who → (s.table.task who).state ≡ 0) s.progress me _ t
-      (λ _ k. absurd (let z : None ≡ Some who = sym (start_takes call) ∙ k in cc)) (λ _. al.taken t who);
+      (λ _ k. absurd (none-some who (sym (start_takes call) ∙ k))) (λ _. al.taken t who);
 }
 
 alert_after : (s : State) (items : List Ran) (n : ℕ) → IsRunFrom s items → IsSound s n → IsAlert s
@@ -432,10 +434,10 @@ start_alert = record { staged = λ t. refl; fits = λ t. tt; taken = λ t who k.
 down_stage : (g : Stage) (t : TaskRecord) (o : Option Entry) (es : List Step) (x : ℕ) (call : Call)
     → IsAt g t o es x call
     → (g ≡ napping → ⊥) → t.runnable ≡ false → (g ≡ dozing) × (is_some o ≡ true) × IsTested call es x
-down_stage outside t o es x call a n d = absurd (let z : true ≡ false = sym a ∙ d in cc)
-down_stage inside t o es x call a n d = absurd (let z : true ≡ false = sym a.0 ∙ d in cc)
-down_stage testing t o es x call a n d = absurd (let z : true ≡ false = sym a.0 ∙ d in cc)
-down_stage tested t o es x call a n d = absurd (let z : true ≡ false = sym a.0 ∙ d in cc)
+down_stage outside t o es x call a n d = absurd (both_ways true (sym a ∙ d) refl)
+down_stage inside t o es x call a n d = absurd (both_ways true (sym a.0 ∙ d) refl)
+down_stage testing t o es x call a n d = absurd (both_ways true (sym a.0 ∙ d) refl)
+down_stage tested t o es x call a n d = absurd (both_ways true (sym a.0 ∙ d) refl)
 down_stage dozing t o es x call a n d = let k = a d in (refl, k.0, k.1)
 down_stage napping t o es x call a n d = absurd (n refl)
 
@@ -519,7 +521,7 @@ asleep_down s n t call p sound al is other down =
     fits = subst FitsStage is (al.fits t)
 
     low : (s.table.task t).state ≡ 0 → ⊥
-    low z = let y : true ≡ false = sym ((sound.lawful t).runnable z) ∙ down in cc
+    low z = absurd (both_ways true (sym ((sound.lawful t).runnable z) ∙ down) refl)
 
     is_down : (e : Entry) → s.table.entry (own t) ≡ Some e → stage p ≡ dozing
         → IsTested call (s.table.history t) (own t) → IsDownInWait s t call p

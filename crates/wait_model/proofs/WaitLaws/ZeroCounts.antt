@@ -1,5 +1,6 @@
 -- A wait for a completion found the count 0 in the hold in which it prepared, and its view keeps that after its
 -- store of a state.
+use Rattle.std.proofs.lemmas.Bool.{both_ways}
 use Rattle.std.proofs.lemmas.Bool.Decides.{nat_tests}
 use Rattle.std.proofs.Common.{refl, sym, ◌∙◌, ap, subst, arith}
 use Rattle.std.specs.Prelude.{ℕ, ◌≡◌, ◌+◌, ◌≤◌, Bool, true, false, not, ◌&&◌, ◌==◌, if◌then◌else◌, is_some}
@@ -145,7 +146,7 @@ module _ (s : State) (me : ℕ) (call : Call) where
   zero_step (at.Prepare preparing.Lock) f held h = either
       (λ q. Led (at.Prepare preparing.Lock) (event.Lock (call_head call)) (at.Prepare q))
       (not (is_bit_wait call) && looks_in (state_in call)) _ _
-      (λ w. absurd (let z : false ≡ true = sym f ∙ w in cc)) (λ w. absurd (let z : false ≡ true = sym f ∙ w in cc))
+      (λ w. absurd (both_ways false refl (sym f ∙ w))) (λ w. absurd (both_ways false refl (sym f ∙ w)))
   zero_step (at.Prepare preparing.Look) f held h = both (λ b. Z (at.Prepare preparing.Look) (look_event call b))
       (pending (state_mask (state_in call)) (s.table.task me)) (zero_signalled call _ _) h
   zero_step (at.Prepare preparing.Queue) f held h = either (Z (at.Prepare preparing.Queue))
@@ -159,7 +160,7 @@ module _ (s : State) (me : ℕ) (call : Call) where
       ))
   zero_step at.Test f held h = either
       (Led at.Test (event.Load (call_number call) (value_of s.table.words (call_watch call)))) (unset s call) _ _
-      (λ w. absurd (let z : false ≡ true = sym h ∙ w in cc)) tt
+      (λ w. absurd (both_ways false refl (sym h ∙ w))) tt
   zero_step at.Sleep f held h = zero_slept call _ (own me) h
   zero_step (at.Leave leaving.Queue) f held h = either (Z (at.Leave leaving.Queue))
       (is_some (s.table.entry (own me))) _ _ tt tt

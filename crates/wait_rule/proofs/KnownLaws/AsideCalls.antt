@@ -124,11 +124,15 @@ lock_view : (e : Step) (k : Known) → (with_lock e k).view ≡ k.view
 lock_view (step.Lock h aim w) k = refl
 lock_view e k = refl
 
+none_by : (k : Known) (o : Option ℕ) (g : Given) (s : Step) (v : Event) → RaisesNone v → IsStepFor k o g v s
+    → raised_by (item.Made s) ≡ []
+none_by k o g (step.Signal t deadly w) (event.Signal who fatal) silent is = absurd silent
+none_by k o g (step.Signal t deadly w) v silent is = absurd is
+none_by k o g s v silent is = refl
+
 step_none : (k : Known) (o : Option ℕ) (g : Given) (v : Event) (s : Step) → RaisesNone v → IsStepFor k o g v s
     → raised_by (item.Made s) ≡ []
-step_none k o g (event.Signal who fatal) (step.Signal t deadly w) silent is = absurd silent
-step_none k o g v (step.Signal t deadly w) silent is = absurd is
-step_none k o g v s silent is = refl
+step_none k o g v s silent is = none_by k o g s v silent is
 
 made_aside : (k : Known) (o : Option ℕ) (g : Given) (v : Event) (did : StepOrLook) → RaisesNone v
     → IsMadeFor k o g v did → GrowsAside k (after_step_or_look did k)

@@ -140,11 +140,14 @@ others_stay_off f old new from to made elsewhere free g =
     let l = goes_adding IsLow f (λ p k e s q. low p k e s q) old new from to made g in
     left_on old new l.made l.number l.is (all_low l.made l.adds) free
   where
-    low : (p : Point) (k : Known) (e : Event) (s : Step) → IsStepFor k f.own (f.given p) e s → AddsBy IsLow s
-    low p k (event.Queue h form) (step.Queue x e) q = elim elsewhere [
+    low_by : (p : Point) (k : Known) (s : Step) (e : Event) → IsStepFor k f.own (f.given p) e s → AddsBy IsLow s
+    low_by p k (step.Queue x e) (event.Queue h form) q = elim elsewhere [
       | inl none ↦ never_own f.own x none q.0
       | inr under ↦ subst (λ (d : Entry). head_of d.watch < FIRST_DONE_HEAD) (sym q.3)
           (bare_low (f.given p).watch (under p))
     ]
-    low p k e (step.Queue x d) q = absurd q
-    low p k e s q = tt
+    low_by p k (step.Queue x d) e q = absurd q
+    low_by p k s e q = tt
+
+    low : (p : Point) (k : Known) (e : Event) (s : Step) → IsStepFor k f.own (f.given p) e s → AddsBy IsLow s
+    low p k e s q = low_by p k s e q

@@ -1,4 +1,5 @@
 -- What a task makes of a walk follows the sentence of a wake.
+use Rattle.std.proofs.lemmas.Bool.{both_ways}
 use Rattle.std.proofs.Common.{refl, sym, ◌∙◌, ap, subst, append_assoc}
 use Rattle.std.specs.Prelude.{ℕ, ◌≡◌, ◌<◌, ◌≤◌, Bool, true, false, if◌then◌else◌, is_some, Option, Some, None, List, []}
 use Rattle.std.specs.Prelude.{◌∷◌, ◌++◌}
@@ -89,16 +90,45 @@ head_by (event.Lock h) o = Some h
 head_by (event.Unlock h used) o = None
 head_by _ o = o
 
+abbrev locks_or_unlocks : Step → Bool
+locks_or_unlocks (step.Lock i aim w) = true
+locks_or_unlocks (step.Unlock i sp) = true
+locks_or_unlocks _ = false
+
+lock_locks : (k : Known) (own : Option ℕ) (g : Given) (h : ℕ) (e : Step) → IsStepFor k own g (event.Lock h) e
+    → locks_or_unlocks e ≡ true
+lock_locks k own g h (step.Lock i aim w) made = refl
+lock_locks k own g h e made = absurd made
+
+unlock_unlocks : (k : Known) (own : Option ℕ) (g : Given) (h : ℕ) (used : Bool) (e : Step)
+    → IsStepFor k own g (event.Unlock h used) e → locks_or_unlocks e ≡ true
+unlock_unlocks k own g h used (step.Unlock i sp) made = refl
+unlock_unlocks k own g h used e made = absurd made
+
+-- an event whose step neither locks nor unlocks leaves the head
+other_head : (k : Known) (own : Option ℕ) (g : Given) (e : Step) (ev : Event) (o : Option ℕ)
+    → locks_or_unlocks e ≡ false → IsStepFor k own g ev e → o ≡ head_by ev o
+other_head k own g e (event.Lock h) o other made =
+    absurd (both_ways (locks_or_unlocks e) other (lock_locks k own g h e made))
+other_head k own g e (event.Unlock h used) o other made =
+    absurd (both_ways (locks_or_unlocks e) other (unlock_unlocks k own g h used e made))
+other_head k own g e ev o other made = refl
+
+lock_head : (k : Known) (own : Option ℕ) (g : Given) (i : ℕ) (aim : Option Aim) (w : ℕ) (ev : Event) (v : Told)
+    → IsStepFor k own g ev (step.Lock i aim w) → (after (step.Lock i aim w) v).hold.head ≡ head_by ev v.hold.head
+lock_head k own g i aim w (event.Lock h) v made = ap Some made.0
+lock_head k own g i aim w ev v made = absurd made
+
+unlock_head : (k : Known) (own : Option ℕ) (g : Given) (i : ℕ) (sp : Bool) (ev : Event) (v : Told)
+    → IsStepFor k own g ev (step.Unlock i sp) → (after (step.Unlock i sp) v).hold.head ≡ head_by ev v.hold.head
+unlock_head k own g i sp (event.Unlock h used) v made = ap (λ (d : Hold). d.head) (unlock_hold v v.walk sp)
+unlock_head k own g i sp ev v made = absurd made
+
 step_head : (k : Known) (own : Option ℕ) (g : Given) (ev : Event) (e : Step) (v : Told) → IsStepFor k own g ev e
     → (after e v).hold.head ≡ head_by ev v.hold.head
-step_head k own g (event.Lock h) (step.Lock i aim w) v made = ap Some made.0
-step_head k own g (event.Lock h) e v made = absurd made
-step_head k own g (event.Unlock h used) (step.Unlock i sp) v made =
-    ap (λ (d : Hold). d.head) (unlock_hold v v.walk sp)
-step_head k own g (event.Unlock h used) e v made = absurd made
-step_head k own g ev (step.Lock i aim w) v made = absurd made
-step_head k own g ev (step.Unlock i sp) v made = absurd made
-step_head k own g ev e v made = refl
+step_head k own g ev (step.Lock i aim w) v made = lock_head k own g i aim w ev v made
+step_head k own g ev (step.Unlock i sp) v made = unlock_head k own g i sp ev v made
+step_head k own g ev e v made = other_head k own g e ev v.hold.head refl made
 
 pub made_head : (k : Known) (own : Option ℕ) (g : Given) (ev : Event) (did : StepOrLook) → IsMadeFor k own g ev did
     → head_in (after_step_or_look did k) ≡ head_by ev (head_in k)

@@ -58,16 +58,30 @@ pub not_unknown : (g : Glance) → g ≡ away → g ≢ unknown
 not_unknown g q r = let z : away ≡ unknown = sym q ∙ r in cc
 
 -- nothing stands anywhere
+off_nowhere : (p : ℕ) → look_place off ≡ Some p → ⊥
+off_nowhere p is = cc
+
+away_nowhere : (p : ℕ) → glance_place away ≡ Some p → ⊥
+away_nowhere p is = cc
+
+below : (m n : ℕ) → nat_lt m n ≡ true → m < n
+below m n is = grind arith
+
+from_on : (m n : ℕ) → nat_lt m n ≡ false → n ≤ m
+from_on m n is = grind arith
+
+mark_low : (m : ℕ) → ENTRIES ≤ m → m < MEMBERS → m - ENTRIES < TASKS
+mark_low m far small = omega arith
+
 pub none_by : (k : Known) → ShowsEmpty k → (m p : ℕ) → m < MEMBERS → place_by k m ≡ Some p → ⊥
 none_by k s m p small = by (nat_lt m ENTRIES) refl
   where
     by : (b : Bool) → nat_lt m ENTRIES ≡ b
         → (if b then look_place ((told_of k).hold.book m) else glance_place ((noted k).marks (m - ENTRIES))) ≡ Some p
         → ⊥
-    by true q is = let e : look_place off ≡ Some p = sym (ap look_place (s.entries m (grind arith))) ∙ is in cc
+    by true q is = off_nowhere p (sym (ap look_place (s.entries m (below m ENTRIES q))) ∙ is)
     by false q is =
-        let far : ENTRIES ≤ m = grind arith in
-        let e : glance_place away ≡ Some p = sym (ap glance_place (s.marks (m - ENTRIES) (omega arith))) ∙ is in cc
+        away_nowhere p (sym (ap glance_place (s.marks (m - ENTRIES) (mark_low m (from_on m ENTRIES q) small))) ∙ is)
 
 -- the empty queue lets it be queued
 pub may_queue_lone : (exclusive : Bool) (form : Kind) → IsLawfulEntry (lone exclusive form) → is_simple form ≡ false

@@ -156,12 +156,15 @@ walk_settled : (view_of ((table_of set_and_walked).history 1)).duty.owes the_set
 unfolding hashed head_of owner meets entry_of all_below all_passed
 walk_settled = refl
 
+asleep : UNINTERRUPTIBLE ≢ 0
+asleep q = cc
+
 the_sleep : Sleeps (table_of set_for_it) 0 the_sleeper the_set
 unfolding hashed head_of owner meets entry_of
 the_sleep = record {
   queued = refl;
   watches = refl;
-  down = λ q. absurd (cc);
+  down = asleep;
   failed = record {
     before = step.Lock FIRST_PLAIN_HEAD None 0 ∷ step.Saw 0 0 ∷ step.Queue 0 the_sleeper
         ∷ step.State UNINTERRUPTIBLE ∷ step.Unlock FIRST_PLAIN_HEAD false ∷ [];

@@ -1,5 +1,6 @@
 -- While the entry of a task for whom a page was taken is queued, a walk is about to take it off.
-use Rattle.std.proofs.lemmas.Option.{none-some}
+use Rattle.std.proofs.lemmas.Bool.{both_ways}
+use Rattle.std.proofs.lemmas.Option.{none-some, same_Some}
 use Rattle.std.proofs.Common.{refl, sym, ◌∙◌, ap, subst, inl, inr}
 use Rattle.std.specs.Prelude.{ℕ, ◌≡◌, ◌≢◌, Option, Some, None, Bool, true, false, ◌⊎◌, if◌then◌else◌, nat_lt, is_some}
 use Rattle.std.specs.Prelude.{cond, not, ◌+◌}
@@ -111,8 +112,7 @@ entry_left s me g (event.Queue h form) u d st = elim (put_case s.table.entry (ow
         form,
         refl,
         own_one u me q.0,
-        (let z : Some (entry_for g form (place_for form (s.queue h))) ≡ Some d = sym q.1 ∙ st in
-            let y : entry_for g form (place_for form (s.queue h)) ≡ d = cc in sym (ap (λ (i : Entry). i.kind) y)),
+        sym (ap (λ (i : Entry). i.kind) (same_Some (entry_for g form (place_for form (s.queue h))) d (sym q.1 ∙ st))),
       )
       | inr q ↦ inl (sym q.1 ∙ st)
     ]
@@ -206,8 +206,7 @@ module _ (s : State) (n me : ℕ) (g : Given) (e : Event) (np : Progress)
           paged a u i r c =
               let f : IsHanding s.table.entry u (s.table.view a).hold.head =
               handing_of s.table.entry (s.table.view a) n a u (s.progress a) (pl a) (k a) i in
-              let z : is_page f.it.kind ≡ false = c f.it (sym (ap s.table.entry r) ∙ f.stands) in
-              let y : is_page f.it.kind ≡ true = f.kind in cc
+              both_ways (is_page f.it.kind) (c f.it (sym (ap s.table.entry r) ∙ f.stands)) f.kind
 
       sober_amid : (u q : ℕ) (d : Entry) → after_it.entry (own u) ≡ Some d → is_page d.kind ≡ true
           → after_it.taken (own u) ≡ Some q → (a : ℕ) × (handed_by (put s.progress me np a) ≡ Some u)
@@ -217,10 +216,8 @@ module _ (s : State) (n me : ℕ) (g : Given) (e : Event) (np : Progress)
           put_at (λ r. handed_by r ≡ Some u) s.progress me np a.0
               (λ i. absurd (hands_none u (subst (λ (j : ℕ). handed_by (s.progress j) ≡ Some u) i a.1))) (λ _. a.1),
         )
-        | inr new ↦ absurd (let z : s.table.taken (own me) ≡ None =
-            queues new.0 new.1 new.2 (sym (ap is_page new.4) ∙ pg)
-            in let y : s.table.taken (own u) ≡ Some q = was_taken u q tk in
-            let x : s.table.taken (own u) ≡ s.table.taken (own me) = ap (λ (i : ℕ). s.table.taken (own i)) new.3 in cc)
+        | inr new ↦ absurd (none-some q (sym (queues new.0 new.1 new.2 (sym (ap is_page new.4) ∙ pg))
+            ∙ (sym (ap (λ (i : ℕ). s.table.taken (own i)) new.3) ∙ was_taken u q tk)))
       ]
 
       still_place : (t : ℕ) (p : Progress) → s.progress t ≡ p → HandsAt s.table.taken t p → HandsAt after_it.taken t p
@@ -492,8 +489,8 @@ module _ (s : State) (n me : ℕ) (e : Event) (found : ℕ)
         none v i = elsewhere_hands call p v o (sym (ap handed_by is) ∙ i)
 
         queues : (y : ℕ) (f : Form) → e ≡ event.Queue y f → is_page g.kind ≡ true → s.table.taken (own me) ≡ None
-        queues y f q pg = absurd (let z : is_page g.kind ≡ false = ap is_page kind_is ∙ elsewhere_plain call p o fits
-            in cc)
+        queues y f q pg = absurd (both_ways (is_page g.kind) (ap is_page kind_is ∙ elsewhere_plain call p o fits)
+            pg)
 
         untaken : (w : Walking) (d : CalledEntry) → x.next ≡ next.Go (at.Walk (walking.Page staging.Try w d))
             → u.table.taken (own d.who) ≡ None
@@ -514,12 +511,10 @@ module _ (s : State) (n me : ℕ) (e : Event) (found : ℕ)
             other i j =
                 let y : IsHanding u.table.entry d.who (u.table.view i).hold.head =
                 handing_of u.table.entry (u.table.view i) (n + 1) i d.who (u.progress i) (pl2 i) (k2 i) j in
-                let z : Some y.it ≡ Some f.it = sym y.stands ∙ f.stands in
-                let one : y.it ≡ f.it = cc in
+                let one : y.it ≡ f.it = same_Some y.it f.it (sym y.stands ∙ f.stands) in
                 let same : i ≡ me = facts2.one_holder i me (head_of f.it.watch)
                 (y.head ∙ ap (λ (t : Entry). Some (head_of t.watch)) one) f.head in
-                let t : handed_by (now.Open call (at.Walk (walking.Page staging.Try w d))) ≡ Some d.who =
-                subst (λ (r : Progress). handed_by r ≡ Some d.who) (ap u.progress same ∙ now_me) j in cc
+                none-some d.who (subst (λ (r : Progress). handed_by r ≡ Some d.who) (ap u.progress same ∙ now_me) j)
 
             by : (o : Option ℕ) → u.table.taken (own d.who) ≡ o → u.table.taken (own d.who) ≡ None
             by None t = t
@@ -617,8 +612,7 @@ module _ (s : State) (n me : ℕ) (e : Event) (found : ℕ)
       (λ v t st. (left v t st).1)
       (subst (HandsAt s.table.taken me) (sym (goes call (at.Walk (walking.Page staging.Off w d)) is c))
       (onward_here (past w d true).spent))
-      (λ v t st i. absurd ((left v t st).0 (let z : Some d.who ≡ Some v = sym (ap handed_by is) ∙ i in
-      let y : d.who ≡ v = cc in sym y)))
+      (λ v t st i. absurd ((left v t st).0 (sym (same_Some d.who v (sym (ap handed_by is) ∙ i)))))
     where
       left : (v : ℕ) (t : Entry) → u.table.entry (own v) ≡ Some t
           → (v ≢ d.who) × (s.table.entry (own v) ≡ Some t)

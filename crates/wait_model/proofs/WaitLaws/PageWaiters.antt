@@ -1,4 +1,5 @@
 -- In every run whoever waits for a page is told of it before its entry is taken off.
+use Rattle.std.proofs.lemmas.Bool.{both_ways}
 use Rattle.std.proofs.lemmas.Option.{none-some}
 use Rattle.std.proofs.lemmas.Bool.Decides.{eqb_tells}
 use Rattle.std.proofs.Common.{refl, sym, ◌∙◌, ap, subst, arith, inl, inr}
@@ -54,6 +55,13 @@ use Rattle.wait_model.proofs.WaitLaws.PageTurns.{apart_told, paging_locks, turni
 use Rattle.wait_model.proofs.WaitLaws.PageTurns.{elsewhere_paging, flag_stays, went, up_still, page_lands, lands_paged}
 use Rattle.wait_model.proofs.WaitLaws.PageTurns.{lands_untold, moved_paged, unlocked_paged, turn_off, leads_to_turn}
 use Rattle.wait_model.proofs.WaitLaws.PageTurns.{page_found, up_next, awake_event, turning_page, hands_not, woken_runs}
+
+abbrev is_unqueue : Event → Bool
+is_unqueue (event.Unqueue v) = true
+is_unqueue _ = false
+
+unqueues_not : (e : Event) (v : ℕ) → is_unqueue e ≡ false → e ≡ event.Unqueue v → ⊥
+unqueues_not e v other is = both_ways (is_unqueue e) other (ap is_unqueue is)
 
 -- one event of a run
 module _ (s : State) (n me : ℕ) (e : Event) (found : ℕ) (sound : IsSound s n)
@@ -224,18 +232,18 @@ module _ (s : State) (n me : ℕ) (e : Event) (found : ℕ) (sound : IsSound s n
       nothing_found : (q : Progress) → is_paging q ≡ false → (v : View) → FoundSet q v me
       nothing_found now.Idle a v = tt
       nothing_found now.Fresh a v = tt
-      nothing_found (now.Open d k) a v = λ z. absurd (let y : is_turning (now.Open d k) ≡ false =
-          turning_paging (now.Open d k) a in cc)
+      nothing_found (now.Open d k) a v = λ z. absurd (both_ways (is_turning (now.Open d k))
+          (turning_paging (now.Open d k) a) z)
 
       away_whole : ArePagesTold u
       away_whole = to_whole (record {
         told = told;
         up = up;
-        off = λ h _. absurd (let y : is_turning Q ≡ false = turning_paging Q unpaging in cc);
+        off = λ h _. absurd (both_ways (is_turning Q) (turning_paging Q unpaging) h);
         set_page = nothing_found Q unpaging (T.view me);
         paged = moved_paged call p (planned s me call p).next away (subst IsPaged is (pt.paged me));
-        awake = λ h _. absurd (let y : is_paging Q ≡ false = unpaging in cc);
-        up_own = λ f h a. absurd (let y : is_paging (s.progress me) ≡ false = ap is_paging is ∙ away in cc);
+        awake = λ h _. absurd (both_ways (is_paging Q) unpaging h);
+        up_own = λ f h a. absurd (both_ways (is_paging (s.progress me)) (ap is_paging is ∙ away) a);
         off_by = λ v w h. ap roused_by is ∙ off_by v (sym c ∙ w) (sym (ap handed_by is) ∙ h);
       })
 
@@ -284,7 +292,7 @@ module _ (s : State) (n me : ℕ) (e : Event) (found : ℕ) (sound : IsSound s n
       (λ v t. absurd (none (misses (call_watch call) (value_of s.table.words (call_watch call))) v t))
       (λ v t. absurd (none (misses (call_watch call) (value_of s.table.words (call_watch call))) v (roused_told
       (progress_at call (planned s me call (at.Walk (walking.Page staging.Try w d))).next) v t)))
-      (λ v q h. absurd (cc))
+      (λ v q h. absurd (unqueues_not _ v refl q))
     where
       none : (b : Bool) (v : ℕ) → told_by (now.Open call (at.Walk (if b then walking.Stopped w
           else walking.Page staging.Hand w d))) ≡ Some v → ⊥
@@ -293,14 +301,14 @@ module _ (s : State) (n me : ℕ) (e : Event) (found : ℕ) (sound : IsSound s n
   walk_whole call staging.Hand w d is c = away_whole call (at.Walk (walking.Page staging.Hand w d)) is c refl
       (λ v t. put_at (λ b. b ≡ true) s.table.flag (own d.who) true (own v) (λ _. refl)
       (λ ne. absurd (ne (let z : Some d.who ≡ Some v = t in let y : d.who ≡ v = cc in sym (ap own y)))))
-      (λ v t. absurd (cc))
-      (λ v q h. absurd (cc))
+      (λ v t. absurd (none-some v t))
+      (λ v q h. absurd (unqueues_not _ v refl q))
   walk_whole call staging.Wake w d is c = away_whole call (at.Walk (walking.Page staging.Wake w d)) is c refl
       (λ v t. pt.told me v (ap told_by is ∙ t))
       (λ v t. let z : Some d.who ≡ Some v = t in let y : d.who ≡ v = cc in
       subst (λ (i : ℕ). IsUp (put s.progress me (now.Open call (at.Walk (walking.Page staging.Off w d))) i)
       (put s.table.task d.who (woken (mask_of mode.Normal) (s.table.task d.who)) i)) y woken_up)
-      (λ v q h. absurd (cc))
+      (λ v q h. absurd (unqueues_not _ v refl q))
     where
       rec : TaskRecord
       rec = woken (mask_of mode.Normal) (s.table.task d.who)
@@ -373,15 +381,14 @@ opened_told s n me call sound al pt item = record {
       (λ _ t. put_at (λ q. IsUp q (s.table.task v)) s.progress me op v
       (λ q. (
         subst (λ (i : ℕ). (s.table.task i).runnable ≡ true) (sym q) closed_runs,
-        λ z. absurd
-            (let y : has_asked op ≡ false = opened_unasked call in cc),
+        λ z. absurd (both_ways (has_asked op) (opened_unasked call) z),
       ))
       (λ _. pt.up a v t));
   off = λ v. put_at (λ q. is_turning q ≡ true → s.table.entry (own v) ≡ None
       → (s.table.flag (own v) ≡ true) × IsUp q (s.table.task v)) s.progress me op v
-      (λ _ t _. absurd (let y : is_turning op ≡ false = opened_unturned call in cc)) (λ _. pt.off v);
+      (λ _ t _. absurd (both_ways (is_turning op) (opened_unturned call) t)) (λ _. pt.off v);
   found = λ v. put_at (λ q. FoundSet q (s.table.view v) v) s.progress me op v
-      (λ _. λ t. absurd (let y : is_turning op ≡ false = opened_unturned call in cc)) (λ _. pt.found v);
+      (λ _. λ t. absurd (both_ways (is_turning op) (opened_unturned call) t)) (λ _. pt.found v);
   paged = λ v. put_at IsPaged s.progress me op v (λ _. opened_at_page call) (λ _. pt.paged v);
   awake = λ v. put_at (λ q. is_paging q ≡ true → is_turning q ≡ false → (s.table.task v).runnable ≡ true)
       s.progress me op v (λ q _ _. subst (λ (i : ℕ). (s.table.task i).runnable ≡ true) (sym q) closed_runs)

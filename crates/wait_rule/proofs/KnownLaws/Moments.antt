@@ -1,4 +1,5 @@
 -- Each front of a task's history is its whole history in a table that came before.
+use Rattle.std.proofs.lemmas.Option.{none-some}
 use Rattle.std.proofs.Common.{refl, sym, ◌∙◌, ap, subst, append-nil, inl, inr}
 use Rattle.std.specs.Prelude.{ℕ, ◌≡◌, ◌≢◌, ◌<◌, ◌⊎◌, Option, Some, None, List, [], ◌∷◌, ◌++◌}
 use Rattle.wait_model.specs.declared.layout.TheConstants.{TASKS}
@@ -42,7 +43,7 @@ abbrev pub SeesNone : Told → Type 0
 SeesNone v = v.hold.head ≡ None → (x : ℕ) → v.hold.book x ≡ unseen
 
 held_none : {A : Type 0} (o : Option ℕ) (h : ℕ) → o ≡ None → o ≡ Some h → A
-held_none o h none held = absurd (let z : None ≡ Some h = sym none ∙ held in cc)
+held_none o h none held = absurd (none-some h (sym none ∙ held))
 
 sees_after : (s : Table) (a : ℕ) (e : Step) → Allowed s a e → SeesNone (s.view a) → SeesNone (after e (s.view a))
 sees_after s a (step.Lock h aim w) may was = λ none x. refl

@@ -1,4 +1,5 @@
 -- Calls about no completion leave no own entry at any.
+use Rattle.std.proofs.lemmas.Option.{none-some}
 use Rattle.std.proofs.Common.{refl, sym, ◌∙◌, ap, subst, append_assoc, inl, inr}
 use Rattle.std.specs.Prelude.{ℕ, ◌≡◌, ◌<◌, Option, Some, None, List, [], ◌∷◌, ◌++◌}
 use Rattle.wait_model.specs.declared.calls.Event.{Event}
@@ -133,7 +134,7 @@ bare_low (watch.Bit w b) low = low
 bare_low (watch.Var v o) low = low
 
 never_own : {A : Type 0} (o : Option ℕ) (x : ℕ) → o ≡ None → o ≡ Some x → A
-never_own o x none is = absurd (let z : None ≡ Some x = sym none ∙ is in cc)
+never_own o x none is = absurd (none-some x (sym none ∙ is))
 
 pub others_stay_off : OthersStayOff
 others_stay_off f old new from to made elsewhere free g =

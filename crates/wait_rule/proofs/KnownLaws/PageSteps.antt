@@ -1,4 +1,5 @@
 -- What a step that touches one entry word at most does to pages that are handed over.
+use Rattle.std.proofs.lemmas.Bool.{both_ways}
 use Rattle.std.proofs.Common.{refl, sym, ◌∙◌, ap, subst, inl, inr}
 use Rattle.std.proofs.lemmas.Bool.Decides.{eqb_tells}
 use Rattle.std.specs.Prelude.{ℕ, ◌≡◌, ◌≢◌, ◌⊎◌, Bool, true, false, ◌==◌, ◌||◌, if◌then◌else◌, Option, Some, None}
@@ -21,7 +22,7 @@ pub some_same : (x y : ℕ) → ◌≡◌ {A = Option ℕ} (Some x) (Some y) →
 some_same x y e = cc
 
 pub not_both : {A : Type 0} (b : Bool) → b ≡ true → b ≡ false → A
-not_both b t f = absurd (let z : true ≡ false = sym t ∙ f in cc)
+not_both b t f = absurd (both_ways true (sym t ∙ f) refl)
 
 pub no_entry : {A : Type 0} (o : Option Entry) (e : Entry) → o ≡ None → o ≡ Some e → A
 no_entry o e n is = absurd (let z : ◌≡◌ {A = Option Entry} None (Some e) = sym n ∙ is in cc)

@@ -1,4 +1,5 @@
 -- What steps of the model, and items about other words, do to pipes.
+use Rattle.std.proofs.lemmas.Bool.{both_ways}
 use Rattle.std.proofs.Common.{refl, sym, ◌∙◌, ap, arith, inl, inr, true≢false}
 use Rattle.std.specs.Prelude.{ℕ, ◌≡◌, ◌≢◌, ◌/◌, ◌<◌, ◌⊎◌, Bool, true, false, List, [], ◌∷◌, ◌++◌}
 use Rattle.wait_model.specs.declared.layout.TheConstants.{PIPES, PIPE_ENDS, CLAIMS}
@@ -56,7 +57,7 @@ pipes_rest items a xs one two l out rest keeps pipes p few = record {
     was = pipes p few
 
     away : (j : Location) → is_piped j ≡ true → j ≢ l
-    away j is e = let z : true ≡ false = sym is ∙ (ap is_piped e ∙ out) in cc
+    away j is e = absurd (both_ways true (sym is ∙ (ap is_piped e ∙ out)) refl)
 
     same : (k t : ℕ) → end_of k (put items a (items a ++ xs) t) ≡ end_of k (items t)
     same k t = put_at (λ (ys : List Item). end_of k ys ≡ end_of k (items t)) items a (items a ++ xs) t

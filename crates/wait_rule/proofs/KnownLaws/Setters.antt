@@ -1,4 +1,5 @@
 -- Whoever waits for a watch that stays set is one whom the setter has not passed; after the end of its wake nobody waits.
+use Rattle.std.proofs.lemmas.Bool.{both_ways}
 use Rattle.std.proofs.Common.{refl, sym, ◌∙◌, ap, subst, arith, inl, inr}
 use Rattle.std.proofs.lemmas.Bool.Decides.{eqb_tells}
 use Rattle.std.proofs.lemmas.List.{append_assoc}
@@ -114,7 +115,7 @@ past_not gone_at stop es c σ k x e p sa o no_gone no_stop = by_look (o.shows k.
     book = hold_book es c σ k x p.word
 
     past : IsPast gone_at stop es σ k.aim x (Some e) → ⊥
-    past (inl q) = absurd (let z : true ≡ false = sym to_aim ∙ q in cc)
+    past (inl q) = absurd (both_ways true (sym to_aim ∙ q) refl)
     past (inr (ns, inl g)) = no_gone ns g
     past (inr (ns, inr (inl t))) = no_stop t
     past (inr (ns, inr (inr d))) =
@@ -247,7 +248,7 @@ publish_holds v on d sa dn may = subst (λ (c : Watch). v.hold.head ≡ Some (he
     by c q m = absurd (cc)
 
 not_both_ways : {A : Type 0} (b : Bool) → b ≡ true → b ≡ false → A
-not_both_ways b h k = absurd (let z : true ≡ false = sym h ∙ k in cc)
+not_both_ways b h k = absurd (both_ways true (sym h ∙ k) refl)
 
 -- A setter, from the history h and its publish p on.
 module _ (me : ℕ) (c on : Watch) (σ : ℕ) (h : List Step) (p : Step) (is_publish : publishes p c ≡ true)

@@ -1,4 +1,5 @@
 -- What a step does to the tickets that are out.
+use Rattle.std.proofs.lemmas.Bool.{both_ways}
 use Rattle.std.proofs.Common.{refl, sym, ◌∙◌, ap, subst, arith, add-zero}
 use Rattle.std.specs.Prelude.{ℕ, zero, suc, ◌≡◌, ◌≢◌, ◌+◌, ◌<◌, ◌≤◌, Bool, true, false, ◌==◌, Option, Some, None}
 use Rattle.std.specs.Prelude.{List, ◌++◌}
@@ -64,7 +65,7 @@ pub test_off : (g h : ℕ) → h ≢ g → (g == h) ≡ false
 test_off g h ne = grind (arith, nat_tests)
 
 pub none_out : {A : Type 0} (h : ℕ) (t : Ticket) → t ≡ no_ticket → is_ticket_of h t ≡ true → A
-none_out h t none is = absurd (let z : false ≡ true = sym (ap (is_ticket_of h) none) ∙ is in cc)
+none_out h t none is = absurd (both_ways false refl (sym (ap (is_ticket_of h) none) ∙ is))
 
 -- the locks that were given back, after a step, and those whose serve is still to come, with another ticket of a task
 pub unlocked_next : (s : Table) (a : ℕ) (e : Step) (h : ℕ) → a < TASKS

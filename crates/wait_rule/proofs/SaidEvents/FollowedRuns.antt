@@ -1,4 +1,5 @@
 -- What a task makes of a call follows the sentence of the call.
+use Rattle.std.proofs.lemmas.Bool.{both_ways}
 use Rattle.std.proofs.Common.{refl, sym, ◌∙◌, ap, subst, arith, append_assoc}
 use Rattle.std.specs.Prelude.{ℕ, ◌≡◌, ◌<◌, Bool, true, false, if◌then◌else◌, Option, Some, None, is_some, List, [], ◌∷◌}
 use Rattle.std.specs.Prelude.{◌++◌}
@@ -190,8 +191,8 @@ module _ (s : Table) (all : IsInterleaved s) (me : ℕ) (call : Call) (slot : �
       → (is_waiting call ≡ true → m.queued ≡ false → seen.entry ≡ None) → Knows call p m seen
   knows p m seen is_false off = record {
     off = off;
-    range = λ d. absurd (let z : true ≡ false = sym d ∙ plain in cc);
-    count = λ d. absurd (let z : true ≡ false = sym d ∙ plain in cc);
+    range = λ d. absurd (both_ways true (sym d ∙ plain) refl);
+    count = λ d. absurd (both_ways true (sym d ∙ plain) refl);
     walk = come_to call p seen is_false;
   }
 
@@ -210,9 +211,9 @@ module _ (s : Table) (all : IsInterleaved s) (me : ℕ) (call : Call) (slot : �
 
       by : (b : Bool) → is_waiting call ≡ b → (q : Bool) → m.queued ≡ q → Spoken p m (program me call p seen)
       by false not_waiting q is = says me m call p seen
-          (knows p m seen is_false (λ w z. absurd (let c : false ≡ true = sym not_waiting ∙ w in cc)))
+          (knows p m seen is_false (λ w z. absurd (both_ways false refl (sym not_waiting ∙ w))))
       by true waiting true is = says me m call p seen
-          (knows p m seen is_false (λ w z. absurd (let c : true ≡ false = sym is ∙ z in cc)))
+          (knows p m seen is_false (λ w z. absurd (both_ways true (sym is ∙ z) refl)))
       by true waiting false is = subst (Spoken p m) (same waiting is (reads_entry p) refl)
           (says me m call p (record seen { entry = None })
           (knows p m (record seen { entry = None }) is_false (λ _ _. refl)))

@@ -1,5 +1,6 @@
 -- What a task makes of a call that walks follows the sentence of the call: of a wake of a plain condition, of a bit
 -- that is given back, and of a variable that is published.
+use Rattle.std.proofs.lemmas.Bool.{both_ways}
 use Rattle.std.proofs.Common.{refl, sym, ◌∙◌, ap, subst, append_assoc}
 use Rattle.std.specs.Prelude.{ℕ, ◌≡◌, ◌≤◌, ◌<◌, Bool, true, false, is_some, Option, Some, List, [], ◌∷◌, ◌++◌}
 use Rattle.wait_model.specs.declared.layout.TheConstants.{BREAK}
@@ -147,9 +148,9 @@ module _ (s : Table) (all : IsInterleaved s) (me slot : ℕ) (call : Call) (walk
 
   knows : (p : Point) (m : Noted) (seen : Seen) → MayComeTo call p seen → Knows call p m seen
   knows p m seen come = record {
-    off = λ w. absurd (let z : true ≡ false = sym w ∙ not_waiting in cc);
-    range = λ d. absurd (let z : true ≡ false = sym d ∙ not_done in cc);
-    count = λ d. absurd (let z : true ≡ false = sym d ∙ not_done in cc);
+    off = λ w. absurd (both_ways true (sym w ∙ not_waiting) refl);
+    range = λ d. absurd (both_ways true (sym d ∙ not_done) refl);
+    count = λ d. absurd (both_ways true (sym d ∙ not_done) refl);
     walk = come;
   }
 

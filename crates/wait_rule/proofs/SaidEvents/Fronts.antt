@@ -1,4 +1,5 @@
 -- What looks and steps add to a task's history, and that an own entry stays off which the task does not queue.
+use Rattle.std.proofs.lemmas.Bool.{both_ways}
 use Rattle.std.proofs.Common.{refl, sym, ◌∙◌, ap, subst, append_assoc}
 use Rattle.std.specs.Prelude.{ℕ, ◌≡◌, Bool, true, false, Option, None, if◌then◌else◌, List, [], ◌∷◌, ◌++◌}
 use Rattle.wait_model.specs.declared.calls.Event.{Event}
@@ -140,8 +141,7 @@ queue_said k own g ev y d m made = absurd made
 
 not_queue : (k : Known) (own : Option ℕ) (g : Given) (ev : Event) (e : Step) (m : Noted) → IsStepFor k own g ev e
     → (notes m ev).queued ≡ false → is_queue e ≡ false
-not_queue k own g ev (step.Queue y d) m made is_false = absurd (let z : true ≡ false =
-    sym (queue_said k own g ev y d m made) ∙ is_false in cc)
+not_queue k own g ev (step.Queue y d) m made is_false = absurd (both_ways true (sym (queue_said k own g ev y d m made) ∙ is_false) refl)
 not_queue k own g ev e m made is_false = refl
 
 pub queued_before : (m : Noted) (ev : Event) → (notes m ev).queued ≡ false → m.queued ≡ false

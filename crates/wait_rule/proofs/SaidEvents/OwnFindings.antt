@@ -1,4 +1,5 @@
 -- An own entry that the history has not stored is found off.
+use Rattle.std.proofs.lemmas.Option.{none-some}
 use Rattle.std.proofs.Common.{refl, sym, ◌∙◌, ap, subst}
 use Rattle.std.specs.Prelude.{ℕ, ◌≡◌, Option, Some, None, List}
 use Rattle.wait_model.specs.declared.steps.Step.{Step}
@@ -16,7 +17,7 @@ shown_unseen : {A : Type 0} (l : Look) (e : Entry) → l ≡ shown e → l ≡ u
 shown_unseen l e is none = absurd (let z : shown e ≡ unseen = sym is ∙ none in cc)
 
 stored_none : {A : Type 0} (o : Option Entry) (e : Entry) → o ≡ None → o ≡ Some e → A
-stored_none o e none some = absurd (let z : None ≡ Some e = sym none ∙ some in cc)
+stored_none o e none some = absurd (none-some e (sym none ∙ some))
 
 module _ (me : ℕ) (front : List Step) (z : Moment me front) (x : ℕ) (mine : owner x ≡ me)
     (out : (view_of front).bits.stored x ≡ None) where

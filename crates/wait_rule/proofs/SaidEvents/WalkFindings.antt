@@ -1,5 +1,6 @@
 -- What a walk finds at a head of one watch, by the queue that its hold shows: no strangers, and a break only above
 -- `BREAK` calls.
+use Rattle.std.proofs.lemmas.Bool.{both_ways}
 use Rattle.std.proofs.lemmas.Bool.Decides.{nat_tests}
 use Rattle.std.proofs.Common.{refl, sym, ◌∙◌, ap, subst, arith, inl, inr}
 use Rattle.std.specs.Prelude.{ℕ, zero, suc, ◌≡◌, ◌+◌, ◌<◌, ◌≤◌, ◌&&◌, nat_lt, Bool, true, false, if◌then◌else◌, is_some}
@@ -71,7 +72,7 @@ none_passed key n (x ∷ ms) all = by (nat_lt BREAK n) (is_entry x) (key x) (all
         else arrive key (if b then n + 1 else n) ms).calls ≡ n
     by true b c q h = refl
     by false true true q h = refl
-    by false true false q h = absurd (let z : false ≡ true = q refl in cc)
+    by false true false q h = absurd (both_ways false refl (q refl))
     by false false c q h = h
 
 -- the watch of an entry at the head of a plain condition

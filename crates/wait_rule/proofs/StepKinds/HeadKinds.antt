@@ -1,4 +1,5 @@
 -- Each kind of step on a head word keeps the law.
+use Rattle.std.proofs.lemmas.Option.{none-some}
 use Rattle.std.proofs.Common.{refl, sym, ◌∙◌, ap, subst, arith}
 use Rattle.std.specs.Prelude.{ℕ, ◌≡◌, ◌≢◌, ◌+◌, ◌-◌, ◌%◌, ◌<◌, ◌^◌, Bool, true, false, ◌==◌, if◌then◌else◌, Option}
 use Rattle.std.specs.Prelude.{Some, None, List}
@@ -77,7 +78,7 @@ put_again : {A : Type 0} (f : ℕ → A) (k : ℕ) → put f k (f k) ≡ f
 put_again f k = fun_ext (λ i. put_at (λ y. y ≡ f i) f k (f k) i (λ e. ap f (sym e)) (λ _. refl))
 
 none_held : {A : Type 0} (o : Option ℕ) (h : ℕ) → o ≡ None → o ≡ Some h → A
-none_held o h e q = absurd (let z : None ≡ Some h = sym e ∙ q in cc)
+none_held o h e q = absurd (none-some h (sym e ∙ q))
 
 same_head : (h i : ℕ) → ◌≡◌ {A = Option ℕ} (Some h) (Some i) → h ≡ i
 same_head h i e = cc

@@ -1,4 +1,5 @@
 -- Each kind of step on a task word keeps the law.
+use Rattle.std.proofs.lemmas.Bool.{both_ways}
 use Rattle.std.proofs.Common.{refl, sym, ◌∙◌, ap, subst, arith, inl, inr}
 use Rattle.std.specs.Prelude.{ℕ, ◌≡◌, ◌≢◌, ◌⊎◌, Bool, true, false, ◌==◌, if◌then◌else◌, None, List}
 use Rattle.wait_model.specs.declared.steps.Step.{Step}
@@ -81,7 +82,7 @@ slept_fits t b up f = by (t.state == 0) refl (pending t.state t)
     of_zero n q = grind arith
 
     awake_not_down : {A : Type 0} → b.awake ≡ false → A
-    awake_not_down h = absurd (let z : true ≡ false = sym up ∙ h in cc)
+    awake_not_down h = absurd (both_ways true (sym up ∙ h) refl)
 
     by : (y : Bool) → (t.state == 0) ≡ y → (z : Bool)
         → Fits (if y then t else if z then record t { state = 0 } else record t { runnable = false })
@@ -212,7 +213,7 @@ module _ (s : Table) (items : ℕ → List Item) (ruled : IsRuled s items) (a : 
         (stored_lawful (s.task a) v mine (fits.up up) is_state) (λ _. record {
           up = λ _. fits.up up;
           stored = inr refl;
-          rose = λ h. absurd (let z : true ≡ false = sym up ∙ h in cc);
+          rose = λ h. absurd (both_ways true (sym up ∙ h) refl);
         }) (λ ne. absurd (ne refl)) (λ c ne f. absurd (ne refl)));
   }
 

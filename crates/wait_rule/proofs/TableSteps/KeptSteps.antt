@@ -1,4 +1,5 @@
 -- From "this step keeps the law" to what a step of the table of words asks.
+use Rattle.std.proofs.lemmas.Bool.{both_ways}
 use Rattle.std.proofs.Common.{refl, sym, ◌∙◌, ap, subst, arith, append-nil, eq-eqb, ne_eqb, inl, inr, get_or-set_other}
 use Rattle.std.proofs.Common.{get_or-set_same, length-set}
 use Rattle.std.proofs.lemmas.Bool.Decides.{eqb_tells, nat_tests}
@@ -88,7 +89,7 @@ whole_next s a e few al st w = record {
 }
 
 not_stepped : (k l : Location) → is_stepped k ≡ false → is_stepped l ≡ true → k ≢ l
-not_stepped k l unset is e = let z : false ≡ true = sym unset ∙ (ap is_stepped e ∙ is) in cc
+not_stepped k l unset is e = absurd (both_ways false refl (sym unset ∙ (ap is_stepped e ∙ is)))
 
 -- a step that changes no word, as a load
 abbrev pub ChangesNone : ℕ → Step → Type 0

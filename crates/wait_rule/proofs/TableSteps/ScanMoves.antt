@@ -1,4 +1,5 @@
 -- What a load of a member word without the lock asks of the table of words.
+use Rattle.std.proofs.lemmas.Bool.{both_ways}
 use Rattle.std.proofs.Common.{refl, sym, ◌∙◌, ap, subst, arith, inl, inr}
 use Rattle.std.specs.Prelude.{ℕ, zero, suc, ◌≡◌, ◌≢◌, ◌+◌, ◌-◌, ◌*◌, ◌/◌, ◌%◌, ◌<◌, ◌⊎◌, Bool, true, false, ◌==◌}
 use Rattle.std.specs.Prelude.{Option, Some, None, List, [], ◌∷◌, slice_index}
@@ -47,7 +48,7 @@ some_same : (x y : ℕ) → ◌≡◌ {A = Option ℕ} (Some x) (Some y) → x �
 some_same x y e = cc
 
 set_is : {A : Type 0} (b : Bool) → b ≡ false → b ≡ true → A
-set_is b off on = absurd (let z : false ≡ true = sym off ∙ on in cc)
+set_is b off on = absurd (both_ways false refl (sym off ∙ on))
 
 -- where a member word shows no bit, an entry of its indexes that stands at the head is untested: its owner names it
 module _ (s : Table) (items : ℕ → List Item) (ruled : IsRuled s items) (differs : ℕ → Difference)

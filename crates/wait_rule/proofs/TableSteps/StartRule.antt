@@ -1,4 +1,5 @@
 -- The rule holds of the words at the start, with task 0 alone.
+use Rattle.std.proofs.lemmas.Bool.{both_ways}
 use Rattle.std.proofs.Common.{refl, sym, ◌∙◌, ap, subst, arith, inl, inr, le-ltb, lt-ltb, lt_of_not-le}
 use Rattle.std.specs.Prelude.{◌-◌, ◌+◌, ◌%◌, ◌^◌, ℕ, zero, suc, ◌≡◌, ◌<◌, ◌≤◌, ◌&&◌, Bool, true, false, cond, eqb, ltb}
 use Rattle.std.specs.Prelude.{nat_lt, if◌then◌else◌, Option, Some, None, List, [], ◌∷◌, ◌++◌, length, slice_index}
@@ -149,7 +150,7 @@ start_tickets tickets none = record {
 }
   where
     not_out : {A : Type 0} (a h : ℕ) → is_ticket_of h (tickets a) ≡ true → A
-    not_out a h out = absurd (let z : false ≡ true = sym (ap (is_ticket_of h) (none a)) ∙ out in cc)
+    not_out a h out = absurd (both_ways false refl (sym (ap (is_ticket_of h) (none a)) ∙ out))
 
 start_tallies : (items : ℕ → List Item) → ((t : ℕ) → items t ≡ []) → AreTallies items (λ l. 0)
 start_tallies items none p =
@@ -168,8 +169,8 @@ start_pipes items none p few = record {
   reads = λ t. ap (end_of (read_end p)) (none t) ∙ sym (nobody t);
   writer_task = omega arith;
   reader_task = omega arith;
-  refused_w = λ t bad. absurd (let z : false ≡ true = sym (ap (was_refused (write_end p)) (none t)) ∙ bad in cc);
-  refused_r = λ t bad. absurd (let z : false ≡ true = sym (ap (was_refused (read_end p)) (none t)) ∙ bad in cc);
+  refused_w = λ t bad. absurd (both_ways false refl (sym (ap (was_refused (write_end p)) (none t)) ∙ bad));
+  refused_r = λ t bad. absurd (both_ways false refl (sym (ap (was_refused (read_end p)) (none t)) ∙ bad));
   flow = record {
     claim_w = refl;
     claim_r = refl;

@@ -1,4 +1,5 @@
 -- What the steps on tickets ask of the table of words.
+use Rattle.std.proofs.lemmas.Bool.{both_ways}
 use Rattle.std.proofs.Common.{refl, sym, ◌∙◌, ap, subst, arith, inl, inr, add-zero}
 use Rattle.std.specs.Prelude.{ℕ, zero, suc, ◌≡◌, ◌≢◌, ◌+◌, ◌-◌, ◌%◌, ◌^◌, ◌<◌, ◌≤◌, ◌⊎◌, ◌&&◌, Bool, true, false, ◌==◌}
 use Rattle.std.specs.Prelude.{if◌then◌else◌, Some, List, [], ◌∷◌, ◌++◌, slice_set, slice_index}
@@ -124,7 +125,7 @@ none_less : (d t s o p x : ℕ) → d ≡ s + o → t ≡ s → x ≡ 0 → p + 
 none_less d t s o p x sum top one out = omega arith
 
 apart_out : {A : Type 0} (h : ℕ) (t u : Ticket) → is_ticket_of h t ≡ true → is_ticket_of h u ≡ false → t ≡ u → A
-apart_out h t u one two e = absurd (let z : true ≡ false = sym one ∙ (ap (is_ticket_of h) e ∙ two) in cc)
+apart_out h t u one two e = absurd (both_ways true (sym one ∙ (ap (is_ticket_of h) e ∙ two)) refl)
 
 -- a draw of task a, which has none out
 module _ (s : Table) (tickets : ℕ → Ticket) (beside : Location → ℕ) (r : AreTickets s tickets beside) (a h : ℕ)
@@ -259,7 +260,7 @@ module _ (s : Table) (tickets : ℕ → Ticket) (beside : Location → ℕ) (r :
     shown = λ b. both_at (λ (t : Ticket) (k : ℕ). ShowsNumber t k) tickets r.number a (drawn h N) (r.draws h) b
         (λ _. r.next h) (λ _. r.shown b);
     turn = λ b g. both_at (λ (t : Ticket) (k : ℕ). is_ticket_of g t ≡ true → is_served t ≡ true → k ≡ r.serves g) tickets
-        r.number a (drawn h N) (r.draws h) b (λ _ out is. absurd (let z : false ≡ true = is in cc)) (λ _. r.turn b g);
+        r.number a (drawn h N) (r.draws h) b (λ _ out is. absurd (both_ways false refl is)) (λ _. r.turn b g);
     held = λ b g is. put_at (λ (t : Ticket). t ≡ taken g) tickets a (drawn h N) b
         (λ e. let both : no_ticket ≡ taken g = sym free ∙ (ap tickets (sym e) ∙ r.held b g is) in absurd (cc))
         (λ _. r.held b g is);
@@ -289,7 +290,7 @@ module _ (s : Table) (tickets : ℕ → Ticket) (beside : Location → ℕ) (r :
   -- who has one out has had it before, and is another
   before : (b g : ℕ) → is_ticket_of g (U b) ≡ true → (b ≢ a) × (is_ticket_of g (tickets b) ≡ true)
   before b g = put_at (λ (t : Ticket). is_ticket_of g t ≡ true → (b ≢ a) × (is_ticket_of g (tickets b) ≡ true)) tickets a no_ticket b
-      (λ _ out. absurd (let z : false ≡ true = out in cc)) (λ ne out. (ne, out))
+      (λ _ out. absurd (both_ways false refl out)) (λ ne out. (ne, out))
 
   far : (b : ℕ) → b ≢ a → is_ticket_of h (tickets b) ≡ true → r.number b ≢ r.serves h
   far b ne out same = ne (r.once b a h out own_out (same ∙ sym own_turn))

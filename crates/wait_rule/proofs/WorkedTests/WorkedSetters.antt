@@ -1,4 +1,5 @@
 -- The worked orders of steps of setters, computed.
+use Rattle.std.proofs.lemmas.Option.{none-some}
 use Rattle.std.proofs.Common.{refl, sym, ◌∙◌, subst, arith}
 use Rattle.std.specs.Prelude.{ℕ, zero, suc, ◌≡◌, ◌≢◌, ◌+◌, ◌-◌, true, false, Option, Some, None, List, [], ◌∷◌, ◌++◌}
 use Rattle.wait_model.specs.declared.layout.TheConstants.{ENTRIES, MEMBER_WORDS, FIRST_PLAIN_HEAD, NORMAL, RUNNABLE, UNINTERRUPTIBLE}
@@ -39,7 +40,7 @@ never : {A : Type 0} → false ≡ true → A
 never q = absurd (cc)
 
 none_untested : {A : Type 0} (o : Option Entry) (e : Entry) → o ≡ None → o ≡ Some e → A
-none_untested o e none is = absurd (let z : None ≡ Some e = sym none ∙ is in cc)
+none_untested o e none is = absurd (none-some e (sym none ∙ is))
 
 -- the look without the lock
 looked_entry : (n x : ℕ) → (table_of (finds_none n ++ is_set)).entry x ≡ None

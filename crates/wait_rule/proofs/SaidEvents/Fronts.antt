@@ -141,7 +141,8 @@ queue_said k own g ev y d m made = absurd made
 
 not_queue : (k : Known) (own : Option ℕ) (g : Given) (ev : Event) (e : Step) (m : Noted) → IsStepFor k own g ev e
     → (notes m ev).queued ≡ false → is_queue e ≡ false
-not_queue k own g ev (step.Queue y d) m made is_false = absurd (both_ways true (sym (queue_said k own g ev y d m made) ∙ is_false) refl)
+not_queue k own g ev (step.Queue y d) m made is_false =
+    absurd (both_ways true (sym (queue_said k own g ev y d m made) ∙ is_false) refl)
 not_queue k own g ev e m made is_false = refl
 
 pub queued_before : (m : Noted) (ev : Event) → (notes m ev).queued ≡ false → m.queued ≡ false

@@ -1,6 +1,7 @@
 -- What prepares and finishes make: a prepare and a finish of the sentences.
 use Rattle.std.proofs.Common.{refl, ◌∙◌, ap, subst, append-nil, append_assoc}
 use Rattle.std.specs.Prelude.{ℕ, ◌≡◌, Bool, true, false, if◌then◌else◌, Option, None, Some, is_some, List, [], ◌∷◌, ◌++◌}
+use Rattle.std.proofs.lemmas.Bool.{false≢true, true≢false}
 use Rattle.wait_model.specs.declared.calls.Answer.{Answer}
 use Rattle.wait_model.specs.declared.calls.Event.{Event}
 use Rattle.wait_model.specs.declared.calls.Event.TheVariants as event
@@ -156,7 +157,7 @@ module _ (asks : Bool) (me : ℕ) (w : Watch) (k : Kind) (how : How) where
 
   -- an entry that does not stand after an event did not stand before it, and the event did not queue it
   stays_off : (e : Event) (q : Bool) → stands_by e q ≡ false → (q ≡ false) × ((notes none_noted e).queued ≡ false)
-  stays_off (event.Queue h form) q is = absurd (cc)
+  stays_off (event.Queue h form) q is = absurd (true≢false is)
   stays_off e q is = (is, refl)
 
   -- whole prepares
@@ -177,7 +178,7 @@ module _ (asks : Bool) (me : ℕ) (w : Watch) (k : Kind) (how : How) where
       found : (p : Point) → Finds t.knew f p t.did t.seen → reads p ≡ true → t.seen.entry ≡ None
       found (at.Prepare preparing.Queue) finds is = seen_off (finds_at (at.Prepare preparing.Queue) t.did finds).0
       found (at.Leave leaving.Queue) finds is = seen_off (finds_at (at.Leave leaving.Queue) t.did finds)
-      found p finds is = absurd (cc)
+      found p finds is = absurd (false≢true is)
 
     abbrev said_on : List Transition → Next → List Event
     said_on ts n = said f n ts

@@ -17,6 +17,7 @@ ghost use Rattle.wait_event.specs.declared.waits.WaitStage.TheVariants as stages
 
 use crate::wait_events::{WaitEnd, begin_wait, end_of};
 use crate::waits::{WaitCall, WaitOutcome, WaitRun, WaitStage};
+use std::alloc::AllocError;
 use std::sync::Wait;
 use wait_class::stages::Turn;
 use wait_leave::{Exit, Leavable, leave, run_asked};
@@ -26,10 +27,16 @@ use wait_rule::{Domain, Task};
 /// How a wait ended that its task may leave. Over: as the call answers that is not left. Left: it was asked to leave
 /// before its last hold, its entry is off, and the load behind that hold found `seen`, in which what it waits for was
 /// not set; `selected` is that the hold found the entry off that the call had queued, so that a wake had chosen it.
-#[derive(Clone, Copy, Debug)]
+#[derive(Copy, Debug)]
 pub enum WaitUntil<A> {
     Over(A),
     Left { seen: u64, selected: bool },
+}
+
+impl<A: Copy> Clone for WaitUntil<A> {
+    fn clone(&self) -> Result<WaitUntil<A>, AllocError> {
+        Ok(*self)
+    }
 }
 
 impl Leavable for WaitCall {

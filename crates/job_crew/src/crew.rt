@@ -7,6 +7,7 @@ ghost use Rattle.std.specs.Prelude.{◌≡◌, ◌+◌, ◌<◌, true, false, Ok
 ghost use Rattle.std.specs.Option.{ForSome};
 ghost use Rattle.std.specs.Result.{ForErr, ForOk};
 ghost use Rattle.job_crew.specs.Crews.{Both, Comes, DidSome};
+ghost use Rattle.job_crew.specs.Kinds.{IfOneOf, IfBothOneOf};
 
 use std::marker::Brand;
 use std::snapshot::Snapshot;
@@ -42,6 +43,34 @@ impl<J: Job> Job for Option<J> {
         match self {
             Some(job) => Some(job.run()),
             None => None,
+        }
+    }
+}
+
+/// A job of one of five kinds, or what one of that kind made. So all that begins jobs is for one type of job.
+#[derive(Drop)]
+enum OneOf<A, B, C, D, E> {
+    First(A),
+    Second(B),
+    Third(C),
+    Fourth(D),
+    Fifth(E),
+}
+
+impl<A: Job, B: Job, C: Job, D: Job, E: Job> Job for OneOf<A, B, C, D, E> {
+    type Done = OneOf<A::Done, B::Done, C::Done, D::Done, E::Done>;
+
+    ghost asks = { λ job. IfOneOf job A.asks B.asks C.asks D.asks E.asks };
+
+    ghost did = { λ job done. IfBothOneOf job done A.did B.did C.did D.did E.did };
+
+    fn run(self) -> OneOf<A::Done, B::Done, C::Done, D::Done, E::Done> {
+        match self {
+            OneOf::First(job) => OneOf::First(job.run()),
+            OneOf::Second(job) => OneOf::Second(job.run()),
+            OneOf::Third(job) => OneOf::Third(job.run()),
+            OneOf::Fourth(job) => OneOf::Fourth(job.run()),
+            OneOf::Fifth(job) => OneOf::Fifth(job.run()),
         }
     }
 }
@@ -333,8 +362,8 @@ fn decide<'a, R: Wait, L: Ledger>(
     (said, begins)
 }
 
-/// Five, each beside those that follow.
-type Five<A, B, C, D, E> = (A, (B, (C, (D, E))));
+/// Five, each beside those that follow. The fourth may not be there.
+type Five<T> = (T, (T, (T, (Option<T>, T))));
 
 /// Starts a thread for each of the first three, and for the fourth if it is there, says the word, and waits for all.
 fn begin_in<
@@ -342,24 +371,20 @@ fn begin_in<
     Env,
     L: Ledger + Send + Sync + 's,
     R: Threads + Wait + Sync + 's,
-    A: Job + 's,
-    B: Job + 's,
-    C: Job + 's,
-    D: Job + 's,
-    E: Job,
+    J: Job + 's,
 >(
     scope: &Scope<'s, Env>,
     rt: &'s R,
     lock: &'s OnceLock<Word<L>>,
     book: Book<L>,
     share: Share<L>,
-    jobs: Five<A, B, C, Option<D>, E>,
-) -> Result<Five<A::Done, B::Done, C::Done, Option<D::Done>, E::Done>, Five<A, B, C, Option<D>, E>>
+    jobs: Five<J>,
+) -> Result<Five<J::Done>, Five<J>>
     requires book { book.total ≡ 0 }
     requires share { (L.parts ≡ 1) × ((share.parts ≡ 1) × (share.amount ≡ 0)) }
-    requires asks { A.asks jobs.0 × (B.asks jobs.1.0 × (C.asks jobs.1.1.0
-        × (IfSome jobs.1.1.1.0 D.asks × E.asks jobs.1.1.1.1))) }
-    ensures comes { Comes _ _ (Both A.did (Both B.did (Both C.did (Both (DidSome D D.Done D.did) E.did)))) jobs result }
+    requires asks { J.asks jobs.0 × (J.asks jobs.1.0 × (J.asks jobs.1.1.0
+        × (IfSome jobs.1.1.1.0 J.asks × J.asks jobs.1.1.1.1))) }
+    ensures comes { Comes _ _ (Both J.did (Both J.did (Both J.did (Both (DidSome J J.Done J.did) J.did)))) jobs result }
 {
     let (one, (two, (three, (four, five)))) = jobs;
     let mut share = share;
@@ -377,63 +402,43 @@ fn begin_in<
 }
 
 /// The same, from a scope of its own.
-fn begin_all<
-    L: Ledger + Send + Sync,
-    R: Threads + Wait + Sync,
-    A: Job,
-    B: Job,
-    C: Job,
-    D: Job,
-    E: Job,
->(
+fn begin_all<L: Ledger + Send + Sync, R: Threads + Wait + Sync, J: Job>(
     rt: &R,
     lock: &OnceLock<Word<L>>,
     book: Book<L>,
     share: Share<L>,
-    jobs: Five<A, B, C, Option<D>, E>,
-) -> Result<Five<A::Done, B::Done, C::Done, Option<D::Done>, E::Done>, Five<A, B, C, Option<D>, E>>
+    jobs: Five<J>,
+) -> Result<Five<J::Done>, Five<J>>
     requires book { book.total ≡ 0 }
     requires share { (L.parts ≡ 1) × ((share.parts ≡ 1) × (share.amount ≡ 0)) }
-    requires asks { A.asks jobs.0 × (B.asks jobs.1.0 × (C.asks jobs.1.1.0
-        × (IfSome jobs.1.1.1.0 D.asks × E.asks jobs.1.1.1.1))) }
-    ensures comes { Comes _ _ (Both A.did (Both B.did (Both C.did (Both (DidSome D D.Done D.did) E.did)))) jobs result }
+    requires asks { J.asks jobs.0 × (J.asks jobs.1.0 × (J.asks jobs.1.1.0
+        × (IfSome jobs.1.1.1.0 J.asks × J.asks jobs.1.1.1.1))) }
+    ensures comes { Comes _ _ (Both J.did (Both J.did (Both J.did (Both (DidSome J J.Done J.did) J.did)))) jobs result }
 {
     thread::scope(
         thread::scope_env(),
         rt,
-        move |scope| -> Result<
-            Five<A::Done, B::Done, C::Done, Option<D::Done>, E::Done>,
-            Five<A, B, C, Option<D>, E>,
-        >
+        move |scope| -> Result<Five<J::Done>, Five<J>>
             requires book { book.total ≡ 0 }
             requires share { (L.parts ≡ 1) × ((share.parts ≡ 1) × (share.amount ≡ 0)) }
-            requires asks { A.asks jobs.0 × (B.asks jobs.1.0 × (C.asks jobs.1.1.0
-                × (IfSome jobs.1.1.1.0 D.asks × E.asks jobs.1.1.1.1))) }
-            ensures comes { Comes _ _ (Both A.did (Both B.did (Both C.did
-                (Both (DidSome D D.Done D.did) E.did)))) jobs result }
+            requires asks { J.asks jobs.0 × (J.asks jobs.1.0 × (J.asks jobs.1.1.0
+        × (IfSome jobs.1.1.1.0 J.asks × J.asks jobs.1.1.1.1))) }
+            ensures comes { Comes _ _ (Both J.did (Both J.did (Both J.did (Both (DidSome J J.Done J.did) J.did)))) jobs result }
         { begin_in(scope, rt, lock, book, share, jobs) },
     )
 }
 
 /// The same over a ledger of one part.
-fn with_ledger<
-    L: Ledger + Send + Sync,
-    R: Threads + Wait + Sync,
-    A: Job,
-    B: Job,
-    C: Job,
-    D: Job,
-    E: Job,
->(
+fn with_ledger<L: Ledger + Send + Sync, R: Threads + Wait + Sync, J: Job>(
     rt: &R,
     blank: Blank,
-    jobs: Five<A, B, C, Option<D>, E>,
-) -> Result<Five<A::Done, B::Done, C::Done, Option<D::Done>, E::Done>, Five<A, B, C, Option<D>, E>>
+    jobs: Five<J>,
+) -> Result<Five<J::Done>, Five<J>>
     requires name { blank.name ≡ L.name }
     requires parts { (blank.parts ≡ L.parts) × (L.parts ≡ 1) }
-    requires asks { A.asks jobs.0 × (B.asks jobs.1.0 × (C.asks jobs.1.1.0
-        × (IfSome jobs.1.1.1.0 D.asks × E.asks jobs.1.1.1.1))) }
-    ensures comes { Comes _ _ (Both A.did (Both B.did (Both C.did (Both (DidSome D D.Done D.did) E.did)))) jobs result }
+    requires asks { J.asks jobs.0 × (J.asks jobs.1.0 × (J.asks jobs.1.1.0
+        × (IfSome jobs.1.1.1.0 J.asks × J.asks jobs.1.1.1.1))) }
+    ensures comes { Comes _ _ (Both J.did (Both J.did (Both J.did (Both (DidSome J J.Done J.did) J.did)))) jobs result }
 {
     let (book, share) = blank.open::<L>();
     let lock = OnceLock::new();
@@ -454,14 +459,21 @@ pub fn all_at_once<R: Threads + Wait + Sync, A: Job, B: Job, C: Job, D: Job>(
         × (B.did two done.1 × (C.did three done.2 × D.did four done.3))) }
     ensures same { IfErr result (λ back. (back.0 ≡ one) × ((back.1 ≡ two) × ((back.2 ≡ three) × (back.3 ≡ four)))) }
 {
-    let none: Option<A> = None;
-    match with_ledger::<Brand, R, A, B, C, A, D>(
-        rt,
-        Blank::new(1),
-        (one, (two, (three, (none, four)))),
-    ) {
-        Ok((one, (two, (three, (_, four))))) => Ok((one, two, three, four)),
-        Err((one, (two, (three, (_, four))))) => Err((one, two, three, four)),
+    let four = OneOf::Fifth(four);
+    let jobs = (OneOf::First(one), (OneOf::Second(two), (OneOf::Third(three), (None, four))));
+    match with_ledger::<Brand, R, OneOf<A, B, C, A, D>>(rt, Blank::new(1), jobs) {
+        Ok((one, (two, (three, (_nobody, four))))) => match (one, two, three, four) {
+            (OneOf::First(one), OneOf::Second(two), OneOf::Third(three), OneOf::Fifth(four)) => {
+                Ok((one, two, three, four))
+            }
+            _ => unreachable!(),
+        },
+        Err((one, (two, (three, (_nobody, four))))) => match (one, two, three, four) {
+            (OneOf::First(one), OneOf::Second(two), OneOf::Third(three), OneOf::Fifth(four)) => {
+                Err((one, two, three, four))
+            }
+            _ => unreachable!(),
+        },
     }
 }
 
@@ -480,18 +492,28 @@ pub fn five_at_once<R: Threads + Wait + Sync, A: Job, B: Job, C: Job, D: Job, E:
     ensures same { IfErr result (λ back. (back.0 ≡ one)
         × ((back.1 ≡ two) × ((back.2 ≡ three) × ((back.3 ≡ four) × (back.4 ≡ five))))) }
 {
-    match with_ledger::<Brand, R, A, B, C, D, E>(
-        rt,
-        Blank::new(1),
-        (one, (two, (three, (Some(four), five)))),
-    ) {
-        Ok((one, (two, (three, (four, five))))) => match four {
-            Some(four) => Ok((one, two, three, four, five)),
-            None => unreachable!(),
+    let last = (Some(OneOf::Fourth(four)), OneOf::Fifth(five));
+    let jobs = (OneOf::First(one), (OneOf::Second(two), (OneOf::Third(three), last)));
+    match with_ledger::<Brand, R, OneOf<A, B, C, D, E>>(rt, Blank::new(1), jobs) {
+        Ok((one, (two, (three, (four, five))))) => match (one, two, three, four, five) {
+            (
+                OneOf::First(one),
+                OneOf::Second(two),
+                OneOf::Third(three),
+                Some(OneOf::Fourth(four)),
+                OneOf::Fifth(five),
+            ) => Ok((one, two, three, four, five)),
+            _ => unreachable!(),
         },
-        Err((one, (two, (three, (four, five))))) => match four {
-            Some(four) => Err((one, two, three, four, five)),
-            None => unreachable!(),
+        Err((one, (two, (three, (four, five))))) => match (one, two, three, four, five) {
+            (
+                OneOf::First(one),
+                OneOf::Second(two),
+                OneOf::Third(three),
+                Some(OneOf::Fourth(four)),
+                OneOf::Fifth(five),
+            ) => Err((one, two, three, four, five)),
+            _ => unreachable!(),
         },
     }
 }

@@ -21,3 +21,30 @@ IfBothOneOf (one.Third x) (one.Third y) a b c d e = c x y
 IfBothOneOf (one.Fourth x) (one.Fourth y) a b c d e = d x y
 IfBothOneOf (one.Fifth x) (one.Fifth y) a b c d e = e x y
 IfBothOneOf _ _ a b c d e = ⊥
+
+-- It is of this kind.
+abbrev pub IsFirst : {A B C D E : Type 0} → OneOf A B C D E → Type 0
+IsFirst (one.First x) = Unit {0}
+IsFirst _ = ⊥
+
+abbrev pub IsSecond : {A B C D E : Type 0} → OneOf A B C D E → Type 0
+IsSecond (one.Second x) = Unit {0}
+IsSecond _ = ⊥
+
+abbrev pub IsThird : {A B C D E : Type 0} → OneOf A B C D E → Type 0
+IsThird (one.Third x) = Unit {0}
+IsThird _ = ⊥
+
+abbrev pub IsFourth : {A B C D E : Type 0} → OneOf A B C D E → Type 0
+IsFourth (one.Fourth x) = Unit {0}
+IsFourth _ = ⊥
+
+abbrev pub IsFifth : {A B C D E : Type 0} → OneOf A B C D E → Type 0
+IsFifth (one.Fifth x) = Unit {0}
+IsFifth _ = ⊥
+
+-- Five are each of a kind of its own, in the order of the kinds.
+abbrev pub AreSorted : {A B C D E : Type 0}
+    → OneOf A B C D E × (OneOf A B C D E × (OneOf A B C D E × (OneOf A B C D E × OneOf A B C D E))) → Type 0
+AreSorted five = IsFirst five.0
+    × (IsSecond five.1.0 × (IsThird five.1.1.0 × (IsFourth five.1.1.1.0 × IsFifth five.1.1.1.1)))

@@ -7,7 +7,8 @@ ghost use Rattle.std.specs.Prelude.{◌≡◌, ◌+◌, ◌<◌, true, false, Ok
 ghost use Rattle.std.specs.Option.{ForSome};
 ghost use Rattle.std.specs.Result.{ForErr, ForOk};
 ghost use Rattle.job_crew.specs.Crews.{Both, Comes, DidSome};
-ghost use Rattle.job_crew.specs.Kinds.{IfOneOf, IfBothOneOf};
+ghost use Rattle.job_crew.specs.declared.crew.OneOf.TheVariants.{First, Second, Third, Fourth, Fifth};
+ghost use Rattle.job_crew.specs.Kinds.{IfOneOf, IfBothOneOf, AreSorted};
 
 use std::marker::Brand;
 use std::snapshot::Snapshot;
@@ -110,6 +111,9 @@ struct Place<'a, L: Ledger, J: Job> {
     hand: Result<PromisedHandle<Reply<'a, L, J::Done, J>, Asked<'a, L, J>>, J>,
     asked: Asked<'a, L, J>,
     there: bool,
+    ghost same_asked: { ForOk hand (λ handle. (handle.promise.job.value ≡ asked.job.value)
+        × (handle.promise.lock.now.id ≡ asked.lock.now.id)) },
+    ghost same_job: { ForErr hand (λ back. back ≡ asked.job.value) },
 }
 
 fn ask<'a, L: Ledger, J: Job>(lock: &'a OnceLock<Word<L>>, job: &J) -> Asked<'a, L, J>
@@ -251,9 +255,6 @@ fn seat<'s, Env, L: Ledger + Send + Sync + 's, R: Wait + Sync + 's, J: Job + 's>
     requires share { (share.old.parts ≡ 1) × (share.old.amount ≡ 0) }
     ensures job { result.asked.job.value ≡ job }
     ensures lock { result.asked.lock.now.id ≡ lock.now.id }
-    ensures there { IfOk result.hand
-        (λ handle. (handle.promise.job.value ≡ job) × (handle.promise.lock.now.id ≡ lock.now.id)) }
-    ensures here { IfErr result.hand (λ back. back ≡ job) }
     ensures same { (share.new.parts ≡ 1) × (share.new.amount ≡ 0) }
 {
     let asked = ask(lock, &job);
@@ -294,9 +295,6 @@ fn settle<'a, R: Threads + Wait, L: Ledger, J: Job>(
     place: Place<'a, L, J>,
 ) -> Reply<'a, L, J::Done, J>
     requires asks { J.asks place.asked.job.value }
-    requires there { IfOk place.hand (λ handle. (handle.promise.job.value ≡ place.asked.job.value)
-        × (handle.promise.lock.now.id ≡ place.asked.lock.now.id)) }
-    requires here { IfErr place.hand (λ back. back ≡ place.asked.job.value) }
     ensures word { result.word.of ≡ place.entry.asked.lock.now.id }
     ensures comes { Comes J J.Done J.did place.entry.asked.job.value result.outcome }
 {
@@ -362,10 +360,30 @@ fn decide<'a, R: Wait, L: Ledger>(
     (said, begins)
 }
 
-/// Five, each beside those that follow. The fourth may not be there.
-type Five<T> = (T, (T, (T, (Option<T>, T))));
+/// Five, each beside those that follow.
+type Five<T> = (T, (T, (T, (T, T))));
 
-/// Starts a thread for each of the first three, and for the fourth if it is there, says the word, and waits for all.
+/// Each by its kind, in the order of the kinds.
+fn sorted<A: Drop, B: Drop, C: Drop, D: Drop, E: Drop>(
+    five: Five<OneOf<A, B, C, D, E>>,
+) -> (A, B, C, D, E)
+    requires { AreSorted five }
+    ensures { five ≡ (First result.0, (Second result.1, (Third result.2, (Fourth result.3, Fifth result.4)))) }
+{
+    let (one, (two, (three, (four, five)))) = five;
+    match (one, two, three, four, five) {
+        (
+            OneOf::First(one),
+            OneOf::Second(two),
+            OneOf::Third(three),
+            OneOf::Fourth(four),
+            OneOf::Fifth(five),
+        ) => (one, two, three, four, five),
+        _ => unreachable!(),
+    }
+}
+
+/// Starts a thread for each of the first three, and for the fourth if one is wanted, says the word, and waits for all.
 fn begin_in<
     's,
     Env,
@@ -379,19 +397,20 @@ fn begin_in<
     book: Book<L>,
     share: Share<L>,
     jobs: Five<J>,
+    wanted: bool,
 ) -> Result<Five<J::Done>, Five<J>>
     requires book { book.total ≡ 0 }
     requires share { (L.parts ≡ 1) × ((share.parts ≡ 1) × (share.amount ≡ 0)) }
     requires asks { J.asks jobs.0 × (J.asks jobs.1.0 × (J.asks jobs.1.1.0
-        × (IfSome jobs.1.1.1.0 J.asks × J.asks jobs.1.1.1.1))) }
-    ensures comes { Comes _ _ (Both J.did (Both J.did (Both J.did (Both (DidSome J J.Done J.did) J.did)))) jobs result }
+        × (J.asks jobs.1.1.1.0 × J.asks jobs.1.1.1.1))) }
+    ensures comes { Comes _ _ (Both J.did (Both J.did (Both J.did (Both J.did J.did)))) jobs result }
 {
     let (one, (two, (three, (four, five)))) = jobs;
     let mut share = share;
     let first = seat(scope, rt, lock, &mut share, true, one);
     let second = seat(scope, rt, lock, &mut share, true, two);
     let third = seat(scope, rt, lock, &mut share, true, three);
-    let fourth = seat(scope, rt, lock, &mut share, four.is_some(), four);
+    let fourth = seat(scope, rt, lock, &mut share, wanted, four);
     let all = first.there && second.there && third.there && fourth.there;
     decide(rt, lock, book, share, all);
     let last = stand_by(rt, lock, five);
@@ -408,12 +427,13 @@ fn begin_all<L: Ledger + Send + Sync, R: Threads + Wait + Sync, J: Job>(
     book: Book<L>,
     share: Share<L>,
     jobs: Five<J>,
+    wanted: bool,
 ) -> Result<Five<J::Done>, Five<J>>
     requires book { book.total ≡ 0 }
     requires share { (L.parts ≡ 1) × ((share.parts ≡ 1) × (share.amount ≡ 0)) }
     requires asks { J.asks jobs.0 × (J.asks jobs.1.0 × (J.asks jobs.1.1.0
-        × (IfSome jobs.1.1.1.0 J.asks × J.asks jobs.1.1.1.1))) }
-    ensures comes { Comes _ _ (Both J.did (Both J.did (Both J.did (Both (DidSome J J.Done J.did) J.did)))) jobs result }
+        × (J.asks jobs.1.1.1.0 × J.asks jobs.1.1.1.1))) }
+    ensures comes { Comes _ _ (Both J.did (Both J.did (Both J.did (Both J.did J.did)))) jobs result }
 {
     thread::scope(
         thread::scope_env(),
@@ -422,9 +442,9 @@ fn begin_all<L: Ledger + Send + Sync, R: Threads + Wait + Sync, J: Job>(
             requires book { book.total ≡ 0 }
             requires share { (L.parts ≡ 1) × ((share.parts ≡ 1) × (share.amount ≡ 0)) }
             requires asks { J.asks jobs.0 × (J.asks jobs.1.0 × (J.asks jobs.1.1.0
-        × (IfSome jobs.1.1.1.0 J.asks × J.asks jobs.1.1.1.1))) }
-            ensures comes { Comes _ _ (Both J.did (Both J.did (Both J.did (Both (DidSome J J.Done J.did) J.did)))) jobs result }
-        { begin_in(scope, rt, lock, book, share, jobs) },
+        × (J.asks jobs.1.1.1.0 × J.asks jobs.1.1.1.1))) }
+            ensures comes { Comes _ _ (Both J.did (Both J.did (Both J.did (Both J.did J.did)))) jobs result }
+        { begin_in(scope, rt, lock, book, share, jobs, wanted) },
     )
 }
 
@@ -433,16 +453,17 @@ fn with_ledger<L: Ledger + Send + Sync, R: Threads + Wait + Sync, J: Job>(
     rt: &R,
     blank: Blank,
     jobs: Five<J>,
+    wanted: bool,
 ) -> Result<Five<J::Done>, Five<J>>
     requires name { blank.name ≡ L.name }
     requires parts { (blank.parts ≡ L.parts) × (L.parts ≡ 1) }
     requires asks { J.asks jobs.0 × (J.asks jobs.1.0 × (J.asks jobs.1.1.0
-        × (IfSome jobs.1.1.1.0 J.asks × J.asks jobs.1.1.1.1))) }
-    ensures comes { Comes _ _ (Both J.did (Both J.did (Both J.did (Both (DidSome J J.Done J.did) J.did)))) jobs result }
+        × (J.asks jobs.1.1.1.0 × J.asks jobs.1.1.1.1))) }
+    ensures comes { Comes _ _ (Both J.did (Both J.did (Both J.did (Both J.did J.did)))) jobs result }
 {
     let (book, share) = blank.open::<L>();
     let lock = OnceLock::new();
-    begin_all(rt, &lock, book, share, jobs)
+    begin_all(rt, &lock, book, share, jobs, wanted)
 }
 
 /// Does four jobs at once, the first three in threads of their own and the last in this one. Where one of these threads
@@ -459,21 +480,18 @@ pub fn all_at_once<R: Threads + Wait + Sync, A: Job, B: Job, C: Job, D: Job>(
         × (B.did two done.1 × (C.did three done.2 × D.did four done.3))) }
     ensures same { IfErr result (λ back. (back.0 ≡ one) × ((back.1 ≡ two) × ((back.2 ≡ three) × (back.3 ≡ four)))) }
 {
-    let four = OneOf::Fifth(four);
-    let jobs = (OneOf::First(one), (OneOf::Second(two), (OneOf::Third(three), (None, four))));
-    match with_ledger::<Brand, R, OneOf<A, B, C, A, D>>(rt, Blank::new(1), jobs) {
-        Ok((one, (two, (three, (_nobody, four))))) => match (one, two, three, four) {
-            (OneOf::First(one), OneOf::Second(two), OneOf::Third(three), OneOf::Fifth(four)) => {
-                Ok((one, two, three, four))
-            }
-            _ => unreachable!(),
-        },
-        Err((one, (two, (three, (_nobody, four))))) => match (one, two, three, four) {
-            (OneOf::First(one), OneOf::Second(two), OneOf::Third(three), OneOf::Fifth(four)) => {
-                Err((one, two, three, four))
-            }
-            _ => unreachable!(),
-        },
+    let nobody: Option<A> = None;
+    let last = (OneOf::Fourth(nobody), OneOf::Fifth(four));
+    let jobs = (OneOf::First(one), (OneOf::Second(two), (OneOf::Third(three), last)));
+    match with_ledger::<Brand, R, OneOf<A, B, C, Option<A>, D>>(rt, Blank::new(1), jobs, false) {
+        Ok(done) => {
+            let (one, two, three, _, four) = sorted(done);
+            Ok((one, two, three, four))
+        }
+        Err(back) => {
+            let (one, two, three, _, four) = sorted(back);
+            Err((one, two, three, four))
+        }
     }
 }
 
@@ -492,28 +510,10 @@ pub fn five_at_once<R: Threads + Wait + Sync, A: Job, B: Job, C: Job, D: Job, E:
     ensures same { IfErr result (λ back. (back.0 ≡ one)
         × ((back.1 ≡ two) × ((back.2 ≡ three) × ((back.3 ≡ four) × (back.4 ≡ five))))) }
 {
-    let last = (Some(OneOf::Fourth(four)), OneOf::Fifth(five));
+    let last = (OneOf::Fourth(four), OneOf::Fifth(five));
     let jobs = (OneOf::First(one), (OneOf::Second(two), (OneOf::Third(three), last)));
-    match with_ledger::<Brand, R, OneOf<A, B, C, D, E>>(rt, Blank::new(1), jobs) {
-        Ok((one, (two, (three, (four, five))))) => match (one, two, three, four, five) {
-            (
-                OneOf::First(one),
-                OneOf::Second(two),
-                OneOf::Third(three),
-                Some(OneOf::Fourth(four)),
-                OneOf::Fifth(five),
-            ) => Ok((one, two, three, four, five)),
-            _ => unreachable!(),
-        },
-        Err((one, (two, (three, (four, five))))) => match (one, two, three, four, five) {
-            (
-                OneOf::First(one),
-                OneOf::Second(two),
-                OneOf::Third(three),
-                Some(OneOf::Fourth(four)),
-                OneOf::Fifth(five),
-            ) => Err((one, two, three, four, five)),
-            _ => unreachable!(),
-        },
+    match with_ledger::<Brand, R, OneOf<A, B, C, D, E>>(rt, Blank::new(1), jobs, true) {
+        Ok(done) => Ok(sorted(done)),
+        Err(back) => Err(sorted(back)),
     }
 }

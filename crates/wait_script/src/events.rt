@@ -4,7 +4,7 @@ ghost use Rattle.std.specs.Prelude.{◌≡◌, ◌+◌, ◌≤◌, ◌++◌, cod
 ghost use Rattle.arrayvec.specs.ArrayVec.{array_vec_len};
 ghost use Rattle.wait_script.specs.Text as spec;
 
-use crate::pieces::{LineText, push_number, push_text};
+use crate::pieces::{LineText, push_counted, push_text};
 use crate::text::{push_cond, push_named, push_state};
 use wait_model::calls::Event;
 use wait_model::layout::TEXT_BYTES;
@@ -144,8 +144,7 @@ fn push_value(line: &mut LineText, name: &[u8], cond: u16, value: u64)
 {
     push_text(line, name);
     push_cond(line, cond);
-    push_text(line, b" ");
-    push_number(line, value);
+    push_counted(line, b" ", value);
 }
 
 /// Puts the event of an exchange of a plain condition after a text.
@@ -156,8 +155,7 @@ fn push_take(line: &mut LineText, cond: u8, found: u64)
     ensures len { array_vec_len line.new ≤ array_vec_len line.old + 33 }
 {
     push_named(line, b" take c", cond.into());
-    push_text(line, b" ");
-    push_number(line, found);
+    push_counted(line, b" ", found);
 }
 
 /// Puts the event of a test-and-set of a bit after a text.

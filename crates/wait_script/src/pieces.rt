@@ -85,6 +85,17 @@ pub fn push_number(line: &mut LineText, number: u64)
     push_decimal(line, number);
 }
 
+/// Puts a name and a number of up to 64 bits after a text.
+#[inline(always)]
+pub fn push_counted(line: &mut LineText, name: &[u8], number: u64)
+    requires { array_vec_len line.old + length name.now + 20 ≤ TEXT_BYTES }
+    ensures text { line.new.items ≡ line.old.items ++ name.now ++ decimal number }
+    ensures len { array_vec_len line.new ≤ array_vec_len line.old + length name.now + 20 }
+{
+    push_text(line, name);
+    push_number(line, number);
+}
+
 /// Puts a number of 16 bits after a text.
 #[inline]
 pub fn push_short(line: &mut LineText, number: u16)

@@ -5,7 +5,7 @@ ghost use Rattle.arrayvec.specs.ArrayVec.{array_vec_len};
 ghost use Rattle.wait_script.specs.Text as spec;
 
 use crate::events::push_event;
-use crate::pieces::{LineText, push_number, push_short, push_signed, push_text};
+use crate::pieces::{LineText, push_counted, push_number, push_short, push_signed, push_text};
 use wait_core::{StartFault, Stepped};
 use wait_model::calls::{Answer, Event};
 use wait_model::layout::{
@@ -71,12 +71,9 @@ fn push_walk(line: &mut LineText, walk: &Walked)
     ensures text { line.new.items ≡ line.old.items ++ spec.answer_text (Answer.Walk walk.now) }
     ensures len { array_vec_len line.new ≤ array_vec_len line.old + 91 }
 {
-    push_text(line, b"woken ");
-    push_number(line, walk.woken.into());
-    push_text(line, b" selected ");
-    push_number(line, walk.selected.into());
-    push_text(line, b" holds ");
-    push_number(line, walk.holds.into());
+    push_counted(line, b"woken ", walk.woken.into());
+    push_counted(line, b" selected ", walk.selected.into());
+    push_counted(line, b" holds ", walk.holds.into());
     push_end(line, walk.end);
 }
 

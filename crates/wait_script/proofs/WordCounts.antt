@@ -1,5 +1,5 @@
 -- The words of a form: too few of them, too many, and as many as there are fields.
-use Rattle.std.proofs.Common.{◌≡◌, ℕ, ◌<◌, ◌≤◌, List, [], ◌∷◌, Result, Ok, Err, length, map, get_or, arith, refl, sym}
+use Rattle.std.proofs.Common.{◌≡◌, ℕ, ◌<◌, ◌≤◌, List, [], ◌∷◌, Result, Ok, Err, length, map, get_or, take, drop, take_all, ◌-◌, arith, refl, sym}
 use Rattle.std.proofs.Common.{ap, ◌∙◌}
 use Rattle.std.specs.Result.{IsErrAnd}
 use denote.Ref.{Bor}
@@ -13,7 +13,7 @@ use Rattle.wait_script.specs.declared.version.Version.{Version}
 use Rattle.wait_script.specs.Versions.{last_task}
 use Rattle.wait_script.specs.Words.{both_of, made_of}
 use Rattle.wait_script.specs.Fields.{number_at}
-use Rattle.wait_script.specs.Forms.{form1, form2, form3}
+use Rattle.wait_script.specs.Forms.{form1, form2, form3, last_of, named_at}
 use Rattle.wait_script.specs.Lines.{step_at, call_at}
 
 -- an error that is passed on
@@ -171,3 +171,40 @@ pub few_call : (v : Version) (words : List (Bor (List ℕ))) → length words < 
 few_call v [] n = refl
 few_call v (a ∷ []) n = refl
 few_call v (a ∷ b ∷ more) n = absurd (omega arith)
+
+-- the words after the first two
+abbrev pub others : List (Bor (List ℕ)) → List (List ℕ)
+others words = map (λ w. w.now) (take (length words - 2) (drop 2 words))
+
+-- the words of a line of a call
+at_call : (v : Version) (words : List (Bor (List ℕ))) (d : Bor (List ℕ)) → 2 ≤ length words
+    → call_at v (map (λ w. w.now) words)
+    ≡ made_of (λ x. line.Call x.0 x.1)
+    (both_of (number_at 0 (last_of v (get_or words 1 d).now (others words)) (get_or words 0 d).now)
+    (named_at v (get_or words 1 d).now (others words)))
+at_call v [] d n = absurd (omega arith)
+at_call v (a ∷ []) d n = absurd (omega arith)
+at_call v (a ∷ b ∷ more) d n =
+    ap (λ (rest : List (Bor (List ℕ))). call_at v (a.now ∷ b.now ∷ map (λ w. w.now) rest))
+    (sym (take_all (length (a ∷ b ∷ more) - 2) more (omega arith)))
+
+pub ok_call : (v : Version) (words : List (Bor (List ℕ))) (d : Bor (List ℕ)) {x : ℕ × Call} {l : ℕ}
+    {t : Result ℕ Reason} {n : Result Call Reason} → 2 ≤ length words → Ok x ≡ both_of t n
+    → l ≡ last_of v (get_or words 1 d).now (others words)
+    → t ≡ number_at 0 l (get_or words 0 d).now
+    → n ≡ named_at v (get_or words 1 d).now (others words)
+    → Ok (line.Call x.0 x.1) ≡ call_at v (map (λ w. w.now) words)
+ok_call v words d m is last h k =
+    ap (made_of (λ x. line.Call x.0 x.1)) (two is (h ∙ ap (λ l. number_at 0 l (get_or words 0 d).now) last) k)
+    ∙ sym (at_call v words d m)
+
+pub err_call : (v : Version) (words : List (Bor (List ℕ))) (d : Bor (List ℕ)) {e : Reason} {l : ℕ}
+    {t : Result ℕ Reason} {n : Result Call Reason} {r : Result Line Reason} → 2 ≤ length words → Err e ≡ both_of t n
+    → l ≡ last_of v (get_or words 1 d).now (others words)
+    → t ≡ number_at 0 l (get_or words 0 d).now
+    → n ≡ named_at v (get_or words 1 d).now (others words)
+    → IsErrAnd r (λ why. why ≡ e) → r ≡ call_at v (map (λ w. w.now) words)
+err_call v words d {e = e} {r = r} m is last h k fault =
+    passed (λ x. line.Call x.0 x.1) _ e
+    (two is (h ∙ ap (λ l. number_at 0 l (get_or words 0 d).now) last) k) r fault
+    ∙ sym (at_call v words d m)

@@ -34,7 +34,6 @@ fn step(version: Version, words: &[&[u8]]) -> Result<Line, Reason>
 }
 
 /// `call TASK NAME ..`, by the words after the first.
-#[tactic(auto, using(crate::proofs::WordCounts::few_call))]
 fn call(version: Version, words: &[&[u8]]) -> Result<Line, Reason>
     ensures { result ≡ call_at version (map (λ w. w.now) words.now) }
 {

@@ -5,8 +5,8 @@ ghost use Rattle.std.specs.declared.option.Option.TheVariants as option;
 ghost use Rattle.arrayvec.specs.ArrayVec.{array_vec_len};
 ghost use Rattle.wait_script.specs.Ending.{events_text, signal_text, act_text, task_text, member_text, word_text};
 
-use crate::pieces::{LineText, push_number, push_short, push_text};
-use crate::text::{push_cond, push_state};
+use crate::pieces::{LineText, push_counted, push_text};
+use crate::text::{push_cond, push_named, push_state};
 use wait_model::layout::{ENTRIES, TEXT_BYTES};
 use wait_model::queues::Member;
 use wait_model::tasks::TaskRecord;
@@ -17,8 +17,7 @@ pub fn push_events(line: &mut LineText, events: u32)
     ensures text { line.new.items ≡ line.old.items ++ events_text events }
     ensures len { array_vec_len line.new ≤ array_vec_len line.old + 28 }
 {
-    push_text(line, b"events ");
-    push_number(line, events.into());
+    push_counted(line, b"events ", events.into());
     push_text(line, b"\n");
 }
 
@@ -56,8 +55,7 @@ pub fn push_task_end(line: &mut LineText, task: u8, is_open: bool, shown: &TaskR
     ensures text { line.new.items ≡ line.old.items ++ task_text task (option.Some is_open) shown.now }
     ensures len { array_vec_len line.new ≤ array_vec_len line.old + 30 }
 {
-    push_text(line, b"task ");
-    push_short(line, task.into());
+    push_named(line, b"task ", task.into());
     push_text(line, b" ");
     push_state(line, shown.state);
     push_text(line, b" ");
@@ -73,8 +71,7 @@ pub fn push_head_front(line: &mut LineText, head: u16)
     ensures text { line.new.items ≡ line.old.items ++ codes "head h" ++ decimal head }
     ensures len { array_vec_len line.new ≤ array_vec_len line.old + 11 }
 {
-    push_text(line, b"head h");
-    push_short(line, head);
+    push_named(line, b"head h", head);
 }
 
 /// Puts a member of a head's line after a text: an entry by the task whose it is, a bookmark by its task after
@@ -85,11 +82,9 @@ pub fn push_member(line: &mut LineText, member: &Member)
     ensures len { array_vec_len line.new ≤ array_vec_len line.old + 8 }
 {
     if member.at < ENTRIES {
-        push_text(line, b" t");
-        push_short(line, member.owner().into());
+        push_named(line, b" t", member.owner().into());
     } else {
-        push_text(line, b" *t");
-        push_short(line, member.at - ENTRIES);
+        push_named(line, b" *t", member.at - ENTRIES);
     }
 }
 
@@ -104,7 +99,6 @@ pub fn push_word(line: &mut LineText, cond: u16, value: u64)
     }
     push_text(line, b"word ");
     push_cond(line, cond);
-    push_text(line, b" ");
-    push_number(line, value);
+    push_counted(line, b" ", value);
     push_text(line, b"\n");
 }

@@ -384,13 +384,7 @@ fn sorted<A: Drop, B: Drop, C: Drop, D: Drop, E: Drop>(
 }
 
 /// Starts a thread for each of the first three, and for the fourth if one is wanted, says the word, and waits for all.
-fn begin_in<
-    's,
-    Env,
-    L: Ledger + Send + Sync + 's,
-    R: Threads + Wait + Sync + 's,
-    J: Job + 's,
->(
+fn begin_in<'s, Env, L: Ledger + Send + Sync + 's, R: Threads + Wait + Sync + 's, J: Job + 's>(
     scope: &Scope<'s, Env>,
     rt: &'s R,
     lock: &'s OnceLock<Word<L>>,
@@ -442,7 +436,7 @@ fn begin_all<L: Ledger + Send + Sync, R: Threads + Wait + Sync, J: Job>(
             requires book { book.total ≡ 0 }
             requires share { (L.parts ≡ 1) × ((share.parts ≡ 1) × (share.amount ≡ 0)) }
             requires asks { J.asks jobs.0 × (J.asks jobs.1.0 × (J.asks jobs.1.1.0
-        × (J.asks jobs.1.1.1.0 × J.asks jobs.1.1.1.1))) }
+                × (J.asks jobs.1.1.1.0 × J.asks jobs.1.1.1.1))) }
             ensures comes { Comes _ _ (Both J.did (Both J.did (Both J.did (Both J.did J.did)))) jobs result }
         { begin_in(scope, rt, lock, book, share, jobs, wanted) },
     )
@@ -482,7 +476,10 @@ pub fn all_at_once<R: Threads + Wait + Sync, A: Job, B: Job, C: Job, D: Job>(
 {
     let nobody: Option<A> = None;
     let last = (OneOf::Fourth(nobody), OneOf::Fifth(four));
-    let jobs = (OneOf::First(one), (OneOf::Second(two), (OneOf::Third(three), last)));
+    let jobs = (
+        OneOf::First(one),
+        (OneOf::Second(two), (OneOf::Third(three), last)),
+    );
     match with_ledger::<Brand, R, OneOf<A, B, C, Option<A>, D>>(rt, Blank::new(1), jobs, false) {
         Ok(done) => {
             let (one, two, three, _, four) = sorted(done);
@@ -511,7 +508,10 @@ pub fn five_at_once<R: Threads + Wait + Sync, A: Job, B: Job, C: Job, D: Job, E:
         × ((back.1 ≡ two) × ((back.2 ≡ three) × ((back.3 ≡ four) × (back.4 ≡ five))))) }
 {
     let last = (OneOf::Fourth(four), OneOf::Fifth(five));
-    let jobs = (OneOf::First(one), (OneOf::Second(two), (OneOf::Third(three), last)));
+    let jobs = (
+        OneOf::First(one),
+        (OneOf::Second(two), (OneOf::Third(three), last)),
+    );
     match with_ledger::<Brand, R, OneOf<A, B, C, D, E>>(rt, Blank::new(1), jobs, true) {
         Ok(done) => Ok(sorted(done)),
         Err(back) => Err(sorted(back)),

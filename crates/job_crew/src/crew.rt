@@ -340,26 +340,6 @@ fn together<'a, L: Ledger, D: Drop, J: Drop, M: Drop, T: Drop>(
     }
 }
 
-/// Says the word, by which the jobs are begun only where all are there, and whether they are.
-fn decide<'a, R: Wait, L: Ledger>(
-    rt: &R,
-    lock: &'a OnceLock<Word<L>>,
-    book: Book<L>,
-    share: Share<L>,
-    all: bool,
-) -> (OnceToken<'a, Word<L>>, bool)
-    requires book { book.total ≡ 0 }
-    requires share { (L.parts ≡ 1) × ((share.parts ≡ 1) × (share.amount ≡ 0)) }
-    ensures lock { result.0.of ≡ lock.now.id }
-    ensures word { result.1 ≡ false → result.0.value.sum ≡ None }
-    ensures there { result.1 ≡ true → all ≡ true }
-{
-    let mut share = share;
-    let said = say(rt, lock, close(book, &mut share, all));
-    let begins = begins(lock.value(&said), &mut share);
-    (said, begins)
-}
-
 /// Five, each beside those that follow.
 type Five<T> = (T, (T, (T, (T, T))));
 
@@ -406,7 +386,7 @@ fn begin_in<'s, Env, L: Ledger + Send + Sync + 's, R: Threads + Wait + Sync + 's
     let third = seat(scope, rt, lock, &mut share, true, three);
     let fourth = seat(scope, rt, lock, &mut share, wanted, four);
     let all = first.there && second.there && third.there && fourth.there;
-    decide(rt, lock, book, share, all);
+    say(rt, lock, close(book, &mut share, all));
     let last = stand_by(rt, lock, five);
     let last = together(settle(rt, fourth), last);
     let last = together(settle(rt, third), last);

@@ -15,7 +15,7 @@ use Rattle.wait_model.specs.declared.steps.Step.TheVariants as step
 use Rattle.wait_model.specs.declared.calls.Event.{Event}
 use Rattle.wait_model.specs.declared.calls.Event.TheVariants as event
 use Rattle.wait_model.specs.declared.points.Given.{Given}
-use Rattle.wait_model.specs.Watches.{same, is_bit, bit_of, was_clear, page}
+use Rattle.wait_model.specs.Watches.{same, is_bit, bit_of, page}
 use Rattle.wait_model.specs.Words.{bit_at, flag, head_word}
 use Rattle.wait_model.specs.Views.{View, Bits}
 use Rattle.wait_model.specs.Fold.{after, after_all, takes_note}

@@ -1,4 +1,4 @@
-use Rattle.std.proofs.Common.{ℕ, List, Option, ◌<◌, ◌∙◌, ap, arith}
+use Rattle.std.proofs.Common.{ℕ, List, Option, ◌<◌, ◌∙◌, ap, arith, sym, append-nil}
 use Rattle.wait_model.specs.declared.layout.TheConstants.{TASKS}
 use Rattle.wait_model.specs.Runs.{state_of}
 use Rattle.wait_core.specs.Keepers.{keeps_shown}
@@ -106,3 +106,15 @@ returns-then-lacks_bit-clause-answer c =
     c.is_open_at.ensures c.if-is_open_at.false c.args.call c.args.self.now c.self.view_is _
     c.is_in_range.ensures c.if-not-is_in_range.false c.self.inside.keepers.items c.self.invariant.kept _
     keeps _ c.lacks_bit.ensures c.if-lacks_bit.true
+
+pub returns-then-lacks_bit-clause-run : goal.returns-then-lacks_bit-clause-run
+returns-then-lacks_bit-clause-run c = sym (append-nil c.args.self.now)
+
+pub returns-then-lacks_entry-clause-run : goal.returns-then-lacks_entry-clause-run
+returns-then-lacks_entry-clause-run c = sym (append-nil c.args.self.now)
+
+pub returns-then-is_queued_twice-clause-run : goal.returns-then-is_queued_twice-clause-run
+returns-then-is_queued_twice-clause-run c = sym (append-nil c.args.self.now)
+
+pub returns-then-is_open_at-clause-run : goal.returns-then-is_open_at-clause-run
+returns-then-is_open_at-clause-run c = sym (append-nil c.args.self.now)

@@ -1,13 +1,96 @@
-use Rattle.std.proofs.Common.{◌∙◌, ◌==◌, ◌≤◌, ℕ, ap, refl, subst, sym}
+use Rattle.std.proofs.Common.{◌∙◌, ◌==◌, ◌+◌, ◌≡◌, ◌≤◌, Bool, true, false, ℕ, ap, refl, subst, sym}
 use Rattle.std.proofs.lemmas.Result.{err_from_is_err_and}
-use Rattle.std.specs.Prelude.{Some}
+use Rattle.std.specs.Prelude.{MatchBool, Some}
 use Rattle.wait_model.specs.declared.layout.TheConstants.{FIRST_SIMPLE_HEAD}
+use Rattle.wait_rule.specs.Counts.{StoresCount}
+use Rattle.wait_rule.specs.Known.{Known}
 use Rattle.wq_head.specs.Roused.{RousesNone}
 use Rattle.wq_head.proofs.RousedTasks.{none_unlocked, rousing_from, rousing_on}
 use Rattle.completion_cell.proofs.CellHolds.{one_at, one_counted, one_holds, one_over, one_owes, one_simple}
 use Rattle.completion_cell.proofs.CellRousing.{none_counted, none_raised}
 use Rattle.completion_cell.proofs.Completing.{complete_rises, done_simple}
 use Rattle.completion_cell.proofs.completes.complete_hold.Goals as goal
+
+-- a count that is raised, or that stays
+raised_domain : (d n : ℕ) (old new : Known) (raised : Bool) → MatchBool raised (StoresCount old new d n) (new ≡ old)
+    → new.domain ≡ old.domain
+raised_domain d n old new true s = s.publishes.domain
+raised_domain d n old new false s = ap (λ (k : Known). k.domain) s
+
+raised_awake : (d n : ℕ) (old new : Known) (raised : Bool) → MatchBool raised (StoresCount old new d n) (new ≡ old)
+    → new.book.awake ≡ old.book.awake
+raised_awake d n old new true s = s.publishes.awake
+raised_awake d n old new false s = ap (λ (k : Known). k.book.awake) s
+
+pub done_load-count-requires-clause-of : goal.done_load-count-requires-clause-of
+done_load-count-requires-clause-of c = c.requires.of
+
+pub done_load-count-requires-clause-cell : goal.done_load-count-requires-clause-cell
+done_load-count-requires-clause-cell c = c.requires.cell
+
+pub raise_one-requires-clause-of : goal.raise_one-requires-clause-of
+raise_one-requires-clause-of c = c.done_load-count.ensures.carries.domain ∙ c.requires.of
+
+pub raise_one-requires-clause-cell : goal.raise_one-requires-clause-cell
+raise_one-requires-clause-cell c = c.requires.cell
+
+pub select_tries-requires-clause-of : goal.select_tries-requires-clause-of
+select_tries-requires-clause-of c =
+    let l = c.done_load-count in
+    let r = c.raise_one in
+    raised_domain c.args.cell (l.result + 1) l.new.task r.new.task r.result r.ensures.stores
+    ∙ (l.ensures.carries.domain ∙ c.requires.of)
+
+pub select_tries-requires-clause-up : goal.select_tries-requires-clause-up
+select_tries-requires-clause-up c =
+    let l = c.done_load-count in
+    let r = c.raise_one in
+    raised_awake c.args.cell (l.result + 1) l.new.task r.new.task r.result r.ensures.stores
+    ∙ (l.ensures.carries.awake ∙ c.requires.holds.1.took.up)
+
+pub select_tries-requires-clause-none : goal.select_tries-requires-clause-none
+select_tries-requires-clause-none c = c.requires.none
+
+pub give_back-requires-clause-of : goal.give_back-requires-clause-of
+give_back-requires-clause-of c =
+    let l = c.done_load-count in
+    let r = c.raise_one in
+    c.select_tries.ensures.carries.domain
+    ∙ (raised_domain c.args.cell (l.result + 1) l.new.task r.new.task r.result r.ensures.stores
+    ∙ (l.ensures.carries.domain ∙ c.requires.of))
+
+pub give_back-requires-clause-up : goal.give_back-requires-clause-up
+give_back-requires-clause-up c =
+    let l = c.done_load-count in
+    let r = c.raise_one in
+    c.select_tries.ensures.carries.awake
+    ∙ (raised_awake c.args.cell (l.result + 1) l.new.task r.new.task r.result r.ensures.stores
+    ∙ (l.ensures.carries.awake ∙ c.requires.holds.1.took.up))
+
+pub give_back-requires-clause-held : goal.give_back-requires-clause-held
+give_back-requires-clause-held c = c.select_tries.ensures.held.locked
+
+pub give_back-requires-clause-agreed : goal.give_back-requires-clause-agreed
+give_back-requires-clause-agreed c = c.select_tries.ensures.held.agreed
+
+pub put-requires : goal.put-requires
+put-requires c = c.requires.passes
+
+pub returns-clause-of : goal.returns-clause-of
+returns-clause-of c =
+    let l = c.done_load-count in
+    let r = c.raise_one in
+    c.give_back.ensures.carries.domain ∙ (c.select_tries.ensures.carries.domain
+    ∙ (raised_domain c.args.cell (l.result + 1) l.new.task r.new.task r.result r.ensures.stores
+    ∙ (l.ensures.carries.domain ∙ c.requires.of)))
+
+pub returns-in_err-selected-clause-of : goal.returns-in_err-selected-clause-of
+returns-in_err-selected-clause-of c =
+    let l = c.done_load-count in
+    let r = c.raise_one in
+    c.select_tries.ensures.carries.domain
+    ∙ (raised_domain c.args.cell (l.result + 1) l.new.task r.new.task r.result r.ensures.stores
+    ∙ (l.ensures.carries.domain ∙ c.requires.of))
 
 pub done_load-count-requires-clause-up : goal.done_load-count-requires-clause-up
 done_load-count-requires-clause-up c = c.requires.holds.1.took.up

@@ -21,7 +21,8 @@ pub complete_hold-requires-clause-cell : goal.complete_hold-requires-clause-cell
 complete_hold-requires-clause-cell c = c.requires.there
 
 pub complete_hold-requires-clause-holds : goal.complete_hold-requires-clause-holds
-complete_hold-requires-clause-holds c = held_as c.args.run.call call.Complete c.args.run.cell c.args.task.now c.in-Complete.is
+complete_hold-requires-clause-holds c =
+    held_as c.args.run.call call.Complete c.args.run.cell c.args.task.now c.in-Complete.is
     c.requires.holds
 
 pub complete_hold-requires-clause-none : goal.complete_hold-requires-clause-none
@@ -37,7 +38,8 @@ pub complete_all_hold-requires-clause-cell : goal.complete_all_hold-requires-cla
 complete_all_hold-requires-clause-cell c = c.requires.there
 
 pub complete_all_hold-requires-clause-holds : goal.complete_all_hold-requires-clause-holds
-complete_all_hold-requires-clause-holds c = held_as c.args.run.call call.CompleteAll c.args.run.cell c.args.task.now c.in-CompleteAll.is
+complete_all_hold-requires-clause-holds c =
+    held_as c.args.run.call call.CompleteAll c.args.run.cell c.args.task.now c.in-CompleteAll.is
     c.requires.holds
 
 pub complete_all_hold-requires-clause-none : goal.complete_all_hold-requires-clause-none
@@ -53,7 +55,8 @@ pub is_done_hold-requires-clause-cell : goal.is_done_hold-requires-clause-cell
 is_done_hold-requires-clause-cell c = c.requires.there
 
 pub is_done_hold-requires-clause-holds : goal.is_done_hold-requires-clause-holds
-is_done_hold-requires-clause-holds c = held_as c.args.run.call call.IsDone c.args.run.cell c.args.task.now c.in-IsDone.is
+is_done_hold-requires-clause-holds c =
+    held_as c.args.run.call call.IsDone c.args.run.cell c.args.task.now c.in-IsDone.is
     c.requires.holds
 
 pub reinit_hold-requires-clause-of : goal.reinit_hold-requires-clause-of
@@ -79,7 +82,8 @@ pub try_wait_hold-requires-clause-cell : goal.try_wait_hold-requires-clause-cell
 try_wait_hold-requires-clause-cell c = c.requires.there
 
 pub try_wait_hold-requires-clause-holds : goal.try_wait_hold-requires-clause-holds
-try_wait_hold-requires-clause-holds c = held_as c.args.run.call call.TryWait c.args.run.cell c.args.task.now c.in-TryWait.is
+try_wait_hold-requires-clause-holds c =
+    held_as c.args.run.call call.TryWait c.args.run.cell c.args.task.now c.in-TryWait.is
     c.requires.holds
 
 pub returns-in-Complete-clause-of : goal.returns-in-Complete-clause-of

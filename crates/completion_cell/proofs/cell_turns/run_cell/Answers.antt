@@ -20,7 +20,7 @@ pub cell_stretch-turn-requires-clause-none : goal.cell_stretch-turn-requires-cla
 cell_stretch-turn-requires-clause-none g c = c.loop.invariant.3
 
 pub loop-preserved : goal.loop-preserved
-loop-preserved g c = 
+loop-preserved g c =
     let i = c.loop.invariant in
     let turned = c.in-Locked.ensures.turned c.args.task.now i.1 in (
       record { call_is = turned.fresh.call_is ∙ i.0.call_is; cell = turned.fresh.cell ∙ i.0.cell },

@@ -54,10 +54,12 @@ pub pare-requires-clause-held : goal.pare-requires-clause-held
 pare-requires-clause-held g c = c.heeds.ensures.held
 
 pub join-joined-requires-clause-of : goal.join-joined-requires-clause-of
-join-joined-requires-clause-of g c = c.heeds.ensures.heeds.carries.domain ∙ (c.lock.ensures.carries.domain ∙ c.requires.of)
+join-joined-requires-clause-of g c =
+    c.heeds.ensures.heeds.carries.domain ∙ (c.lock.ensures.carries.domain ∙ c.requires.of)
 
 pub join-joined-requires-clause-up : goal.join-joined-requires-clause-up
-join-joined-requires-clause-up g c = c.heeds.ensures.heeds.carries.awake ∙ (c.lock.ensures.carries.awake ∙ c.requires.may.up)
+join-joined-requires-clause-up g c =
+    c.heeds.ensures.heeds.carries.awake ∙ (c.lock.ensures.carries.awake ∙ c.requires.may.up)
 
 pub join-joined-requires-clause-held : goal.join-joined-requires-clause-held
 join-joined-requires-clause-held g c = c.heeds.ensures.held

@@ -14,14 +14,17 @@ pub lock-requires-clause-of : goal.lock-requires-clause-of
 lock-requires-clause-of g c = c.own_entry.ensures.carries.domain ∙ (c.set_state.ensures.carries.domain ∙ c.requires.of)
 
 pub pare-requires-clause-of : goal.pare-requires-clause-of
-pare-requires-clause-of g c = c.lock.ensures.carries.domain ∙ (c.own_entry.ensures.carries.domain ∙ (c.set_state.ensures.carries.domain ∙ c.requires.of))
+pare-requires-clause-of g c =
+    c.lock.ensures.carries.domain ∙ (c.own_entry.ensures.carries.domain
+    ∙ (c.set_state.ensures.carries.domain ∙ c.requires.of))
 
 pub pare-requires-clause-held : goal.pare-requires-clause-held
 pare-requires-clause-held g c = c.lock.ensures.held
 
 pub unlock-requires-clause-of : goal.unlock-requires-clause-of
 unlock-requires-clause-of g c = (pares_part c.lock.new.task c.pare.new.task c.pare.result c.pare.ensures.pares).domain
-    ∙ (c.lock.ensures.carries.domain ∙ (c.own_entry.ensures.carries.domain ∙ (c.set_state.ensures.carries.domain ∙ c.requires.of)))
+    ∙ (c.lock.ensures.carries.domain ∙ (c.own_entry.ensures.carries.domain
+    ∙ (c.set_state.ensures.carries.domain ∙ c.requires.of)))
 
 pub unlock-requires-clause-held : goal.unlock-requires-clause-held
 unlock-requires-clause-held g c = c.pare.ensures.held.locked
@@ -36,14 +39,18 @@ pub own_entry-requires-clause-up : goal.own_entry-requires-clause-up
 own_entry-requires-clause-up g c = c.set_state.ensures.carries.awake ∙ c.requires.may.up
 
 pub lock-requires-clause-up : goal.lock-requires-clause-up
-lock-requires-clause-up g c = c.own_entry.ensures.carries.awake ∙ (c.set_state.ensures.carries.awake ∙ c.requires.may.up)
+lock-requires-clause-up g c =
+    c.own_entry.ensures.carries.awake ∙ (c.set_state.ensures.carries.awake ∙ c.requires.may.up)
 
 pub pare-requires-clause-up : goal.pare-requires-clause-up
-pare-requires-clause-up g c = c.lock.ensures.carries.awake ∙ (c.own_entry.ensures.carries.awake ∙ (c.set_state.ensures.carries.awake ∙ c.requires.may.up))
+pare-requires-clause-up g c =
+    c.lock.ensures.carries.awake ∙ (c.own_entry.ensures.carries.awake
+    ∙ (c.set_state.ensures.carries.awake ∙ c.requires.may.up))
 
 pub unlock-requires-clause-up : goal.unlock-requires-clause-up
 unlock-requires-clause-up g c = (pares_part c.lock.new.task c.pare.new.task c.pare.result c.pare.ensures.pares).awake
-    ∙ (c.lock.ensures.carries.awake ∙ (c.own_entry.ensures.carries.awake ∙ (c.set_state.ensures.carries.awake ∙ c.requires.may.up)))
+    ∙ (c.lock.ensures.carries.awake ∙ (c.own_entry.ensures.carries.awake
+    ∙ (c.set_state.ensures.carries.awake ∙ c.requires.may.up)))
 
 pub lock-requires-clause-head : goal.lock-requires-clause-head
 lock-requires-clause-head g c = low_fits c.head_of.result (subst (λ (h : _). h < FIRST_DONE_HEAD) (sym c.head_of.ensures)

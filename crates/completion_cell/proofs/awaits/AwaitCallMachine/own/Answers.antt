@@ -8,13 +8,15 @@ pub first_event-requires-clause-of : goal.first_event-requires-clause-of
 first_event-requires-clause-of c = c.requires.of
 
 pub first_event-requires-clause-at : goal.first_event-requires-clause-at
-first_event-requires-clause-at c = subst (IsAt await_table c.args.task.now c.args.run.now) c.in-FirstLoad.is c.requires.at
+first_event-requires-clause-at c =
+    subst (IsAt await_table c.args.task.now c.args.run.now) c.in-FirstLoad.is c.requires.at
 
 pub again_event-requires-clause-of : goal.again_event-requires-clause-of
 again_event-requires-clause-of c = c.requires.of
 
 pub again_event-requires-clause-at : goal.again_event-requires-clause-at
-again_event-requires-clause-at c = subst (IsAt await_table c.args.task.now c.args.run.now) c.in-AgainLoad.is c.requires.at
+again_event-requires-clause-at c =
+    subst (IsAt await_table c.args.task.now c.args.run.now) c.in-AgainLoad.is c.requires.at
 
 pub off_event-requires-clause-of : goal.off_event-requires-clause-of
 off_event-requires-clause-of c = c.requires.of
@@ -23,7 +25,8 @@ pub off_event-requires-clause-passes : goal.off_event-requires-clause-passes
 off_event-requires-clause-passes c = c.requires.passes
 
 pub off_event-requires-clause-at : goal.off_event-requires-clause-at
-off_event-requires-clause-at c = subst (IsAt await_table c.args.task.now c.args.run.now) c.in-LeaveQueue.is c.requires.at
+off_event-requires-clause-at c =
+    subst (IsAt await_table c.args.task.now c.args.run.now) c.in-LeaveQueue.is c.requires.at
 
 pub quit_event-requires-clause-of : goal.quit_event-requires-clause-of
 quit_event-requires-clause-of c = c.requires.of
@@ -38,7 +41,8 @@ pub off_event-requires-in-TakeQueue-clause-passes : goal.off_event-requires-in-T
 off_event-requires-in-TakeQueue-clause-passes c = c.requires.passes
 
 pub off_event-requires-in-TakeQueue-clause-at : goal.off_event-requires-in-TakeQueue-clause-at
-off_event-requires-in-TakeQueue-clause-at c = subst (IsAt await_table c.args.task.now c.args.run.now) c.in-TakeQueue.is c.requires.at
+off_event-requires-in-TakeQueue-clause-at c =
+    subst (IsAt await_table c.args.task.now c.args.run.now) c.in-TakeQueue.is c.requires.at
 
 pub take_event-requires-clause-of : goal.take_event-requires-clause-of
 take_event-requires-clause-of c = c.requires.of

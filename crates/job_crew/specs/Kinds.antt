@@ -23,28 +23,28 @@ IfBothOneOf (one.Fifth x) (one.Fifth y) a b c d e = e x y
 IfBothOneOf _ _ a b c d e = ⊥
 
 -- It is of this kind.
-abbrev pub IsFirst : {A B C D E : Type 0} → OneOf A B C D E → Type 0
-IsFirst (one.First x) = Unit {0}
-IsFirst _ = ⊥
+abbrev pub IsFirstOne : {A B C D E : Type 0} → OneOf A B C D E → Type 0
+IsFirstOne (one.First x) = Unit {0}
+IsFirstOne _ = ⊥
 
-abbrev pub IsSecond : {A B C D E : Type 0} → OneOf A B C D E → Type 0
-IsSecond (one.Second x) = Unit {0}
-IsSecond _ = ⊥
+abbrev pub IsSecondOne : {A B C D E : Type 0} → OneOf A B C D E → Type 0
+IsSecondOne (one.Second x) = Unit {0}
+IsSecondOne _ = ⊥
 
-abbrev pub IsThird : {A B C D E : Type 0} → OneOf A B C D E → Type 0
-IsThird (one.Third x) = Unit {0}
-IsThird _ = ⊥
+abbrev pub IsThirdOne : {A B C D E : Type 0} → OneOf A B C D E → Type 0
+IsThirdOne (one.Third x) = Unit {0}
+IsThirdOne _ = ⊥
 
-abbrev pub IsFourth : {A B C D E : Type 0} → OneOf A B C D E → Type 0
-IsFourth (one.Fourth x) = Unit {0}
-IsFourth _ = ⊥
+abbrev pub IsFourthOne : {A B C D E : Type 0} → OneOf A B C D E → Type 0
+IsFourthOne (one.Fourth x) = Unit {0}
+IsFourthOne _ = ⊥
 
-abbrev pub IsFifth : {A B C D E : Type 0} → OneOf A B C D E → Type 0
-IsFifth (one.Fifth x) = Unit {0}
-IsFifth _ = ⊥
+abbrev pub IsFifthOne : {A B C D E : Type 0} → OneOf A B C D E → Type 0
+IsFifthOne (one.Fifth x) = Unit {0}
+IsFifthOne _ = ⊥
 
 -- Five are each of a kind of its own, in the order of the kinds.
 abbrev pub AreSorted : {A B C D E : Type 0}
     → OneOf A B C D E × (OneOf A B C D E × (OneOf A B C D E × (OneOf A B C D E × OneOf A B C D E))) → Type 0
-AreSorted five = IsFirst five.0
-    × (IsSecond five.1.0 × (IsThird five.1.1.0 × (IsFourth five.1.1.1.0 × IsFifth five.1.1.1.1)))
+AreSorted five = IsFirstOne five.0
+    × (IsSecondOne five.1.0 × (IsThirdOne five.1.1.0 × (IsFourthOne five.1.1.1.0 × IsFifthOne five.1.1.1.1)))

@@ -6,7 +6,7 @@ mod pipes;
 mod queues;
 mod tallies;
 
-ghost use Rattle.std.specs.Prelude.{◌≡◌, []};
+ghost use Rattle.std.specs.Prelude.{◌≡◌, [], true};
 ghost use Rattle.head_tests.specs.Meeting.{SleptOnce, WokeOnce, HaveMet};
 ghost use Rattle.wait_rule.specs.Says.{IsClean, IsUp, history_of};
 
@@ -22,7 +22,7 @@ use wait_rule::NoTask;
 use wait_rule::domain::{Domain, Task};
 use wait_rule::running::{schedule, send_signal, take_signal, wake_task};
 use wait_rule::tasks::{awake, load_own, set_state, sleep_exchange, wake_exchange};
-use wait_rule::tries::{FailedTries, sleep_try, wake_try};
+use wait_rule::tries::{FailedTries, Met, sleep_try, wake_try};
 
 /// What became of a sleep, and what was taken: a list of what a test sees has no branches so.
 fn stays(sleep: Sleep) -> bool {
@@ -49,25 +49,60 @@ fn is_nothing(taken: Taken) -> bool {
     matches!(taken, Taken::Nothing)
 }
 
+/// Whether the own sleeps end at once.
+fn stays_awake<R: Wait>(rt: &R, domain: &Domain, task: &mut Task) -> bool
+    requires of { task.old.domain ≡ domain.now }
+    requires clean { IsClean task.old }
+    ensures of { task.new.domain ≡ domain.now }
+    ensures up { result ≡ true → IsUp task.new }
+{
+    let stayed = stays(schedule(rt, domain, task));
+    match sleep_exchange(rt, domain, task) {
+        Sleep::Stay => stayed,
+        Sleep::Asleep | Sleep::Signal => false,
+    }
+}
+
+/// Whether the own wakes meet nobody, and the own signal is taken once.
+fn meets_nobody<R: Wait>(rt: &R, domain: &Domain, task: &mut Task) -> bool
+    requires of { task.old.domain ≡ domain.now }
+    requires up { IsUp task.old }
+{
+    let woke = wake_task(rt, domain, task, 0, Mode::Normal);
+    let met = wake_exchange(rt, domain, task, 0, NORMAL);
+    send_signal(rt, domain, task, 0, false);
+    let first = take_signal(domain, task);
+    let second = take_signal(domain, task);
+    !woke && !met && is_plain(first) && is_nothing(second)
+}
+
+/// Both.
+fn goes_alone<R: Wait>(rt: &R, domain: &Domain, task: &mut Task) -> bool
+    requires of { task.old.domain ≡ domain.now }
+    requires clean { IsClean task.old }
+{
+    stays_awake(rt, domain, task) && meets_nobody(rt, domain, task)
+}
+
 /// A task with nobody beside it is never put asleep and wakes nobody.
 #[test]
 fn alone(rt: HostRuntime) -> Result<(), Fail> {
     let (domain, mut task) = Domain::new(rt.alloc())?;
-    let stayed = schedule(&rt, &domain, &mut task);
-    assert!(rt; matches!(sleep_exchange(&rt, &domain, &mut task), Sleep::Stay));
-    let seen = [
-        stays(stayed),
-        !wake_task(&rt, &domain, &mut task, 0, Mode::Normal),
-        !wake_exchange(&rt, &domain, &mut task, 0, NORMAL),
-    ];
-    all_so(&rt, &seen);
-    send_signal(&rt, &domain, &mut task, 0, false);
-    let taken = [
-        is_plain(take_signal(&domain, &mut task)),
-        is_nothing(take_signal(&domain, &mut task)),
-    ];
-    all_so(&rt, &taken);
+    all_so(&rt, &[goes_alone(&rt, &domain, &mut task)]);
     Ok(())
+}
+
+/// Cuts a task with a share of numbers off: true where it has this number.
+fn cuts_off(domain: &Domain, task: &mut Task, share: u8, number: u8) -> bool
+    requires of { task.old.domain ≡ domain.now }
+    requires clean { IsClean task.old }
+    ensures of { task.new.domain ≡ domain.now }
+    ensures clean { IsClean task.new }
+{
+    match task.fork(domain, share) {
+        Ok(other) => other.number() == number,
+        Err(_) => false,
+    }
 }
 
 /// Whether no number was spare.
@@ -75,44 +110,93 @@ fn is_refused(forked: Result<Task, NoTask>) -> bool {
     matches!(forked, Err(none) if none.spare == 0)
 }
 
+/// Whether all numbers are given out in their order, and then there is none left.
+fn cuts_off_all(domain: &Domain, task: &mut Task) -> bool
+    requires of { task.old.domain ≡ domain.now }
+    requires clean { IsClean task.old }
+{
+    let own = task.number() == 0;
+    for number in 1..256u16 {
+        if !cuts_off(domain, task, 0, number as u8) {
+            return false;
+        }
+    }
+    own && is_refused(task.fork(domain, 0))
+}
+
 /// 255 tasks are cut off the first one, numbered 1 to 255, and then there is no number left.
 #[test]
 fn numbers_run_out(rt: HostRuntime) -> Result<(), Fail> {
     let (domain, mut task) = Domain::new(rt.alloc())?;
-    let own = task.number() == 0;
-    for n in 1..256u16 {
-        let other = another(&rt, &domain, &mut task);
-        assert!(rt; u16::from(other.number()) == n);
-    }
-    all_so(&rt, &[own, is_refused(task.fork(&domain, 0))]);
+    all_so(&rt, &[cuts_off_all(&domain, &mut task)]);
     Ok(())
+}
+
+/// What a task and one that it has given a share of 5 numbers give out.
+fn share_numbers(domain: &Domain, task: &mut Task, mut second: Task) -> [bool; 5]
+    requires of { (task.old.domain ≡ domain.now) × (second.domain ≡ domain.now) }
+    requires clean { IsClean task.old × IsClean second }
+{
+    let spare = (second.spare(), task.spare());
+    let seen = [
+        second.number() == 1,
+        spare == (5, 249),
+        cuts_off(domain, &mut second, 4, 2),
+        is_refused(second.fork(domain, 0)),
+        cuts_off(domain, task, 248, 7),
+    ];
+    task.join(domain, second);
+    seen
+}
+
+/// Gives such a share.
+fn gives_share(domain: &Domain, task: &mut Task) -> [bool; 5]
+    requires of { task.old.domain ≡ domain.now }
+    requires clean { IsClean task.old }
+{
+    match task.fork(domain, 5) {
+        Ok(second) => share_numbers(domain, task, second),
+        Err(_) => [false; 5],
+    }
 }
 
 /// A task's share of numbers is its own, and a share that is too large is refused.
 #[test]
 fn shares_are_apart(rt: HostRuntime) -> Result<(), Fail> {
     let (domain, mut task) = Domain::new(rt.alloc())?;
-    let Ok(mut second) = task.fork(&domain, 5) else {
-        panic!(rt; "a number is spare")
-    };
-    let spare = (second.spare(), task.spare());
-    let Ok(third) = second.fork(&domain, 4) else {
-        panic!(rt; "5 numbers are spare")
-    };
-    let none = is_refused(second.fork(&domain, 0));
-    let Ok(fourth) = task.fork(&domain, 248) else {
-        panic!(rt; "249 numbers are spare")
-    };
-    let seen = [
-        second.number() == 1,
-        spare == (5, 249),
-        third.number() == 2,
-        none,
-        fourth.number() == 7,
-    ];
-    all_so(&rt, &seen);
-    task.join(&domain, second);
+    all_so(&rt, &gives_share(&domain, &mut task));
     Ok(())
+}
+
+/// Whether a try put its task asleep.
+fn has_slept(tried: Option<Sleep>) -> bool {
+    matches!(tried, Some(Sleep::Asleep))
+}
+
+/// Whether a try has met its task and wants its thread woken, or neither of both.
+fn has_met(tried: Option<Met>, met: bool) -> bool {
+    match tried {
+        Some(found) => found.met == met && found.rouse == met,
+        None => false,
+    }
+}
+
+/// What single tries find of a task that goes to sleep, and of one that was woken.
+fn tries_once(domain: &Domain, task: &mut Task, other: &mut Task) -> [bool; 4]
+    requires of { (task.old.domain ≡ domain.now) × (other.old.domain ≡ domain.now) }
+    requires clean { IsClean task.old × IsClean other.old }
+{
+    set_state(domain, task, UNINTERRUPTIBLE);
+    let mut failed = FailedTries::none();
+    let slept = sleep_try(domain, task, &mut failed);
+    let first = wake_try(domain, other, 0, NORMAL, &mut failed);
+    let second = wake_try(domain, other, 0, NORMAL, &mut failed);
+    [
+        has_slept(slept),
+        has_met(first, true),
+        has_met(second, false),
+        awake(domain, task),
+    ]
 }
 
 /// A task that was put asleep by one try is met by one try of another, whose answer says that its thread is to be
@@ -121,53 +205,75 @@ fn shares_are_apart(rt: HostRuntime) -> Result<(), Fail> {
 fn single_tries(rt: HostRuntime) -> Result<(), Fail> {
     let (domain, mut task) = Domain::new(rt.alloc())?;
     let mut other = another(&rt, &domain, &mut task);
-    set_state(&domain, &mut task, UNINTERRUPTIBLE);
-    let mut failed = FailedTries::none();
-    let Some(slept) = sleep_try(&domain, &mut task, &mut failed) else {
-        panic!(rt; "nobody changes the word meanwhile")
-    };
-    let Some(tried) = wake_try(&domain, &mut other, 0, NORMAL, &mut failed) else {
-        panic!(rt; "nobody changes the word meanwhile")
-    };
-    let Some(again) = wake_try(&domain, &mut other, 0, NORMAL, &mut failed) else {
-        panic!(rt; "nobody changes the word meanwhile")
-    };
-    let seen = [
-        sleeps(slept),
-        tried.met,
-        tried.rouse,
-        !again.met,
-        !again.rouse,
-        awake(&domain, &mut task),
-    ];
-    all_so(&rt, &seen);
+    all_so(&rt, &tries_once(&domain, &mut task, &mut other));
     Ok(())
+}
+
+/// Whether a fatal signal stops the sleeps that admit it, and stays pending.
+fn stops_sleeps<R: Wait>(rt: &R, domain: &Domain, task: &mut Task) -> [bool; 3]
+    requires of { task.old.domain ≡ domain.now }
+    requires clean { IsClean task.old }
+    ensures of { task.new.domain ≡ domain.now }
+    ensures clean { IsClean task.new }
+{
+    send_signal(rt, domain, task, 0, true);
+    set_state(domain, task, KILLABLE);
+    let killable = schedule(rt, domain, task);
+    set_state(domain, task, INTERRUPTIBLE);
+    let interruptible = schedule(rt, domain, task);
+    let pending = load_own(domain, task).0;
+    [
+        is_stopped(killable),
+        is_stopped(interruptible),
+        pending == 0x7_0000,
+    ]
+}
+
+/// Whether it is taken, and what the own word is without it.
+fn takes_fatal(domain: &Domain, task: &mut Task) -> [bool; 3]
+    requires of { task.old.domain ≡ domain.now }
+    requires clean { IsClean task.old }
+{
+    let taken = take_signal(domain, task);
+    set_state(domain, task, UNINTERRUPTIBLE);
+    let uninterruptible = load_own(domain, task).0;
+    set_state(domain, task, RUNNING);
+    [
+        is_fatal(taken),
+        uninterruptible == 0x1_0002,
+        load_own(domain, task).0 == 0x1_0000,
+    ]
 }
 
 /// A signal that the state admits keeps its task from sleeping, and is taken once.
 #[test]
 fn signals_stop_sleeps(rt: HostRuntime) -> Result<(), Fail> {
     let (domain, mut task) = Domain::new(rt.alloc())?;
-    send_signal(&rt, &domain, &mut task, 0, true);
-    set_state(&domain, &mut task, KILLABLE);
-    let killable = schedule(&rt, &domain, &mut task);
-    set_state(&domain, &mut task, INTERRUPTIBLE);
-    let interruptible = schedule(&rt, &domain, &mut task);
-    let pending = load_own(&domain, &mut task).0;
-    let taken = take_signal(&domain, &mut task);
-    set_state(&domain, &mut task, UNINTERRUPTIBLE);
-    let uninterruptible = load_own(&domain, &mut task).0;
-    set_state(&domain, &mut task, RUNNING);
-    let seen = [
-        is_stopped(killable),
-        is_stopped(interruptible),
-        pending == 0x7_0000,
-        is_fatal(taken),
-        uninterruptible == 0x1_0002,
-        load_own(&domain, &mut task).0 == 0x1_0000,
-    ];
-    all_so(&rt, &seen);
+    all_so(&rt, &stops_sleeps(&rt, &domain, &mut task));
+    all_so(&rt, &takes_fatal(&domain, &mut task));
     Ok(())
+}
+
+/// What wakes by one task find of another that was put asleep.
+fn meets_by_mode<R: Wait>(
+    rt: &R,
+    domain: &Domain,
+    task: &mut Task,
+    other: &mut Task,
+) -> [bool; 7]
+    requires of { (task.old.domain ≡ domain.now) × (other.old.domain ≡ domain.now) }
+    requires clean { IsClean task.old × IsClean other.old }
+{
+    set_state(domain, other, UNINTERRUPTIBLE);
+    [
+        sleeps(sleep_exchange(rt, domain, other)),
+        !awake(domain, other),
+        !wake_task(rt, domain, task, 1, Mode::Interruptible),
+        !awake(domain, other),
+        wake_task(rt, domain, task, 1, Mode::Normal),
+        !wake_task(rt, domain, task, 1, Mode::Normal),
+        awake(domain, other),
+    ]
 }
 
 /// A wake meets the states of its mask alone, and makes the task runnable.
@@ -175,17 +281,7 @@ fn signals_stop_sleeps(rt: HostRuntime) -> Result<(), Fail> {
 fn wakes_meet_states(rt: HostRuntime) -> Result<(), Fail> {
     let (domain, mut task) = Domain::new(rt.alloc())?;
     let mut other = another(&rt, &domain, &mut task);
-    set_state(&domain, &mut other, UNINTERRUPTIBLE);
-    let seen = [
-        sleeps(sleep_exchange(&rt, &domain, &mut other)),
-        !awake(&domain, &mut other),
-        !wake_task(&rt, &domain, &mut task, 1, Mode::Interruptible),
-        !awake(&domain, &mut other),
-        wake_task(&rt, &domain, &mut task, 1, Mode::Normal),
-        !wake_task(&rt, &domain, &mut task, 1, Mode::Normal),
-        awake(&domain, &mut other),
-    ];
-    all_so(&rt, &seen);
+    all_so(&rt, &meets_by_mode(&rt, &domain, &mut task, &mut other));
     Ok(())
 }
 

@@ -7,7 +7,7 @@ ghost use Rattle.wait_model.specs.declared.watches.Kind.TheVariants as kind;
 ghost use Rattle.wait_rule.specs.Says.{IsClean, IsUp};
 ghost use Rattle.wq_head.specs.Holds.{IsHolding};
 ghost use Rattle.head_tests.specs.Leaving.{HasEntry, HasLeft, IsBack, StandsQueued};
-ghost use Rattle.wq_head.specs.Readied.{IsPlainKind};
+ghost use Rattle.wq_head.specs.Readied.{IsPlainKind, IsReadyToCall};
 
 use crate::wants::{all_so, another};
 use std::process::Abort;
@@ -138,13 +138,109 @@ fn set_and_wake<R: Wait>(rt: &R, domain: &Domain, task: &mut Task) -> u32
     wake(rt, domain, task, watch, Mode::Normal, 0).woken
 }
 
+/// Wakes all who wait for condition 0, by a task that has nothing queued.
+fn wake_all<R: Wait>(rt: &R, domain: &Domain, task: &mut Task) -> u32
+    requires of { task.old.domain ≡ domain.now }
+    requires ready { IsReadyToCall task.old }
+    ensures of { task.new.domain ≡ domain.now }
+    ensures up { IsUp task.new }
+{
+    let watch = Watch::Plain { cond: 0 };
+    wake(rt, domain, task, watch, Mode::Normal, 0).woken
+}
+
+/// A waiter queues its entry, and another task wakes it before it sleeps.
+fn wait_and_wake<R: Abort + Wait>(
+    rt: &R,
+    domain: &Domain,
+    task: &mut Task,
+    waiter: &mut Task,
+    kind: Kind,
+) -> [bool; 2]
+    requires of { (task.old.domain ≡ domain.now) × (waiter.old.domain ≡ domain.now) }
+    requires ready { IsReadyToCall task.old }
+    requires clean { IsClean waiter.old }
+    requires kind { IsPlainKind kind }
+    ensures of { (task.new.domain ≡ domain.now) × (waiter.new.domain ≡ domain.now) }
+    ensures up { IsUp task.new }
+    ensures back { IsBack waiter.new kind }
+{
+    queue_own(rt, domain, waiter, kind);
+    prepare(domain, waiter, kind);
+    let woken = wake_all(rt, domain, task);
+    let slept = sleep(rt, domain, waiter, kind);
+    [woken == 1, matches!(slept, Sleep::Stay)]
+}
+
+/// It leaves the queue then, and is joined.
+fn woken_leaves<R: Abort + Wait>(
+    rt: &R,
+    domain: &Domain,
+    task: &mut Task,
+    mut waiter: Task,
+) -> [bool; 2]
+    requires of { (task.old.domain ≡ domain.now) × (waiter.domain ≡ domain.now) }
+    requires ready { IsReadyToCall task.old }
+    requires clean { IsClean waiter }
+{
+    let seen = wait_and_wake(rt, domain, task, &mut waiter, Kind::Autoremove);
+    leave(rt, domain, &mut waiter, Kind::Autoremove);
+    task.join(domain, waiter);
+    seen
+}
+
+/// It does so with an entry that stays, which it takes off itself.
+fn woken_leaves_default<R: Abort + Wait>(
+    rt: &R,
+    domain: &Domain,
+    task: &mut Task,
+    mut waiter: Task,
+) -> [bool; 2]
+    requires of { (task.old.domain ≡ domain.now) × (waiter.domain ≡ domain.now) }
+    requires ready { IsReadyToCall task.old }
+    requires clean { IsClean waiter }
+{
+    let seen = wait_and_wake(rt, domain, task, &mut waiter, Kind::Default);
+    leave_default(rt, domain, &mut waiter);
+    task.join(domain, waiter);
+    seen
+}
+
+/// A waiter wakes others, leaves the queue and is joined: whether it woke nobody.
+fn waiter_wakes<R: Abort + Wait>(
+    rt: &R,
+    domain: &Domain,
+    task: &mut Task,
+    mut waiter: Task,
+) -> bool
+    requires of { (task.old.domain ≡ domain.now) × (waiter.domain ≡ domain.now) }
+    requires up { IsUp task.old }
+    requires clean { IsClean waiter }
+{
+    queue_own(rt, domain, &mut waiter, Kind::Default);
+    let woken = wake_with_entry(rt, domain, &mut waiter);
+    leave_default(rt, domain, &mut waiter);
+    task.join(domain, waiter);
+    woken == 0
+}
+
+/// A waker sets the condition, wakes all and is joined: whether it woke nobody.
+fn waker_ends<R: Wait>(rt: &R, domain: &Domain, task: &mut Task, mut waker: Task) -> bool
+    requires of { (task.old.domain ≡ domain.now) × (waker.domain ≡ domain.now) }
+    requires up { IsUp task.old }
+    requires clean { IsClean waker }
+{
+    let woken = set_and_wake(rt, domain, &mut waker);
+    task.join(domain, waker);
+    woken == 0
+}
+
 /// A waker that set the condition owes nothing more after its wake of all.
 #[test]
 fn waker_is_joined(rt: HostRuntime) -> Result<(), Fail> {
     let (domain, mut task) = Domain::new(rt.alloc())?;
-    let mut waker = another(&rt, &domain, &mut task);
-    assert!(rt; set_and_wake(&rt, &domain, &mut waker) == 0);
-    task.join(&domain, waker);
+    let waker = another(&rt, &domain, &mut task);
+    all_so(&rt, &[waker_ends(&rt, &domain, &mut task, waker)]);
     Ok(())
 }
 
@@ -152,20 +248,8 @@ fn waker_is_joined(rt: HostRuntime) -> Result<(), Fail> {
 #[test]
 fn woken_waiter_is_joined(rt: HostRuntime) -> Result<(), Fail> {
     let (domain, mut task) = Domain::new(rt.alloc())?;
-    let mut waiter = another(&rt, &domain, &mut task);
-    queue_own(&rt, &domain, &mut waiter, Kind::Autoremove);
-    prepare(&domain, &mut waiter, Kind::Autoremove);
-    let watch = Watch::Plain { cond: 0 };
-    let seen = [
-        wake(&rt, &domain, &mut task, watch, Mode::Normal, 0).woken == 1,
-        matches!(
-            sleep(&rt, &domain, &mut waiter, Kind::Autoremove),
-            Sleep::Stay
-        ),
-    ];
-    all_so(&rt, &seen);
-    leave(&rt, &domain, &mut waiter, Kind::Autoremove);
-    task.join(&domain, waiter);
+    let waiter = another(&rt, &domain, &mut task);
+    all_so(&rt, &woken_leaves(&rt, &domain, &mut task, waiter));
     Ok(())
 }
 
@@ -173,17 +257,8 @@ fn woken_waiter_is_joined(rt: HostRuntime) -> Result<(), Fail> {
 #[test]
 fn default_entry_stays(rt: HostRuntime) -> Result<(), Fail> {
     let (domain, mut task) = Domain::new(rt.alloc())?;
-    let mut waiter = another(&rt, &domain, &mut task);
-    queue_own(&rt, &domain, &mut waiter, Kind::Default);
-    prepare(&domain, &mut waiter, Kind::Default);
-    let watch = Watch::Plain { cond: 0 };
-    let seen = [
-        wake(&rt, &domain, &mut task, watch, Mode::Normal, 0).woken == 1,
-        matches!(sleep(&rt, &domain, &mut waiter, Kind::Default), Sleep::Stay),
-    ];
-    all_so(&rt, &seen);
-    leave_default(&rt, &domain, &mut waiter);
-    task.join(&domain, waiter);
+    let waiter = another(&rt, &domain, &mut task);
+    all_so(&rt, &woken_leaves_default(&rt, &domain, &mut task, waiter));
     Ok(())
 }
 
@@ -191,10 +266,7 @@ fn default_entry_stays(rt: HostRuntime) -> Result<(), Fail> {
 #[test]
 fn own_entry_stays_over_a_wake(rt: HostRuntime) -> Result<(), Fail> {
     let (domain, mut task) = Domain::new(rt.alloc())?;
-    let mut waiter = another(&rt, &domain, &mut task);
-    queue_own(&rt, &domain, &mut waiter, Kind::Default);
-    assert!(rt; wake_with_entry(&rt, &domain, &mut waiter) == 0);
-    leave_default(&rt, &domain, &mut waiter);
-    task.join(&domain, waiter);
+    let waiter = another(&rt, &domain, &mut task);
+    all_so(&rt, &[waiter_wakes(&rt, &domain, &mut task, waiter)]);
     Ok(())
 }

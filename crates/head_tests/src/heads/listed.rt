@@ -1,12 +1,16 @@
 //! The list of a head's members.
 
+ghost use Rattle.std.specs.Prelude.{◌≡◌};
+ghost use Rattle.wq_head.specs.Readied.{IsReadyToCall, IsUpAndFree};
+
 use crate::heads::strangers::queue_for;
 use crate::heads::waiting::queue_own;
 use crate::wants::{all_so, another};
+use std::sync::Wait;
 use std::test::Fail;
 use wait_model::layout::{FIRST_PLAIN_HEAD, RUNNING};
 use wait_model::watches::{Kind, Watch};
-use wait_rule::Domain;
+use wait_rule::{Domain, Task};
 use wq_head::lists::{Member, Members};
 use wq_head::locks::{lock, unlock};
 use wq_head::looks::members;
@@ -19,23 +23,41 @@ fn is_entry_of(member: Member, who: u8) -> bool {
     }
 }
 
+/// Whether a hold shows that the head has these two members, in their order.
+fn shows_two<R: Wait>(rt: &R, domain: &Domain, task: &mut Task, first: u8, second: u8) -> bool
+    requires of { task.old.domain ≡ domain.now }
+    requires there { IsUpAndFree task.old }
+{
+    let mut list = Members::new();
+    lock(rt, domain, task, FIRST_PLAIN_HEAD);
+    let count = members(domain, task, FIRST_PLAIN_HEAD, &mut list);
+    unlock(rt, domain, task, false);
+    count == 2 && is_entry_of(list.at(0), first) && is_entry_of(list.at(1), second)
+}
+
+/// Queues the entry of one task at the tail, and then that of another at the front.
+fn queues_two<R: Wait>(
+    rt: &R,
+    domain: &Domain,
+    task: &mut Task,
+    other: &mut Task,
+) -> [bool; 3]
+    requires of { (task.old.domain ≡ domain.now) × (other.old.domain ≡ domain.now) }
+    requires ready { IsReadyToCall task.old × IsReadyToCall other.old }
+{
+    let watch = Watch::Plain { cond: 0 };
+    [
+        queue_own(rt, domain, task, Kind::Default, false, RUNNING),
+        queue_for(rt, domain, other, Kind::Autoremove, watch),
+        shows_two(rt, domain, task, 1, 0),
+    ]
+}
+
 /// Who was added at the front stands before who was added at the tail.
 #[test]
 fn members_in_order(rt: HostRuntime) -> Result<(), Fail> {
     let (domain, mut task) = Domain::new(rt.alloc())?;
     let mut other = another(&rt, &domain, &mut task);
-    let watch = Watch::Plain { cond: 0 };
-    let seen = [
-        queue_own(&rt, &domain, &mut task, Kind::Default, false, RUNNING),
-        queue_for(&rt, &domain, &mut other, Kind::Autoremove, watch),
-    ];
-    all_so(&rt, &seen);
-    let mut list = Members::new();
-    lock(&rt, &domain, &mut task, FIRST_PLAIN_HEAD);
-    let count = members(&domain, &mut task, FIRST_PLAIN_HEAD, &mut list);
-    unlock(&rt, &domain, &mut task, false);
-    assert!(rt; count == 2);
-    let seen = [is_entry_of(list.at(0), 1), is_entry_of(list.at(1), 0)];
-    all_so(&rt, &seen);
+    all_so(&rt, &queues_two(&rt, &domain, &mut task, &mut other));
     Ok(())
 }

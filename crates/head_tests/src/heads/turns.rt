@@ -22,23 +22,76 @@ use wq_head::locks::{give_back, lock, unlock};
 use wq_head::rousing::Rousing;
 use wq_head::wakes::{WakeRun, WakeStage, WakeTurn, wake_stretch};
 
+/// Whether a look while another task holds the lock finds its ticket served, and takes the lock once that is given back.
+fn waits_its_turn<R: Wait>(rt: &R, domain: &Domain, task: &mut Task, other: &mut Task) -> bool
+    requires of { (task.old.domain ≡ domain.now) × (other.old.domain ≡ domain.now) }
+    requires ready { IsReadyToCall task.old × IsReadyToCall other.old }
+{
+    lock(rt, domain, other, FIRST_PLAIN_HEAD);
+    let ticket = draw_lock(domain, task, FIRST_PLAIN_HEAD);
+    let Err(served) = lock_turn(domain, task, FIRST_PLAIN_HEAD, ticket) else {
+        return false;
+    };
+    unlock(rt, domain, other, false);
+    let Ok(()) = lock_turn(domain, task, FIRST_PLAIN_HEAD, ticket) else {
+        return false;
+    };
+    give_back(domain, task, false).wake(domain);
+    served.wrapping_add(1) == ticket
+}
+
 /// While another task holds the lock a look finds its ticket served, and when that is given back the own one.
 #[test]
 fn lock_waits_for_its_turn(rt: HostRuntime) -> Result<(), Fail> {
     let (domain, mut task) = Domain::new(rt.alloc())?;
     let mut other = another(&rt, &domain, &mut task);
-    lock(&rt, &domain, &mut other, FIRST_PLAIN_HEAD);
-    let ticket = draw_lock(&domain, &mut task, FIRST_PLAIN_HEAD);
-    let Err(served) = lock_turn(&domain, &mut task, FIRST_PLAIN_HEAD, ticket) else {
-        panic!(rt; "the other task holds the lock")
-    };
-    assert!(rt; served.wrapping_add(1) == ticket);
-    unlock(&rt, &domain, &mut other, false);
-    let Ok(()) = lock_turn(&domain, &mut task, FIRST_PLAIN_HEAD, ticket) else {
-        panic!(rt; "nobody holds the lock")
-    };
-    give_back(&domain, &mut task, false).wake(&domain);
+    all_so(&rt, &[waits_its_turn(&rt, &domain, &mut task, &mut other)]);
     Ok(())
+}
+
+/// Whether a wake has met nobody, in one hold.
+fn met_nobody(turn: WakeTurn) -> bool {
+    match turn {
+        WakeTurn::Done(walked) => {
+            walked.woken == 0 && walked.holds == 1 && matches!(walked.end, End::End)
+        }
+        _ => false,
+    }
+}
+
+/// Whether the wake finds the lock taken while another task holds it, and makes one hold then.
+fn wake_waits<R: Wait>(rt: &R, domain: &Domain, task: &mut Task, other: &mut Task) -> bool
+    requires of { (task.old.domain ≡ domain.now) × (other.old.domain ≡ domain.now) }
+    requires ready { IsReadyToCall task.old × IsReadyToCall other.old }
+{
+    lock(rt, domain, other, FIRST_PLAIN_HEAD);
+    let (mut rousing, mut passing) = (Rousing::new(), Passing::none());
+    let mut run = WakeRun::new(Watch::Plain { cond: 0 }, Mode::Normal, 1);
+    let first = wake_stretch(
+        domain,
+        task,
+        &mut run,
+        WakeStage::First,
+        &mut rousing,
+        &mut passing,
+    );
+    let WakeTurn::Locked(stage) = first else {
+        end_both(domain, rousing, passing);
+        return false;
+    };
+    unlock(rt, domain, other, false);
+    passing.wake(domain);
+    rousing.rouse_all(domain);
+    let second = wake_stretch(
+        domain,
+        task,
+        &mut run,
+        stage,
+        &mut rousing,
+        &mut passing,
+    );
+    end_both(domain, rousing, passing);
+    met_nobody(second)
 }
 
 /// While another task holds the lock the wake makes no hold, and when that is given back it makes one.
@@ -46,143 +99,119 @@ fn lock_waits_for_its_turn(rt: HostRuntime) -> Result<(), Fail> {
 fn locked_until_it_is_given_back(rt: HostRuntime) -> Result<(), Fail> {
     let (domain, mut task) = Domain::new(rt.alloc())?;
     let mut other = another(&rt, &domain, &mut task);
-    lock(&rt, &domain, &mut other, FIRST_PLAIN_HEAD);
-    let mut rousing = Rousing::new();
-    let mut passing = Passing::none();
-    let mut run = WakeRun::new(Watch::Plain { cond: 0 }, Mode::Normal, 1);
-    let first = wake_stretch(
-        &domain,
-        &mut task,
-        &mut run,
-        WakeStage::First,
-        &mut rousing,
-        &mut passing,
-    );
-    let WakeTurn::Locked(stage) = first else {
-        panic!(rt; "the other task holds the lock")
-    };
-    unlock(&rt, &domain, &mut other, false);
-    passing.wake(&domain);
-    rousing.rouse_all(&domain);
-    let second = wake_stretch(
-        &domain,
-        &mut task,
-        &mut run,
-        stage,
-        &mut rousing,
-        &mut passing,
-    );
-    let WakeTurn::Done(walked) = second else {
-        panic!(rt; "nobody holds the lock")
-    };
-    let seen = [
-        walked.woken == 0,
-        walked.holds == 1,
-        matches!(walked.end, End::End),
-    ];
-    all_so(&rt, &seen);
-    end_both(&domain, rousing, passing);
+    all_so(&rt, &[wake_waits(&rt, &domain, &mut task, &mut other)]);
     Ok(())
 }
 
+/// Whether a wake is over with its second hold, and has selected nobody.
+fn is_over(turn: WakeTurn) -> bool {
+    match turn {
+        WakeTurn::Done(walked) => walked.holds == 2 && walked.selected == 0,
+        _ => false,
+    }
+}
+
 /// A wake over 66 entries of tasks that are awake breaks once, and is over with the next hold.
-fn wake_over_66<R: Abort + Wait>(rt: &R, domain: &Domain, mut task: Task)
-    requires of { task.domain ≡ domain.now }
-    requires ready { IsReadyToCall task }
+fn wake_over_66<R: Wait>(rt: &R, domain: &Domain, task: &mut Task) -> bool
+    requires of { task.old.domain ≡ domain.now }
+    requires ready { IsReadyToCall task.old }
 {
-    assert!(rt; queue_many(rt, domain, &mut task, 66));
-    let mut rousing = Rousing::new();
-    let mut passing = Passing::none();
+    if !queue_many(rt, domain, task, 66) {
+        return false;
+    }
+    let (mut rousing, mut passing) = (Rousing::new(), Passing::none());
     let mut run = WakeRun::new(Watch::Plain { cond: 0 }, Mode::Normal, 1);
     let begins = WakeStage::First;
     let first = wake_stretch(
         domain,
-        &mut task,
+        task,
         &mut run,
         begins,
         &mut rousing,
         &mut passing,
     );
     let WakeTurn::Broken = first else {
-        panic!(rt; "a hold calls 65 entries")
+        end_both(domain, rousing, passing);
+        return false;
     };
     passing.wake(domain);
     rousing.rouse_all(domain);
     let goes_on = WakeStage::Next;
     let second = wake_stretch(
         domain,
-        &mut task,
+        task,
         &mut run,
         goes_on,
         &mut rousing,
         &mut passing,
     );
-    let WakeTurn::Done(walked) = second else {
-        panic!(rt; "one entry is left")
-    };
-    all_so(rt, &[walked.holds == 2, walked.selected == 0]);
     end_both(domain, rousing, passing);
+    is_over(second)
 }
 
 /// Between the two holds nobody holds the lock.
 #[test]
 fn broken_between_two_holds(rt: HostRuntime) -> Result<(), Fail> {
-    let (domain, task) = Domain::new(rt.alloc())?;
-    wake_over_66(&rt, &domain, task);
+    let (domain, mut task) = Domain::new(rt.alloc())?;
+    all_so(&rt, &[wake_over_66(&rt, &domain, &mut task)]);
     Ok(())
 }
 
-/// A wake of two tasks, one of which was put asleep: the turn names that one, to be roused.
-fn wake_sleeper<R: Abort + Wait>(rt: &R, domain: &Domain, mut task: Task)
-    requires of { task.domain ≡ domain.now }
-    requires ready { IsReadyToCall task }
+/// Queues the entries of two tasks, of which the first goes to sleep.
+fn queue_both<R: Wait>(rt: &R, domain: &Domain, sleeper: &mut Task, other: &mut Task) -> bool
+    requires of { (sleeper.old.domain ≡ domain.now) × (other.old.domain ≡ domain.now) }
+    requires ready { IsReadyToCall sleeper.old × IsReadyToCall other.old }
 {
-    let mut sleeper = another(rt, domain, &mut task);
-    let mut other = another(rt, domain, &mut task);
-    let seen = [
-        queue_own(
-            rt,
-            domain,
-            &mut sleeper,
-            Kind::Autoremove,
-            false,
-            INTERRUPTIBLE,
-        ),
-        queue_own(
-            rt,
-            domain,
-            &mut other,
-            Kind::Autoremove,
-            false,
-            INTERRUPTIBLE,
-        ),
-        matches!(sleep_exchange(rt, domain, &mut sleeper), Sleep::Asleep),
-    ];
-    all_so(rt, &seen);
-    let mut rousing = Rousing::new();
-    let mut passing = Passing::none();
+    let kind = Kind::Autoremove;
+    let first = queue_own(rt, domain, sleeper, kind, false, INTERRUPTIBLE);
+    let second = queue_own(rt, domain, other, kind, false, INTERRUPTIBLE);
+    let slept = sleep_exchange(rt, domain, sleeper);
+    first && second && matches!(slept, Sleep::Asleep)
+}
+
+/// Whether a wake has woken two.
+fn woke_two(turn: WakeTurn) -> bool {
+    match turn {
+        WakeTurn::Done(walked) => walked.woken == 2,
+        _ => false,
+    }
+}
+
+/// Whether the wake of two tasks in one turn names this one alone, to be roused.
+fn names_alone(domain: &Domain, task: &mut Task, who: u8) -> bool
+    requires of { task.old.domain ≡ domain.now }
+    requires ready { IsReadyToCall task.old }
+{
+    let (mut rousing, mut passing) = (Rousing::new(), Passing::none());
     let mut run = WakeRun::new(Watch::Plain { cond: 0 }, Mode::Normal, 0);
-    let begins = WakeStage::First;
     let turn = wake_stretch(
         domain,
-        &mut task,
+        task,
         &mut run,
-        begins,
+        WakeStage::First,
         &mut rousing,
         &mut passing,
     );
-    let WakeTurn::Done(walked) = turn else {
-        panic!(rt; "nobody holds the lock")
-    };
-    let named = rouses_only(&rousing, sleeper.number());
-    all_so(rt, &[walked.woken == 2, named]);
+    let named = rouses_only(&rousing, who);
     end_both(domain, rousing, passing);
+    woke_two(turn) && named
+}
+
+/// A wake of two tasks, one of which was put asleep: the turn names that one, to be roused.
+fn wake_sleeper<R: Abort + Wait>(rt: &R, domain: &Domain, task: &mut Task) -> bool
+    requires of { task.old.domain ≡ domain.now }
+    requires ready { IsReadyToCall task.old }
+{
+    let mut sleeper = another(rt, domain, task);
+    let mut other = another(rt, domain, task);
+    let slept = queue_both(rt, domain, &mut sleeper, &mut other);
+    slept && names_alone(domain, task, sleeper.number())
 }
 
 /// Who was awake is woken too, and need not be roused.
 #[test]
 fn turn_names_who_slept(rt: HostRuntime) -> Result<(), Fail> {
-    let (domain, task) = Domain::new(rt.alloc())?;
-    wake_sleeper(&rt, &domain, task);
+    let (domain, mut task) = Domain::new(rt.alloc())?;
+    all_so(&rt, &[wake_sleeper(&rt, &domain, &mut task)]);
     Ok(())
 }

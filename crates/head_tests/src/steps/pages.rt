@@ -12,7 +12,7 @@ ghost use Rattle.wait_rule.specs.Queues.{IsAgreed, IsIdle, IsLocked, index};
 ghost use Rattle.wait_rule.specs.Says.{IsUp, asks_for, stored_with};
 
 use crate::steps::queues::{see_entries, see_marks, take_turn};
-use crate::wants::another;
+use crate::wants::{all_so, another};
 use std::sync::Wait;
 use std::test::Fail;
 use wait_model::entry_words::EntryWord;
@@ -165,24 +165,29 @@ fn note_page(domain: &Domain, task: &mut Task, word: u8) -> bool
     found == HANDED
 }
 
+/// Whether a task comes to wait for a page that another one has, and gets it once that one clears it and hands it over.
+fn gets_page<R: Wait>(rt: &R, domain: &Domain, task: &mut Task, other: &mut Task) -> bool
+    requires of { (task.old.domain ≡ domain.now) × (other.old.domain ≡ domain.now) }
+    requires up { IsUp task.old × IsUp other.old }
+    requires idle { IsIdle task.old × IsIdle other.old }
+    requires asks { asks_for task.old ≡ nothing_asked }
+{
+    if !take_page(domain, other, 3) || !come_for_page(domain, task, 3) {
+        return false;
+    }
+    bit_clear(domain, other, 3, 0);
+    if !hand_page(rt, domain, other, 3, 0) || !note_page(domain, task, 3) {
+        return false;
+    }
+    bit_clear(domain, task, 3, 0);
+    true
+}
+
 /// A page that one task waits for is handed over to it by who held it, and it gives it back.
 #[test]
 fn a_page_is_handed(rt: HostRuntime) -> Result<(), Fail> {
     let (domain, mut task) = Domain::new(rt.alloc())?;
     let mut other = another(&rt, &domain, &mut task);
-    if !take_page(&domain, &mut other, 3) {
-        panic!(rt; "nobody has the page");
-    }
-    if !come_for_page(&domain, &mut task, 3) {
-        panic!(rt; "the queue is empty, and the page is taken");
-    }
-    bit_clear(&domain, &mut other, 3, 0);
-    if !hand_page(&rt, &domain, &mut other, 3, 0) {
-        panic!(rt; "the entry is there, and the page is clear");
-    }
-    if !note_page(&domain, &mut task, 3) {
-        panic!(rt; "the entry is off, and the page is its task's");
-    }
-    bit_clear(&domain, &mut task, 3, 0);
+    all_so(&rt, &[gets_page(&rt, &domain, &mut task, &mut other)]);
     Ok(())
 }

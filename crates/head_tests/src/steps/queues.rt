@@ -1,12 +1,12 @@
 //! One happy path of each step on heads, entries, flags, bookmarks and conditions, in one thread.
 
-ghost use Rattle.std.specs.Prelude.{◌≡◌, ◌<◌, true, None};
+ghost use Rattle.std.specs.Prelude.{◌≡◌, ◌<◌, ◌-◌, true, None};
 ghost use Rattle.wait_model.specs.declared.layout.TheConstants.{TASKS, ENTRIES, HEADS, MEMBER_WORDS, FIRST_PLAIN_HEAD};
 ghost use Rattle.wait_model.specs.declared.layout.TheConstants.{FIRST_SIMPLE_HEAD};
 ghost use Rattle.wait_model.specs.Tasks.{IsState};
 ghost use Rattle.wait_rule.specs.declared.journal.Item.TheVariants as item;
 ghost use Rattle.wait_rule.specs.Asked.{nothing_asked};
-ghost use Rattle.wait_rule.specs.Says.{IsUp, IsFree, asks_for, noted, added};
+ghost use Rattle.wait_rule.specs.Says.{IsClean, IsUp, IsFree, asks_for, noted, added, newcomer};
 ghost use Rattle.wait_rule.specs.Queues.{IsTurn, IsLocked, IsAgreed, MayRise};
 ghost use Rattle.wait_rule.specs.LookCounts.{Looked};
 ghost use Rattle.wait_rule.specs.Stays.{Carries, StaysOwing, unchanged};
@@ -70,13 +70,23 @@ fn pass_by_steps(domain: &Domain, task: &mut Task, head: u16, state: u32) -> boo
     true
 }
 
+/// Whether it does so with a state and then without one.
+fn passes_twice(domain: &Domain, task: &mut Task) -> bool
+    requires of { task.old.domain ≡ domain.now }
+    requires clean { IsClean task.old }
+{
+    if !pass_by_steps(domain, task, FIRST_PLAIN_HEAD, UNINTERRUPTIBLE) {
+        return false;
+    }
+    set_state(domain, task, RUNNING);
+    pass_by_steps(domain, task, FIRST_PLAIN_HEAD, RUNNING)
+}
+
 /// A task that owes nothing passes a head by single steps, and owes nothing then.
 #[test]
 fn passes_by_steps(rt: HostRuntime) -> Result<(), Fail> {
     let (domain, mut task) = Domain::new(rt.alloc())?;
-    assert!(rt; pass_by_steps(&domain, &mut task, FIRST_PLAIN_HEAD, UNINTERRUPTIBLE));
-    set_state(&domain, &mut task, RUNNING);
-    assert!(rt; pass_by_steps(&domain, &mut task, FIRST_PLAIN_HEAD, RUNNING));
+    all_so(&rt, &[passes_twice(&domain, &mut task)]);
     Ok(())
 }
 
@@ -132,43 +142,78 @@ fn see_no_bits(domain: &Domain, task: &mut Task, head: u16) -> bool
     empty
 }
 
+/// Whether one sees no bit of a head before another task holds it, and while it does.
+fn sees_no_bits_twice(domain: &Domain, task: &mut Task, other: &mut Task) -> bool
+    requires of { (task.old.domain ≡ domain.now) × (other.old.domain ≡ domain.now) }
+    requires clean { IsClean task.old × IsClean other.old }
+{
+    publish(domain, task, Watch::Plain { cond: 0 }, 1);
+    let before = see_no_bits(domain, task, FIRST_PLAIN_HEAD);
+    if !take_turn(domain, other, FIRST_PLAIN_HEAD) {
+        return false;
+    }
+    lock_step(domain, other, FIRST_PLAIN_HEAD, None);
+    let beside = see_no_bits(domain, task, FIRST_PLAIN_HEAD);
+    unlock_step(domain, other, false);
+    before && beside
+}
+
 /// A head without members shows no bit to who set its condition and holds no lock, also while another one holds it.
 #[test]
 fn members_without_the_lock(rt: HostRuntime) -> Result<(), Fail> {
     let (domain, mut task) = Domain::new(rt.alloc())?;
     let mut other = another(&rt, &domain, &mut task);
-    publish(&domain, &mut task, Watch::Plain { cond: 0 }, 1);
-    assert!(rt; see_no_bits(&domain, &mut task, FIRST_PLAIN_HEAD));
-    if !take_turn(&domain, &mut other, FIRST_PLAIN_HEAD) {
-        panic!(rt; "no other ticket is out");
-    }
-    lock_step(&domain, &mut other, FIRST_PLAIN_HEAD, None);
-    assert!(rt; see_no_bits(&domain, &mut task, FIRST_PLAIN_HEAD));
-    unlock_step(&domain, &mut other, false);
+    all_so(&rt, &[sees_no_bits_twice(&domain, &mut task, &mut other)]);
     Ok(())
+}
+
+/// What loads and takes show of what was published.
+fn publish_and_load(domain: &Domain, task: &mut Task) -> [bool; 6]
+    requires of { task.old.domain ≡ domain.now }
+    requires clean { IsClean task.old }
+{
+    let plain = Watch::Plain { cond: 47 };
+    publish(domain, task, plain, 7);
+    let loaded = cond_load(domain, task, plain);
+    let first = consume(domain, task, 47);
+    let second = consume(domain, task, 47);
+    let var = Watch::Var { var: 16, old: 3 };
+    publish(domain, task, var, 5);
+    [
+        loaded == 7,
+        first == 7,
+        second == 0,
+        cond_load(domain, task, var) == 5,
+        cond_load(domain, task, Watch::Done { cell: 63 }) == 0,
+        cond_load(domain, task, Watch::Bit { word: 127, bit: 63 }) == 0,
+    ]
 }
 
 /// A plain condition and a variable are published and loaded, and the condition is taken once.
 #[test]
 fn conditions_alone(rt: HostRuntime) -> Result<(), Fail> {
     let (domain, mut task) = Domain::new(rt.alloc())?;
-    let plain = Watch::Plain { cond: 47 };
-    publish(&domain, &mut task, plain, 7);
-    let seen = [
-        cond_load(&domain, &mut task, plain) == 7,
-        consume(&domain, &mut task, 47) == 7,
-        consume(&domain, &mut task, 47) == 0,
-    ];
-    all_so(&rt, &seen);
-    let var = Watch::Var { var: 16, old: 3 };
-    publish(&domain, &mut task, var, 5);
-    let seen = [
-        cond_load(&domain, &mut task, var) == 5,
-        cond_load(&domain, &mut task, Watch::Done { cell: 63 }) == 0,
-        cond_load(&domain, &mut task, Watch::Bit { word: 127, bit: 63 }) == 0,
-    ];
-    all_so(&rt, &seen);
+    all_so(&rt, &publish_and_load(&domain, &mut task));
     Ok(())
+}
+
+/// Whether another task's ticket is served once the own lock is given back and the serve made, and not before.
+fn serves_second(domain: &Domain, task: &mut Task, other: &mut Task) -> bool
+    requires of { (task.old.domain ≡ domain.now) × (other.old.domain ≡ domain.now) }
+    requires clean { IsClean task.old × IsClean other.old }
+{
+    if !take_turn(domain, task, FIRST_DONE_HEAD - 1) {
+        return false;
+    }
+    lock_step(domain, task, FIRST_DONE_HEAD - 1, None);
+    let second = draw(domain, other, FIRST_DONE_HEAD - 1);
+    let held = serving_load(domain, other, FIRST_DONE_HEAD - 1);
+    unlock_step(domain, task, false);
+    let given = serving_load(domain, other, FIRST_DONE_HEAD - 1);
+    serve(domain, task).wake(domain);
+    let served = serving_load(domain, other, FIRST_DONE_HEAD - 1);
+    task.witness(domain);
+    held != second && given != second && served == second
 }
 
 /// A second ticket is served once the first one's lock is given back and its serve made; then the task sees that the
@@ -177,17 +222,7 @@ fn conditions_alone(rt: HostRuntime) -> Result<(), Fail> {
 fn locks_alone(rt: HostRuntime) -> Result<(), Fail> {
     let (domain, mut task) = Domain::new(rt.alloc())?;
     let mut other = another(&rt, &domain, &mut task);
-    if !take_turn(&domain, &mut task, FIRST_DONE_HEAD - 1) {
-        panic!(rt; "no other ticket is out");
-    }
-    lock_step(&domain, &mut task, FIRST_DONE_HEAD - 1, None);
-    let second = draw(&domain, &mut other, FIRST_DONE_HEAD - 1);
-    assert!(rt; serving_load(&domain, &mut other, FIRST_DONE_HEAD - 1) != second);
-    unlock_step(&domain, &mut task, false);
-    assert!(rt; serving_load(&domain, &mut other, FIRST_DONE_HEAD - 1) != second);
-    serve(&domain, &mut task).wake(&domain);
-    assert!(rt; serving_load(&domain, &mut other, FIRST_DONE_HEAD - 1) == second);
-    task.witness(&domain);
+    all_so(&rt, &[serves_second(&domain, &mut task, &mut other)]);
     Ok(())
 }
 
@@ -234,29 +269,45 @@ fn queue_and_leave(domain: &Domain, task: &mut Task)
     member_store(domain, task, FIRST_PLAIN_HEAD, own, false);
 }
 
+/// Whether the own flag is not set, before and after it is cleared.
+fn clears_flag(domain: &Domain, task: &mut Task) -> bool
+    requires new { task.old ≡ newcomer domain.now 0 1 (TASKS - 1) }
+{
+    let before = woken_load(domain, task, 1);
+    woken_clear(domain, task, 1);
+    let after = woken_load(domain, task, 1);
+    !before && !after
+}
+
 /// The own flag reads as not set at the start, and after it was cleared.
 #[test]
 fn own_flag_is_clear(rt: HostRuntime) -> Result<(), Fail> {
     let (domain, mut task) = Domain::new(rt.alloc())?;
-    assert!(rt; !woken_load(&domain, &mut task, 1));
-    woken_clear(&domain, &mut task, 1);
-    assert!(rt; !woken_load(&domain, &mut task, 1));
+    all_so(&rt, &[clears_flag(&domain, &mut task)]);
     Ok(())
+}
+
+/// Whether it finds the queue empty, queues the own entry there, and takes it off.
+fn comes_and_leaves(domain: &Domain, task: &mut Task) -> bool
+    requires new { task.old ≡ newcomer domain.now 0 1 (TASKS - 1) }
+{
+    if !take_turn(domain, task, FIRST_PLAIN_HEAD) {
+        return false;
+    }
+    lock_step(domain, task, FIRST_PLAIN_HEAD, None);
+    if !see_entries(domain, task) || !see_marks(domain, task) {
+        return false;
+    }
+    queue_and_leave(domain, task);
+    unlock_step(domain, task, false);
+    true
 }
 
 /// An entry is queued and its flag set, with a bookmark before it, and both are taken off again.
 #[test]
 fn queue_alone(rt: HostRuntime) -> Result<(), Fail> {
     let (domain, mut task) = Domain::new(rt.alloc())?;
-    if !take_turn(&domain, &mut task, FIRST_PLAIN_HEAD) {
-        panic!(rt; "no other ticket is out");
-    }
-    lock_step(&domain, &mut task, FIRST_PLAIN_HEAD, None);
-    if !see_entries(&domain, &mut task) || !see_marks(&domain, &mut task) {
-        panic!(rt; "the queue is empty");
-    }
-    queue_and_leave(&domain, &mut task);
-    unlock_step(&domain, &mut task, false);
+    all_so(&rt, &[comes_and_leaves(&domain, &mut task)]);
     Ok(())
 }
 
@@ -292,26 +343,34 @@ fn select_own<R: Wait>(rt: &R, domain: &Domain, task: &mut Task) -> bool
     wake_exchange(rt, domain, task, me, Mode::Normal.mask())
 }
 
-/// A walk that used up its count in a hold raises the head's spent count.
-#[test]
-fn spent_unlock(rt: HostRuntime) -> Result<(), Fail> {
-    let (domain, mut task) = Domain::new(rt.alloc())?;
+/// Whether it finds the queue empty, and its walk uses up its count.
+fn spends_count<R: Wait>(rt: &R, domain: &Domain, task: &mut Task) -> bool
+    requires new { task.old ≡ newcomer domain.now 0 1 (TASKS - 1) }
+{
     let walk = Aim {
         watch: Watch::Plain { cond: 0 },
         mode: Mode::Normal,
         count: 1,
     };
-    if !take_turn(&domain, &mut task, FIRST_PLAIN_HEAD) {
-        panic!(rt; "no other ticket is out");
+    if !take_turn(domain, task, FIRST_PLAIN_HEAD) {
+        return false;
     }
-    lock_step(&domain, &mut task, FIRST_PLAIN_HEAD, Some(walk));
-    if !see_entries(&domain, &mut task) || !see_marks(&domain, &mut task) {
-        panic!(rt; "the queue is empty");
+    lock_step(domain, task, FIRST_PLAIN_HEAD, Some(walk));
+    if !see_entries(domain, task) || !see_marks(domain, task) {
+        return false;
     }
-    if !select_own(&rt, &domain, &mut task) {
-        panic!(rt; "its own wake meets it");
+    if !select_own(rt, domain, task) {
+        return false;
     }
-    unlock_step(&domain, &mut task, true);
-    task.witness(&domain);
+    unlock_step(domain, task, true);
+    task.witness(domain);
+    true
+}
+
+/// A walk that used up its count in a hold raises the head's spent count.
+#[test]
+fn spent_unlock(rt: HostRuntime) -> Result<(), Fail> {
+    let (domain, mut task) = Domain::new(rt.alloc())?;
+    all_so(&rt, &[spends_count(&rt, &domain, &mut task)]);
     Ok(())
 }

@@ -1,5 +1,5 @@
 use Rattle.std.proofs.Common.{ℕ, ◌<◌, inl, lit<, subst, sym}
-use Rattle.head_tests.proofs.heads.turns.lock_waits_for_its_turn.Goals as goal
+use Rattle.head_tests.proofs.heads.turns.waits_its_turn.Goals as goal
 
 pub give_back-requires-clause-permits : goal.give_back-requires-clause-permits
 give_back-requires-clause-permits g c =

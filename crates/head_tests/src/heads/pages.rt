@@ -11,9 +11,11 @@ use crate::heads::scripts::Did;
 use crate::heads::sleepers::sees_queued;
 use crate::heads::strangers::{wake_for, wakes};
 use crate::wants::{all_so, another};
+use std::process::Abort;
 use std::sync::Wait;
 use std::test::Fail;
 use std::thread;
+use std::thread::Threads;
 use test_tasks::late::yield_often;
 use wait_model::heads::head_of;
 use wait_model::layout::{HANDED, UNINTERRUPTIBLE};
@@ -165,17 +167,30 @@ pub(crate) fn wake_once<R: Wait>(
     walked.woken == 1 && matches!(walked.end, End::Spent)
 }
 
+/// A new task sleeps for the page, and another one hands it over after so many yields: whether the first was told, and
+/// one was woken.
+fn hand_to_sleeper<R: Abort + Threads + Wait + Sync>(
+    rt: &R,
+    domain: &Domain,
+    mut task: Task,
+    yields: u32,
+) -> [bool; 2]
+    requires of { task.domain ≡ domain.now }
+    requires ready { IsReadyToCall task }
+{
+    let sleeper = another(rt, domain, &mut task);
+    let who = sleeper.number();
+    let errands = (Errand::Sleeps, Errand::Hands { who, yields });
+    let (told, woken) = run_two(rt, domain, sleeper, task, errands);
+    [told == 1, woken == 1]
+}
+
 /// Whenever the walk comes, while the task goes to sleep or once it sleeps, it is told and wakes up.
 #[test]
 fn sleepers_are_handed_their_page(rt: HostRuntime) -> Result<(), Fail> {
     for round in 0..ROUNDS {
-        let (domain, mut task) = Domain::with_looks(rt.alloc(), 0)?;
-        let sleeper = another(&rt, &domain, &mut task);
-        let who = sleeper.number();
-        let yields = round % 20;
-        let errands = (Errand::Sleeps, Errand::Hands { who, yields });
-        let (told, woken) = run_two(&rt, &domain, sleeper, task, errands);
-        all_so(&rt, &[told == 1, woken == 1]);
+        let (domain, task) = Domain::with_looks(rt.alloc(), 0)?;
+        all_so(&rt, &hand_to_sleeper(&rt, &domain, task, round % 20));
     }
     Ok(())
 }

@@ -7,6 +7,7 @@ use crate::meetings::Part;
 use crate::wants::all_so;
 use std::sync::Wait;
 use std::test::Fail;
+use std::thread::Threads;
 use test_tasks::meetings::four_meet;
 use wait_model::layout::FIRST_PLAIN_HEAD;
 use wait_rule::queues::{draw, serving_load};
@@ -30,17 +31,28 @@ pub(crate) fn holds<R: Wait>(rt: &R, domain: &Domain, task: &mut Task) -> bool
     true
 }
 
+/// Four threads take the head: how they went, and whether each hold served one ticket and drew one.
+fn four_hold<R: Threads + Wait + Sync>(
+    rt: &R,
+    domain: &Domain,
+    task: Task,
+) -> ([bool; 4], [bool; 2])
+    requires of { task.domain ≡ domain.now }
+    requires clean { IsClean task }
+{
+    let two = (Part::Holds, Part::Holds);
+    let (mut last, went) = four_meet(rt, domain, task, two, two);
+    let served = serving_load(domain, &mut last, FIRST_PLAIN_HEAD);
+    let drawn = draw(domain, &mut last, FIRST_PLAIN_HEAD);
+    (went, [served == 2_000, drawn == 2_000])
+}
+
 /// Each hold of four threads draws one ticket and serves one, and none is lost.
 #[test]
 fn tickets(rt: HostRuntime) -> Result<(), Fail> {
     let (domain, task) = Domain::new(rt.alloc())?;
-    let two = (Part::Holds, Part::Holds);
-    let (mut last, went) = four_meet(&rt, &domain, task, two, two);
+    let (went, seen) = four_hold(&rt, &domain, task);
     all_so(&rt, &went);
-    let seen = [
-        serving_load(&domain, &mut last, FIRST_PLAIN_HEAD) == 2_000,
-        draw(&domain, &mut last, FIRST_PLAIN_HEAD) == 2_000,
-    ];
     all_so(&rt, &seen);
     Ok(())
 }

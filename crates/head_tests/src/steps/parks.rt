@@ -9,6 +9,7 @@ use crate::wants::all_so;
 use std::sync::Wait;
 use std::test::Fail;
 use std::thread;
+use std::thread::Threads;
 use test_tasks::meetings::{four_meet, two_meet};
 use wait_model::layout::UNINTERRUPTIBLE;
 use wait_model::watches::Mode;
@@ -124,15 +125,23 @@ pub(crate) fn go_rounds<R: Wait>(rt: &R, domain: &Domain, task: &mut Task, round
     true
 }
 
+/// A batch of a sleeper and its waker.
+fn two_go<R: Threads + Wait + Sync>(rt: &R, domain: &Domain, task: Task) -> [bool; 2]
+    requires of { task.domain ≡ domain.now }
+    requires clean { IsClean task }
+{
+    let wakes = Part::GoesRounds(Round::Wakes { who: 1 });
+    let parts = (wakes, Part::GoesRounds(Round::Sleeps));
+    let (_task, went) = two_meet(rt, domain, task, parts);
+    went
+}
+
 /// A wake ends the sleep of a task whose waker has a thread of its own, between whatever steps of it the wake falls.
 #[test]
 fn sleeps_end(rt: HostRuntime) -> Result<(), Fail> {
     for _ in 0..BATCHES {
         let (domain, task) = Domain::with_looks(rt.alloc(), 0)?;
-        let wakes = Part::GoesRounds(Round::Wakes { who: 1 });
-        let parts = (wakes, Part::GoesRounds(Round::Sleeps));
-        let (_task, went) = two_meet(&rt, &domain, task, parts);
-        all_so(&rt, &went);
+        all_so(&rt, &two_go(&rt, &domain, task));
     }
     Ok(())
 }
@@ -142,15 +151,23 @@ fn in_turn(next: u8, last: u8, first: bool) -> Part {
     Part::GoesRounds(Round::Turns { next, last, first })
 }
 
+/// A batch of three tasks that hand the turn on.
+fn three_go<R: Threads + Wait + Sync>(rt: &R, domain: &Domain, task: Task) -> [bool; 4]
+    requires of { task.domain ≡ domain.now }
+    requires clean { IsClean task }
+{
+    let firsts = (in_turn(1, 2, true), in_turn(2, 0, false));
+    let seconds = (in_turn(0, 1, false), Part::Rests);
+    let (_task, went) = four_meet(rt, domain, task, firsts, seconds);
+    went
+}
+
 /// A thread parks on the word of its own task, and a wake of that task wakes it.
 #[test]
 fn three_hand_on(rt: HostRuntime) -> Result<(), Fail> {
-    let firsts = (in_turn(1, 2, true), in_turn(2, 0, false));
-    let seconds = (in_turn(0, 1, false), Part::Rests);
     for _ in 0..BATCHES {
         let (domain, task) = Domain::with_looks(rt.alloc(), 0)?;
-        let (_task, went) = four_meet(&rt, &domain, task, firsts, seconds);
-        all_so(&rt, &went);
+        all_so(&rt, &three_go(&rt, &domain, task));
     }
     Ok(())
 }

@@ -5,7 +5,7 @@ ghost use Rattle.wait_model.specs.declared.layout.TheConstants.{PIPES, PIPE_CELL
 ghost use Rattle.wait_rule.specs.Passing.{HasPassedCells, IsReady, OthersStay};
 ghost use Rattle.wait_rule.specs.Pipes.{IsCell, end_word, read_end, write_end};
 ghost use Rattle.wait_rule.specs.PipeSays.{reading, writing};
-ghost use Rattle.wait_rule.specs.Says.{IsClean};
+ghost use Rattle.wait_rule.specs.Says.{IsClean, IsUp};
 
 use crate::wants::{all_so, another};
 use std::sync::Wait;
@@ -141,15 +141,20 @@ fn pass_alone(domain: &Domain, task: &mut Task, pipe: u8, word: u64) -> Option<u
     Some(got)
 }
 
+/// Whether it does so by the first pipe and by the last.
+fn pass_by_both(domain: &Domain, task: &mut Task) -> [bool; 2]
+    requires ready { IsReady domain.now task.old }
+{
+    let first = pass_alone(domain, task, 0, 0x4101);
+    let last = pass_alone(domain, task, 7, cell(513));
+    [first == Some(0x4101), last == Some(cell(513))]
+}
+
 /// A cell comes out as it was put in, by the first pipe and by the last.
 #[test]
 fn a_cell_is_passed(rt: HostRuntime) -> Result<(), Fail> {
     let (domain, mut task) = Domain::new(rt.alloc())?;
-    let seen = [
-        pass_alone(&domain, &mut task, 0, 0x4101) == Some(0x4101),
-        pass_alone(&domain, &mut task, 7, cell(513)) == Some(cell(513)),
-    ];
-    all_so(&rt, &seen);
+    all_so(&rt, &pass_by_both(&domain, &mut task));
     Ok(())
 }
 
@@ -245,18 +250,25 @@ fn cells_come_in_order(rt: HostRuntime) -> Result<(), Fail> {
     Ok(())
 }
 
+/// What two tasks find as they claim the ends of one pipe.
+fn claim_ends(domain: &Domain, task: &mut Task, other: &mut Task) -> [bool; 5]
+    requires of { (task.old.domain ≡ domain.now) × (other.old.domain ≡ domain.now) }
+    requires up { IsUp task.old × IsUp other.old }
+{
+    [
+        claim(domain, task, 5, 0),
+        !claim(domain, task, 5, 0),
+        !claim(domain, other, 5, 0),
+        claim(domain, other, 5, 1),
+        !claim(domain, task, 5, 1),
+    ]
+}
+
 /// An end is claimed once, by whomever.
 #[test]
 fn an_end_is_claimed_once(rt: HostRuntime) -> Result<(), Fail> {
     let (domain, mut task) = Domain::new(rt.alloc())?;
-    let mut two = another(&rt, &domain, &mut task);
-    let seen = [
-        claim(&domain, &mut task, 5, 0),
-        !claim(&domain, &mut task, 5, 0),
-        !claim(&domain, &mut two, 5, 0),
-        claim(&domain, &mut two, 5, 1),
-        !claim(&domain, &mut task, 5, 1),
-    ];
-    all_so(&rt, &seen);
+    let mut other = another(&rt, &domain, &mut task);
+    all_so(&rt, &claim_ends(&domain, &mut task, &mut other));
     Ok(())
 }

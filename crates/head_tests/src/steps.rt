@@ -255,12 +255,7 @@ fn signals_stop_sleeps(rt: HostRuntime) -> Result<(), Fail> {
 }
 
 /// What wakes by one task find of another that was put asleep.
-fn meets_by_mode<R: Wait>(
-    rt: &R,
-    domain: &Domain,
-    task: &mut Task,
-    other: &mut Task,
-) -> [bool; 7]
+fn meets_by_mode<R: Wait>(rt: &R, domain: &Domain, task: &mut Task, other: &mut Task) -> [bool; 7]
     requires of { (task.old.domain ≡ domain.now) × (other.old.domain ≡ domain.now) }
     requires clean { IsClean task.old × IsClean other.old }
 {

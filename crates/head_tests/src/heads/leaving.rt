@@ -207,12 +207,7 @@ fn woken_leaves_default<R: Abort + Wait>(
 }
 
 /// A waiter wakes others, leaves the queue and is joined: whether it woke nobody.
-fn waiter_wakes<R: Abort + Wait>(
-    rt: &R,
-    domain: &Domain,
-    task: &mut Task,
-    mut waiter: Task,
-) -> bool
+fn waiter_wakes<R: Abort + Wait>(rt: &R, domain: &Domain, task: &mut Task, mut waiter: Task) -> bool
     requires of { (task.old.domain ≡ domain.now) × (waiter.domain ≡ domain.now) }
     requires up { IsUp task.old }
     requires clean { IsClean waiter }

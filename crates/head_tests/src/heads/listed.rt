@@ -36,12 +36,7 @@ fn shows_two<R: Wait>(rt: &R, domain: &Domain, task: &mut Task, first: u8, secon
 }
 
 /// Queues the entry of one task at the tail, and then that of another at the front.
-fn queues_two<R: Wait>(
-    rt: &R,
-    domain: &Domain,
-    task: &mut Task,
-    other: &mut Task,
-) -> [bool; 3]
+fn queues_two<R: Wait>(rt: &R, domain: &Domain, task: &mut Task, other: &mut Task) -> [bool; 3]
     requires of { (task.old.domain ≡ domain.now) × (other.old.domain ≡ domain.now) }
     requires ready { IsReadyToCall task.old × IsReadyToCall other.old }
 {

@@ -82,14 +82,7 @@ fn wake_waits<R: Wait>(rt: &R, domain: &Domain, task: &mut Task, other: &mut Tas
     unlock(rt, domain, other, false);
     passing.wake(domain);
     rousing.rouse_all(domain);
-    let second = wake_stretch(
-        domain,
-        task,
-        &mut run,
-        stage,
-        &mut rousing,
-        &mut passing,
-    );
+    let second = wake_stretch(domain, task, &mut run, stage, &mut rousing, &mut passing);
     end_both(domain, rousing, passing);
     met_nobody(second)
 }
@@ -122,14 +115,7 @@ fn wake_over_66<R: Wait>(rt: &R, domain: &Domain, task: &mut Task) -> bool
     let (mut rousing, mut passing) = (Rousing::new(), Passing::none());
     let mut run = WakeRun::new(Watch::Plain { cond: 0 }, Mode::Normal, 1);
     let begins = WakeStage::First;
-    let first = wake_stretch(
-        domain,
-        task,
-        &mut run,
-        begins,
-        &mut rousing,
-        &mut passing,
-    );
+    let first = wake_stretch(domain, task, &mut run, begins, &mut rousing, &mut passing);
     let WakeTurn::Broken = first else {
         end_both(domain, rousing, passing);
         return false;
@@ -137,14 +123,7 @@ fn wake_over_66<R: Wait>(rt: &R, domain: &Domain, task: &mut Task) -> bool
     passing.wake(domain);
     rousing.rouse_all(domain);
     let goes_on = WakeStage::Next;
-    let second = wake_stretch(
-        domain,
-        task,
-        &mut run,
-        goes_on,
-        &mut rousing,
-        &mut passing,
-    );
+    let second = wake_stretch(domain, task, &mut run, goes_on, &mut rousing, &mut passing);
     end_both(domain, rousing, passing);
     is_over(second)
 }

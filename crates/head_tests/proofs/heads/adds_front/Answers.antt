@@ -1,4 +1,4 @@
-use Rattle.std.proofs.Common.{◌∙◌, ◌*◌, ◌+◌, None, ap, sym}
+use Rattle.std.proofs.Common.{◌∙◌, None, sym}
 use Rattle.wait_model.specs.declared.layout.TheConstants.{FIRST_PLAIN_HEAD}
 use Rattle.wq_head.proofs.LockWaits.{locked_stored, locked_at}
 use Rattle.wq_head.proofs.ReadyTasks.{first_head}

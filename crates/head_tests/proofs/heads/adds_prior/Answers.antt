@@ -1,4 +1,4 @@
-use Rattle.std.proofs.Common.{◌∙◌, ◌*◌, ◌+◌, ◌<◌, ℕ, None, ap, arith, subst, sym}
+use Rattle.std.proofs.Common.{◌∙◌, ◌<◌, ℕ, None, subst, sym}
 use Rattle.wait_model.specs.declared.layout.TheConstants.{FIRST_PLAIN_HEAD, PRIORITY_TASKS}
 use Rattle.wq_head.proofs.LockWaits.{locked_stored, locked_at}
 use Rattle.wq_head.proofs.ReadyTasks.{first_head, locked_number}

@@ -2,7 +2,7 @@
 # Replays each script of examples/ and compares what the program writes, byte by byte, with the text beside it,
 # which was written from the definitions: by hand, or of a drilled script by bench/drill_reference.py.
 #
-# usage: .ci/examples.sh [PROGRAM]...        (what `rt ci` built, by each of its compilers, if none is given)
+# usage: .ci/examples.sh [PROGRAM]...        (both programs as `rt ci` built them, by each of its compilers, if none is given)
 #
 # Each script has to end with status 0 and nothing on standard error. Prints a line for each case that fails, and
 # at the end 'N passed, M failed', counted once for each program. The status is 1 where one failed, where a script
@@ -36,8 +36,10 @@ compare() {
 }
 
 if [ $# = 0 ]; then
-    set -- "$root/crates/waitq/out/waitq"
-    [ ! -e "$1.by-rattle" ] || set -- "$1" "$1.by-rattle"
+    for name in waitq_replay waitq; do
+        set -- "$@" "$root/crates/$name/out/$name"
+        [ ! -e "$root/crates/$name/out/$name.by-rattle" ] || set -- "$@" "$root/crates/$name/out/$name.by-rattle"
+    done
 fi
 shopt -s nullglob
 for text in "$root"/examples/*.text; do

@@ -1,6 +1,6 @@
 #!/usr/bin/env bash
 # Tests the start script ./waitq on toy repositories: a program waitq over a library, both of a few lines, and at the
-# end over two more that do not stand on one another.
+# end over two more that do not stand on one another, with a program waitq_replay over one library beside it.
 # What the prover refuses is planted for the kit's rt itself; runs that change, stop, overlap or go in lanes while they
 # build have a stand-in for rt, which builds at once what the source says.
 #
@@ -90,10 +90,10 @@ END
     chmod +x -- "$work/stand_in/rt"
 }
 
-# Runs the start script with the PATH $1, from another folder by a link; leaves its status, and its streams in $work/out
-# and $work/err.
+# Runs the start script with the PATH $1 and the word $2, or copy, from another folder by a link; leaves its status, and
+# its streams in $work/out and $work/err.
 run() {
-    (cd / && PATH=$1 CALLS=$work/calls "$work/link" replay </dev/null >"$work/out" 2>"$work/err")
+    (cd / && PATH=$1 CALLS=$work/calls "$work/link" "${2-copy}" </dev/null >"$work/out" 2>"$work/err")
     status=$?
 }
 
@@ -178,7 +178,7 @@ expect "no source changes" 0 "stand-in 2" "waitq: built"
 
 # A build that is stopped leaves nothing that is taken for built.
 write_program 3 4
-(cd / && PATH=$stand_in CALLS=$work/calls MEDDLE='touch "$CALLS.begun"; sleep 2' exec "$work/link" replay) \
+(cd / && PATH=$stand_in CALLS=$work/calls MEDDLE='touch "$CALLS.begun"; sleep 2' exec "$work/link" copy) \
     </dev/null >"$work/out" 2>&1 &
 until [ -e "$work/calls.begun" ]; do sleep 0.05; done
 kill -TERM $!
@@ -188,7 +188,7 @@ expect "a build was stopped" 1 "" "isn't on the PATH"
 
 # Of two builds at once the second waits, and takes the program of the first.
 : >"$work/calls"
-(cd / && PATH=$stand_in CALLS=$work/calls MEDDLE='sleep 1' "$work/link" replay) </dev/null >"$work/first" 2>&1 &
+(cd / && PATH=$stand_in CALLS=$work/calls MEDDLE='sleep 1' "$work/link" copy) </dev/null >"$work/first" 2>&1 &
 until [ -s "$work/calls" ]; do sleep 0.05; done
 run "$stand_in"
 wait $!
@@ -262,7 +262,7 @@ expect_number "folders of lanes behind it" "$(lanes_left)" 0
 
 # A build that is interrupted leaves no process and no lane.
 rm -f -- "$work"/calls.*
-(cd / && PATH=$stand_in CALLS=$work/calls WAITQ_LANES=2 MEDDLE_LIB=$stay exec "$work/link" replay) </dev/null \
+(cd / && PATH=$stand_in CALLS=$work/calls WAITQ_LANES=2 MEDDLE_LIB=$stay exec "$work/link" copy) </dev/null \
     >"$work/out" 2>&1 &
 until [ -e "$work/calls.process.left" ] && [ -e "$work/calls.process.right" ]; do sleep 0.05; done
 kill -TERM $!
@@ -274,6 +274,33 @@ run "$without_rt"
 expect "a build in lanes was interrupted" 1 "" "isn't on the PATH"
 run "$stand_in"
 expect "as many lanes as the machine allows" 0 "stand-in 6" "waitq: built"
+
+# Words that ask for no copy and no merge need the smaller program alone, unless the larger one stands.
+run "$without_rt" replay
+expect "a replay, where there is no smaller program" 1 "" "lists no crate waitq_replay"
+cp -r -- "$toy/crates/waitq" "$toy/crates/waitq_replay"
+rm -rf -- "$toy/crates/waitq_replay/out"
+sed -i 's/next(6)/next(9)/' "$toy/crates/waitq_replay/src/main.rt"
+echo 'waitq_replay: left' >>"$toy/crates.txt"
+run "$stand_in"
+expect "a copy" 0 "stand-in 6" "waitq: built"
+run "$without_rt" replay
+expect "a replay by the program that stands" 0 "stand-in 6" ""
+write_program 7 8
+: >"$work/calls"
+run "$stand_in" replay
+expect "a replay by a program of its own" 0 "stand-in 9" "waitq: 2 of 3 proved, under way: waitq_replay"
+expect_number "programs that it takes" "$(grep -c '^run' "$work/calls")" 1
+for word in drill help ''; do
+    run "$without_rt" "$word"
+    expect "the word '$word'" 0 "stand-in 9" ""
+done
+run "$without_rt" merge
+expect "a merge, for which no program stands" 1 "" "isn't on the PATH"
+run "$stand_in" merge
+expect "a merge" 0 "stand-in 7" "waitq: built"
+run "$without_rt" replay
+expect "two programs are kept" 0 "stand-in 9" ""
 
 printf '%d passed, %d failed\n' "$passed" "$failed"
 [ "$failed" = 0 ]

@@ -21,7 +21,7 @@ end() {
 trap end EXIT
 program=${1:-}
 if [ -z "$program" ]; then
-    "$root/waitq" replay <"$root/examples/wait_set_wake.waitq" >"$work/text"
+    "$root/waitq" copy "$root/examples/wait_set_wake.waitq" "$work/copied" >"$work/text"
     programs=("$root"/out/waitq-*)
     program=${programs[0]}
 fi

@@ -4,12 +4,12 @@
 # its programs with what is run, as a table for docs/MEASURING.md.
 #
 # usage: bench/gate_time.sh [--keep] [--folder FOLDER] [NAME]...
-#        bench/gate_time.sh --start [--folder FOLDER]
+#        bench/gate_time.sh --start | --start-copy [--folder FOLDER]
 #
 # NAME: these crates and those below them alone, as `rt ci NAME..` does where it takes names. --keep: plain `rt ci`, which
 # proves only what it has not kept, where it keeps something, and is the real gate at the same time. --start: a first
-# `./waitq` in place of the gate, with a kit that keeps nothing yet. --folder: a clone that is there already, in place of
-# one of this repository's last commit.
+# `./waitq replay` in place of the gate, with a kit that keeps nothing yet; --start-copy: a first `./waitq copy`.
+# --folder: a clone that is there already, in place of one of this repository's last commit.
 #
 # It uses the processors that the caller may use (taskset). The gate's own output goes to standard error, the table and
 # the sums to standard output; the status is that of the gate. It needs rt, git and python3.
@@ -21,7 +21,7 @@ what=--anew
 while [ $# -gt 0 ]; do
     case $1 in
         --keep) what= ;;
-        --start) what=--start ;;
+        --start | --start-copy) what=$1 ;;
         --folder) folder=$(readlink -f -- "$2") && shift ;;
         -*) sed -n '6,7s/^# *//p' -- "${BASH_SOURCE[0]}" >&2 && exit 2 ;;
         *) break ;;
@@ -51,7 +51,7 @@ takes_words() {
     [[ $(rt help 2>&1 || :) == *--anew* ]]
 }
 
-if [ "$what" != --start ] && ! takes_words; then
+if [[ $what != --start* ]] && ! takes_words; then
     what=
     [ $# = 0 ] || { echo "gate_time.sh: the gate of this kit takes no names" >&2 && exit 2; }
 fi
@@ -62,13 +62,11 @@ fi
 cd -- "$folder"
 commit=$(git log -1 --format=%h)
 [ -z "$(git status --porcelain)" ] || commit="$commit with changes"
-if [ "$what" = --start ]; then
-    link_kit
-    printf 'waitq 1\n' >"$work/script"
-    set -- ./waitq replay
-else
-    : >"$work/script"
-    set -- rt ci ${what:+"$what"} "$@"
-fi
+printf 'waitq 1\n' >"$work/script"
+case $what in
+    --start) link_kit && set -- ./waitq replay ;;
+    --start-copy) link_kit && set -- ./waitq copy "$work/script" "$work/copied" ;;
+    *) set -- rt ci ${what:+"$what"} "$@" ;;
+esac
 COMMIT=$commit python3 "$root/bench/gate_time.py" "$@" <"$work/script" &
 wait $!

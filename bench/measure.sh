@@ -39,7 +39,8 @@ trap 'rm -rf "$work"' EXIT
 
 # Builds the program where it isn't, and sees that it runs.
 "$root/waitq" replay <"$root/examples/wait_set_wake.waitq" | cmp - "$root/examples/wait_set_wake.text"
-programs=("$root"/out/waitq-*)
+shopt -s nullglob
+programs=("$root"/out/waitq_replay-* "$root"/out/waitq-*)
 program=${programs[0]}
 
 for size in few many; do

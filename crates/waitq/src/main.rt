@@ -2,25 +2,18 @@
 #![tactic(auto)]
 
 use copy_plan::OpenGate;
-use disk_io::{Disk, Reading, Writing};
+use disk_io::{Disk, Reading, Writing, words};
 use edge_io::{Folder, Sink, Source};
 use func_head::FuncHead;
 use std::alloc::{AllocError, Global};
 use std::process::ExitCode;
 use std::sync::Wait;
 use std::thread::Threads;
-use std::{env, io};
 use wait_rule::Domain;
+use waitq_alone::alone::finish;
 use waitq_alone::fault::Fault;
-use waitq_alone::report::report;
 use waitq_copy::watchers::{Lengths, Lines};
 use waitq_run::run::run;
-
-/// The words after the program's name.
-fn words(rt: &HostRuntime) -> io::Result<Vec<String>> {
-    let words = env::args(rt)?.skip(1).collect(rt.alloc())?;
-    Ok(words)
-}
 
 /// Does what the words say, with a Domain of its own. It names no folder, source or sink, so that what `run` says of
 /// theirs stays as it is.
@@ -77,21 +70,17 @@ fn start<R: Threads + Wait + Sync>(
     run_on(rt, host, words, watch)
 }
 
-/// The status of want of memory, whose line is written.
-fn no_memory(rt: &HostRuntime) -> u8 {
-    let _ = report(&mut Writing::new(rt.stderr()), &Fault::Memory);
-    Fault::Memory.status()
+/// Does what the words say that the system gives.
+fn run_host(rt: &HostRuntime) -> Result<u8, AllocError> {
+    let words = words(rt)?;
+    start(rt, rt, &words)
 }
 
 fn main(rt: HostRuntime) -> ExitCode {
-    let words = match words(&rt) {
-        Ok(words) => words,
-        // A word that is no text is in no command.
-        Err(error) if error.kind() == io::ErrorKind::InvalidData => Vec::new(rt.alloc()),
-        Err(_) => return ExitCode::from(no_memory(&rt)),
-    };
-    match start(&rt, &rt, &words) {
+    match run_host(&rt) {
         Ok(status) => ExitCode::from(status),
-        Err(_) => ExitCode::from(no_memory(&rt)),
+        Err(AllocError) => {
+            ExitCode::from(finish(&mut Writing::new(rt.stderr()), Err(Fault::Memory)))
+        }
     }
 }

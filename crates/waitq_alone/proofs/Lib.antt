@@ -3,3 +3,4 @@ pub mod PlainWords
 pub mod Playing
 pub mod ReadWords
 pub mod Reading
+pub mod Refusals

@@ -85,6 +85,14 @@ takes_files (Some Replay) = false
 takes_files (Some (Drill seed count)) = false
 takes_files None = false
 
+-- what words ask of a program that has no files: those of a copy and of a merge are no command of it
+abbrev pub without_files : Option Request → Option Request
+without_files (Some (Copy src dst plan)) = None
+without_files (Some (Merge a b dst)) = None
+without_files (Some Replay) = Some Replay
+without_files (Some (Drill seed count)) = Some (Drill seed count)
+without_files None = None
+
 -- whether a command reads its input, and none reads where the words are no command
 abbrev pub reads_input : Option Request → Bool
 reads_input (Some Replay) = true

@@ -11,3 +11,4 @@ mod play;
 mod replay;
 pub mod report;
 mod silent;
+pub mod words;

@@ -12,7 +12,7 @@ use Rattle.waitq_alone.specs.declared.fault.Fault.TheVariants as fault
 use Rattle.waitq_copy.specs.Copying.{HasFile, IsMakeFault, IsOpenFault, IsStartFault, Outside, fault_after}
 use Rattle.waitq_copy.proofs.Answered.{killed_how}
 use Rattle.waitq_copy.proofs.Asked.{IsCopyFault, after, concluded, silent}
-use Rattle.waitq_copy.proofs.Refusals.{IsRefusal}
+use Rattle.waitq_alone.proofs.Refusals.{IsRefusal}
 use Rattle.waitq_merge.specs.Merging.{MergeLeft}
 use Rattle.waitq_merge.specs.MergeRun.{IfMerge}
 use Rattle.waitq_merge.proofs.MergeAnswers.{not_killed}

@@ -1,6 +1,7 @@
 use Rattle.std.proofs.Common.{refl}
 use Rattle.std.specs.Prelude.{Err}
-use Rattle.waitq_copy.proofs.Refusals.{left_by_want, not_killed, of_copies, refusal_answers, refusal_fits}
+use Rattle.waitq_alone.proofs.Refusals.{refusal_answers, refusal_fits}
+use Rattle.waitq_copy.proofs.Refusals.{left_by_want, not_killed, of_copies}
 use Rattle.waitq_copy.proofs.Fronts.{kept}
 use Rattle.waitq_merge.proofs.MergeAsked as merges
 use Rattle.waitq_run.proofs.run.run.Goals as goal

@@ -7,27 +7,6 @@ use Rattle.wait_class.proofs.Handed.{given_as, given_on, given_seen, given_step,
 use Rattle.wait_class.proofs.AwakeSteps.{awake_seen, awake_step, awake_unlocked, sleeps_not_on}
 use Rattle.wait_class.proofs.events.heed_event.Goals as goal
 
-pub own_entry-entry-requires-clause-of : goal.own_entry-entry-requires-clause-of
-own_entry-entry-requires-clause-of g c = c.requires.of
-
-pub own_entry-entry-requires-clause-up : goal.own_entry-entry-requires-clause-up
-own_entry-entry-requires-clause-up g c = c.requires.at.up
-
-pub put-requires : goal.put-requires
-put-requires g c = c.requires.passes
-
-pub load_own-own-requires-clause-of : goal.load_own-own-requires-clause-of
-load_own-own-requires-clause-of g c = c.own_entry-entry.ensures.carries.domain ∙ c.requires.of
-
-pub load_own-own-requires-clause-up : goal.load_own-own-requires-clause-up
-load_own-own-requires-clause-up g c = c.own_entry-entry.ensures.carries.awake ∙ c.requires.at.up
-
-pub give_back-requires-clause-of : goal.give_back-requires-clause-of
-give_back-requires-clause-of g c = c.own_entry-entry.ensures.carries.domain ∙ c.requires.of
-
-pub give_back-requires-clause-up : goal.give_back-requires-clause-up
-give_back-requires-clause-up g c = c.own_entry-entry.ensures.carries.awake ∙ c.requires.at.up
-
 pub returns-then-is_some-clause-turned : goal.returns-then-is_some-clause-turned
 returns-then-is_some-clause-turned g c = heeds_advances g.C.Machine.table c.lawful.ensures c.args.task.now c.own_entry-entry.new.task
     c.load_own-own.new.task c.args.run.now c.args.stage c.requires.here c.requires.at c.own_entry-entry.result c.own_entry-entry.ensures

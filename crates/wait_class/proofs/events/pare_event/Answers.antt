@@ -8,27 +8,6 @@ use Rattle.wait_class.proofs.Handed.{given_as, given_on, given_seen, given_store
 use Rattle.wait_class.proofs.AwakeSteps.{awake_seen, awake_stored, awake_unlocked, sleeps_not_on}
 use Rattle.wait_class.proofs.events.pare_event.Goals as goal
 
-pub own_entry-entry-requires-clause-of : goal.own_entry-entry-requires-clause-of
-own_entry-entry-requires-clause-of g c = c.requires.of
-
-pub own_entry-entry-requires-clause-up : goal.own_entry-entry-requires-clause-up
-own_entry-entry-requires-clause-up g c = c.requires.at.up
-
-pub put-requires : goal.put-requires
-put-requires g c = c.requires.passes
-
-pub remove-requires-clause-of : goal.remove-requires-clause-of
-remove-requires-clause-of g c = c.own_entry-entry.ensures.carries.domain ∙ c.requires.of
-
-pub remove-requires-clause-up : goal.remove-requires-clause-up
-remove-requires-clause-up g c = c.own_entry-entry.ensures.carries.awake ∙ c.requires.at.up
-
-pub give_back-requires-clause-of : goal.give_back-requires-clause-of
-give_back-requires-clause-of g c = c.own_entry-entry.ensures.carries.domain ∙ c.requires.of
-
-pub give_back-requires-clause-up : goal.give_back-requires-clause-up
-give_back-requires-clause-up g c = c.own_entry-entry.ensures.carries.awake ∙ c.requires.at.up
-
 pub remove-requires-clause-held : goal.remove-requires-clause-held
 remove-requires-clause-held g c = pare_holds g.C.Machine.table c.lawful.ensures c.args.task.now
     c.own_entry-entry.new.task c.args.run.now c.args.stage c.requires.here c.requires.at c.own_entry-entry.result

@@ -8,27 +8,6 @@ use Rattle.wait_class.proofs.Handed.{given_as, given_joined, given_on, given_see
 use Rattle.wait_class.proofs.AwakeSteps.{awake_joined, awake_looked, awake_seen, awake_step, awake_unlocked, sleeps_not_on}
 use Rattle.wait_class.proofs.events.queue_event.Goals as goal
 
-pub own_entry-entry-requires-clause-of : goal.own_entry-entry-requires-clause-of
-own_entry-entry-requires-clause-of g c = c.requires.of
-
-pub own_entry-entry-requires-clause-up : goal.own_entry-entry-requires-clause-up
-own_entry-entry-requires-clause-up g c = c.requires.at.up
-
-pub put-requires : goal.put-requires
-put-requires g c = c.requires.passes
-
-pub set_state-requires-clause-of : goal.set_state-requires-clause-of
-set_state-requires-clause-of g c = c.own_entry-entry.ensures.carries.domain ∙ c.requires.of
-
-pub set_state-requires-clause-up : goal.set_state-requires-clause-up
-set_state-requires-clause-up g c = c.own_entry-entry.ensures.carries.awake ∙ c.requires.at.up
-
-pub add-requires-clause-of : goal.add-requires-clause-of
-add-requires-clause-of g c = c.own_entry-entry.ensures.carries.domain ∙ c.requires.of
-
-pub add-requires-clause-up : goal.add-requires-clause-up
-add-requires-clause-up g c = c.own_entry-entry.ensures.carries.awake ∙ c.requires.at.up
-
 pub set_state-requires-clause-may : goal.set_state-requires-clause-may
 set_state-requires-clause-may g c = queue_may g.C.Machine.table c.lawful.ensures c.args.task.now c.own_entry-entry.new.task
     c.args.run.now c.args.stage c.requires.here c.requires.at c.own_entry-entry.result c.own_entry-entry.ensures c.mask.result (c.mask.ensures ∙ ap state_mask c.state.ensures)

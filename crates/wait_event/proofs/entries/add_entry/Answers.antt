@@ -15,33 +15,6 @@ use Rattle.wait_class.proofs.WatchHeads.{head_fits}
 use Rattle.wait_model.specs.declared.watches.Watch.TheVariants as watch
 use Rattle.wait_event.proofs.entries.add_entry.Goals as goal
 
-pub lock-requires-clause-of : goal.lock-requires-clause-of
-lock-requires-clause-of g c = c.requires.of
-
-pub lock-requires-clause-up : goal.lock-requires-clause-up
-lock-requires-clause-up g c = c.requires.up
-
-pub lock-requires-clause-free : goal.lock-requires-clause-free
-lock-requires-clause-free g c = c.requires.free
-
-pub add_by-added-requires-clause-of : goal.add_by-added-requires-clause-of
-add_by-added-requires-clause-of g c = c.lock.ensures.carries.domain ∙ c.requires.of
-
-pub add_by-added-requires-clause-up : goal.add_by-added-requires-clause-up
-add_by-added-requires-clause-up g c = c.lock.ensures.carries.awake ∙ c.requires.up
-
-pub add_by-added-requires-clause-held : goal.add_by-added-requires-clause-held
-add_by-added-requires-clause-held g c = c.lock.ensures.held
-
-pub unlock-requires-clause-held : goal.unlock-requires-clause-held
-unlock-requires-clause-held g c = c.add_by-added.ensures.held.locked
-
-pub unlock-requires-clause-agreed : goal.unlock-requires-clause-agreed
-unlock-requires-clause-agreed g c = c.add_by-added.ensures.held.agreed
-
-pub returns-clause-free : goal.returns-clause-free
-returns-clause-free g c = c.unlock.ensures.unlocked.free
-
 pub lock-requires-clause-head : goal.lock-requires-clause-head
 lock-requires-clause-head g c = subst (λ (n : ℕ). n < HEADS) (sym c.head_of.ensures)
     (head_fits c.args.cond (omega (arith, c.requires.full)))

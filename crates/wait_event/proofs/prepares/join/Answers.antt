@@ -10,30 +10,6 @@ use Rattle.wait_event.proofs.Conditions.{suits_few, suits_for, suits_low}
 use Rattle.wait_event.proofs.PartSteps.{joins_by, off_later, own_looks, stays_by, wears_by}
 use Rattle.wait_event.proofs.prepares.join.Goals as goal
 
-pub own_entry-requires-clause-of : goal.own_entry-requires-clause-of
-own_entry-requires-clause-of c = c.requires.of
-
-pub own_entry-requires-clause-up : goal.own_entry-requires-clause-up
-own_entry-requires-clause-up c = c.requires.up
-
-pub set_state-requires-clause-of : goal.set_state-requires-clause-of
-set_state-requires-clause-of c = c.own_entry.ensures.carries.domain ∙ c.requires.of
-
-pub set_state-requires-clause-up : goal.set_state-requires-clause-up
-set_state-requires-clause-up c = c.own_entry.ensures.carries.awake ∙ c.requires.up
-
-pub is_first-first-requires-clause-of : goal.is_first-first-requires-clause-of
-is_first-first-requires-clause-of c = c.own_entry.ensures.carries.domain ∙ c.requires.of
-
-pub is_first-first-requires-clause-up : goal.is_first-first-requires-clause-up
-is_first-first-requires-clause-up c = c.own_entry.ensures.carries.awake ∙ c.requires.up
-
-pub add_by-requires-clause-held : goal.add_by-requires-clause-held
-add_by-requires-clause-held c = holding_on c.own_entry.new.task c.is_first-first.new.task c.is_first-first.ensures.looks
-    (holding_on c.args.task.now c.own_entry.new.task
-    (own_looks c.args.task.now c.own_entry.new.task c.own_entry.result c.own_entry.ensures c.requires.held)
-    c.requires.held)
-
 pub is_first-first-requires-clause-held : goal.is_first-first-requires-clause-held
 is_first-first-requires-clause-held c = holding_on c.args.task.now c.own_entry.new.task
     (own_looks c.args.task.now c.own_entry.new.task c.own_entry.result c.own_entry.ensures c.requires.held)

@@ -1,101 +1,16 @@
-use Rattle.std.proofs.Common.{◌∙◌, ◌<◌, ◌≡◌, Bool, None, subst, sym}
-use Rattle.std.specs.Prelude.{Err, Ok, Result}
+use Rattle.std.proofs.Common.{◌<◌, None, Ok, subst, sym}
 use Rattle.wait_model.specs.declared.layout.TheConstants.{FIRST_DONE_HEAD}
 use Rattle.wait_model.specs.Watches.{head_of}
-use Rattle.wait_rule.specs.Known.{Known}
 use Rattle.wait_rule.proofs.KnownLaws.AskedPages.{asks_no_page, no_page_asked}
-use Rattle.wq_head.specs.declared.adds.Worn.{Worn}
 use Rattle.wq_head.proofs.AskedHolds.{stays_unasked}
 use Rattle.wq_head.proofs.LockWaits.{locked_stays}
-use Rattle.wait_event.specs.declared.prepares.Part.{Part}
-use Rattle.wait_event.specs.PartSteps.{JoinsPart}
 use Rattle.wait_event.specs.Prepares.{EndsPart}
 use Rattle.wait_event.proofs.Conditions.{low_fits, suits_low}
 use Rattle.wait_event.proofs.Preparing.{begins_owing, carried_as, ends_again, ends_carried, ends_keeps, ends_may}
 use Rattle.wait_event.proofs.Preparing.{join_ends, lock_as, prepare_at, prepare_home, prepare_low, prepare_may}
 use Rattle.wait_event.proofs.Preparing.{prepare_stands, signal_ends}
-use Rattle.wait_event.proofs.PartSteps.{joins_at, pares_at, pares_part}
+use Rattle.wait_event.proofs.PartSteps.{joins_at, pares_at}
 use Rattle.wait_event.proofs.prepares.prepare.Goals as goal
-
-joins_domain : (p : Part) (old new : Known) (r : Result Bool Worn) → JoinsPart p old new r → new.domain ≡ old.domain
-joins_domain p old new (Ok first) y = y.carries.domain
-joins_domain p old new (Err v) y = y.carries.domain
-
-joins_awake : (p : Part) (old new : Known) (r : Result Bool Worn) → JoinsPart p old new r
-    → new.book.awake ≡ old.book.awake
-joins_awake p old new (Ok first) y = y.carries.awake
-joins_awake p old new (Err v) y = y.carries.awake
-
-pub lock-requires-clause-of : goal.lock-requires-clause-of
-lock-requires-clause-of g c = c.requires.of
-
-pub lock-requires-clause-up : goal.lock-requires-clause-up
-lock-requires-clause-up g c = c.requires.may.up
-
-pub lock-requires-clause-free : goal.lock-requires-clause-free
-lock-requires-clause-free g c = c.requires.may.free
-
-pub heeds-requires-clause-of : goal.heeds-requires-clause-of
-heeds-requires-clause-of g c = c.lock.ensures.carries.domain ∙ c.requires.of
-
-pub heeds-requires-clause-up : goal.heeds-requires-clause-up
-heeds-requires-clause-up g c = c.lock.ensures.carries.awake ∙ c.requires.may.up
-
-pub heeds-requires-clause-held : goal.heeds-requires-clause-held
-heeds-requires-clause-held g c = c.lock.ensures.held
-
-pub pare-requires-clause-of : goal.pare-requires-clause-of
-pare-requires-clause-of g c = c.heeds.ensures.heeds.carries.domain ∙ (c.lock.ensures.carries.domain ∙ c.requires.of)
-
-pub pare-requires-clause-up : goal.pare-requires-clause-up
-pare-requires-clause-up g c = c.heeds.ensures.heeds.carries.awake ∙ (c.lock.ensures.carries.awake ∙ c.requires.may.up)
-
-pub pare-requires-clause-held : goal.pare-requires-clause-held
-pare-requires-clause-held g c = c.heeds.ensures.held
-
-pub join-joined-requires-clause-of : goal.join-joined-requires-clause-of
-join-joined-requires-clause-of g c =
-    c.heeds.ensures.heeds.carries.domain ∙ (c.lock.ensures.carries.domain ∙ c.requires.of)
-
-pub join-joined-requires-clause-up : goal.join-joined-requires-clause-up
-join-joined-requires-clause-up g c =
-    c.heeds.ensures.heeds.carries.awake ∙ (c.lock.ensures.carries.awake ∙ c.requires.may.up)
-
-pub join-joined-requires-clause-held : goal.join-joined-requires-clause-held
-join-joined-requires-clause-held g c = c.heeds.ensures.held
-
-pub join-joined-requires-clause-suits : goal.join-joined-requires-clause-suits
-join-joined-requires-clause-suits g c = c.requires.suits
-
-pub unlock-requires-clause-of : goal.unlock-requires-clause-of
-unlock-requires-clause-of g c = (pares_part c.heeds.new.task c.pare.new.task c.pare.result c.pare.ensures.pares).domain
-    ∙ (c.heeds.ensures.heeds.carries.domain ∙ (c.lock.ensures.carries.domain ∙ c.requires.of))
-
-pub unlock-requires-clause-up : goal.unlock-requires-clause-up
-unlock-requires-clause-up g c = (pares_part c.heeds.new.task c.pare.new.task c.pare.result c.pare.ensures.pares).awake
-    ∙ (c.heeds.ensures.heeds.carries.awake ∙ (c.lock.ensures.carries.awake ∙ c.requires.may.up))
-
-pub unlock-requires-clause-held : goal.unlock-requires-clause-held
-unlock-requires-clause-held g c = c.pare.ensures.held.locked
-
-pub unlock-requires-clause-agreed : goal.unlock-requires-clause-agreed
-unlock-requires-clause-agreed g c = c.pare.ensures.held.agreed
-
-pub unlock-requires-2-clause-of : goal.unlock-requires-2-clause-of
-unlock-requires-2-clause-of g c = joins_domain c.args.part c.heeds.new.task c.join-joined.new.task c.join-joined.result
-    c.join-joined.ensures.joins
-    ∙ (c.heeds.ensures.heeds.carries.domain ∙ (c.lock.ensures.carries.domain ∙ c.requires.of))
-
-pub unlock-requires-2-clause-up : goal.unlock-requires-2-clause-up
-unlock-requires-2-clause-up g c = joins_awake c.args.part c.heeds.new.task c.join-joined.new.task c.join-joined.result
-    c.join-joined.ensures.joins
-    ∙ (c.heeds.ensures.heeds.carries.awake ∙ (c.lock.ensures.carries.awake ∙ c.requires.may.up))
-
-pub unlock-requires-2-clause-held : goal.unlock-requires-2-clause-held
-unlock-requires-2-clause-held g c = c.join-joined.ensures.held.locked
-
-pub unlock-requires-2-clause-agreed : goal.unlock-requires-2-clause-agreed
-unlock-requires-2-clause-agreed g c = c.join-joined.ensures.held.agreed
 
 pub lock-requires-clause-head : goal.lock-requires-clause-head
 lock-requires-clause-head g c = low_fits c.head_of.result (subst (λ (h : _). h < FIRST_DONE_HEAD) (sym c.head_of.ensures)

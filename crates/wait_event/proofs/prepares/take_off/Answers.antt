@@ -1,56 +1,11 @@
-use Rattle.std.proofs.Common.{◌∙◌, ◌<◌, subst, sym}
+use Rattle.std.proofs.Common.{◌<◌, subst, sym}
 use Rattle.wait_model.specs.declared.layout.TheConstants.{FIRST_DONE_HEAD}
 use Rattle.wait_model.specs.Watches.{head_of}
 use Rattle.wait_event.proofs.Conditions.{low_fits}
 use Rattle.wait_event.proofs.Finishing.{finish_home, finish_low, finish_off, finish_on, finish_owes}
-use Rattle.wait_event.proofs.PartSteps.{pares_at, pares_part}
+use Rattle.wait_event.proofs.PartSteps.{pares_at}
 use Rattle.wait_event.proofs.Preparing.{carried_as, lock_as}
 use Rattle.wait_event.proofs.prepares.take_off.Goals as goal
-
-pub own_entry-requires-clause-of : goal.own_entry-requires-clause-of
-own_entry-requires-clause-of g c = c.set_state.ensures.carries.domain ∙ c.requires.of
-
-pub lock-requires-clause-of : goal.lock-requires-clause-of
-lock-requires-clause-of g c = c.own_entry.ensures.carries.domain ∙ (c.set_state.ensures.carries.domain ∙ c.requires.of)
-
-pub pare-requires-clause-of : goal.pare-requires-clause-of
-pare-requires-clause-of g c =
-    c.lock.ensures.carries.domain ∙ (c.own_entry.ensures.carries.domain
-    ∙ (c.set_state.ensures.carries.domain ∙ c.requires.of))
-
-pub pare-requires-clause-held : goal.pare-requires-clause-held
-pare-requires-clause-held g c = c.lock.ensures.held
-
-pub unlock-requires-clause-of : goal.unlock-requires-clause-of
-unlock-requires-clause-of g c = (pares_part c.lock.new.task c.pare.new.task c.pare.result c.pare.ensures.pares).domain
-    ∙ (c.lock.ensures.carries.domain ∙ (c.own_entry.ensures.carries.domain
-    ∙ (c.set_state.ensures.carries.domain ∙ c.requires.of)))
-
-pub unlock-requires-clause-held : goal.unlock-requires-clause-held
-unlock-requires-clause-held g c = c.pare.ensures.held.locked
-
-pub unlock-requires-clause-agreed : goal.unlock-requires-clause-agreed
-unlock-requires-clause-agreed g c = c.pare.ensures.held.agreed
-
-pub set_state-requires-clause-up : goal.set_state-requires-clause-up
-set_state-requires-clause-up g c = c.requires.may.up
-
-pub own_entry-requires-clause-up : goal.own_entry-requires-clause-up
-own_entry-requires-clause-up g c = c.set_state.ensures.carries.awake ∙ c.requires.may.up
-
-pub lock-requires-clause-up : goal.lock-requires-clause-up
-lock-requires-clause-up g c =
-    c.own_entry.ensures.carries.awake ∙ (c.set_state.ensures.carries.awake ∙ c.requires.may.up)
-
-pub pare-requires-clause-up : goal.pare-requires-clause-up
-pare-requires-clause-up g c =
-    c.lock.ensures.carries.awake ∙ (c.own_entry.ensures.carries.awake
-    ∙ (c.set_state.ensures.carries.awake ∙ c.requires.may.up))
-
-pub unlock-requires-clause-up : goal.unlock-requires-clause-up
-unlock-requires-clause-up g c = (pares_part c.lock.new.task c.pare.new.task c.pare.result c.pare.ensures.pares).awake
-    ∙ (c.lock.ensures.carries.awake ∙ (c.own_entry.ensures.carries.awake
-    ∙ (c.set_state.ensures.carries.awake ∙ c.requires.may.up)))
 
 pub lock-requires-clause-head : goal.lock-requires-clause-head
 lock-requires-clause-head g c = low_fits c.head_of.result (subst (λ (h : _). h < FIRST_DONE_HEAD) (sym c.head_of.ensures)

@@ -9,33 +9,6 @@ use Rattle.wait_leave.proofs.Ways.{on_way_then, way_domain, way_lands, way_none,
 use Rattle.wait_class.proofs.AwakeSteps.{sleeps_not_on, sleeps_not_same}
 use Rattle.wait_leave.proofs.leaves.stretch_out.Goals as goal
 
-pub turn_out-requires-clause-passes : goal.turn_out-requires-clause-passes
-turn_out-requires-clause-passes g c = c.loop-turn.invariant.1
-
-pub returns-then-is_free-clause-of : goal.returns-then-is_free-clause-of
-returns-then-is_free-clause-of g c = c.turn_out.ensures.of
-
-pub returns-then-is_free-clause-lands : goal.returns-then-is_free-clause-lands
-returns-then-is_free-clause-lands g c = c.in-Again.ensures.lands
-
-pub returns-in-Asleep-clause-of : goal.returns-in-Asleep-clause-of
-returns-in-Asleep-clause-of g c = c.turn_out.ensures.of
-
-pub returns-in-Asleep-clause-lands : goal.returns-in-Asleep-clause-lands
-returns-in-Asleep-clause-lands g c = c.in-Asleep.ensures.lands
-
-pub returns-in-Locked-clause-of : goal.returns-in-Locked-clause-of
-returns-in-Locked-clause-of g c = c.turn_out.ensures.of
-
-pub returns-in-Locked-clause-lands : goal.returns-in-Locked-clause-lands
-returns-in-Locked-clause-lands g c = c.in-Locked.ensures.lands
-
-pub returns-in-Done-clause-of : goal.returns-in-Done-clause-of
-returns-in-Done-clause-of g c = c.turn_out.ensures.of
-
-pub returns-in-Done-clause-lands : goal.returns-in-Done-clause-lands
-returns-in-Done-clause-lands g c = c.in-Done.ensures.lands
-
 pub loop-turn-init : goal.loop-turn-init
 loop-turn-init g c = (
   record {

@@ -1,43 +1,10 @@
-use Rattle.std.proofs.Common.{◌∙◌, inl, sym}
+use Rattle.std.proofs.Common.{◌∙◌, sym}
 use Rattle.wait_model.specs.declared.layout.TheConstants.{HEADS}
 use Rattle.wait_class.proofs.Handed.{given_as}
 use Rattle.wait_leave.specs.OnTheWay.{straight}
 use Rattle.wait_leave.proofs.Ways.{way_domain, way_lands, way_out}
 use Rattle.wait_leave.proofs.Awake.{awake_turn, up_plain, up_turn}
 use Rattle.wait_leave.proofs.leaves.turn_out.Goals as goal
-
-pub go_out-requires-clause-of : goal.go_out-requires-clause-of
-go_out-requires-clause-of g c = c.requires.of
-
-pub go_out-requires-clause-at : goal.go_out-requires-clause-at
-go_out-requires-clause-at g c = c.requires.at
-
-pub advance-requires-clause-of : goal.advance-requires-clause-of
-advance-requires-clause-of g c = c.requires.of
-
-pub advance-requires-clause-passes : goal.advance-requires-clause-passes
-advance-requires-clause-passes g c = c.requires.passes
-
-pub advance-requires-clause-at : goal.advance-requires-clause-at
-advance-requires-clause-at g c = c.requires.at
-
-pub returns-in-Some-clause-passes : goal.returns-in-Some-clause-passes
-returns-in-Some-clause-passes g c = inl c.requires.passes
-
-pub returns-in-Some-clause-falls : goal.returns-in-Some-clause-falls
-returns-in-Some-clause-falls g c = c.go_out.ensures.falls
-
-pub returns-in-Some-clause-awake : goal.returns-in-Some-clause-awake
-returns-in-Some-clause-awake g c = c.go_out.ensures.awake
-
-pub returns-in-None-clause-passes : goal.returns-in-None-clause-passes
-returns-in-None-clause-passes g c = c.advance.ensures.passes
-
-pub returns-in-None-clause-falls : goal.returns-in-None-clause-falls
-returns-in-None-clause-falls g c = c.advance.ensures.falls
-
-pub returns-in-None-clause-given : goal.returns-in-None-clause-given
-returns-in-None-clause-given g c = c.advance.ensures.given
 
 pub go_out-requires-clause-exits : goal.go_out-requires-clause-exits
 go_out-requires-clause-exits g c = sym c.exit-found.ensures ∙ c.in-Some.is

@@ -7,12 +7,6 @@ use Rattle.wait_pipe.proofs.Turns.{then_rests}
 use Rattle.wait_pipe.proofs.UntilTurns.{got_until_then, read_until, until_none, until_on}
 use Rattle.wait_pipe.proofs.leaves.read_piece_until.Goals as goal
 
-pub read_turn_until-requires-clause-pipe : goal.read_turn_until-requires-clause-pipe
-read_turn_until-requires-clause-pipe g c = c.requires.pipe
-
-pub read_turn_until-requires-clause-asks : goal.read_turn_until-requires-clause-asks
-read_turn_until-requires-clause-asks g c = c.requires.asks
-
 pub loop-init : goal.loop-init
 loop-init g c = until_none (g.Q.Fn.post c.args.asks tt true) (read_end c.args.pipe) c.args.task.now
     (waits_none (read_end c.args.pipe) c.args.task.now c.requires.up c.requires.idle c.requires.out)

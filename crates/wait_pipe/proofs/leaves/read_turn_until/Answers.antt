@@ -7,45 +7,6 @@ use Rattle.wait_pipe.proofs.Turns.{got_stopped}
 use Rattle.wait_pipe.proofs.UntilTurns.{left_none, until_turn}
 use Rattle.wait_pipe.proofs.leaves.read_turn_until.Goals as goal
 
-pub read_now-requires-clause-of : goal.read_now-requires-clause-of
-read_now-requires-clause-of g c = c.requires.of
-
-pub read_now-requires-clause-up : goal.read_now-requires-clause-up
-read_now-requires-clause-up g c = c.requires.up
-
-pub read_now-requires-clause-idle : goal.read_now-requires-clause-idle
-read_now-requires-clause-idle g c = c.requires.idle
-
-pub read_now-requires-clause-out : goal.read_now-requires-clause-out
-read_now-requires-clause-out g c = c.requires.out
-
-pub read_now-requires-clause-pipe : goal.read_now-requires-clause-pipe
-read_now-requires-clause-pipe g c = c.requires.pipe
-
-pub read_now-requires-clause-settled : goal.read_now-requires-clause-settled
-read_now-requires-clause-settled g c = c.requires.settled
-
-pub read_now-requires-clause-buf : goal.read_now-requires-clause-buf
-read_now-requires-clause-buf g c = c.requires.buf
-
-pub wait_for_until-requires-clause-asks : goal.wait_for_until-requires-clause-asks
-wait_for_until-requires-clause-asks g c = c.requires.asks
-
-pub returns-in-Ok-clause-same : goal.returns-in-Ok-clause-same
-returns-in-Ok-clause-same g c = c.read_now.ensures.same
-
-pub returns-in-Ok-clause-rests : goal.returns-in-Ok-clause-rests
-returns-in-Ok-clause-rests g c = c.read_now.ensures.rests
-
-pub returns-in-Over-Ok-clause-same : goal.returns-in-Over-Ok-clause-same
-returns-in-Over-Ok-clause-same g c = c.read_now.ensures.same
-
-pub returns-in-Over-Err-clause-same : goal.returns-in-Over-Err-clause-same
-returns-in-Over-Err-clause-same g c = c.read_now.ensures.same
-
-pub returns-in-Left-clause-same : goal.returns-in-Left-clause-same
-returns-in-Left-clause-same g c = c.read_now.ensures.same
-
 pub wait_for_until-requires-clause-of : goal.wait_for_until-requires-clause-of
 wait_for_until-requires-clause-of g c = c.read_now.ensures.rests.carries.domain ∙ c.requires.of
 

@@ -5,9 +5,6 @@ use Rattle.wait_pipe.proofs.PieceChanges.{waits_none}
 use Rattle.wait_pipe.proofs.Turns.{got_piece, got_then, then_rests, turning_none, turning_on}
 use Rattle.wait_pipe.proofs.pieces.read_on.Goals as goal
 
-pub read_turn-requires-clause-pipe : goal.read_turn-requires-clause-pipe
-read_turn-requires-clause-pipe g c = c.requires.pipe
-
 pub loop-init : goal.loop-init
 loop-init g c = turning_none (read_end c.args.pipe) c.args.task.now
     (waits_none (read_end c.args.pipe) c.args.task.now c.requires.up c.requires.idle c.requires.out)

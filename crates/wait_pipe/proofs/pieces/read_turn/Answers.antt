@@ -5,39 +5,6 @@ use Rattle.wait_pipe.proofs.PieceChanges.{waits_on}
 use Rattle.wait_pipe.proofs.Turns.{got_stopped, turn_of}
 use Rattle.wait_pipe.proofs.pieces.read_turn.Goals as goal
 
-pub read_now-requires-clause-of : goal.read_now-requires-clause-of
-read_now-requires-clause-of g c = c.requires.of
-
-pub read_now-requires-clause-up : goal.read_now-requires-clause-up
-read_now-requires-clause-up g c = c.requires.up
-
-pub read_now-requires-clause-idle : goal.read_now-requires-clause-idle
-read_now-requires-clause-idle g c = c.requires.idle
-
-pub read_now-requires-clause-out : goal.read_now-requires-clause-out
-read_now-requires-clause-out g c = c.requires.out
-
-pub read_now-requires-clause-pipe : goal.read_now-requires-clause-pipe
-read_now-requires-clause-pipe g c = c.requires.pipe
-
-pub read_now-requires-clause-settled : goal.read_now-requires-clause-settled
-read_now-requires-clause-settled g c = c.requires.settled
-
-pub read_now-requires-clause-buf : goal.read_now-requires-clause-buf
-read_now-requires-clause-buf g c = c.requires.buf
-
-pub returns-in-Ok-clause-same : goal.returns-in-Ok-clause-same
-returns-in-Ok-clause-same g c = c.read_now.ensures.same
-
-pub returns-in-Ok-clause-rests : goal.returns-in-Ok-clause-rests
-returns-in-Ok-clause-rests g c = c.read_now.ensures.rests
-
-pub returns-in-Ok-wait_for-clause-same : goal.returns-in-Ok-wait_for-clause-same
-returns-in-Ok-wait_for-clause-same g c = c.read_now.ensures.same
-
-pub returns-in-Err-wait_for-clause-same : goal.returns-in-Err-wait_for-clause-same
-returns-in-Err-wait_for-clause-same g c = c.read_now.ensures.same
-
 pub wait_for-requires-clause-of : goal.wait_for-requires-clause-of
 wait_for-requires-clause-of g c = c.read_now.ensures.rests.carries.domain ∙ c.requires.of
 

@@ -7,39 +7,6 @@ use Rattle.wait_pipe.proofs.Fills.{waited_settled}
 use Rattle.wait_pipe.proofs.Turns.{put_stopped, put_then, then_rests, turn_of, write_stops, wrote_first, wrote_later}
 use Rattle.wait_pipe.proofs.pieces.write_piece.Goals as goal
 
-pub write_now-requires-clause-of : goal.write_now-requires-clause-of
-write_now-requires-clause-of g c = c.requires.of
-
-pub write_now-requires-clause-up : goal.write_now-requires-clause-up
-write_now-requires-clause-up g c = c.requires.up
-
-pub write_now-requires-clause-idle : goal.write_now-requires-clause-idle
-write_now-requires-clause-idle g c = c.requires.idle
-
-pub write_now-requires-clause-out : goal.write_now-requires-clause-out
-write_now-requires-clause-out g c = c.requires.out
-
-pub write_now-requires-clause-pipe : goal.write_now-requires-clause-pipe
-write_now-requires-clause-pipe g c = c.requires.pipe
-
-pub write_now-requires-clause-settled : goal.write_now-requires-clause-settled
-write_now-requires-clause-settled g c = c.requires.settled
-
-pub write_now-requires-clause-bytes : goal.write_now-requires-clause-bytes
-write_now-requires-clause-bytes g c = c.requires.bytes
-
-pub returns-in-Ok-Some-clause-rests : goal.returns-in-Ok-Some-clause-rests
-returns-in-Ok-Some-clause-rests g c = c.write_now.ensures.rests
-
-pub returns-in-Ok-None-clause-rests : goal.returns-in-Ok-None-clause-rests
-returns-in-Ok-None-clause-rests g c = c.write_now.ensures.rests
-
-pub write_on-requires-clause-pipe : goal.write_on-requires-clause-pipe
-write_on-requires-clause-pipe g c = c.requires.pipe
-
-pub write_on-requires-clause-bytes : goal.write_on-requires-clause-bytes
-write_on-requires-clause-bytes g c = c.requires.bytes
-
 pub wait_for-requires-clause-of : goal.wait_for-requires-clause-of
 wait_for-requires-clause-of g c = c.write_now.ensures.rests.carries.domain ∙ c.requires.of
 

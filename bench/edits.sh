@@ -6,8 +6,9 @@
 #        bench/edits.sh --apply         (whether each still can be made; nothing is proved)
 #
 # It works on a copy of the files as they stand, in which these edits take the place of the gate's, by `rt ci CRATE..`, which
-# proves nothing of which it has kept a proof. The status is 1 where an edit is not refused, or can't be made: each of its
-# old lines has to stand in its file exactly once. The last line is 'N passed, M failed'.
+# proves nothing of which it has kept a proof and ends with 'N passed, M failed', or with a kit that keeps nothing by
+# `rt must-fail CRATE..`, which proves what the crates stand on and has a line for each edit. The status is 1 where an edit
+# is not refused, or can't be made: each of its old lines has to stand in its file exactly once.
 set -eu
 
 root=$(dirname -- "$(dirname -- "$(readlink -f -- "${BASH_SOURCE[0]}")")")
@@ -51,4 +52,9 @@ for crate in "$@"; do
 done
 cd -- "$work"
 git init -q .
-rt ci "$@"
+# (a kit that keeps what it has passed has this word)
+if [[ $(rt help 2>&1 || :) == *--anew* ]]; then
+    rt ci "$@"
+else
+    rt must-fail "$@"
+fi

@@ -95,7 +95,9 @@ fn open_in(
     let Some(file) = find(files, name) else {
         return Err(OpenFault::NoSuchFile);
     };
-    let input = file.open(alloc)?;
+    let Ok(input) = file.open(alloc) else {
+        return Err(OpenFault::OutOfMemory);
+    };
     let Some(count) = opened.checked_add(1) else {
         return Err(OpenFault::OutOfMemory);
     };
@@ -319,7 +321,10 @@ impl Folder for MemFolder {
         if fails {
             return Err(OpenFault::Failed);
         }
-        Ok(MemSink::new(alloc, &self.fails)?)
+        match MemSink::new(alloc, &self.fails) {
+            Ok(out) => Ok(out),
+            Err(_) => Err(OpenFault::OutOfMemory),
+        }
     }
 
     /// Counts one fault of reading where a read of the source failed.

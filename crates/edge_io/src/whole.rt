@@ -54,11 +54,15 @@ pub fn read_all<S: Source>(alloc: Global, source: &mut S, most: usize) -> Result
     let mut bytes = Vec::new(alloc);
     let mut buf = [0u8; READ_SIZE];
     'reads: while bytes.len() <= most {
-        let count = source.read(&mut buf)?;
+        let Ok(count) = source.read(&mut buf) else {
+            return Err(ReadFault::Failed);
+        };
         if count == 0 {
             return Ok(bytes);
         }
-        bytes.extend_from_slice(&buf[..count])?;
+        if bytes.extend_from_slice(&buf[..count]).is_err() {
+            return Err(ReadFault::OutOfMemory);
+        }
     }
     Err(ReadFault::Long)
 }

@@ -49,13 +49,13 @@ fn read_drill<'a>(seed: &[u8], count: &[u8]) -> Option<Command<'a>>
     ensures command { option_map asked_by result ≡ drill_at (numeral_value seed.now) (numeral_value count.now) }
     ensures fits { IfSome result (λ c. IsFitRequest (asked_by c)) }
 {
-    let seed = read_number(seed)?;
-    let count = read_number(count)?;
-    if count > u64::from(MOST_CALLS) {
-        return None;
+    match (read_number(seed), read_number(count)) {
+        (Some(seed), Some(count)) if count <= u64::from(MOST_CALLS) => {
+            let count = count as u32;
+            Some(Command::Drill { seed, count })
+        }
+        _ => None,
     }
-    let count = count as u32;
-    Some(Command::Drill { seed, count })
 }
 
 /// Whether a word may name a file: it is not empty and does not begin with `-`.
@@ -246,9 +246,10 @@ fn drill_of<'a>(given: &ArgMatches<'a>) -> Option<Command<'a>>
     ensures command { option_map asked_by result ≡ drill_in (rows_of (found_of given.now)) }
     ensures fits { IfSome result (λ c. IsFitRequest (asked_by c)) }
 {
-    let seed = text_of(given, "seed")?;
-    let count = text_of(given, "count")?;
-    read_drill(seed.as_bytes(), count.as_bytes())
+    match (text_of(given, "seed"), text_of(given, "count")) {
+        (Some(seed), Some(count)) => read_drill(seed.as_bytes(), count.as_bytes()),
+        _ => None,
+    }
 }
 
 /// `copy`, by what was found.
@@ -256,11 +257,14 @@ fn copy_of<'a>(given: &ArgMatches<'a>) -> Option<Command<'a>>
     ensures command { option_map asked_by result ≡ copy_in (rows_of (found_of given.now)) }
     ensures fits { IfSome result (λ c. IsFitRequest (asked_by c)) }
 {
-    let src = text_of(given, "src")?;
-    let dst = text_of(given, "dst")?;
-    match texts_of(given, "event") {
-        Some(events) => read_copy(src, dst, events),
-        None => read_copy(src, dst, &[]),
+    match (
+        text_of(given, "src"),
+        text_of(given, "dst"),
+        texts_of(given, "event"),
+    ) {
+        (Some(src), Some(dst), Some(events)) => read_copy(src, dst, events),
+        (Some(src), Some(dst), None) => read_copy(src, dst, &[]),
+        _ => None,
     }
 }
 
@@ -269,10 +273,14 @@ fn merge_of<'a>(given: &ArgMatches<'a>) -> Option<Command<'a>>
     ensures command { option_map asked_by result ≡ merge_in (rows_of (found_of given.now)) }
     ensures fits { IfSome result (λ c. IsFitRequest (asked_by c)) }
 {
-    let first = text_of(given, "a")?;
-    let second = text_of(given, "b")?;
-    let dst = text_of(given, "dst")?;
-    read_merge(first, second, dst)
+    match (
+        text_of(given, "a"),
+        text_of(given, "b"),
+        text_of(given, "dst"),
+    ) {
+        (Some(first), Some(second), Some(dst)) => read_merge(first, second, dst),
+        _ => None,
+    }
 }
 
 /// The command, by what was found.

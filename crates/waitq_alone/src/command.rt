@@ -3,13 +3,13 @@
 ghost use Rattle.std.specs.Prelude.{◌≡◌, ◌≢◌, ◌≤◌, ◌⊎◌, [], Ok, Some, None, false, map, option_map, string_bytes};
 ghost use Rattle.std.specs.Prelude.{IfErr, IfOk, IfSome};
 ghost use Rattle.std.specs.List.{list_all};
-ghost use Rattle.clap.specs.Words.{App, app_of, fault_of, found_of, kind_of, new_app, rows_of, rule_of, subcommand_of};
+ghost use Rattle.clap.specs.Words.{App, app_of, fault_of, found_of, kind_of, rows_of, rule_of, subcommand_of};
 ghost use Rattle.clap.specs.Words.{with_rule, with_subcommand};
 ghost use Rattle.clap.specs.declared.builder.command.Command.TheViews.{out-Command};
 ghost use Rattle.wait_script.specs.Number.{numeral_value};
 ghost use Rattle.waitq_alone.specs.Commands.{drill_at, copy_at, is_name, command_of, asked_by, merge_at, IsFitRequest};
 ghost use Rattle.waitq_alone.specs.Parsed.{asked_of, asks_help, bare_app, copy_app, copy_in, drill_app, drill_in};
-ghost use Rattle.waitq_alone.specs.Parsed.{entry_of, events_rule, found_text, found_texts, merge_app, merge_in, needed, replay_app, waitq_app};
+ghost use Rattle.waitq_alone.specs.Parsed.{entry_of, events_rule, found_text, found_texts, merge_app, merge_in, needed, waitq_app};
 
 use crate::events::{Plan, read_plan};
 use crate::fault::Fault;

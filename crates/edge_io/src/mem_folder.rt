@@ -95,9 +95,7 @@ fn open_in(
     let Some(file) = find(files, name) else {
         return Err(OpenFault::NoSuchFile);
     };
-    let Ok(input) = file.open(alloc) else {
-        return Err(OpenFault::OutOfMemory);
-    };
+    let input = file.open(alloc)?;
     let Some(count) = opened.checked_add(1) else {
         return Err(OpenFault::OutOfMemory);
     };
@@ -321,10 +319,7 @@ impl Folder for MemFolder {
         if fails {
             return Err(OpenFault::Failed);
         }
-        match MemSink::new(alloc, &self.fails) {
-            Ok(out) => Ok(out),
-            Err(_) => Err(OpenFault::OutOfMemory),
-        }
+        Ok(MemSink::new(alloc, &self.fails)?)
     }
 
     /// Counts one fault of reading where a read of the source failed.

@@ -54,15 +54,11 @@ pub fn read_all<S: Source>(alloc: Global, source: &mut S, most: usize) -> Result
     let mut bytes = Vec::new(alloc);
     let mut buf = [0u8; READ_SIZE];
     'reads: while bytes.len() <= most {
-        let Ok(count) = source.read(&mut buf) else {
-            return Err(ReadFault::Failed);
-        };
+        let count = source.read(&mut buf)?;
         if count == 0 {
             return Ok(bytes);
         }
-        if bytes.extend_from_slice(&buf[..count]).is_err() {
-            return Err(ReadFault::OutOfMemory);
-        }
+        bytes.extend_from_slice(&buf[..count])?;
     }
     Err(ReadFault::Long)
 }

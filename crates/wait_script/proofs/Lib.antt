@@ -7,6 +7,7 @@ pub mod ReadDigits
 pub mod EndLines
 pub mod ReadNumbers
 pub mod OnePass
+pub mod Pushed
 pub mod LineParts
 pub mod Spelled
 pub mod ReadFields

@@ -23,7 +23,7 @@ passed make fields e is (Ok x) h = absurd h
 passed make fields e is (Err why) h = ap Err h ∙ ap (made_of make) is
 
 -- the fields of two words, and of three
-two : {A B : Type 0} {r : Result (A × B) Reason} {u f : Result A Reason} {v g : Result B Reason} → r ≡ both_of u v
+pub two : {A B : Type 0} {r : Result (A × B) Reason} {u f : Result A Reason} {v g : Result B Reason} → r ≡ both_of u v
     → u ≡ f → v ≡ g → r ≡ both_of f g
 two {f = f} {v = v} is h k = is ∙ ap (λ x. both_of x v) h ∙ ap (both_of f) k
 

@@ -12,7 +12,7 @@ use Rattle.clap.specs.declared.error.kind.ErrorKind.TheVariants.{OutOfMemory}
 use Rattle.clap.specs.Kinds.{or_else}
 use Rattle.copy_plan.specs.declared.plan.Planned.{Planned}
 use Rattle.wait_script.specs.Number.{numeral_value}
-use Rattle.waitq_alone.specs.Commands.{Request, command_of, copy_at, drill_at, drill_of, is_name, merge_at, merge_of}
+use Rattle.waitq_alone.specs.Commands.{Request, command_of, copy_at, drill_at, drill_of, is_name, merge_of}
 use Rattle.waitq_alone.specs.Events.{event_of, events_of, before, plan_of}
 use Rattle.waitq_alone.specs.Parsed.{are_names, asked_of, asks_help, waitq_app, found_text, found_texts}
 use Rattle.waitq_alone.proofs.PlainWords.{nobody, unknown, replay_entered, drill_entered, copy_entered, replay_faults}

@@ -1,15 +1,15 @@
 //! The commands, by the words after the program's name.
 
-ghost use Rattle.std.specs.Prelude.{◌≡◌, ◌≢◌, ◌≤◌, ◌⊎◌, [], Some, None, false, map, option_map, string_bytes};
+ghost use Rattle.std.specs.Prelude.{◌≡◌, ◌≢◌, ◌≤◌, ◌⊎◌, [], Ok, Some, None, false, map, option_map, string_bytes};
 ghost use Rattle.std.specs.Prelude.{IfErr, IfOk, IfSome};
 ghost use Rattle.std.specs.List.{list_all};
-ghost use Rattle.clap.specs.Words.{app_of, fault_of, found_of, kind_of, new_app, rows_of, rule_of, subcommand_of};
+ghost use Rattle.clap.specs.Words.{App, app_of, fault_of, found_of, kind_of, rows_of, rule_of, subcommand_of};
 ghost use Rattle.clap.specs.Words.{with_rule, with_subcommand};
 ghost use Rattle.clap.specs.declared.builder.command.Command.TheViews.{out-Command};
 ghost use Rattle.wait_script.specs.Number.{numeral_value};
 ghost use Rattle.waitq_alone.specs.Commands.{drill_at, copy_at, is_name, command_of, asked_by, merge_at, IsFitRequest};
 ghost use Rattle.waitq_alone.specs.Parsed.{asked_of, asks_help, bare_app, copy_app, copy_in, drill_app, drill_in};
-ghost use Rattle.waitq_alone.specs.Parsed.{entry_of, events_rule, found_text, found_texts, merge_app, merge_in, needed, replay_app, waitq_app};
+ghost use Rattle.waitq_alone.specs.Parsed.{entry_of, events_rule, found_text, found_texts, merge_app, merge_in, needed, waitq_app};
 
 use crate::events::{Plan, read_plan};
 use crate::fault::Fault;
@@ -49,13 +49,13 @@ fn read_drill<'a>(seed: &[u8], count: &[u8]) -> Option<Command<'a>>
     ensures command { option_map asked_by result ≡ drill_at (numeral_value seed.now) (numeral_value count.now) }
     ensures fits { IfSome result (λ c. IsFitRequest (asked_by c)) }
 {
-    let seed = read_number(seed)?;
-    let count = read_number(count)?;
-    if count > u64::from(MOST_CALLS) {
-        return None;
+    match (read_number(seed), read_number(count)) {
+        (Some(seed), Some(count)) if count <= u64::from(MOST_CALLS) => {
+            let count = count as u32;
+            Some(Command::Drill { seed, count })
+        }
+        _ => None,
     }
-    let count = count as u32;
-    Some(Command::Drill { seed, count })
 }
 
 /// Whether a word may name a file: it is not empty and does not begin with `-`.
@@ -95,20 +95,28 @@ fn read_merge<'a>(first: &'a str, second: &'a str, dst: &'a str) -> Option<Comma
     Some(Command::Merge { first, second, dst })
 }
 
-/// A subcommand with two words that it needs.
-fn two_words<'a>(
-    alloc: Global,
-    name: &'a str,
-    first: &'a str,
-    second: &'a str,
-) -> Result<clap::Command<'a>, AllocError>
-    ensures app { IfOk result (λ c. app_of c
-        ≡ with_rule (with_rule (new_app name.entry.now) (needed first.entry.now)) (needed second.entry.now)) }
-    ensures local { IfOk result (λ c. (out-Command c).has_globals ≡ false) }
+/// Two values, where both could be had.
+fn both<A: Drop, B: Drop>(
+    first: Result<A, AllocError>,
+    second: Result<B, AllocError>,
+) -> Result<(A, B), AllocError>
+    ensures { IfOk result (λ p. (first ≡ Ok p.0) × (second ≡ Ok p.1)) }
 {
-    clap::Command::new(alloc, name)
-        .arg(Arg::new(alloc, first).required(true))?
-        .arg(Arg::new(alloc, second).required(true))
+    Ok((first?, second?))
+}
+
+/// A command with one more word that it needs.
+fn with_word<'a>(
+    alloc: Global,
+    command: Result<clap::Command<'a>, AllocError>,
+    id: &'a str,
+) -> Result<clap::Command<'a>, AllocError>
+    ensures app { (a : App) → IfOk command.entry (λ c. app_of c ≡ a)
+        → IfOk result (λ c. app_of c ≡ with_rule a (needed id.entry.now)) }
+    ensures local { IfOk command.entry (λ c. (out-Command c).has_globals ≡ false)
+        → IfOk result (λ c. (out-Command c).has_globals ≡ false) }
+{
+    command?.arg(Arg::new(alloc, id).required(true))
 }
 
 /// The words of `drill`.
@@ -116,7 +124,9 @@ fn drill_words<'a>(alloc: Global) -> Result<clap::Command<'a>, AllocError>
     ensures app { IfOk result (λ c. app_of c ≡ drill_app) }
     ensures local { IfOk result (λ c. (out-Command c).has_globals ≡ false) }
 {
-    two_words(alloc, "drill", "seed", "count")
+    let drill = Ok(clap::Command::new(alloc, "drill"));
+    let seeded = with_word(alloc, drill, "seed");
+    with_word(alloc, seeded, "count")
 }
 
 /// The signals of `copy`.
@@ -132,7 +142,10 @@ fn copy_words<'a>(alloc: Global) -> Result<clap::Command<'a>, AllocError>
     ensures app { IfOk result (λ c. app_of c ≡ copy_app) }
     ensures local { IfOk result (λ c. (out-Command c).has_globals ≡ false) }
 {
-    two_words(alloc, "copy", "src", "dst")?.arg(event_words(alloc))
+    let copy = Ok(clap::Command::new(alloc, "copy"));
+    let from = with_word(alloc, copy, "src");
+    let named = with_word(alloc, from, "dst");
+    named?.arg(event_words(alloc))
 }
 
 /// The words of `merge`.
@@ -140,7 +153,10 @@ fn merge_words<'a>(alloc: Global) -> Result<clap::Command<'a>, AllocError>
     ensures app { IfOk result (λ c. app_of c ≡ merge_app) }
     ensures local { IfOk result (λ c. (out-Command c).has_globals ≡ false) }
 {
-    two_words(alloc, "merge", "a", "b")?.arg(Arg::new(alloc, "dst").required(true))
+    let merge = Ok(clap::Command::new(alloc, "merge"));
+    let first = with_word(alloc, merge, "a");
+    let second = with_word(alloc, first, "b");
+    with_word(alloc, second, "dst")
 }
 
 /// The program without its subcommands, where nobody is helped and the first word is no name of the program.
@@ -153,37 +169,28 @@ fn bare_words<'a>(alloc: Global) -> clap::Command<'a>
         .disable_help_subcommand(true)
 }
 
-/// The program with the subcommand `replay`.
-fn with_replay<'a>(alloc: Global) -> Result<clap::Command<'a>, AllocError>
-    ensures { IfOk result (λ c. app_of c ≡ with_subcommand bare_app replay_app.top) }
+/// A program with one more subcommand.
+fn with_command<'a>(
+    program: Result<clap::Command<'a>, AllocError>,
+    command: Result<clap::Command<'a>, AllocError>,
+) -> Result<clap::Command<'a>, AllocError>
+    ensures { (a b : App) → IfOk program.entry (λ c. app_of c ≡ a)
+        → IfOk command.entry (λ c. app_of c ≡ b) → IfOk command.entry (λ c. (out-Command c).has_globals ≡ false)
+        → IfOk result (λ c. app_of c ≡ with_subcommand a b.top) }
 {
-    bare_words(alloc).subcommand(clap::Command::new(alloc, "replay"))
-}
-
-/// The program with the subcommands `replay` and `drill`.
-fn with_drill<'a>(alloc: Global) -> Result<clap::Command<'a>, AllocError>
-    ensures { IfOk result (λ c. app_of c
-        ≡ with_subcommand (with_subcommand bare_app replay_app.top) drill_app.top) }
-{
-    let drill = drill_words(alloc)?;
-    with_replay(alloc)?.subcommand(drill)
-}
-
-/// The program with the subcommands `replay`, `drill` and `copy`.
-fn with_copy<'a>(alloc: Global) -> Result<clap::Command<'a>, AllocError>
-    ensures { IfOk result (λ c. app_of c
-        ≡ with_subcommand (with_subcommand (with_subcommand bare_app replay_app.top) drill_app.top) copy_app.top) }
-{
-    let copy = copy_words(alloc)?;
-    with_drill(alloc)?.subcommand(copy)
+    let (program, command) = both(program, command)?;
+    program.subcommand(command)
 }
 
 /// The words that the program takes: one of four subcommands, with its own.
 fn all_words<'a>(alloc: Global) -> Result<clap::Command<'a>, AllocError>
     ensures { IfOk result (λ c. app_of c ≡ waitq_app) }
 {
-    let merge = merge_words(alloc)?;
-    with_copy(alloc)?.subcommand(merge)
+    let bare = Ok(bare_words(alloc));
+    let one = with_command(bare, Ok(clap::Command::new(alloc, "replay")));
+    let two = with_command(one, drill_words(alloc));
+    let three = with_command(two, copy_words(alloc));
+    with_command(three, merge_words(alloc))
 }
 
 /// The fault that an error of a parse is: every one is `Usage` but want of memory.
@@ -239,9 +246,10 @@ fn drill_of<'a>(given: &ArgMatches<'a>) -> Option<Command<'a>>
     ensures command { option_map asked_by result ≡ drill_in (rows_of (found_of given.now)) }
     ensures fits { IfSome result (λ c. IsFitRequest (asked_by c)) }
 {
-    let seed = text_of(given, "seed")?;
-    let count = text_of(given, "count")?;
-    read_drill(seed.as_bytes(), count.as_bytes())
+    match (text_of(given, "seed"), text_of(given, "count")) {
+        (Some(seed), Some(count)) => read_drill(seed.as_bytes(), count.as_bytes()),
+        _ => None,
+    }
 }
 
 /// `copy`, by what was found.
@@ -249,11 +257,14 @@ fn copy_of<'a>(given: &ArgMatches<'a>) -> Option<Command<'a>>
     ensures command { option_map asked_by result ≡ copy_in (rows_of (found_of given.now)) }
     ensures fits { IfSome result (λ c. IsFitRequest (asked_by c)) }
 {
-    let src = text_of(given, "src")?;
-    let dst = text_of(given, "dst")?;
-    match texts_of(given, "event") {
-        Some(events) => read_copy(src, dst, events),
-        None => read_copy(src, dst, &[]),
+    match (
+        text_of(given, "src"),
+        text_of(given, "dst"),
+        texts_of(given, "event"),
+    ) {
+        (Some(src), Some(dst), Some(events)) => read_copy(src, dst, events),
+        (Some(src), Some(dst), None) => read_copy(src, dst, &[]),
+        _ => None,
     }
 }
 
@@ -262,10 +273,14 @@ fn merge_of<'a>(given: &ArgMatches<'a>) -> Option<Command<'a>>
     ensures command { option_map asked_by result ≡ merge_in (rows_of (found_of given.now)) }
     ensures fits { IfSome result (λ c. IsFitRequest (asked_by c)) }
 {
-    let first = text_of(given, "a")?;
-    let second = text_of(given, "b")?;
-    let dst = text_of(given, "dst")?;
-    read_merge(first, second, dst)
+    match (
+        text_of(given, "a"),
+        text_of(given, "b"),
+        text_of(given, "dst"),
+    ) {
+        (Some(first), Some(second), Some(dst)) => read_merge(first, second, dst),
+        _ => None,
+    }
 }
 
 /// The command, by what was found.

@@ -18,17 +18,14 @@ mod futexes;
 mod heads;
 mod pages;
 mod report;
-mod sems;
+mod rows;
 mod steps;
 mod tasks;
-mod turns;
+mod timing;
 
-use crate::events::time_events;
-use crate::futexes::time_futexes;
-use crate::heads::{time_heads, wait_idly};
-use crate::pages::{few_pages, time_pages};
-use crate::sems::time_sems;
-use crate::steps::time_domain;
+use crate::heads::wait_idly;
+use crate::report::play_parts;
+use crate::rows::{ALL, EVENTS, FUTEXES, HEADS, PAGES, SEMS, STEPS, TRIPS};
 use std::alloc::Global;
 use std::io::ErrorKind;
 use std::sync::Wait;
@@ -38,12 +35,10 @@ use std::{env, io};
 
 /// A few calls of each kind.
 fn try_all<R: Clock + Print + Threads + Wait + Sync>(rt: &R, alloc: Global) -> io::Result<()> {
-    time_domain(rt, alloc, false)?;
-    time_heads(rt, alloc, false)?;
-    time_events(rt, alloc, false, false)?;
-    few_pages(rt, alloc)?;
-    time_sems(rt, alloc, false)?;
-    time_futexes(rt, alloc, false)
+    for parts in ALL {
+        play_parts(rt, alloc, parts, false)?;
+    }
+    Ok(())
 }
 
 /// The program that the words choose, or `InvalidInput` for another word.
@@ -53,16 +48,18 @@ fn time_chosen<R: Clock + Print + Threads + Wait + Sync>(
     program: &str,
     part: &str,
 ) -> io::Result<()> {
-    match program {
-        "steps" => time_domain(rt, alloc, true),
-        "heads" if part == "idle" => wait_idly(rt, alloc),
-        "heads" => time_heads(rt, alloc, true),
-        "events" => time_events(rt, alloc, true, part == "trips"),
-        "pages" => time_pages(rt, alloc),
-        "futexes" => time_futexes(rt, alloc, true),
-        "sems" => time_sems(rt, alloc, true),
-        _ => Err(io::Error::from(ErrorKind::InvalidInput)),
-    }
+    let parts = match program {
+        "steps" => STEPS,
+        "heads" if part == "idle" => return wait_idly(rt, alloc),
+        "heads" => HEADS,
+        "events" if part == "trips" => TRIPS,
+        "events" => EVENTS,
+        "pages" => PAGES,
+        "futexes" => FUTEXES,
+        "sems" => SEMS,
+        _ => return Err(io::Error::from(ErrorKind::InvalidInput)),
+    };
+    play_parts(rt, alloc, parts, true)
 }
 
 fn main(rt: HostRuntime) -> io::Result<()> {

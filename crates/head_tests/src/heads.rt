@@ -6,18 +6,18 @@ ghost use Rattle.wq_head.specs.Readied.{IsReadyToCall};
 
 mod cases;
 mod errands;
-mod leaving;
-mod listed;
+pub(crate) mod leaving;
+pub(crate) mod listed;
 mod many;
-mod pages;
+pub(crate) mod pages;
 mod scripts;
-mod sleepers;
+pub(crate) mod sleepers;
 mod strangers;
 pub(crate) mod tickets;
 pub mod turns;
 mod waiting;
 
-use crate::wants::all_so;
+use crate::scenes::{Alone, Seen, want, want_all};
 use std::sync::Wait;
 use std::test::Fail;
 use wait_model::layout::FIRST_PLAIN_HEAD;
@@ -28,7 +28,7 @@ use wq_head::locks::{lock, unlock};
 use wq_head::looks::has_members;
 
 /// Whether a second hold of a free head shows no member.
-fn holds_twice<R: Wait>(rt: &R, domain: &Domain, task: &mut Task) -> bool
+pub(crate) fn holds_twice<R: Wait>(rt: &R, domain: &Domain, task: &mut Task) -> bool
     requires of { task.old.domain ≡ domain.now }
     requires ready { IsReadyToCall task.old }
 {
@@ -43,22 +43,31 @@ fn holds_twice<R: Wait>(rt: &R, domain: &Domain, task: &mut Task) -> bool
 /// A free head is locked at once.
 #[test]
 fn alone(rt: HostRuntime) -> Result<(), Fail> {
-    let (domain, mut task) = Domain::new(rt.alloc())?;
-    all_so(&rt, &[holds_twice(&rt, &domain, &mut task)]);
-    Ok(())
+    want(&rt, rt.alloc(), Alone::HoldsTwice)
 }
 
-/// Adds the own entry at the front, and looks for a member.
-fn adds_front<R: Wait>(rt: &R, domain: &Domain, task: &mut Task) -> [bool; 2]
+/// Where an entry is added.
+#[derive(Clone, Copy)]
+pub(crate) enum Place {
+    Front,
+    Tail,
+    Prior,
+}
+
+/// Adds the own entry, at the tail exclusive, and looks for a member.
+pub(crate) fn adds<R: Wait>(rt: &R, domain: &Domain, task: &mut Task, place: Place) -> [bool; 2]
     requires of { task.old.domain ≡ domain.now }
     requires ready { IsReadyToCall task.old }
+    requires few { task.old.view.number < PRIORITY_TASKS }
 {
     lock(rt, domain, task, FIRST_PLAIN_HEAD);
     let watch = Watch::Plain { cond: 0 };
-    let seen = [
-        add_front(domain, task, 0, Kind::Autoremove, watch).is_ok(),
-        has_members(domain, task, FIRST_PLAIN_HEAD),
-    ];
+    let added = match place {
+        Place::Front => add_front(domain, task, 0, Kind::Autoremove, watch),
+        Place::Tail => add_tail(domain, task, 0, Kind::Default, true, watch),
+        Place::Prior => add_priority(domain, task, 0, Kind::Default, watch),
+    };
+    let seen = [added.is_ok(), has_members(domain, task, FIRST_PLAIN_HEAD)];
     unlock(rt, domain, task, false);
     seen
 }
@@ -66,60 +75,23 @@ fn adds_front<R: Wait>(rt: &R, domain: &Domain, task: &mut Task) -> [bool; 2]
 /// What was added is a member of its head.
 #[test]
 fn added_is_member(rt: HostRuntime) -> Result<(), Fail> {
-    let (domain, mut task) = Domain::new(rt.alloc())?;
-    all_so(&rt, &adds_front(&rt, &domain, &mut task));
-    Ok(())
-}
-
-/// Adds the own entry at the tail, and looks for a member.
-fn adds_tail<R: Wait>(rt: &R, domain: &Domain, task: &mut Task) -> [bool; 2]
-    requires of { task.old.domain ≡ domain.now }
-    requires ready { IsReadyToCall task.old }
-{
-    lock(rt, domain, task, FIRST_PLAIN_HEAD);
-    let watch = Watch::Plain { cond: 0 };
-    let seen = [
-        add_tail(domain, task, 0, Kind::Default, true, watch).is_ok(),
-        has_members(domain, task, FIRST_PLAIN_HEAD),
-    ];
-    unlock(rt, domain, task, false);
-    seen
+    want_all(&rt, rt.alloc(), Seen::AddsInFront)
 }
 
 /// What was added at the tail, exclusive, is a member too.
 #[test]
 fn added_at_tail(rt: HostRuntime) -> Result<(), Fail> {
-    let (domain, mut task) = Domain::new(rt.alloc())?;
-    all_so(&rt, &adds_tail(&rt, &domain, &mut task));
-    Ok(())
-}
-
-/// Adds the own entry with priority, and looks for a member.
-fn adds_prior<R: Wait>(rt: &R, domain: &Domain, task: &mut Task) -> [bool; 2]
-    requires of { task.old.domain ≡ domain.now }
-    requires ready { IsReadyToCall task.old }
-    requires few { task.old.view.number < PRIORITY_TASKS }
-{
-    lock(rt, domain, task, FIRST_PLAIN_HEAD);
-    let watch = Watch::Plain { cond: 0 };
-    let seen = [
-        add_priority(domain, task, 0, Kind::Default, watch).is_ok(),
-        has_members(domain, task, FIRST_PLAIN_HEAD),
-    ];
-    unlock(rt, domain, task, false);
-    seen
+    want_all(&rt, rt.alloc(), Seen::AddsAtTail)
 }
 
 /// What was added with priority is a member too.
 #[test]
 fn added_with_priority(rt: HostRuntime) -> Result<(), Fail> {
-    let (domain, mut task) = Domain::new(rt.alloc())?;
-    all_so(&rt, &adds_prior(&rt, &domain, &mut task));
-    Ok(())
+    want_all(&rt, rt.alloc(), Seen::AddsWithPriority)
 }
 
 /// Whether the own entry is no member once it was added and removed.
-fn removes_added<R: Wait>(rt: &R, domain: &Domain, task: &mut Task) -> bool
+pub(crate) fn removes_added<R: Wait>(rt: &R, domain: &Domain, task: &mut Task) -> bool
     requires of { task.old.domain ≡ domain.now }
     requires ready { IsReadyToCall task.old }
     requires first { task.old.view.number ≡ 0 }
@@ -138,7 +110,5 @@ fn removes_added<R: Wait>(rt: &R, domain: &Domain, task: &mut Task) -> bool
 /// What was removed in the same hold is no member.
 #[test]
 fn removed_is_no_member(rt: HostRuntime) -> Result<(), Fail> {
-    let (domain, mut task) = Domain::new(rt.alloc())?;
-    all_so(&rt, &[removes_added(&rt, &domain, &mut task)]);
-    Ok(())
+    want(&rt, rt.alloc(), Alone::RemovesAdded)
 }

@@ -8,6 +8,8 @@ mod heads;
 #[cfg(test)]
 mod meetings;
 #[cfg(test)]
+mod scenes;
+#[cfg(test)]
 mod steps;
 #[cfg(test)]
 mod wants;

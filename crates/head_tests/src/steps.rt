@@ -1,16 +1,17 @@
 //! Single steps on the shared words, by one task and by threads.
 
-mod pages;
+pub(crate) mod pages;
 pub(crate) mod parks;
-mod pipes;
-mod queues;
-mod tallies;
+pub(crate) mod pipes;
+pub(crate) mod queues;
+pub(crate) mod tallies;
 
 ghost use Rattle.std.specs.Prelude.{◌≡◌, [], true};
 ghost use Rattle.head_tests.specs.Meeting.{SleptOnce, WokeOnce, HaveMet};
 ghost use Rattle.wait_rule.specs.Says.{IsClean, IsUp, history_of};
 
-use crate::wants::{all_so, another};
+use crate::scenes::{Alone, Beside, Seen, want, want_all, want_beside};
+use crate::wants::another;
 use std::sync::Wait;
 use std::test::Fail;
 use std::thread;
@@ -77,7 +78,7 @@ fn meets_nobody<R: Wait>(rt: &R, domain: &Domain, task: &mut Task) -> bool
 }
 
 /// Both.
-fn goes_alone<R: Wait>(rt: &R, domain: &Domain, task: &mut Task) -> bool
+pub(crate) fn goes_alone<R: Wait>(rt: &R, domain: &Domain, task: &mut Task) -> bool
     requires of { task.old.domain ≡ domain.now }
     requires clean { IsClean task.old }
 {
@@ -87,9 +88,7 @@ fn goes_alone<R: Wait>(rt: &R, domain: &Domain, task: &mut Task) -> bool
 /// A task with nobody beside it is never put asleep and wakes nobody.
 #[test]
 fn alone(rt: HostRuntime) -> Result<(), Fail> {
-    let (domain, mut task) = Domain::new(rt.alloc())?;
-    all_so(&rt, &[goes_alone(&rt, &domain, &mut task)]);
-    Ok(())
+    want(&rt, rt.alloc(), Alone::GoesAlone)
 }
 
 /// Cuts a task with a share of numbers off: true where it has this number.
@@ -111,7 +110,7 @@ fn is_refused(forked: Result<Task, NoTask>) -> bool {
 }
 
 /// Whether all numbers are given out in their order, and then there is none left.
-fn cuts_off_all(domain: &Domain, task: &mut Task) -> bool
+pub(crate) fn cuts_off_all(domain: &Domain, task: &mut Task) -> bool
     requires of { task.old.domain ≡ domain.now }
     requires clean { IsClean task.old }
 {
@@ -127,9 +126,7 @@ fn cuts_off_all(domain: &Domain, task: &mut Task) -> bool
 /// 255 tasks are cut off the first one, numbered 1 to 255, and then there is no number left.
 #[test]
 fn numbers_run_out(rt: HostRuntime) -> Result<(), Fail> {
-    let (domain, mut task) = Domain::new(rt.alloc())?;
-    all_so(&rt, &[cuts_off_all(&domain, &mut task)]);
-    Ok(())
+    want(&rt, rt.alloc(), Alone::CutsOffAll)
 }
 
 /// What a task and one that it has given a share of 5 numbers give out.
@@ -150,7 +147,7 @@ fn share_numbers(domain: &Domain, task: &mut Task, mut second: Task) -> [bool; 5
 }
 
 /// Gives such a share.
-fn gives_share(domain: &Domain, task: &mut Task) -> [bool; 5]
+pub(crate) fn gives_share(domain: &Domain, task: &mut Task) -> [bool; 5]
     requires of { task.old.domain ≡ domain.now }
     requires clean { IsClean task.old }
 {
@@ -163,9 +160,7 @@ fn gives_share(domain: &Domain, task: &mut Task) -> [bool; 5]
 /// A task's share of numbers is its own, and a share that is too large is refused.
 #[test]
 fn shares_are_apart(rt: HostRuntime) -> Result<(), Fail> {
-    let (domain, mut task) = Domain::new(rt.alloc())?;
-    all_so(&rt, &gives_share(&domain, &mut task));
-    Ok(())
+    want_all(&rt, rt.alloc(), Seen::GivesShare)
 }
 
 /// Whether a try put its task asleep.
@@ -182,7 +177,7 @@ fn has_met(tried: Option<Met>, met: bool) -> bool {
 }
 
 /// What single tries find of a task that goes to sleep, and of one that was woken.
-fn tries_once(domain: &Domain, task: &mut Task, other: &mut Task) -> [bool; 4]
+pub(crate) fn tries_once(domain: &Domain, task: &mut Task, other: &mut Task) -> [bool; 4]
     requires of { (task.old.domain ≡ domain.now) × (other.old.domain ≡ domain.now) }
     requires clean { IsClean task.old × IsClean other.old }
 {
@@ -203,14 +198,11 @@ fn tries_once(domain: &Domain, task: &mut Task, other: &mut Task) -> [bool; 4]
 /// woken; once it is RUNNING no wake meets it.
 #[test]
 fn single_tries(rt: HostRuntime) -> Result<(), Fail> {
-    let (domain, mut task) = Domain::new(rt.alloc())?;
-    let mut other = another(&rt, &domain, &mut task);
-    all_so(&rt, &tries_once(&domain, &mut task, &mut other));
-    Ok(())
+    want_beside(&rt, rt.alloc(), Beside::Tries)
 }
 
 /// Whether a fatal signal stops the sleeps that admit it, and stays pending.
-fn stops_sleeps<R: Wait>(rt: &R, domain: &Domain, task: &mut Task) -> [bool; 3]
+pub(crate) fn stops_sleeps<R: Wait>(rt: &R, domain: &Domain, task: &mut Task) -> [bool; 3]
     requires of { task.old.domain ≡ domain.now }
     requires clean { IsClean task.old }
     ensures of { task.new.domain ≡ domain.now }
@@ -230,7 +222,7 @@ fn stops_sleeps<R: Wait>(rt: &R, domain: &Domain, task: &mut Task) -> [bool; 3]
 }
 
 /// Whether it is taken, and what the own word is without it.
-fn takes_fatal(domain: &Domain, task: &mut Task) -> [bool; 3]
+pub(crate) fn takes_fatal(domain: &Domain, task: &mut Task) -> [bool; 3]
     requires of { task.old.domain ≡ domain.now }
     requires clean { IsClean task.old }
 {
@@ -248,14 +240,16 @@ fn takes_fatal(domain: &Domain, task: &mut Task) -> [bool; 3]
 /// A signal that the state admits keeps its task from sleeping, and is taken once.
 #[test]
 fn signals_stop_sleeps(rt: HostRuntime) -> Result<(), Fail> {
-    let (domain, mut task) = Domain::new(rt.alloc())?;
-    all_so(&rt, &stops_sleeps(&rt, &domain, &mut task));
-    all_so(&rt, &takes_fatal(&domain, &mut task));
-    Ok(())
+    want_all(&rt, rt.alloc(), Seen::StopsSleeps)
 }
 
 /// What wakes by one task find of another that was put asleep.
-fn meets_by_mode<R: Wait>(rt: &R, domain: &Domain, task: &mut Task, other: &mut Task) -> [bool; 7]
+pub(crate) fn meets_by_mode<R: Wait>(
+    rt: &R,
+    domain: &Domain,
+    task: &mut Task,
+    other: &mut Task,
+) -> [bool; 7]
     requires of { (task.old.domain ≡ domain.now) × (other.old.domain ≡ domain.now) }
     requires clean { IsClean task.old × IsClean other.old }
 {
@@ -274,10 +268,7 @@ fn meets_by_mode<R: Wait>(rt: &R, domain: &Domain, task: &mut Task, other: &mut 
 /// A wake meets the states of its mask alone, and makes the task runnable.
 #[test]
 fn wakes_meet_states(rt: HostRuntime) -> Result<(), Fail> {
-    let (domain, mut task) = Domain::new(rt.alloc())?;
-    let mut other = another(&rt, &domain, &mut task);
-    all_so(&rt, &meets_by_mode(&rt, &domain, &mut task, &mut other));
-    Ok(())
+    want_beside(&rt, rt.alloc(), Beside::MeetsByMode)
 }
 
 /// Stores UNINTERRUPTIBLE and sleeps until woken.

@@ -70,7 +70,7 @@ fn words_stand_one_class_behind_the_other(rt: HostRuntime) {
 }
 
 /// Whether a place is one: none is not.
-fn is_at(place: Option<u64>, wanted: u64) -> bool {
+pub(crate) fn is_at(place: Option<u64>, wanted: u64) -> bool {
     match place {
         Some(at) => at == wanted,
         None => false,

@@ -14,6 +14,9 @@ use wait_model::tasks::{How, SleepState};
 use wait_model::watches::Mode;
 use wait_rule::{Domain, Task};
 
+/// In which state a task waits.
+const STATE: SleepState = SleepState::Uninterruptible;
+
 /// Waits until condition `cond`, below `FIRST_SIMPLE`, is set: false where the wait ended for another reason.
 pub(crate) fn wait_for<R: Wait>(rt: &R, domain: &Domain, task: &mut Task, cond: u8) -> bool
     requires of { task.old.domain ≡ domain.now }
@@ -23,7 +26,7 @@ pub(crate) fn wait_for<R: Wait>(rt: &R, domain: &Domain, task: &mut Task, cond: 
     ensures clean { IsClean task.new }
 {
     let how = How {
-        state: SleepState::Uninterruptible,
+        state: STATE,
         exclusive: false,
     };
     wait_event(rt, domain, task, cond, how).is_ok()
@@ -53,50 +56,6 @@ pub(crate) fn set<R: Wait>(rt: &R, domain: &Domain, task: &mut Task, cond: u8) -
     set_and_wake(rt, domain, task, cond, 1, Mode::Normal, 0).woken
 }
 
-/// Completes completion `cell` for one waiter.
-fn complete_one<R: Wait>(rt: &R, domain: &Domain, task: &mut Task, cell: u8)
-    requires of { task.old.domain ≡ domain.now }
-    requires clean { IsClean task.old }
-    requires cell { cell < COMPLETIONS }
-    ensures of { task.new.domain ≡ domain.now }
-    ensures clean { IsClean task.new }
-{
-    complete(rt, domain, task, cell);
-}
-
-/// Waits for completion `cell`, and takes one: false where the wait ended for another reason.
-fn await_one<R: Wait>(rt: &R, domain: &Domain, task: &mut Task, cell: u8) -> bool
-    requires of { task.old.domain ≡ domain.now }
-    requires clean { IsClean task.old }
-    requires cell { cell < COMPLETIONS }
-    ensures of { task.new.domain ≡ domain.now }
-    ensures clean { IsClean task.new }
-{
-    await_calls::wait_for(rt, domain, task, cell, SleepState::Uninterruptible).is_ok()
-}
-
-/// Gives a permit of semaphore `cell` back.
-fn give_one<R: Wait>(rt: &R, domain: &Domain, task: &mut Task, cell: u8)
-    requires of { task.old.domain ≡ domain.now }
-    requires clean { IsClean task.old }
-    requires cell { cell < COMPLETIONS }
-    ensures of { task.new.domain ≡ domain.now }
-    ensures clean { IsClean task.new }
-{
-    let _ = up(rt, domain, task, cell);
-}
-
-/// Takes one, and waits for it: false where it took none.
-fn take_one<R: Wait>(rt: &R, domain: &Domain, task: &mut Task, cell: u8) -> bool
-    requires of { task.old.domain ≡ domain.now }
-    requires clean { IsClean task.old }
-    requires cell { cell < COMPLETIONS }
-    ensures of { task.new.domain ≡ domain.now }
-    ensures clean { IsClean task.new }
-{
-    down(rt, domain, task, cell, SleepState::Uninterruptible).is_ok()
-}
-
 /// By which calls one thread tells another that it may go on.
 #[derive(Clone, Copy)]
 pub(crate) enum Means {
@@ -121,8 +80,12 @@ pub(crate) fn tell<R: Wait>(rt: &R, domain: &Domain, task: &mut Task, means: Mea
         Means::Condition => {
             set(rt, domain, task, number);
         }
-        Means::Completion => complete_one(rt, domain, task, number),
-        Means::Semaphore => give_one(rt, domain, task, number),
+        Means::Completion => {
+            complete(rt, domain, task, number);
+        }
+        Means::Semaphore => {
+            let _ = up(rt, domain, task, number);
+        }
     }
 }
 
@@ -143,7 +106,7 @@ pub(crate) fn hear<R: Wait>(
 {
     match means {
         Means::Condition => receive(rt, domain, task, number),
-        Means::Completion => await_one(rt, domain, task, number),
-        Means::Semaphore => take_one(rt, domain, task, number),
+        Means::Completion => await_calls::wait_for(rt, domain, task, number, STATE).is_ok(),
+        Means::Semaphore => down(rt, domain, task, number, STATE).is_ok(),
     }
 }

@@ -5,6 +5,7 @@ ghost use Rattle.wait_rule.specs.Says.{IsClean};
 
 use crate::events::calls::{set, wait_for};
 use crate::tasks::crowd;
+use crate::timing::Times;
 use std::alloc::Global;
 use std::sync::Wait;
 use std::thread::Threads;
@@ -24,13 +25,6 @@ struct Woke {
     start: Instant,
     call: Duration,
     woken: u32,
-}
-
-/// How long a wake of a crowd took: the call, and until the last waiter had gone on.
-#[derive(Clone, Copy)]
-pub(crate) struct WakeTimes {
-    pub(crate) call: Duration,
-    pub(crate) last: Duration,
 }
 
 /// Waits for the condition: when it went on. None where the condition was not set, or the clock not read.
@@ -113,22 +107,21 @@ fn meet<R: Clock + Threads + Wait + Sync>(
     )
 }
 
-/// How long one wake of `count` sleepers takes, all of which park at once: None where not all of them slept.
+/// How long one wake of `count` sleepers takes, all of which park at once: the call, and until the last of them had gone
+/// on; none of both where not all of them slept.
 pub(crate) fn time_wake<R: Clock + Threads + Wait + Sync>(
     rt: &R,
     alloc: Global,
     count: u8,
-) -> io::Result<Option<WakeTimes>> {
+) -> io::Result<Times> {
     let (domain, mut task) = Domain::with_looks(alloc, 0)?;
     let tasks = crowd(alloc, &domain, &mut task, count)?;
     let (Some(woke), Some(last)) = meet(rt, &domain, task, tasks) else {
-        return Ok(None);
+        return Ok(Times(None, None));
     };
     if woke.woken != u32::from(count) {
-        return Ok(None);
+        return Ok(Times(None, None));
     }
-    Ok(Some(WakeTimes {
-        call: woke.call,
-        last: last.duration_since(woke.start),
-    }))
+    let until = last.duration_since(woke.start);
+    Ok(Times(Some(woke.call), Some(until)))
 }

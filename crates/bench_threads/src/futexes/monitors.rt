@@ -5,16 +5,16 @@ ghost use Rattle.std.specs.Prelude.{◌≡◌, true};
 ghost use Rattle.wait_rule.specs.Says.{IsClean};
 ghost use Rattle.futex_table.specs.Holding.{HoldsMutex};
 
-use crate::futexes::mutexes::{lock, open, unlock};
-use crate::tasks::another;
+use crate::futexes::mutexes::{lock, unlock};
+use crate::timing::time_two;
 use futex_table::{cond_broadcast, cond_wait};
 use std::alloc::Global;
 use std::io;
 use std::sync::Wait;
 use std::sync::atomic::{AtomicU64, Ordering};
 use std::thread::Threads;
-use std::time::{Clock, Duration, Instant};
-use test_tasks::meetings::{Part, meet_two};
+use std::time::{Clock, Duration};
+use test_tasks::meetings::Part;
 use wait_model::tasks::SleepState;
 use wait_rule::{Domain, Task};
 
@@ -135,20 +135,11 @@ pub(crate) fn time_hands<R: Clock + Threads + Wait + Sync>(
     looks: u32,
     n: u64,
 ) -> io::Result<Option<Duration>> {
-    let (domain, mut task) = Domain::with_looks(alloc, looks)?;
-    let other = another(&domain, &mut task);
     let number = AtomicU64::new(0);
-    open(rt, &domain, &mut task);
-    let start = Instant::now(rt)?;
     let monitor = Monitor {
         number: &number,
         last: n,
     };
     let sides = (Side { monitor, own: 0 }, Side { monitor, own: 1 });
-    let (one, two) = meet_two(rt, &domain, task, other, sides);
-    if one.1 && two.1 {
-        Ok(Some(start.elapsed(rt)?))
-    } else {
-        Ok(None)
-    }
+    time_two(rt, alloc, looks, sides, 1)
 }

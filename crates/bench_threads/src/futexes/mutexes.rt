@@ -5,10 +5,8 @@ ghost use Rattle.wait_rule.specs.Says.{IsClean};
 ghost use Rattle.futex_table.specs.Holding.{HoldsMutex};
 
 use futex_table::{futex_wake, mutex_lock, mutex_open, mutex_unlock};
-use std::alloc::Global;
-use std::io;
 use std::sync::Wait;
-use std::time::{Clock, Duration, Instant};
+use test_tasks::meetings::Part;
 use wait_rule::{Domain, Task};
 
 /// The mutex.
@@ -52,32 +50,18 @@ pub(crate) fn unlock<R: Wait>(rt: &R, domain: &Domain, task: &mut Task)
     mutex_unlock(rt, domain, task, LOCK);
 }
 
-/// Takes it and gives it back: whether it had it.
-fn lock_once<R: Wait>(rt: &R, domain: &Domain, task: &mut Task) -> bool
-    requires of { task.old.domain ≡ domain.now }
-    requires clean { IsClean task.old }
-    ensures of { task.new.domain ≡ domain.now }
-    ensures clean { IsClean task.new }
-{
-    if lock(rt, domain, task) {
-        unlock(rt, domain, task);
-        return true;
-    }
-    false
-}
+/// Takes it and gives it back: it goes well where the task had it.
+#[derive(Clone, Copy)]
+pub(crate) struct LockOnce;
 
-/// The same `n` times: whether it had it each time.
-pub(crate) fn lock_often<R: Wait>(rt: &R, domain: &Domain, mut task: Task, n: u64) -> bool
-    requires of { task.domain ≡ domain.now }
-    requires clean { IsClean task }
-{
-    let mut all = true;
-    for _ in 0..n {
-        if !lock_once(rt, domain, &mut task) {
-            all = false;
+impl Part for LockOnce {
+    fn play<R: Wait>(self, rt: &R, domain: &Domain, task: &mut Task) -> bool {
+        if lock(rt, domain, task) {
+            unlock(rt, domain, task);
+            return true;
         }
+        false
     }
-    all
 }
 
 /// Wakes one who sleeps on the futex, where one does.
@@ -90,20 +74,13 @@ fn wake_one<R: Wait>(rt: &R, domain: &Domain, task: &mut Task)
     futex_wake(rt, domain, task, FUTEX, 1);
 }
 
-/// Wakes a futex on which nobody sleeps, `n` times.
-fn wake_often<R: Wait>(rt: &R, domain: &Domain, task: &mut Task, n: u64)
-    requires of { task.old.domain ≡ domain.now }
-    requires clean { IsClean task.old }
-{
-    for _ in 0..n {
-        wake_one(rt, domain, task);
-    }
-}
+/// It does so once.
+#[derive(Clone, Copy)]
+pub(crate) struct WakeOne;
 
-/// How long that takes.
-pub(crate) fn time_wakes<R: Clock + Wait>(rt: &R, alloc: Global, n: u64) -> io::Result<Duration> {
-    let (domain, mut task) = Domain::new(alloc)?;
-    let start = Instant::now(rt)?;
-    wake_often(rt, &domain, &mut task, n);
-    start.elapsed(rt)
+impl Part for WakeOne {
+    fn play<R: Wait>(self, rt: &R, domain: &Domain, task: &mut Task) -> bool {
+        wake_one(rt, domain, task);
+        true
+    }
 }

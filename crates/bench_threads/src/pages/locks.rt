@@ -10,6 +10,7 @@ use std::sync::Wait;
 use std::thread::Threads;
 use std::time::{Clock, Duration, Instant};
 use std::{io, thread};
+use test_tasks::meetings::Part;
 use wait_model::tasks::SleepState;
 use wait_rule::{Domain, Task};
 
@@ -38,21 +39,17 @@ fn add_one<R: Wait>(rt: &R, domain: &Domain, task: &mut Task) -> Option<u64>
     Some(before)
 }
 
-/// The same `n` times: true where each got the page.
-pub(crate) fn add_often<R: Wait>(rt: &R, domain: &Domain, mut task: Task, n: u64) -> bool
-    requires of { task.domain ≡ domain.now }
-    requires clean { IsClean task }
-{
-    let mut all = true;
-    for _ in 0..n {
-        if add_one(rt, domain, &mut task).is_none() {
-            all = false;
-        }
+/// A lock of the page: it goes well where the task got it.
+#[derive(Clone, Copy)]
+pub(crate) struct AddOne;
+
+impl Part for AddOne {
+    fn play<R: Wait>(self, rt: &R, domain: &Domain, task: &mut Task) -> bool {
+        add_one(rt, domain, task).is_some()
     }
-    all
 }
 
-/// The same `n` times, and when it came for each: None where one of them did not get the page, or the clock was not
+/// `n` locks of the page, and when the task came for each: None where one of them did not get the page, or the clock was not
 /// read.
 fn come_often<R: Clock + Wait>(
     rt: &R,

@@ -9,7 +9,7 @@ ghost use Rattle.wq_head.specs.Holds.{IsHolding};
 ghost use Rattle.head_tests.specs.Leaving.{HasEntry, HasLeft, IsBack, StandsQueued};
 ghost use Rattle.wq_head.specs.Readied.{IsPlainKind, IsReadyToCall};
 
-use crate::wants::{all_so, another};
+use crate::scenes::{Joined, want_joined};
 use std::process::Abort;
 use std::sync::Wait;
 use std::test::Fail;
@@ -173,7 +173,7 @@ fn wait_and_wake<R: Abort + Wait>(
 }
 
 /// It leaves the queue then, and is joined.
-fn woken_leaves<R: Abort + Wait>(
+pub(crate) fn woken_leaves<R: Abort + Wait>(
     rt: &R,
     domain: &Domain,
     task: &mut Task,
@@ -190,7 +190,7 @@ fn woken_leaves<R: Abort + Wait>(
 }
 
 /// It does so with an entry that stays, which it takes off itself.
-fn woken_leaves_default<R: Abort + Wait>(
+pub(crate) fn woken_leaves_default<R: Abort + Wait>(
     rt: &R,
     domain: &Domain,
     task: &mut Task,
@@ -207,7 +207,12 @@ fn woken_leaves_default<R: Abort + Wait>(
 }
 
 /// A waiter wakes others, leaves the queue and is joined: whether it woke nobody.
-fn waiter_wakes<R: Abort + Wait>(rt: &R, domain: &Domain, task: &mut Task, mut waiter: Task) -> bool
+pub(crate) fn waiter_wakes<R: Abort + Wait>(
+    rt: &R,
+    domain: &Domain,
+    task: &mut Task,
+    mut waiter: Task,
+) -> bool
     requires of { (task.old.domain ≡ domain.now) × (waiter.domain ≡ domain.now) }
     requires up { IsUp task.old }
     requires clean { IsClean waiter }
@@ -220,7 +225,7 @@ fn waiter_wakes<R: Abort + Wait>(rt: &R, domain: &Domain, task: &mut Task, mut w
 }
 
 /// A waker sets the condition, wakes all and is joined: whether it woke nobody.
-fn waker_ends<R: Wait>(rt: &R, domain: &Domain, task: &mut Task, mut waker: Task) -> bool
+pub(crate) fn waker_ends<R: Wait>(rt: &R, domain: &Domain, task: &mut Task, mut waker: Task) -> bool
     requires of { (task.old.domain ≡ domain.now) × (waker.domain ≡ domain.now) }
     requires up { IsUp task.old }
     requires clean { IsClean waker }
@@ -233,35 +238,23 @@ fn waker_ends<R: Wait>(rt: &R, domain: &Domain, task: &mut Task, mut waker: Task
 /// A waker that set the condition owes nothing more after its wake of all.
 #[test]
 fn waker_is_joined(rt: HostRuntime) -> Result<(), Fail> {
-    let (domain, mut task) = Domain::new(rt.alloc())?;
-    let waker = another(&rt, &domain, &mut task);
-    all_so(&rt, &[waker_ends(&rt, &domain, &mut task, waker)]);
-    Ok(())
+    want_joined(&rt, rt.alloc(), Joined::Waker)
 }
 
 /// A waiter whose entry the wake takes off.
 #[test]
 fn woken_waiter_is_joined(rt: HostRuntime) -> Result<(), Fail> {
-    let (domain, mut task) = Domain::new(rt.alloc())?;
-    let waiter = another(&rt, &domain, &mut task);
-    all_so(&rt, &woken_leaves(&rt, &domain, &mut task, waiter));
-    Ok(())
+    want_joined(&rt, rt.alloc(), Joined::WokenWaiter)
 }
 
 /// A waiter whose entry stays over the wake of another task, and that takes it off itself.
 #[test]
 fn default_entry_stays(rt: HostRuntime) -> Result<(), Fail> {
-    let (domain, mut task) = Domain::new(rt.alloc())?;
-    let waiter = another(&rt, &domain, &mut task);
-    all_so(&rt, &woken_leaves_default(&rt, &domain, &mut task, waiter));
-    Ok(())
+    want_joined(&rt, rt.alloc(), Joined::WokenDefault)
 }
 
 /// A waiter that wakes others while its own entry is queued.
 #[test]
 fn own_entry_stays_over_a_wake(rt: HostRuntime) -> Result<(), Fail> {
-    let (domain, mut task) = Domain::new(rt.alloc())?;
-    let waiter = another(&rt, &domain, &mut task);
-    all_so(&rt, &[waiter_wakes(&rt, &domain, &mut task, waiter)]);
-    Ok(())
+    want_joined(&rt, rt.alloc(), Joined::WakingWaiter)
 }

@@ -5,7 +5,7 @@ ghost use Rattle.wq_head.specs.Readied.{IsReadyToCall, IsUpAndFree};
 
 use crate::heads::strangers::queue_for;
 use crate::heads::waiting::queue_own;
-use crate::wants::{all_so, another};
+use crate::scenes::{Beside, want_beside};
 use std::sync::Wait;
 use std::test::Fail;
 use wait_model::layout::{FIRST_PLAIN_HEAD, RUNNING};
@@ -36,7 +36,12 @@ fn shows_two<R: Wait>(rt: &R, domain: &Domain, task: &mut Task, first: u8, secon
 }
 
 /// Queues the entry of one task at the tail, and then that of another at the front.
-fn queues_two<R: Wait>(rt: &R, domain: &Domain, task: &mut Task, other: &mut Task) -> [bool; 3]
+pub(crate) fn queues_two<R: Wait>(
+    rt: &R,
+    domain: &Domain,
+    task: &mut Task,
+    other: &mut Task,
+) -> [bool; 3]
     requires of { (task.old.domain ≡ domain.now) × (other.old.domain ≡ domain.now) }
     requires ready { IsReadyToCall task.old × IsReadyToCall other.old }
 {
@@ -51,8 +56,5 @@ fn queues_two<R: Wait>(rt: &R, domain: &Domain, task: &mut Task, other: &mut Tas
 /// Who was added at the front stands before who was added at the tail.
 #[test]
 fn members_in_order(rt: HostRuntime) -> Result<(), Fail> {
-    let (domain, mut task) = Domain::new(rt.alloc())?;
-    let mut other = another(&rt, &domain, &mut task);
-    all_so(&rt, &queues_two(&rt, &domain, &mut task, &mut other));
-    Ok(())
+    want_beside(&rt, rt.alloc(), Beside::QueuesTwo)
 }

@@ -10,7 +10,8 @@ use crate::heads::errands::{Errand, run_two};
 use crate::heads::scripts::Did;
 use crate::heads::sleepers::sees_queued;
 use crate::heads::strangers::{wake_for, wakes};
-use crate::wants::{all_so, another};
+use crate::scenes::{Batch, want_often};
+use crate::wants::another;
 use std::process::Abort;
 use std::sync::Wait;
 use std::test::Fail;
@@ -32,7 +33,13 @@ use wq_head::locks::{lock, unlock};
 const ROUNDS: u32 = 300;
 
 /// Queues the own entry for a page, and stores a state in the same hold: false where there is no place.
-fn queue_page<R: Wait>(rt: &R, domain: &Domain, task: &mut Task, page: u8, state: u32) -> bool
+pub(crate) fn queue_page<R: Wait>(
+    rt: &R,
+    domain: &Domain,
+    task: &mut Task,
+    page: u8,
+    state: u32,
+) -> bool
     requires of { task.old.domain ≡ domain.now }
     requires ready { IsReadyToCall task.old }
     requires page { page < BIT_WORDS }
@@ -45,27 +52,6 @@ fn queue_page<R: Wait>(rt: &R, domain: &Domain, task: &mut Task, page: u8, state
     set_state(domain, task, state);
     unlock(rt, domain, task, false);
     queued
-}
-
-/// A new task does so: false where there is no number left, too.
-pub(crate) fn other_waits<R: Wait>(
-    rt: &R,
-    domain: &Domain,
-    task: &mut Task,
-    page: u8,
-    state: u32,
-) -> bool
-    requires of { task.old.domain ≡ domain.now }
-    requires ready { IsReadyToCall task.old }
-    requires page { page < BIT_WORDS }
-    requires state { IsState state }
-    ensures of { task.new.domain ≡ domain.now }
-    ensures ready { IsReadyToCall task.new }
-{
-    match task.fork(domain, 0) {
-        Ok(mut other) => queue_page(rt, domain, &mut other, page, state),
-        Err(_) => false,
-    }
 }
 
 /// Whether the own entry is off, and the own flag word tells that a page was taken for the task.
@@ -169,7 +155,7 @@ pub(crate) fn wake_once<R: Wait>(
 
 /// A new task sleeps for the page, and another one hands it over after so many yields: whether the first was told, and
 /// one was woken.
-fn hand_to_sleeper<R: Abort + Threads + Wait + Sync>(
+pub(crate) fn hand_to_sleeper<R: Abort + Threads + Wait + Sync>(
     rt: &R,
     domain: &Domain,
     mut task: Task,
@@ -188,9 +174,5 @@ fn hand_to_sleeper<R: Abort + Threads + Wait + Sync>(
 /// Whenever the walk comes, while the task goes to sleep or once it sleeps, it is told and wakes up.
 #[test]
 fn sleepers_are_handed_their_page(rt: HostRuntime) -> Result<(), Fail> {
-    for round in 0..ROUNDS {
-        let (domain, task) = Domain::with_looks(rt.alloc(), 0)?;
-        all_so(&rt, &hand_to_sleeper(&rt, &domain, task, round % 20));
-    }
-    Ok(())
+    want_often(&rt, rt.alloc(), Batch::HandsPages, ROUNDS)
 }

@@ -6,24 +6,25 @@ ghost use Rattle.wait_model.specs.Tasks.{IsState};
 ghost use Rattle.wq_head.specs.Readied.{IsReadyToCall};
 ghost use Rattle.wq_head.specs.Walks.{IsFull};
 
-use crate::heads::many::{counts, is_active, queue_as, queue_many};
-use crate::heads::pages::{hands_to, other_waits};
-use crate::heads::strangers::{lock_other, queue_other, wakes};
+use crate::heads::many::queue_many;
+use crate::heads::pages::{hands_to, queue_page};
+use crate::heads::strangers::{queue_for, queue_lock, wake_for};
+use crate::heads::waiting::{count_members, queue_own};
 use std::process::Abort;
 use std::sync::Wait;
 use wait_model::heads::head_of;
-use wait_model::layout::{RUNNING, UNINTERRUPTIBLE};
+use wait_model::layout::{FIRST_PLAIN_HEAD, RUNNING, UNINTERRUPTIBLE};
 use wait_model::queues::{End, Walked};
 use wait_model::watches::{Kind, Mode, Watch};
 use wait_rule::{Domain, Task};
+use wq_head::looks::active;
 
-/// What is waited for and woken: condition 0, bit 16 of word 2 and variable 16, which have one head, the variable by an
-/// old value of 0 or by a newer one, and pages.
+/// What is woken: condition 0, bit 16 of word 2 and variable 16, which have one head, the variable by a newer value than
+/// is waited for, and pages.
 #[derive(Clone, Copy)]
 pub(crate) enum What {
     Condition,
     Bit,
-    Variable,
     Newer,
     Page(Page),
 }
@@ -111,7 +112,6 @@ fn watch_of(what: What) -> Watch
     match what {
         What::Condition => Watch::Plain { cond: 0 },
         What::Bit => Watch::Bit { word: 2, bit: 16 },
-        What::Variable => Watch::Var { var: 16, old: 0 },
         What::Newer => Watch::Var { var: 16, old: 7 },
         What::Page(page) => Watch::Bit {
             word: word_of(page),
@@ -149,46 +149,47 @@ fn have_one_head() -> bool {
     head_of(bit) == head_of(var)
 }
 
-/// A new task queues an entry for the bit or the variable.
-fn queue_stranger<R: Wait>(rt: &R, domain: &Domain, task: &mut Task, bit: bool) -> bool
+/// Whether a row of a new task goes as it says.
+fn does<R: Wait>(rt: &R, domain: &Domain, task: &mut Task, deed: Deed) -> bool
     requires of { task.old.domain ≡ domain.now }
     requires ready { IsReadyToCall task.old }
-    ensures of { task.new.domain ≡ domain.now }
-    ensures ready { IsReadyToCall task.new }
 {
-    if bit {
-        let bit = Watch::Bit { word: 2, bit: 16 };
-        queue_other(rt, domain, task, Kind::Bit, bit)
-    } else {
-        let var = Watch::Var { var: 16, old: 0 };
-        queue_other(rt, domain, task, Kind::Var, var)
+    match deed {
+        Deed::Queues { exclusive, asleep } => {
+            let kind = Kind::Default;
+            queue_own(rt, domain, task, kind, exclusive, state_of(asleep))
+        }
+        Deed::QueuesForBit => {
+            let bit = Watch::Bit { word: 2, bit: 16 };
+            queue_for(rt, domain, task, Kind::Bit, bit)
+        }
+        Deed::QueuesForVariable => {
+            let var = Watch::Var { var: 16, old: 0 };
+            queue_for(rt, domain, task, Kind::Var, var)
+        }
+        Deed::LocksBit => {
+            let bit = Watch::Bit { word: 2, bit: 16 };
+            queue_lock(rt, domain, task, bit)
+        }
+        Deed::LocksPageBit(page) => {
+            let word = word_of(page);
+            queue_lock(rt, domain, task, Watch::Bit { word, bit: 0 })
+        }
+        Deed::QueuesForPage(page) => queue_page(rt, domain, task, word_of(page), UNINTERRUPTIBLE),
+        Deed::Wakes(what, count, did) => {
+            is_done(
+                wake_for(rt, domain, task, watch_of(what), Mode::Normal, count),
+                did,
+            )
+        }
+        Deed::IsActive(wanted) => active(domain, task, FIRST_PLAIN_HEAD) == wanted,
+        Deed::Counts { entries, marks } => count_members(domain, task) == (entries, marks),
+        Deed::HaveOneHead => have_one_head(),
+        Deed::QueuesMany(_) | Deed::IsHanded { .. } => false,
     }
 }
 
-/// A new task queues an exclusive entry for the bit.
-fn lock_bit<R: Wait>(rt: &R, domain: &Domain, task: &mut Task) -> bool
-    requires of { task.old.domain ≡ domain.now }
-    requires ready { IsReadyToCall task.old }
-    ensures of { task.new.domain ≡ domain.now }
-    ensures ready { IsReadyToCall task.new }
-{
-    let bit = Watch::Bit { word: 2, bit: 16 };
-    lock_other(rt, domain, task, bit)
-}
-
-/// And for the bit of a page.
-fn lock_page_bit<R: Wait>(rt: &R, domain: &Domain, task: &mut Task, page: Page) -> bool
-    requires of { task.old.domain ≡ domain.now }
-    requires ready { IsReadyToCall task.old }
-    ensures of { task.new.domain ≡ domain.now }
-    ensures ready { IsReadyToCall task.new }
-{
-    let word = word_of(page);
-    let bit = Watch::Bit { word, bit: 0 };
-    lock_other(rt, domain, task, bit)
-}
-
-/// Whether a row goes as it says.
+/// Whether a row goes as it says: what it says of several new tasks, or of one.
 fn goes<R: Wait>(rt: &R, domain: &Domain, task: &mut Task, deed: Deed) -> bool
     requires of { task.old.domain ≡ domain.now }
     requires ready { IsReadyToCall task.old }
@@ -196,24 +197,14 @@ fn goes<R: Wait>(rt: &R, domain: &Domain, task: &mut Task, deed: Deed) -> bool
     ensures ready { IsReadyToCall task.new }
 {
     match deed {
-        Deed::Queues { exclusive, asleep } => {
-            queue_as(rt, domain, task, exclusive, state_of(asleep))
-        }
         Deed::QueuesMany(count) => queue_many(rt, domain, task, count),
-        Deed::QueuesForBit => queue_stranger(rt, domain, task, true),
-        Deed::QueuesForVariable => queue_stranger(rt, domain, task, false),
-        Deed::LocksBit => lock_bit(rt, domain, task),
-        Deed::LocksPageBit(page) => lock_page_bit(rt, domain, task, page),
-        Deed::QueuesForPage(page) => other_waits(rt, domain, task, word_of(page), UNINTERRUPTIBLE),
         Deed::IsHanded { page, mode, asleep } => {
             hands_to(rt, domain, task, word_of(page), mode, state_of(asleep))
         }
-        Deed::Wakes(what, count, did) => {
-            wakes(rt, domain, task, watch_of(what), Mode::Normal, count, did)
-        }
-        Deed::IsActive(wanted) => is_active(domain, task, wanted),
-        Deed::Counts { entries, marks } => counts(domain, task, entries, marks),
-        Deed::HaveOneHead => have_one_head(),
+        _ => match task.fork(domain, 0) {
+            Ok(mut other) => does(rt, domain, &mut other, deed),
+            Err(_) => false,
+        },
     }
 }
 

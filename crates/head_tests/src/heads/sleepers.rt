@@ -6,6 +6,7 @@ ghost use Rattle.wq_head.specs.Readied.{IsUpAndIdle, IsReadyToCall, IsUpAndFree}
 
 use crate::heads::errands::{Errand, run_four};
 use crate::heads::waiting::{count_members, leave, queue_own};
+use crate::scenes::{Batch, want_often};
 use crate::wants::{all_so, another};
 use std::process::Abort;
 use std::sync::Wait;
@@ -105,7 +106,7 @@ pub(crate) fn set_and_wake<R: Wait>(
 /// Three tasks wait, and a fourth one sets the condition and wakes them, each in a thread of its own. Each entry is taken
 /// off by the wake that woke its task, or by its task: whatever the order of the steps, no wakeup is lost, and no entry and
 /// no bookmark is left anywhere.
-fn walk_over_three<R: Abort + Threads + Wait + Sync>(
+pub(crate) fn walk_over_three<R: Abort + Threads + Wait + Sync>(
     rt: &R,
     domain: &Domain,
     mut task: Task,
@@ -139,19 +140,11 @@ fn walk_over_three<R: Abort + Threads + Wait + Sync>(
 /// The condition is set at once, which may be before the tasks wait for it, while they do, or when they sleep.
 #[test]
 fn walk_over_arrivals(rt: HostRuntime) -> Result<(), Fail> {
-    for round in 0..ROUNDS {
-        let (domain, task) = Domain::with_looks(rt.alloc(), 0)?;
-        walk_over_three(&rt, &domain, task, 0, round % 100);
-    }
-    Ok(())
+    want_often(&rt, rt.alloc(), Batch::WalksOverArrivals, ROUNDS)
 }
 
 /// The condition is set once all are queued, or after many looks: while they go to sleep, or when they sleep.
 #[test]
 fn walk_over_sleepers(rt: HostRuntime) -> Result<(), Fail> {
-    for round in 0..ROUNDS {
-        let (domain, task) = Domain::with_looks(rt.alloc(), 0)?;
-        walk_over_three(&rt, &domain, task, 100_000, round % 20);
-    }
-    Ok(())
+    want_often(&rt, rt.alloc(), Batch::WalksOverSleepers, ROUNDS)
 }

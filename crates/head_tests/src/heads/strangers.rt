@@ -1,4 +1,4 @@
-//! New tasks that queue their entries for a bit or a variable, and wakes by new tasks.
+//! Tasks that queue their entries for a bit or a variable, and wakes.
 
 ghost use Rattle.std.specs.Prelude.{◌≡◌};
 ghost use Rattle.wait_model.specs.declared.watches.Kind.TheVariants as kinds;
@@ -40,29 +40,8 @@ pub(crate) fn queue_for<R: Wait>(
     queued
 }
 
-/// A new task does so: false where there is no number left, too.
-pub(crate) fn queue_other<R: Wait>(
-    rt: &R,
-    domain: &Domain,
-    task: &mut Task,
-    kind: Kind,
-    watch: Watch,
-) -> bool
-    requires of { task.old.domain ≡ domain.now }
-    requires ready { IsReadyToCall task.old }
-    requires suits { IsFor watch kind }
-    requires full { IsFull watch }
-    ensures of { task.new.domain ≡ domain.now }
-    ensures ready { IsReadyToCall task.new }
-{
-    match task.fork(domain, 0) {
-        Ok(mut other) => queue_for(rt, domain, &mut other, kind, watch),
-        Err(_) => false,
-    }
-}
-
 /// Queues an exclusive entry for a bit, and stores a state in the same hold.
-fn queue_lock<R: Wait>(rt: &R, domain: &Domain, task: &mut Task, watch: Watch) -> bool
+pub(crate) fn queue_lock<R: Wait>(rt: &R, domain: &Domain, task: &mut Task, watch: Watch) -> bool
     requires of { task.old.domain ≡ domain.now }
     requires ready { IsReadyToCall task.old }
     requires suits { IsForBit watch kinds.Bit }
@@ -75,21 +54,6 @@ fn queue_lock<R: Wait>(rt: &R, domain: &Domain, task: &mut Task, watch: Watch) -
     set_state(domain, task, INTERRUPTIBLE);
     unlock(rt, domain, task, false);
     queued
-}
-
-/// A new task does so.
-pub(crate) fn lock_other<R: Wait>(rt: &R, domain: &Domain, task: &mut Task, watch: Watch) -> bool
-    requires of { task.old.domain ≡ domain.now }
-    requires ready { IsReadyToCall task.old }
-    requires suits { IsForBit watch kinds.Bit }
-    requires full { IsFull watch }
-    ensures of { task.new.domain ≡ domain.now }
-    ensures ready { IsReadyToCall task.new }
-{
-    match task.fork(domain, 0) {
-        Ok(mut other) => queue_lock(rt, domain, &mut other, watch),
-        Err(_) => false,
-    }
 }
 
 /// A wake by a task that has nothing queued.

@@ -9,25 +9,27 @@ use std::sync::Wait;
 use std::test::Fail;
 use std::thread::Threads;
 use test_tasks::meetings::four_meet;
+use test_tasks::often::Often;
 use wait_model::layout::FIRST_PLAIN_HEAD;
 use wait_rule::queues::{draw, serving_load};
 use wait_rule::{Domain, Task};
 use wq_head::locks::{lock, unlock};
 
-/// How often each thread takes the head.
-const HOLDS: u32 = 500;
+/// Each thread takes the head 500 times.
+const HELD: Often<Part> = Often {
+    part: Part::Holds,
+    times: 500,
+};
 
-/// The holds of one thread.
-pub(crate) fn holds<R: Wait>(rt: &R, domain: &Domain, task: &mut Task) -> bool
+/// A hold of one thread.
+pub(crate) fn hold<R: Wait>(rt: &R, domain: &Domain, task: &mut Task) -> bool
     requires of { task.old.domain ≡ domain.now }
     requires clean { IsClean task.old }
     ensures of { task.new.domain ≡ domain.now }
     ensures clean { IsClean task.new }
 {
-    for _ in 0..HOLDS {
-        lock(rt, domain, task, FIRST_PLAIN_HEAD);
-        unlock(rt, domain, task, false);
-    }
+    lock(rt, domain, task, FIRST_PLAIN_HEAD);
+    unlock(rt, domain, task, false);
     true
 }
 
@@ -40,7 +42,7 @@ fn four_hold<R: Threads + Wait + Sync>(
     requires of { task.domain ≡ domain.now }
     requires clean { IsClean task }
 {
-    let two = (Part::Holds, Part::Holds);
+    let two = (HELD, HELD);
     let (mut last, went) = four_meet(rt, domain, task, two, two);
     let served = serving_load(domain, &mut last, FIRST_PLAIN_HEAD);
     let drawn = draw(domain, &mut last, FIRST_PLAIN_HEAD);

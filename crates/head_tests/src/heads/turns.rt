@@ -5,7 +5,8 @@ ghost use Rattle.wq_head.specs.Readied.{IsReadyToCall};
 
 use crate::heads::many::queue_many;
 use crate::heads::waiting::queue_own;
-use crate::wants::{all_so, another};
+use crate::scenes::{Alone, Beside, want, want_beside};
+use crate::wants::another;
 use std::process::Abort;
 use std::sync::Wait;
 use std::test::Fail;
@@ -23,7 +24,12 @@ use wq_head::rousing::Rousing;
 use wq_head::wakes::{WakeRun, WakeStage, WakeTurn, wake_stretch};
 
 /// Whether a look while another task holds the lock finds its ticket served, and takes the lock once that is given back.
-fn waits_its_turn<R: Wait>(rt: &R, domain: &Domain, task: &mut Task, other: &mut Task) -> bool
+pub(crate) fn waits_its_turn<R: Wait>(
+    rt: &R,
+    domain: &Domain,
+    task: &mut Task,
+    other: &mut Task,
+) -> bool
     requires of { (task.old.domain ≡ domain.now) × (other.old.domain ≡ domain.now) }
     requires ready { IsReadyToCall task.old × IsReadyToCall other.old }
 {
@@ -43,10 +49,7 @@ fn waits_its_turn<R: Wait>(rt: &R, domain: &Domain, task: &mut Task, other: &mut
 /// While another task holds the lock a look finds its ticket served, and when that is given back the own one.
 #[test]
 fn lock_waits_for_its_turn(rt: HostRuntime) -> Result<(), Fail> {
-    let (domain, mut task) = Domain::new(rt.alloc())?;
-    let mut other = another(&rt, &domain, &mut task);
-    all_so(&rt, &[waits_its_turn(&rt, &domain, &mut task, &mut other)]);
-    Ok(())
+    want_beside(&rt, rt.alloc(), Beside::WaitsItsTurn)
 }
 
 /// Whether a wake has met nobody, in one hold.
@@ -60,7 +63,12 @@ fn met_nobody(turn: WakeTurn) -> bool {
 }
 
 /// Whether the wake finds the lock taken while another task holds it, and makes one hold then.
-fn wake_waits<R: Wait>(rt: &R, domain: &Domain, task: &mut Task, other: &mut Task) -> bool
+pub(crate) fn wake_waits<R: Wait>(
+    rt: &R,
+    domain: &Domain,
+    task: &mut Task,
+    other: &mut Task,
+) -> bool
     requires of { (task.old.domain ≡ domain.now) × (other.old.domain ≡ domain.now) }
     requires ready { IsReadyToCall task.old × IsReadyToCall other.old }
 {
@@ -90,10 +98,7 @@ fn wake_waits<R: Wait>(rt: &R, domain: &Domain, task: &mut Task, other: &mut Tas
 /// While another task holds the lock the wake makes no hold, and when that is given back it makes one.
 #[test]
 fn locked_until_it_is_given_back(rt: HostRuntime) -> Result<(), Fail> {
-    let (domain, mut task) = Domain::new(rt.alloc())?;
-    let mut other = another(&rt, &domain, &mut task);
-    all_so(&rt, &[wake_waits(&rt, &domain, &mut task, &mut other)]);
-    Ok(())
+    want_beside(&rt, rt.alloc(), Beside::WakeWaits)
 }
 
 /// Whether a wake is over with its second hold, and has selected nobody.
@@ -105,7 +110,7 @@ fn is_over(turn: WakeTurn) -> bool {
 }
 
 /// A wake over 66 entries of tasks that are awake breaks once, and is over with the next hold.
-fn wake_over_66<R: Wait>(rt: &R, domain: &Domain, task: &mut Task) -> bool
+pub(crate) fn wake_over_66<R: Wait>(rt: &R, domain: &Domain, task: &mut Task) -> bool
     requires of { task.old.domain ≡ domain.now }
     requires ready { IsReadyToCall task.old }
 {
@@ -131,9 +136,7 @@ fn wake_over_66<R: Wait>(rt: &R, domain: &Domain, task: &mut Task) -> bool
 /// Between the two holds nobody holds the lock.
 #[test]
 fn broken_between_two_holds(rt: HostRuntime) -> Result<(), Fail> {
-    let (domain, mut task) = Domain::new(rt.alloc())?;
-    all_so(&rt, &[wake_over_66(&rt, &domain, &mut task)]);
-    Ok(())
+    want(&rt, rt.alloc(), Alone::WakesOver66)
 }
 
 /// Queues the entries of two tasks, of which the first goes to sleep.
@@ -177,7 +180,7 @@ fn names_alone(domain: &Domain, task: &mut Task, who: u8) -> bool
 }
 
 /// A wake of two tasks, one of which was put asleep: the turn names that one, to be roused.
-fn wake_sleeper<R: Abort + Wait>(rt: &R, domain: &Domain, task: &mut Task) -> bool
+pub(crate) fn wake_sleeper<R: Abort + Wait>(rt: &R, domain: &Domain, task: &mut Task) -> bool
     requires of { task.old.domain ≡ domain.now }
     requires ready { IsReadyToCall task.old }
 {
@@ -190,7 +193,5 @@ fn wake_sleeper<R: Abort + Wait>(rt: &R, domain: &Domain, task: &mut Task) -> bo
 /// Who was awake is woken too, and need not be roused.
 #[test]
 fn turn_names_who_slept(rt: HostRuntime) -> Result<(), Fail> {
-    let (domain, mut task) = Domain::new(rt.alloc())?;
-    all_so(&rt, &[wake_sleeper(&rt, &domain, &mut task)]);
-    Ok(())
+    want(&rt, rt.alloc(), Alone::WakesSleeper)
 }

@@ -1,7 +1,7 @@
 //! The parts that tasks play.
 
-use crate::heads::tickets::holds;
-use crate::steps::parks::{Round, go_rounds};
+use crate::heads::tickets::hold;
+use crate::steps::parks::{Round, go_round};
 use std::sync::Wait;
 use test_tasks::meetings;
 use wait_rule::{Domain, Task};
@@ -11,18 +11,18 @@ use wait_rule::{Domain, Task};
 pub(crate) enum Part {
     /// It plays none: the others are fewer.
     Rests,
-    /// It takes a head's lock and gives it back, again and again.
+    /// It takes a head's lock and gives it back.
     Holds,
-    /// It sleeps and wakes others, again and again.
-    GoesRounds(Round),
+    /// It sleeps or wakes others.
+    GoesRound(Round),
 }
 
 impl meetings::Part for Part {
     fn play<R: Wait>(self, rt: &R, domain: &Domain, task: &mut Task) -> bool {
         match self {
             Part::Rests => true,
-            Part::Holds => holds(rt, domain, task),
-            Part::GoesRounds(round) => go_rounds(rt, domain, task, round),
+            Part::Holds => hold(rt, domain, task),
+            Part::GoesRound(round) => go_round(rt, domain, task, round),
         }
     }
 }

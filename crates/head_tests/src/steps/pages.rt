@@ -11,8 +11,8 @@ ghost use Rattle.wait_rule.specs.Looking.{IsQueuedForPage, ShowsEmpty, StaysIdle
 ghost use Rattle.wait_rule.specs.Queues.{IsAgreed, IsIdle, IsLocked, index};
 ghost use Rattle.wait_rule.specs.Says.{IsUp, asks_for, stored_with};
 
+use crate::scenes::{Beside, want_beside};
 use crate::steps::queues::{see_entries, see_marks, take_turn};
-use crate::wants::{all_so, another};
 use std::sync::Wait;
 use std::test::Fail;
 use wait_model::entry_words::EntryWord;
@@ -166,7 +166,7 @@ fn note_page(domain: &Domain, task: &mut Task, word: u8) -> bool
 }
 
 /// Whether a task comes to wait for a page that another one has, and gets it once that one clears it and hands it over.
-fn gets_page<R: Wait>(rt: &R, domain: &Domain, task: &mut Task, other: &mut Task) -> bool
+pub(crate) fn gets_page<R: Wait>(rt: &R, domain: &Domain, task: &mut Task, other: &mut Task) -> bool
     requires of { (task.old.domain ≡ domain.now) × (other.old.domain ≡ domain.now) }
     requires up { IsUp task.old × IsUp other.old }
     requires idle { IsIdle task.old × IsIdle other.old }
@@ -186,8 +186,5 @@ fn gets_page<R: Wait>(rt: &R, domain: &Domain, task: &mut Task, other: &mut Task
 /// A page that one task waits for is handed over to it by who held it, and it gives it back.
 #[test]
 fn a_page_is_handed(rt: HostRuntime) -> Result<(), Fail> {
-    let (domain, mut task) = Domain::new(rt.alloc())?;
-    let mut other = another(&rt, &domain, &mut task);
-    all_so(&rt, &[gets_page(&rt, &domain, &mut task, &mut other)]);
-    Ok(())
+    want_beside(&rt, rt.alloc(), Beside::GetsPage)
 }

@@ -5,12 +5,13 @@ ghost use Rattle.std.specs.Prelude.{◌≡◌};
 ghost use Rattle.wait_rule.specs.Says.{IsClean};
 
 use crate::meetings::Part;
-use crate::wants::all_so;
+use crate::scenes::{Batch, want_often};
 use std::sync::Wait;
 use std::test::Fail;
 use std::thread;
 use std::thread::Threads;
 use test_tasks::meetings::{four_meet, two_meet};
+use test_tasks::often::Often;
 use wait_model::layout::UNINTERRUPTIBLE;
 use wait_model::watches::Mode;
 use wait_rule::domain::{Domain, Task};
@@ -22,7 +23,7 @@ use wait_rule::tasks::set_state;
 const BATCHES: u32 = 100;
 
 /// How many rounds a batch has.
-const ROUNDS: u32 = 100;
+const ROUNDS: u64 = 100;
 
 /// Sleeps until woken.
 fn doze<R: Wait>(rt: &R, domain: &Domain, task: &mut Task)
@@ -96,7 +97,7 @@ pub(crate) enum Round {
 }
 
 /// What a task does in one round.
-fn go_round<R: Wait>(rt: &R, domain: &Domain, task: &mut Task, round: Round)
+pub(crate) fn go_round<R: Wait>(rt: &R, domain: &Domain, task: &mut Task, round: Round) -> bool
     requires of { task.old.domain ≡ domain.now }
     requires clean { IsClean task.old }
     ensures of { task.new.domain ≡ domain.now }
@@ -110,28 +111,23 @@ fn go_round<R: Wait>(rt: &R, domain: &Domain, task: &mut Task, round: Round)
             turn(rt, domain, task, last, first);
         }
     }
-}
-
-/// The same in each round.
-pub(crate) fn go_rounds<R: Wait>(rt: &R, domain: &Domain, task: &mut Task, round: Round) -> bool
-    requires of { task.old.domain ≡ domain.now }
-    requires clean { IsClean task.old }
-    ensures of { task.new.domain ≡ domain.now }
-    ensures clean { IsClean task.new }
-{
-    for _ in 0..ROUNDS {
-        go_round(rt, domain, task, round);
-    }
     true
 }
 
+/// A task that does the same in each round.
+fn goes(round: Round) -> Often<Part> {
+    Often {
+        part: Part::GoesRound(round),
+        times: ROUNDS,
+    }
+}
+
 /// A batch of a sleeper and its waker.
-fn two_go<R: Threads + Wait + Sync>(rt: &R, domain: &Domain, task: Task) -> [bool; 2]
+pub(crate) fn two_go<R: Threads + Wait + Sync>(rt: &R, domain: &Domain, task: Task) -> [bool; 2]
     requires of { task.domain ≡ domain.now }
     requires clean { IsClean task }
 {
-    let wakes = Part::GoesRounds(Round::Wakes { who: 1 });
-    let parts = (wakes, Part::GoesRounds(Round::Sleeps));
+    let parts = (goes(Round::Wakes { who: 1 }), goes(Round::Sleeps));
     let (_task, went) = two_meet(rt, domain, task, parts);
     went
 }
@@ -139,25 +135,25 @@ fn two_go<R: Threads + Wait + Sync>(rt: &R, domain: &Domain, task: Task) -> [boo
 /// A wake ends the sleep of a task whose waker has a thread of its own, between whatever steps of it the wake falls.
 #[test]
 fn sleeps_end(rt: HostRuntime) -> Result<(), Fail> {
-    for _ in 0..BATCHES {
-        let (domain, task) = Domain::with_looks(rt.alloc(), 0)?;
-        all_so(&rt, &two_go(&rt, &domain, task));
-    }
-    Ok(())
+    want_often(&rt, rt.alloc(), Batch::TwoGo, BATCHES)
 }
 
 /// The part of one of the three.
-fn in_turn(next: u8, last: u8, first: bool) -> Part {
-    Part::GoesRounds(Round::Turns { next, last, first })
+fn in_turn(next: u8, last: u8, first: bool) -> Often<Part> {
+    goes(Round::Turns { next, last, first })
 }
 
 /// A batch of three tasks that hand the turn on.
-fn three_go<R: Threads + Wait + Sync>(rt: &R, domain: &Domain, task: Task) -> [bool; 4]
+pub(crate) fn three_go<R: Threads + Wait + Sync>(rt: &R, domain: &Domain, task: Task) -> [bool; 4]
     requires of { task.domain ≡ domain.now }
     requires clean { IsClean task }
 {
     let firsts = (in_turn(1, 2, true), in_turn(2, 0, false));
-    let seconds = (in_turn(0, 1, false), Part::Rests);
+    let rests = Often {
+        part: Part::Rests,
+        times: 1,
+    };
+    let seconds = (in_turn(0, 1, false), rests);
     let (_task, went) = four_meet(rt, domain, task, firsts, seconds);
     went
 }
@@ -165,9 +161,5 @@ fn three_go<R: Threads + Wait + Sync>(rt: &R, domain: &Domain, task: Task) -> [b
 /// A thread parks on the word of its own task, and a wake of that task wakes it.
 #[test]
 fn three_hand_on(rt: HostRuntime) -> Result<(), Fail> {
-    for _ in 0..BATCHES {
-        let (domain, task) = Domain::with_looks(rt.alloc(), 0)?;
-        all_so(&rt, &three_go(&rt, &domain, task));
-    }
-    Ok(())
+    want_often(&rt, rt.alloc(), Batch::ThreeGo, BATCHES)
 }

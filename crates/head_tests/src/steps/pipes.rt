@@ -7,7 +7,8 @@ ghost use Rattle.wait_rule.specs.Pipes.{IsCell, end_word, read_end, write_end};
 ghost use Rattle.wait_rule.specs.PipeSays.{reading, writing};
 ghost use Rattle.wait_rule.specs.Says.{IsClean, IsUp};
 
-use crate::wants::{all_so, another};
+use crate::scenes::{Beside, Seen, want_all, want_beside};
+use crate::wants::another;
 use std::sync::Wait;
 use std::test::Fail;
 use std::thread;
@@ -142,7 +143,7 @@ fn pass_alone(domain: &Domain, task: &mut Task, pipe: u8, word: u64) -> Option<u
 }
 
 /// Whether it does so by the first pipe and by the last.
-fn pass_by_both(domain: &Domain, task: &mut Task) -> [bool; 2]
+pub(crate) fn pass_by_both(domain: &Domain, task: &mut Task) -> [bool; 2]
     requires ready { IsReady domain.now task.old }
 {
     let first = pass_alone(domain, task, 0, 0x4101);
@@ -153,44 +154,10 @@ fn pass_by_both(domain: &Domain, task: &mut Task) -> [bool; 2]
 /// A cell comes out as it was put in, by the first pipe and by the last.
 #[test]
 fn a_cell_is_passed(rt: HostRuntime) -> Result<(), Fail> {
-    let (domain, mut task) = Domain::new(rt.alloc())?;
-    all_so(&rt, &pass_by_both(&domain, &mut task));
-    Ok(())
+    want_all(&rt, rt.alloc(), Seen::PassesCells)
 }
 
-/// Looks at the reader's word until there is room for another cell.
-fn wait_room<R: Wait>(rt: &R, domain: &Domain, task: &mut Task, pipe: u8, n: u16)
-    requires pipe { pipe < PIPES }
-    requires passed { HasPassedCells domain.now (write_end pipe) n task.old }
-    ensures passed { HasPassedCells domain.now (write_end pipe) n task.new }
-    ensures room { n < (writing pipe task.new).seen + PIPE_CELLS }
-{
-    for _ in rt.forever() {
-        if has_room(domain, task, pipe, n) {
-            return;
-        }
-        thread::yield_now();
-    }
-    unreachable!()
-}
-
-/// Looks at the writer's word until another cell is there.
-fn wait_cell<R: Wait>(rt: &R, domain: &Domain, task: &mut Task, pipe: u8, n: u16)
-    requires pipe { pipe < PIPES }
-    requires passed { HasPassedCells domain.now (read_end pipe) n task.old }
-    ensures passed { HasPassedCells domain.now (read_end pipe) n task.new }
-    ensures there { n < (reading pipe task.new).seen }
-{
-    for _ in rt.forever() {
-        if has_cell(domain, task, pipe, n) {
-            return;
-        }
-        thread::yield_now();
-    }
-    unreachable!()
-}
-
-/// Sends the numbers from 0 on, and closes its end.
+/// Sends the numbers from 0 on, each once there is room for it, and closes its end.
 fn writes<R: Wait>(rt: &R, domain: &Domain, mut task: Task, pipe: u8)
     requires ready { IsReady domain.now task }
     requires pipe { pipe < PIPES }
@@ -198,14 +165,22 @@ fn writes<R: Wait>(rt: &R, domain: &Domain, mut task: Task, pipe: u8)
     if !get_end(domain, &mut task, pipe, 0) {
         return;
     }
-    for n in 0..PASSED {
-        wait_room(rt, domain, &mut task, pipe, n);
-        put_next(domain, &mut task, pipe, n, cell(n));
+    let mut n = 0;
+    for _ in rt.forever() {
+        if n == PASSED {
+            close(domain, &mut task, pipe, 0);
+            return;
+        }
+        if has_room(domain, &mut task, pipe, n) {
+            put_next(domain, &mut task, pipe, n, cell(n));
+            n += 1;
+        } else {
+            thread::yield_now();
+        }
     }
-    close(domain, &mut task, pipe, 0);
 }
 
-/// Gets cells, and closes its end: how many were the numbers from 0 on.
+/// Gets cells, each once it is there, and closes its end: how many were the numbers from 0 on.
 fn reads<R: Wait>(rt: &R, domain: &Domain, mut task: Task, pipe: u8) -> u16
     requires ready { IsReady domain.now task }
     requires pipe { pipe < PIPES }
@@ -213,15 +188,23 @@ fn reads<R: Wait>(rt: &R, domain: &Domain, mut task: Task, pipe: u8) -> u16
     if !get_end(domain, &mut task, pipe, 1) {
         return 0;
     }
+    let mut n = 0;
     let mut right = 0;
-    for n in 0..PASSED {
-        wait_cell(rt, domain, &mut task, pipe, n);
-        if get_next(domain, &mut task, pipe, n) == cell(n) {
-            right += 1;
+    for _ in rt.forever() {
+        if n == PASSED {
+            close(domain, &mut task, pipe, 1);
+            return right;
+        }
+        if has_cell(domain, &mut task, pipe, n) {
+            if get_next(domain, &mut task, pipe, n) == cell(n) {
+                right += 1;
+            }
+            n += 1;
+        } else {
+            thread::yield_now();
         }
     }
-    close(domain, &mut task, pipe, 1);
-    right
+    unreachable!()
 }
 
 /// A writer and a reader, each in a thread of its own: how many cells came as they were sent.
@@ -251,7 +234,7 @@ fn cells_come_in_order(rt: HostRuntime) -> Result<(), Fail> {
 }
 
 /// What two tasks find as they claim the ends of one pipe.
-fn claim_ends(domain: &Domain, task: &mut Task, other: &mut Task) -> [bool; 5]
+pub(crate) fn claim_ends(domain: &Domain, task: &mut Task, other: &mut Task) -> [bool; 5]
     requires of { (task.old.domain ≡ domain.now) × (other.old.domain ≡ domain.now) }
     requires up { IsUp task.old × IsUp other.old }
 {
@@ -267,8 +250,5 @@ fn claim_ends(domain: &Domain, task: &mut Task, other: &mut Task) -> [bool; 5]
 /// An end is claimed once, by whomever.
 #[test]
 fn an_end_is_claimed_once(rt: HostRuntime) -> Result<(), Fail> {
-    let (domain, mut task) = Domain::new(rt.alloc())?;
-    let mut other = another(&rt, &domain, &mut task);
-    all_so(&rt, &claim_ends(&domain, &mut task, &mut other));
-    Ok(())
+    want_beside(&rt, rt.alloc(), Beside::ClaimsEnds)
 }

@@ -12,7 +12,7 @@ ghost use Rattle.wait_rule.specs.LookCounts.{Looked};
 ghost use Rattle.wait_rule.specs.Stays.{Carries, StaysOwing, unchanged};
 ghost use Rattle.wait_rule.specs.Looking.{HasSeenEntries, HasSeenMarks, IsSelectingHold, ShowsEmpty};
 
-use crate::wants::{all_so, another};
+use crate::scenes::{Alone, Beside, Seen, want, want_all, want_beside};
 use std::sync::Wait;
 use std::test::Fail;
 use wait_model::entry_words::EntryWord;
@@ -71,7 +71,7 @@ fn pass_by_steps(domain: &Domain, task: &mut Task, head: u16, state: u32) -> boo
 }
 
 /// Whether it does so with a state and then without one.
-fn passes_twice(domain: &Domain, task: &mut Task) -> bool
+pub(crate) fn passes_twice(domain: &Domain, task: &mut Task) -> bool
     requires of { task.old.domain ≡ domain.now }
     requires clean { IsClean task.old }
 {
@@ -85,9 +85,7 @@ fn passes_twice(domain: &Domain, task: &mut Task) -> bool
 /// A task that owes nothing passes a head by single steps, and owes nothing then.
 #[test]
 fn passes_by_steps(rt: HostRuntime) -> Result<(), Fail> {
-    let (domain, mut task) = Domain::new(rt.alloc())?;
-    all_so(&rt, &[passes_twice(&domain, &mut task)]);
-    Ok(())
+    want(&rt, rt.alloc(), Alone::PassesTwice)
 }
 
 /// Looks at all entry words; true where none shows an entry.
@@ -143,7 +141,7 @@ fn see_no_bits(domain: &Domain, task: &mut Task, head: u16) -> bool
 }
 
 /// Whether one sees no bit of a head before another task holds it, and while it does.
-fn sees_no_bits_twice(domain: &Domain, task: &mut Task, other: &mut Task) -> bool
+pub(crate) fn sees_no_bits_twice(domain: &Domain, task: &mut Task, other: &mut Task) -> bool
     requires of { (task.old.domain ≡ domain.now) × (other.old.domain ≡ domain.now) }
     requires clean { IsClean task.old × IsClean other.old }
 {
@@ -161,14 +159,11 @@ fn sees_no_bits_twice(domain: &Domain, task: &mut Task, other: &mut Task) -> boo
 /// A head without members shows no bit to who set its condition and holds no lock, also while another one holds it.
 #[test]
 fn members_without_the_lock(rt: HostRuntime) -> Result<(), Fail> {
-    let (domain, mut task) = Domain::new(rt.alloc())?;
-    let mut other = another(&rt, &domain, &mut task);
-    all_so(&rt, &[sees_no_bits_twice(&domain, &mut task, &mut other)]);
-    Ok(())
+    want_beside(&rt, rt.alloc(), Beside::SeesNoBits)
 }
 
 /// What loads and takes show of what was published.
-fn publish_and_load(domain: &Domain, task: &mut Task) -> [bool; 6]
+pub(crate) fn publish_and_load(domain: &Domain, task: &mut Task) -> [bool; 6]
     requires of { task.old.domain ≡ domain.now }
     requires clean { IsClean task.old }
 {
@@ -192,13 +187,11 @@ fn publish_and_load(domain: &Domain, task: &mut Task) -> [bool; 6]
 /// A plain condition and a variable are published and loaded, and the condition is taken once.
 #[test]
 fn conditions_alone(rt: HostRuntime) -> Result<(), Fail> {
-    let (domain, mut task) = Domain::new(rt.alloc())?;
-    all_so(&rt, &publish_and_load(&domain, &mut task));
-    Ok(())
+    want_all(&rt, rt.alloc(), Seen::Publishes)
 }
 
 /// Whether another task's ticket is served once the own lock is given back and the serve made, and not before.
-fn serves_second(domain: &Domain, task: &mut Task, other: &mut Task) -> bool
+pub(crate) fn serves_second(domain: &Domain, task: &mut Task, other: &mut Task) -> bool
     requires of { (task.old.domain ≡ domain.now) × (other.old.domain ≡ domain.now) }
     requires clean { IsClean task.old × IsClean other.old }
 {
@@ -220,10 +213,7 @@ fn serves_second(domain: &Domain, task: &mut Task, other: &mut Task) -> bool
 /// law holds.
 #[test]
 fn locks_alone(rt: HostRuntime) -> Result<(), Fail> {
-    let (domain, mut task) = Domain::new(rt.alloc())?;
-    let mut other = another(&rt, &domain, &mut task);
-    all_so(&rt, &[serves_second(&domain, &mut task, &mut other)]);
-    Ok(())
+    want_beside(&rt, rt.alloc(), Beside::ServesSecond)
 }
 
 /// Queues the own entry on the empty queue of condition 0, sets its flag, puts a bookmark before it, and takes both
@@ -270,7 +260,7 @@ fn queue_and_leave(domain: &Domain, task: &mut Task)
 }
 
 /// Whether the own flag is not set, before and after it is cleared.
-fn clears_flag(domain: &Domain, task: &mut Task) -> bool
+pub(crate) fn clears_flag(domain: &Domain, task: &mut Task) -> bool
     requires new { task.old ≡ newcomer domain.now 0 1 (TASKS - 1) }
 {
     let before = woken_load(domain, task, 1);
@@ -282,13 +272,11 @@ fn clears_flag(domain: &Domain, task: &mut Task) -> bool
 /// The own flag reads as not set at the start, and after it was cleared.
 #[test]
 fn own_flag_is_clear(rt: HostRuntime) -> Result<(), Fail> {
-    let (domain, mut task) = Domain::new(rt.alloc())?;
-    all_so(&rt, &[clears_flag(&domain, &mut task)]);
-    Ok(())
+    want(&rt, rt.alloc(), Alone::ClearsFlag)
 }
 
 /// Whether it finds the queue empty, queues the own entry there, and takes it off.
-fn comes_and_leaves(domain: &Domain, task: &mut Task) -> bool
+pub(crate) fn comes_and_leaves(domain: &Domain, task: &mut Task) -> bool
     requires new { task.old ≡ newcomer domain.now 0 1 (TASKS - 1) }
 {
     if !take_turn(domain, task, FIRST_PLAIN_HEAD) {
@@ -306,9 +294,7 @@ fn comes_and_leaves(domain: &Domain, task: &mut Task) -> bool
 /// An entry is queued and its flag set, with a bookmark before it, and both are taken off again.
 #[test]
 fn queue_alone(rt: HostRuntime) -> Result<(), Fail> {
-    let (domain, mut task) = Domain::new(rt.alloc())?;
-    all_so(&rt, &[comes_and_leaves(&domain, &mut task)]);
-    Ok(())
+    want(&rt, rt.alloc(), Alone::ComesAndLeaves)
 }
 
 /// In a hold of a walk that is to select one entry: queues the own entry, which is exclusive, and wakes the own task as
@@ -344,7 +330,7 @@ fn select_own<R: Wait>(rt: &R, domain: &Domain, task: &mut Task) -> bool
 }
 
 /// Whether it finds the queue empty, and its walk uses up its count.
-fn spends_count<R: Wait>(rt: &R, domain: &Domain, task: &mut Task) -> bool
+pub(crate) fn spends_count<R: Wait>(rt: &R, domain: &Domain, task: &mut Task) -> bool
     requires new { task.old ≡ newcomer domain.now 0 1 (TASKS - 1) }
 {
     let walk = Aim {
@@ -370,7 +356,5 @@ fn spends_count<R: Wait>(rt: &R, domain: &Domain, task: &mut Task) -> bool
 /// A walk that used up its count in a hold raises the head's spent count.
 #[test]
 fn spent_unlock(rt: HostRuntime) -> Result<(), Fail> {
-    let (domain, mut task) = Domain::new(rt.alloc())?;
-    all_so(&rt, &[spends_count(&rt, &domain, &mut task)]);
-    Ok(())
+    want(&rt, rt.alloc(), Alone::SpendsCount)
 }

@@ -4,6 +4,7 @@ ghost use Rattle.std.specs.Prelude.{◌≡◌, ◌<◌, ◌+◌, ◌-◌, ◌%�
 ghost use Rattle.wait_model.specs.declared.layout.TheConstants.{PAGES, TASKS};
 ghost use Rattle.wait_rule.specs.Says.{newcomer};
 
+use crate::scenes::{Alone, want};
 use std::test::Fail;
 use wait_model::words::bit_at;
 use wait_rule::bits::bit_set;
@@ -12,7 +13,13 @@ use wait_rule::tallies::tally_add;
 
 /// Adds two amounts to the tally of a page, which nobody has taken yet, and reads it: their sum, modulo 2^64. None
 /// where the page was taken.
-fn count_up(domain: &Domain, task: &mut Task, page: u8, one: u64, two: u64) -> Option<u64>
+pub(crate) fn count_up(
+    domain: &Domain,
+    task: &mut Task,
+    page: u8,
+    one: u64,
+    two: u64,
+) -> Option<u64>
     requires new { task.old ≡ newcomer domain.now 0 1 (TASKS - 1) }
     requires page { page < PAGES }
     ensures { IfSome result (λ n. n ≡ (one + two) % 2 ^ 64) }
@@ -28,15 +35,11 @@ fn count_up(domain: &Domain, task: &mut Task, page: u8, one: u64, two: u64) -> O
 /// What was added to a page is read back.
 #[test]
 fn reads_the_sum(rt: HostRuntime) -> Result<(), Fail> {
-    let (domain, mut task) = Domain::new(rt.alloc())?;
-    assert!(rt; count_up(&domain, &mut task, 127, 5, 7) == Some(12));
-    Ok(())
+    want(&rt, rt.alloc(), Alone::Sums)
 }
 
 /// A tally wraps: it is a sum modulo 2^64.
 #[test]
 fn wraps(rt: HostRuntime) -> Result<(), Fail> {
-    let (domain, mut task) = Domain::new(rt.alloc())?;
-    assert!(rt; count_up(&domain, &mut task, 0, 5, u64::MAX) == Some(4));
-    Ok(())
+    want(&rt, rt.alloc(), Alone::SumsWrap)
 }

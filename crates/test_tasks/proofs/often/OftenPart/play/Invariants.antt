@@ -1,6 +1,6 @@
 use Rattle.std.proofs.Common.{◌≡◌}
 use Rattle.wait_rule.specs.Says.{IsClean}
-use Rattle.bench_threads.proofs.steps.take_turns.Given as goal
+use Rattle.test_tasks.proofs.often.OftenPart.play.Given as goal
 
 abbrev pub invariant-loop : goal.invariant-loop
 invariant-loop g l = (l.task.domain ≡ l.domain) × IsClean l.task

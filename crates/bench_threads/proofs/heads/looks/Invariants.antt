@@ -1,6 +1,0 @@
-use Rattle.std.proofs.Common.{◌≡◌}
-use Rattle.wait_rule.specs.Says.{IsUp, IsFree}
-use Rattle.bench_threads.proofs.heads.looks.Given as goal
-
-abbrev pub invariant-loop : goal.invariant-loop
-invariant-loop g l = (l.task.domain ≡ l.domain) × IsUp l.task × IsFree l.task

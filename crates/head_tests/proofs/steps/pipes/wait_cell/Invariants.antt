@@ -1,6 +1,0 @@
-use Rattle.wait_rule.specs.Passing.{HasPassedCells}
-use Rattle.wait_rule.specs.Pipes.{read_end}
-use Rattle.head_tests.proofs.steps.pipes.wait_cell.Given as goal
-
-abbrev pub invariant-loop : goal.invariant-loop
-invariant-loop g l = HasPassedCells l.domain (read_end l.pipe) l.n l.task

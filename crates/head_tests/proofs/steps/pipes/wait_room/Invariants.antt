@@ -1,6 +1,0 @@
-use Rattle.wait_rule.specs.Passing.{HasPassedCells}
-use Rattle.wait_rule.specs.Pipes.{write_end}
-use Rattle.head_tests.proofs.steps.pipes.wait_room.Given as goal
-
-abbrev pub invariant-loop : goal.invariant-loop
-invariant-loop g l = HasPassedCells l.domain (write_end l.pipe) l.n l.task

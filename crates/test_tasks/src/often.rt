@@ -1,0 +1,26 @@
+//! A part that a task plays again and again.
+
+use crate::meetings::Part;
+use std::sync::Wait;
+use wait_rule::{Domain, Task};
+
+/// A part that is played so often.
+#[derive(Clone, Copy)]
+pub struct Often<P> {
+    pub part: P,
+    pub times: u64,
+}
+
+impl<P: Part + Copy> Part for Often<P> {
+    /// Whether each play went well.
+    fn play<R: Wait>(self, rt: &R, domain: &Domain, task: &mut Task) -> bool {
+        let Often { part, times } = self;
+        let mut well = true;
+        for _ in 0..times {
+            if !part.play(rt, domain, task) {
+                well = false;
+            }
+        }
+        well
+    }
+}

@@ -6,3 +6,5 @@ pub mod draws;
 pub mod ends;
 pub mod late;
 pub mod meetings;
+pub mod signals;
+pub mod wants;

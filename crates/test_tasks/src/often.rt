@@ -1,0 +1,28 @@
+//! A part that a task plays again and again.
+
+ghost use Rattle.std.specs.Prelude.{◌≡◌};
+ghost use Rattle.wait_rule.specs.Says.{IsClean};
+
+use crate::meetings::Part;
+use std::sync::Wait;
+use wait_rule::{Domain, Task};
+
+/// A task plays a part so many times: whether it went as the part says each time.
+pub fn play_often<R: Wait, P: Part + Copy>(
+    rt: &R,
+    domain: &Domain,
+    task: &mut Task,
+    part: P,
+    times: u32,
+) -> bool
+    requires of { task.old.domain ≡ domain.now }
+    requires clean { IsClean task.old }
+    ensures of { task.new.domain ≡ domain.now }
+    ensures clean { IsClean task.new }
+{
+    let mut well = true;
+    for _ in 0..times {
+        well = part.play(rt, domain, task) && well;
+    }
+    well
+}

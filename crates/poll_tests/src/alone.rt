@@ -1,9 +1,10 @@
 //! One task alone: what a poll answers where nobody else is there.
 
-use crate::calls::{polls, sets, signals, stores};
-use crate::wants::all_so;
+use crate::calls::{polls, sets, stores};
 use poll_wait::{PollEnd, Ready};
 use std::test::Fail;
+use test_tasks::signals::signals;
+use test_tasks::wants::all_so;
 use wait_model::tasks::SleepState;
 use wait_model::watches::Watch;
 use wait_rule::Domain;
@@ -25,8 +26,7 @@ fn set_conditions_are_found_the_first_one_first(rt: HostRuntime) -> Result<(), F
         matches!(turned, Ok(Ready::First { value: 5 })),
         matches!(first, Ok(Ready::First { value: 9 })),
     ];
-    all_so(&rt, &seen);
-    Ok(())
+    all_so(&seen)
 }
 
 /// A signal that is pending ends a poll that finds neither condition set, and none that finds one; a plain one ends none
@@ -67,6 +67,5 @@ fn signals_end_the_poll_that_finds_none(rt: HostRuntime) -> Result<(), Fail> {
         ),
         matches!(found, Ok(Ready::Second { value: 3 })),
     ];
-    all_so(&rt, &seen);
-    Ok(())
+    all_so(&seen)
 }

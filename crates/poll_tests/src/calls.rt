@@ -11,7 +11,7 @@ use var_wait::publish_var_and_wake;
 use wait_event::set_and_wake;
 use wait_model::tasks::SleepState;
 use wait_model::watches::{Mode, Watch};
-use wait_rule::{Domain, Task, send_signal};
+use wait_rule::{Domain, Task};
 
 /// Waits for one of two conditions.
 pub fn polls<R: Wait>(
@@ -53,14 +53,4 @@ pub fn stores<R: Wait>(rt: &R, domain: &Domain, task: &mut Task, var: u8, value:
     ensures clean { IsClean task.new }
 {
     publish_var_and_wake(rt, domain, task, var, value);
-}
-
-/// Sends the task of this number a signal.
-pub fn signals<R: Wait>(rt: &R, domain: &Domain, task: &mut Task, who: u8, fatal: bool)
-    requires of { task.old.domain ≡ domain.now }
-    requires clean { IsClean task.old }
-    ensures of { task.new.domain ≡ domain.now }
-    ensures clean { IsClean task.new }
-{
-    send_signal(rt, domain, task, who, fatal);
 }

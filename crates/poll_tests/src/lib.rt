@@ -1,5 +1,5 @@
-//! The tests of `poll_wait`, over its public calls alone, so that it, which has no tests of its own, is proved once. This
-//! crate has nothing but tests.
+//! The tests of `poll_wait` and of `poll_turns`, over their public calls alone, so that these, which have no tests of
+//! their own, are proved once. This crate has nothing but tests.
 #![tactic(auto)]
 
 #[cfg(test)]
@@ -9,4 +9,4 @@ mod calls;
 #[cfg(test)]
 mod rounds;
 #[cfg(test)]
-mod wants;
+mod turns;

@@ -4,13 +4,13 @@
 ghost use Rattle.std.specs.Prelude.{◌≡◌, ◌<◌};
 ghost use Rattle.wait_rule.specs.Says.{IsClean};
 
-use crate::calls::{polls, sets, signals, stores};
-use crate::wants::{all_so, another};
+use crate::calls::{polls, sets, stores};
 use poll_wait::{PollEnd, Ready};
 use std::sync::Wait;
 use std::test::Fail;
-use std::thread;
-use test_tasks::meetings::{Part, meet_four};
+use test_tasks::late::{signal_late, yield_often};
+use test_tasks::meetings::{Part, four_meet};
+use test_tasks::wants::all_so;
 use wait_model::tasks::SleepState;
 use wait_model::watches::Watch;
 use wait_rule::{Domain, Task};
@@ -46,29 +46,18 @@ impl Part for Plays {
             Plays::SeesBoth => see_both(rt, domain, task),
             Plays::SeesUnlessSignalled => see_unless_signalled(rt, domain, task),
             Plays::Sets { late } => {
-                yields(late);
+                yield_often(late);
                 sets(rt, domain, task, COND, 7);
                 true
             }
             Plays::Stores { late } => {
-                yields(late);
+                yield_often(late);
                 stores(rt, domain, task, VAR, 5);
                 true
             }
-            Plays::Signals { who, late } => {
-                yields(late);
-                signals(rt, domain, task, who, false);
-                true
-            }
+            Plays::Signals { who, late } => signal_late(rt, domain, task, who, late),
             Plays::Stranger => stranger(rt, domain, task),
         }
-    }
-}
-
-/// Yields so often.
-fn yields(late: u32) {
-    for _ in 0..late {
-        thread::yield_now();
     }
 }
 
@@ -132,23 +121,14 @@ fn stranger<R: Wait>(rt: &R, domain: &Domain, task: &mut Task) -> bool
 #[test]
 fn each_set_is_seen(rt: HostRuntime) -> Result<(), Fail> {
     for round in 0..ROUNDS {
-        let (domain, mut task) = Domain::with_looks(rt.alloc(), 0)?;
-        let one = another(&rt, &domain, &mut task);
-        let two = another(&rt, &domain, &mut task);
-        let three = another(&rt, &domain, &mut task);
+        let (domain, task) = Domain::with_looks(rt.alloc(), 0)?;
         let sets = Plays::Sets { late: round % 7 };
         let stores = Plays::Stores {
             late: (round / 7) % 7,
         };
-        let ((first, one), (two, three)) = meet_four(
-            &rt,
-            &domain,
-            (task, one),
-            (two, three),
-            (sets, stores),
-            (Plays::SeesBoth, Plays::Stranger),
-        );
-        all_so(&rt, &[first.1, one.1, two.1, three.1]);
+        let others = (Plays::SeesBoth, Plays::Stranger);
+        let (_task, went) = four_meet(&rt, &domain, task, (sets, stores), others);
+        all_so(&went)?;
     }
     Ok(())
 }
@@ -157,12 +137,9 @@ fn each_set_is_seen(rt: HostRuntime) -> Result<(), Fail> {
 #[test]
 fn signal_ends_it_only_where_neither_is_set(rt: HostRuntime) -> Result<(), Fail> {
     for round in 0..ROUNDS {
-        let (domain, mut task) = Domain::with_looks(rt.alloc(), 0)?;
-        let one = another(&rt, &domain, &mut task);
-        let two = another(&rt, &domain, &mut task);
-        let three = another(&rt, &domain, &mut task);
+        let (domain, task) = Domain::with_looks(rt.alloc(), 0)?;
         let signals = Plays::Signals {
-            who: two.number(),
+            who: 2,
             late: round % 5,
         };
         let sets = Plays::Sets {
@@ -171,15 +148,9 @@ fn signal_ends_it_only_where_neither_is_set(rt: HostRuntime) -> Result<(), Fail>
         let stores = Plays::Stores {
             late: (round / 25) % 5,
         };
-        let ((first, one), (two, three)) = meet_four(
-            &rt,
-            &domain,
-            (task, one),
-            (two, three),
-            (signals, sets),
-            (Plays::SeesUnlessSignalled, stores),
-        );
-        all_so(&rt, &[first.1, one.1, two.1, three.1]);
+        let others = (Plays::SeesUnlessSignalled, stores);
+        let (_task, went) = four_meet(&rt, &domain, task, (signals, sets), others);
+        all_so(&went)?;
     }
     Ok(())
 }

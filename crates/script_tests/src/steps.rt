@@ -93,6 +93,20 @@ fn goes(core: &mut Core, task: u8, most: u32) -> (u32, Option<i32>) {
     (most, None)
 }
 
+/// Goes on with a call, and answers whether it made so many events and the call answered this number.
+fn makes(core: &mut Core, task: u8, most: u32, wanted: u32, number: Option<i32>) -> bool {
+    let (events, answer) = goes(core, task, most);
+    events == wanted && is_answer(answer, number)
+}
+
+/// Whether a call answered this number, or none.
+fn is_answer(answer: Option<i32>, wanted: Option<i32>) -> bool {
+    match answer {
+        Some(number) => wanted.is_some() && wanted.unwrap_or(0) == number,
+        None => wanted.is_none(),
+    }
+}
+
 /// Whether what a step of a task did has this text.
 pub fn has_text(
     alloc: Global,
@@ -147,14 +161,14 @@ fn adds(core: &mut Core, count: u8) -> bool {
     };
     let mut have_all = true;
     for task in 0..count {
-        have_all = have_all && opens(core, task, call) && goes(core, task, 99) == (3, Some(0));
+        have_all = have_all && opens(core, task, call) && makes(core, task, 99, 3, Some(0));
     }
     have_all
 }
 
-/// What the last look for members in a run found in its word, and what it answered.
-fn last_look(run: &[Ran]) -> Option<(u64, bool)> {
-    let mut last = None;
+/// Whether the last look for members in a run found this in its word, and answered this.
+fn has_looked(run: &[Ran], word: u64, answer: bool) -> bool {
+    let mut is_so = false;
     for item in run {
         if let Ran::Made {
             event: Event::Active { yes, .. },
@@ -162,18 +176,18 @@ fn last_look(run: &[Ran]) -> Option<(u64, bool)> {
             ..
         } = *item
         {
-            last = Some((found, yes));
+            is_so = found == word && yes == answer;
         }
     }
-    last
+    is_so
 }
 
-/// The word at a position, where there is one.
-fn word(core: &Core, at: u32) -> Option<u64> {
+/// The word at a position, or 0 where there is none.
+fn word(core: &Core, at: u32) -> u64 {
     if (at as usize) < WORDS {
-        Some(core.word_at(at))
+        core.word_at(at)
     } else {
-        None
+        0
     }
 }
 
@@ -182,19 +196,19 @@ fn is_made(core: &mut Core, step: Step) -> bool {
     match step {
         Step::Opens(task, call) => opens(core, task, call),
         Step::Runs(task, call, events, answer) => {
-            opens(core, task, call) && goes(core, task, 99) == (events, answer)
+            opens(core, task, call) && makes(core, task, 99, events, answer)
         }
-        Step::Goes(task, events, answer) => goes(core, task, 999) == (events, answer),
+        Step::Goes(task, events, answer) => makes(core, task, 999, events, answer),
         Step::GoesOn(task, least, wanted) => {
             let (events, answer) = goes(core, task, 99);
-            events > least && answer == wanted
+            events > least && is_answer(answer, wanted)
         }
-        Step::Makes(task, events) => goes(core, task, events) == (events, None),
+        Step::Makes(task, events) => makes(core, task, events, events, None),
         Step::Adds(count) => adds(core, count),
-        Step::Has(at, wanted) => word(core, at) == Some(wanted),
-        Step::HasSome(at) => word(core, at).is_some_and(|word| word != 0),
+        Step::Has(at, wanted) => (at as usize) < WORDS && word(core, at) == wanted,
+        Step::HasSome(at) => word(core, at) != 0,
         Step::Ran(items) => core.ran().len() == items,
-        Step::Looked(found, yes) => last_look(core.ran()) == Some((found, yes)),
+        Step::Looked(found, yes) => has_looked(core.ran(), found, yes),
         _ => false,
     }
 }
@@ -209,7 +223,7 @@ fn is_so(alloc: Global, core: &mut Core, step: Step) -> Result<bool, AllocError>
 }
 
 /// Wants a step of a row to be so. Steps are counted from 1.
-fn wants(rt: &impl Abort, name: &str, step: u64, is_so: bool) {
+pub fn wants(rt: &impl Abort, name: &str, step: u64, is_so: bool) {
     assert!(rt; is_so, "{name}: step {step}");
 }
 

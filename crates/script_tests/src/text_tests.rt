@@ -1,5 +1,5 @@
 use crate::lines::{BAD_LINES, BAD_LINES_OF_VERSION_2, CALLS, GREATER, PAGES};
-use crate::steps::{has_refusal, has_text};
+use crate::steps::{has_refusal, has_text, wants as wants_step};
 use std::alloc::{AllocError, Global};
 use std::process::Abort;
 use std::test::Fail;
@@ -10,16 +10,18 @@ use wait_model::tasks::{How, Sleep, SleepState, Taken};
 use wait_model::watches::Mode;
 use wait_script::{Line, ReadScript, Reason, Version, asked, read_script};
 
-/// What is seen of the reading of a script: the first bad line and the number of its first reason, or line 0 and how
-/// many lines it has.
-fn reading_of(alloc: Global, bytes: &[u8]) -> Option<(u32, usize)> {
+/// Whether a script is bad at this line for the first reason of this number; or, of line 0, is read and has so many
+/// lines.
+fn reads_so(alloc: Global, bytes: &[u8], wanted: u32, number: usize) -> bool {
     if bytes.len() > 1_048_576 {
-        return None;
+        return false;
     }
     match read_script(alloc, bytes) {
-        Ok(script) => Some((0, script.lines.len())),
-        Err(ReadScript::Bad { line, why }) => Some((line, usize::from(why.number()))),
-        Err(ReadScript::OutOfMemory) => None,
+        Ok(script) => wanted == 0 && script.lines.len() == number,
+        Err(ReadScript::Bad { line, why }) => {
+            line == wanted && usize::from(why.number()) == number
+        }
+        Err(ReadScript::OutOfMemory) => false,
     }
 }
 
@@ -172,22 +174,16 @@ const BAD: &[Bad] = &[
     },
 ];
 
-/// The bytes of a bad script.
-fn bytes_of(alloc: Global, bad: &Bad) -> Result<Vec<u8>, AllocError> {
+/// Whether a bad script is bad as it says.
+fn is_bad(alloc: Global, bad: &Bad) -> Result<bool, AllocError> {
     let mut bytes = Vec::new(alloc);
     bytes.extend_from_slice(bad.text)?;
     for _ in 0..bad.many {
         bytes.push(b'x')?;
     }
     bytes.extend_from_slice(bad.after)?;
-    Ok(bytes)
-}
-
-/// Whether a bad script is bad as it says.
-fn is_bad(alloc: Global, bad: &Bad) -> Result<bool, AllocError> {
-    let bytes = bytes_of(alloc, bad)?;
-    let wanted = (bad.line, usize::from(bad.why.number()));
-    Ok(reading_of(alloc, &bytes) == Some(wanted))
+    let number = usize::from(bad.why.number());
+    Ok(reads_so(alloc, &bytes, bad.line, number))
 }
 
 #[test]
@@ -196,28 +192,19 @@ fn the_first_bad_line_and_its_first_reason(rt: HostRuntime) -> Result<(), Fail> 
     for bad in BAD {
         row = row.saturating_add(1);
         let is_so = is_bad(rt.alloc(), bad)?;
-        assert!(rt; is_so, "{}: script {row}", bad.name);
+        wants_step(&rt, bad.name, row, is_so);
     }
     Ok(())
 }
 
-/// What is seen of the reading of a header and one line after it.
-fn reading_after(
-    alloc: Global,
-    header: &[u8],
-    line: &[u8],
-) -> Result<Option<(u32, usize)>, AllocError> {
-    let mut bytes = Vec::new(alloc);
-    bytes.extend_from_slice(header)?;
-    bytes.extend_from_slice(line)?;
-    bytes.push(b'\n')?;
-    Ok(reading_of(alloc, &bytes))
-}
-
 /// Whether a line is read after a header, where the number is 0, and else is bad for the first reason of that number.
 fn is_read(alloc: Global, header: &[u8], line: &str, number: usize) -> Result<bool, AllocError> {
-    let wanted = if number == 0 { (0, 1) } else { (2, number) };
-    Ok(reading_after(alloc, header, line.as_bytes())? == Some(wanted))
+    let mut bytes = Vec::new(alloc);
+    bytes.extend_from_slice(header)?;
+    bytes.extend_from_slice(line.as_bytes())?;
+    bytes.push(b'\n')?;
+    let (bad, number) = if number == 0 { (0, 1) } else { (2, number) };
+    Ok(reads_so(alloc, &bytes, bad, number))
 }
 
 /// The number before the first space of a row, and the line behind it.
@@ -298,69 +285,45 @@ fn lines_are_read_in_their_versions(rt: HostRuntime) -> Result<(), Fail> {
     Ok(())
 }
 
-/// Whether a line steps a task so often.
-fn is_step(line: Option<&Line>, wanted: u8, often: u32) -> bool {
-    match line {
-        Some(Line::Step { task, count }) => *task == wanted && *count == often,
-        _ => false,
-    }
-}
-
-/// Whether a line is a killable and exclusive wait of task 63 for condition 47.
-fn is_wait(line: Option<&Line>) -> bool {
-    matches!(
-        line,
-        Some(Line::Call {
-            task: 63,
-            call: Call::Wait {
-                cond: 47,
-                how: How {
-                    state: SleepState::Killable,
-                    exclusive: true
-                }
-            }
-        })
-    )
-}
-
-/// Whether a line is an interruptible wake of 127 by task 5, of condition 0.
-fn is_wake(line: Option<&Line>) -> bool {
-    matches!(
-        line,
-        Some(Line::Call {
-            task: 5,
-            call: Call::Wake {
-                cond: 0,
-                mode: Mode::Interruptible,
-                count: 127
-            }
-        })
-    )
-}
-
-/// Whether a line is a killable lock of bit 2 of word 1 by task 127.
-fn is_lock(line: Option<&Line>) -> bool {
-    matches!(
-        line,
-        Some(Line::Call {
-            task: 127,
-            call: Call::LockBit {
-                word: 1,
-                bit: 2,
-                state: SleepState::Killable
-            }
-        })
-    )
-}
-
-/// Whether these are the lines of the script below.
+/// Whether these are a killable and exclusive wait of task 63 for condition 47, an interruptible wake of 127 by task 5, of
+/// condition 0, and a killable lock of bit 2 of word 1 by task 127, with steps behind the first and the last.
 fn are_lines(lines: &[Line]) -> bool {
-    lines.len() == 5
-        && is_wait(lines.first())
-        && is_step(lines.get(1), 63, 1_000_000)
-        && is_wake(lines.get(2))
-        && is_lock(lines.get(3))
-        && is_step(lines.get(4), 0, 1)
+    matches!(
+        lines,
+        [
+            Line::Call {
+                task: 63,
+                call: Call::Wait {
+                    cond: 47,
+                    how: How {
+                        state: SleepState::Killable,
+                        exclusive: true
+                    }
+                }
+            },
+            Line::Step {
+                task: 63,
+                count: 1_000_000
+            },
+            Line::Call {
+                task: 5,
+                call: Call::Wake {
+                    cond: 0,
+                    mode: Mode::Interruptible,
+                    count: 127
+                }
+            },
+            Line::Call {
+                task: 127,
+                call: Call::LockBit {
+                    word: 1,
+                    bit: 2,
+                    state: SleepState::Killable
+                }
+            },
+            Line::Step { task: 0, count: 1 }
+        ]
+    )
 }
 
 #[test]
@@ -380,7 +343,14 @@ fn a_script_is_its_lines(rt: HostRuntime) -> Result<(), Fail> {
 #[test]
 fn a_greater_number_is_that_of_a_task(rt: HostRuntime) -> Result<(), Fail> {
     let script = read_script(rt.alloc(), b"waitq 2\nstep 255 7\n")?;
-    let is_so = script.version == Version::Two && is_step(script.lines.first(), 255, 7);
+    let is_line = matches!(
+        script.lines.as_slice(),
+        [Line::Step {
+            task: 255,
+            count: 7
+        }]
+    );
+    let is_so = script.version == Version::Two && is_line;
     wants(&rt, "version 2", "a line", is_so);
     Ok(())
 }

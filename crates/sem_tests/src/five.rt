@@ -1,17 +1,17 @@
 //! Five tasks in threads of their own, again and again, in Domains whose tasks park at once when they are put asleep.
 
-ghost use Rattle.std.specs.Prelude.{◌≡◌};
+ghost use Rattle.std.specs.Prelude.{◌≡◌, ◌≤◌};
 ghost use Rattle.wait_rule.specs.Says.{IsClean};
 
-use crate::calls::{gives, tries};
+use crate::alone::{gives, tries};
 use crate::rounds::Plays;
-use crate::wants::{all_so, another};
-use std::process::Abort;
 use std::sync::Wait;
 use std::test::Fail;
 use std::thread;
 use std::thread::Threads;
+use test_tasks::forks::another;
 use test_tasks::meetings::meet_four;
+use test_tasks::wants::all_so;
 use wait_rule::{Domain, Task};
 
 /// How many rounds the test makes.
@@ -35,17 +35,18 @@ fn give_four<R: Wait>(rt: &R, domain: &Domain, task: Task) -> (Task, bool)
     (task, one && two && three && four)
 }
 
-/// The first task gives four permits back, while four others take one each: the first.
-fn four_take<R: Abort + Threads + Wait + Sync>(rt: &R, domain: &Domain, mut task: Task) -> Task
+/// The first task gives four permits back, while four others take one each: the first, and whether each did.
+fn four_take<R: Threads + Wait + Sync>(rt: &R, domain: &Domain, mut task: Task) -> (Task, [bool; 5])
     requires of { task.domain ≡ domain.now }
     requires clean { IsClean task }
-    ensures of { result.domain ≡ domain.now }
-    ensures clean { IsClean result }
+    requires spare { 4 ≤ task.view.spare }
+    ensures of { result.0.domain ≡ domain.now }
+    ensures clean { IsClean result.0 }
 {
-    let one = another(rt, domain, &mut task);
-    let two = another(rt, domain, &mut task);
-    let three = another(rt, domain, &mut task);
-    let four = another(rt, domain, &mut task);
+    let one = another(domain, &mut task);
+    let two = another(domain, &mut task);
+    let three = another(domain, &mut task);
+    let four = another(domain, &mut task);
     let takes = (Plays::Takes, Plays::Takes);
     let ((task, gave), ((one, two), (three, four))) = thread::join(
         rt,
@@ -63,8 +64,7 @@ fn four_take<R: Abort + Threads + Wait + Sync>(rt: &R, domain: &Domain, mut task
                 × (IsClean result.1.0.0 × IsClean result.1.1.0)) }
         { meet_four(rt, domain, (one, two), (three, four), takes, takes) },
     );
-    all_so(rt, &[gave, one.1, two.1, three.1, four.1]);
-    task
+    (task, [gave, one.1, two.1, three.1, four.1])
 }
 
 /// Four permits are given back, four are taken, and none is left.
@@ -72,8 +72,9 @@ fn four_take<R: Abort + Threads + Wait + Sync>(rt: &R, domain: &Domain, mut task
 fn four_permits(rt: HostRuntime) -> Result<(), Fail> {
     for _round in 0..ROUNDS {
         let (domain, task) = Domain::with_looks(rt.alloc(), 0)?;
-        let mut task = four_take(&rt, &domain, task);
-        all_so(&rt, &[!tries(&rt, &domain, &mut task, CELL)]);
+        let (mut task, went) = four_take(&rt, &domain, task);
+        let none = !tries(&rt, &domain, &mut task, CELL);
+        all_so(&[went[0], went[1], went[2], went[3], went[4], none])?;
     }
     Ok(())
 }

@@ -6,13 +6,13 @@ ghost use Rattle.wait_class.specs.Tables.{IsAsleepAt, IsAt, Lands};
 ghost use Rattle.count_sem.specs.Downs.{down_table};
 ghost use Rattle.count_sem.specs.declared.downs.DownStage.TheVariants as stage;
 
-use crate::calls::{gives, tries};
-use crate::wants::{all_so, another};
+use crate::alone::{gives, tries};
 use count_sem::downs::{DownRun, DownStage, DownTurn};
 use count_sem::{begin_down, leave_down, up};
 use std::process::Abort;
 use std::sync::Wait;
 use std::test::Fail;
+use test_tasks::wants::{all_so, begin_two};
 use wait_class::runs::{stretch, woke};
 use wait_class::stages::Turn;
 use wait_leave::Until;
@@ -99,23 +99,19 @@ fn is_left<R: Abort + Wait>(
 /// A `down` that is left takes the permit that it was given, and none is counted then.
 #[test]
 fn left_down_takes_the_permit_that_it_was_given(rt: HostRuntime) -> Result<(), Fail> {
-    let (domain, mut task) = Domain::new(rt.alloc())?;
-    let mut waiter = another(&rt, &domain, &mut task);
+    let (domain, mut task, mut waiter) = begin_two(rt.alloc())?;
     let took = is_left(&rt, &domain, &mut task, &mut waiter, true);
     let none = !tries(&rt, &domain, &mut task, CELL);
-    all_so(&rt, &[took, none]);
-    Ok(())
+    all_so(&[took, none])
 }
 
 /// A `down` that is left has taken its entry off: what is given back behind it is counted.
 #[test]
 fn left_down_has_taken_its_entry_off(rt: HostRuntime) -> Result<(), Fail> {
-    let (domain, mut task) = Domain::new(rt.alloc())?;
-    let mut waiter = another(&rt, &domain, &mut task);
+    let (domain, mut task, mut waiter) = begin_two(rt.alloc())?;
     let left = is_left(&rt, &domain, &mut task, &mut waiter, false);
     let gave = gives(&rt, &domain, &mut task, CELL).is_ok();
     let one = tries(&rt, &domain, &mut task, CELL);
     let two = tries(&rt, &domain, &mut task, CELL);
-    all_so(&rt, &[left, gave, one, !two]);
-    Ok(())
+    all_so(&[left, gave, one, !two])
 }

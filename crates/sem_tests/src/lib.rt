@@ -5,12 +5,8 @@
 #[cfg(test)]
 mod alone;
 #[cfg(test)]
-mod calls;
-#[cfg(test)]
 mod five;
 #[cfg(test)]
 mod leaves;
 #[cfg(test)]
 mod rounds;
-#[cfg(test)]
-mod wants;

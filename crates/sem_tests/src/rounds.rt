@@ -5,14 +5,14 @@ ghost use Rattle.std.specs.Prelude.{◌≡◌, ◌<◌};
 ghost use Rattle.wait_model.specs.declared.layout.TheConstants.{COMPLETIONS};
 ghost use Rattle.wait_rule.specs.Says.{IsClean};
 
-use crate::calls::{takes, tries};
-use crate::wants::{all_so, another};
+use crate::alone::tries;
 use count_sem::{SemEnd, down, down_until, up};
 use std::sync::Wait;
 use std::sync::atomic::{AtomicU64, Ordering};
 use std::test::Fail;
 use test_tasks::late::{ask_late, signal_late, yield_often};
-use test_tasks::meetings::{Part, meet_four};
+use test_tasks::meetings::{Part, four_meet};
+use test_tasks::wants::all_so;
 use wait_leave::Until;
 use wait_model::tasks::SleepState;
 use wait_rule::{Domain, Task};
@@ -64,7 +64,7 @@ pub(crate) enum Plays<'a> {
 impl Part for Plays<'_> {
     fn play<R: Wait>(self, rt: &R, domain: &Domain, task: &mut Task) -> bool {
         match self {
-            Plays::Takes => takes(rt, domain, task, CELL, SleepState::Uninterruptible).is_ok(),
+            Plays::Takes => down(rt, domain, task, CELL, SleepState::Uninterruptible).is_ok(),
             Plays::TakesUnlessSignalled { took } => take_unless_signalled(rt, domain, task, took),
             Plays::TakesAndAsks {
                 flag,
@@ -194,32 +194,21 @@ fn rest<R: Wait>(rt: &R, domain: &Domain, task: &mut Task) -> u64
 #[test]
 fn signal_beside_an_up_loses_and_doubles_no_permit(rt: HostRuntime) -> Result<(), Fail> {
     for round in 0..ROUNDS {
-        let (domain, mut task) = Domain::with_looks(rt.alloc(), 0)?;
+        let (domain, task) = Domain::with_looks(rt.alloc(), 0)?;
         let took = AtomicU64::new(0);
-        let one = another(&rt, &domain, &mut task);
-        let two = another(&rt, &domain, &mut task);
-        let three = another(&rt, &domain, &mut task);
         let signals = Plays::Signals {
-            who: two.number(),
+            who: 2,
             late: round % 7,
         };
         let gives = Plays::Gives {
             late: (round / 7) % 7,
         };
         let downs = Plays::TakesUnlessSignalled { took: &took };
-        let ((first, one), (two, three)) = meet_four(
-            &rt,
-            &domain,
-            (task, one),
-            (two, three),
-            (signals, gives),
-            (downs, gives),
-        );
-        let mut task = first.0;
+        let (mut task, went) = four_meet(&rt, &domain, task, (signals, gives), (downs, gives));
         let left = rest(&rt, &domain, &mut task);
         let taken = took.load(Ordering::SeqCst);
         let balanced = taken <= 1 && left <= 2 && taken + left == 2;
-        all_so(&rt, &[first.1, one.1, two.1, three.1, balanced]);
+        all_so(&[went[0], went[1], went[2], went[3], balanced])?;
     }
     Ok(())
 }
@@ -232,16 +221,13 @@ fn left_down_beside_an_up_and_a_second_one_gets_it_or_leaves_it(
 ) -> Result<(), Fail> {
     let mut first_took = 0u64;
     for round in 0..ROUNDS {
-        let (domain, mut task) = Domain::with_looks(rt.alloc(), 0)?;
+        let (domain, task) = Domain::with_looks(rt.alloc(), 0)?;
         let flag = AtomicU64::new(0);
         let other = AtomicU64::new(0);
         let took = AtomicU64::new(0);
-        let one = another(&rt, &domain, &mut task);
-        let two = another(&rt, &domain, &mut task);
-        let three = another(&rt, &domain, &mut task);
         let asks = Plays::Asks {
             flag: &flag,
-            who: two.number(),
+            who: 2,
             late: round % 7,
         };
         let gives = Plays::Gives {
@@ -251,26 +237,17 @@ fn left_down_beside_an_up_and_a_second_one_gets_it_or_leaves_it(
             flag: &flag,
             took: &took,
             other: &other,
-            who: three.number(),
+            who: 3,
         };
         let second = Plays::TakesUnlessAsked {
             flag: &other,
             took: &took,
         };
-        let ((first, one), (two, three)) = meet_four(
-            &rt,
-            &domain,
-            (task, one),
-            (two, three),
-            (asks, gives),
-            (leaves, second),
-        );
-        let mut task = first.0;
-        let left = rest(&rt, &domain, &mut task);
+        let (mut task, went) = four_meet(&rt, &domain, task, (asks, gives), (leaves, second));
+        let none = rest(&rt, &domain, &mut task) == 0;
         let one_took = took.load(Ordering::SeqCst) == 1;
         first_took = first_took.wrapping_add(other.load(Ordering::SeqCst));
-        all_so(&rt, &[first.1, one.1, two.1, three.1, one_took, left == 0]);
+        all_so(&[went[0], went[1], went[2], went[3], one_took, none])?;
     }
-    all_so(&rt, &[first_took < u64::from(ROUNDS)]);
-    Ok(())
+    all_so(&[first_took < u64::from(ROUNDS)])
 }

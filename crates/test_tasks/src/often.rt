@@ -1,5 +1,8 @@
 //! A part that a task plays again and again.
 
+ghost use Rattle.std.specs.Prelude.{◌≡◌};
+ghost use Rattle.wait_rule.specs.Says.{IsClean};
+
 use crate::meetings::Part;
 use std::sync::Wait;
 use wait_rule::{Domain, Task};
@@ -14,13 +17,26 @@ pub struct Often<P> {
 impl<P: Part + Copy> Part for Often<P> {
     /// Whether each play went well.
     fn play<R: Wait>(self, rt: &R, domain: &Domain, task: &mut Task) -> bool {
-        let Often { part, times } = self;
-        let mut well = true;
-        for _ in 0..times {
-            if !part.play(rt, domain, task) {
-                well = false;
-            }
-        }
-        well
+        play_often(rt, domain, task, self.part, self.times)
     }
+}
+
+/// A task plays a part so many times: whether it went as the part says each time.
+pub fn play_often<R: Wait, P: Part + Copy>(
+    rt: &R,
+    domain: &Domain,
+    task: &mut Task,
+    part: P,
+    times: u64,
+) -> bool
+    requires of { task.old.domain ≡ domain.now }
+    requires clean { IsClean task.old }
+    ensures of { task.new.domain ≡ domain.now }
+    ensures clean { IsClean task.new }
+{
+    let mut well = true;
+    for _ in 0..times {
+        well = part.play(rt, domain, task) && well;
+    }
+    well
 }

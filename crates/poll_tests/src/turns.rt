@@ -1,4 +1,8 @@
-//! One turn of a wait that others take turns with on one thread, and the numbers by which the order is drawn.
+//! Polls by stretches on one thread: one turn of such a poll, which others take turns with; orders of turns, and polls that
+//! are left.
+
+mod left;
+mod orders;
 
 ghost use Rattle.std.specs.Prelude.{◌≡◌};
 ghost use Rattle.wait_rule.specs.PassedLocks.{PassesNone};
@@ -105,11 +109,4 @@ pub(crate) fn go_often(
         at = go_on(domain, task, poll, at, asked);
     }
     at
-}
-
-/// The next number of a small generator, by which the order of the turns is drawn.
-pub(crate) fn next_number(seed: u32) -> u32 {
-    let mixed = seed ^ seed.wrapping_shl(13);
-    let mixed = mixed ^ mixed.wrapping_shr(17);
-    mixed ^ mixed.wrapping_shl(5)
 }

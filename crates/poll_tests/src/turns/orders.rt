@@ -8,12 +8,13 @@ ghost use Rattle.poll_wait.specs.Polls.{IsPoll};
 ghost use Rattle.poll_turns.specs.PollTurns.{IsPollUnderWay};
 
 use crate::calls::{sets, stores};
-use crate::turns::{go_on, next_number};
-use crate::wants::{all_so, another};
+use crate::turns::go_on;
 use poll_turns::{Poll, PollTurn, PollUntil, begin_poll};
 use poll_wait::Ready;
 use std::sync::Wait;
 use std::test::Fail;
+use test_tasks::draws::next_number;
+use test_tasks::wants::all_so;
 use wait_class::stages::Turn;
 use wait_model::tasks::SleepState;
 use wait_model::watches::Watch;
@@ -144,11 +145,10 @@ fn is_found(turn: PollTurn, variable_first: bool) -> bool {
 /// In each order both polls see the set, and each what was set.
 #[test]
 fn in_each_order_both_see_the_set(rt: HostRuntime) -> Result<(), Fail> {
-    let mut seen = [true; 2];
     for order in 0..ORDERS {
         let (domain, mut setter) = Domain::with_looks(rt.alloc(), 0)?;
-        let mut first = another(&rt, &domain, &mut setter);
-        let mut second = another(&rt, &domain, &mut setter);
+        let mut first = setter.fork(&domain, 0)?;
+        let mut second = setter.fork(&domain, 0)?;
         let cond = Watch::Plain { cond: 3 };
         let var = Watch::Var { var: 20, old: 0 };
         let one = Poll {
@@ -175,9 +175,7 @@ fn in_each_order_both_see_the_set(rt: HostRuntime) -> Result<(), Fail> {
             two_at,
             order + 1,
         );
-        seen[0] = seen[0] && is_found(ends.0, false);
-        seen[1] = seen[1] && is_found(ends.1, true);
+        all_so(&[is_found(ends.0, false), is_found(ends.1, true)])?;
     }
-    all_so(&rt, &seen);
     Ok(())
 }

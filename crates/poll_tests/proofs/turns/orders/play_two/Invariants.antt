@@ -1,7 +1,7 @@
 use Rattle.std.proofs.Common.{◌≡◌}
 use Rattle.wait_rule.specs.Says.{IsClean}
 use Rattle.poll_turns.specs.PollTurns.{IsPollUnderWay}
-use Rattle.poll_turn_tests.proofs.orders.play_two.Given as goal
+use Rattle.poll_tests.proofs.turns.orders.play_two.Given as goal
 
 abbrev pub invariant-loop : goal.invariant-loop
 invariant-loop g l = record {

@@ -3,8 +3,9 @@
 
 mod alone;
 mod calls;
-pub(crate) mod full_pieces;
+mod full_pieces;
 mod left_calls;
 mod left_streams;
 mod looks;
+mod scripts;
 pub(crate) mod streams;

@@ -23,26 +23,6 @@ pub fn complete_one<R: Wait>(rt: &R, domain: &Domain, task: &mut Task)
     complete(rt, domain, task, CELL);
 }
 
-/// Completes it for all.
-fn complete_for_all<R: Wait>(rt: &R, domain: &Domain, task: &mut Task)
-    requires of { task.old.domain ≡ domain.now }
-    requires clean { IsClean task.old }
-    ensures of { task.new.domain ≡ domain.now }
-    ensures clean { IsClean task.new }
-{
-    complete_all(rt, domain, task, CELL);
-}
-
-/// Clears it.
-fn clear<R: Wait>(rt: &R, domain: &Domain, task: &mut Task)
-    requires of { task.old.domain ≡ domain.now }
-    requires clean { IsClean task.old }
-    ensures of { task.new.domain ≡ domain.now }
-    ensures clean { IsClean task.new }
-{
-    reinit(rt, domain, task, CELL);
-}
-
 /// Completes it for all, clears it, and says whether it is done then.
 pub fn complete_and_clear<R: Wait>(rt: &R, domain: &Domain, task: &mut Task) -> bool
     requires of { task.old.domain ≡ domain.now }
@@ -50,8 +30,8 @@ pub fn complete_and_clear<R: Wait>(rt: &R, domain: &Domain, task: &mut Task) -> 
     ensures of { task.new.domain ≡ domain.now }
     ensures clean { IsClean task.new }
 {
-    complete_for_all(rt, domain, task);
-    clear(rt, domain, task);
+    complete_all(rt, domain, task, CELL);
+    reinit(rt, domain, task, CELL);
     is_done(rt, domain, task, CELL)
 }
 

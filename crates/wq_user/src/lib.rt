@@ -1,5 +1,5 @@
 //! What a user of heads does between calls: stretches of calls, each with a contract that follows from the contracts of
-//! the calls alone. The crate has no proof of its own; of six loops it says what they keep.
+//! the calls alone. The crate has no proof of its own; of two loops it says what they keep.
 #![tactic(auto)]
 
 pub mod completions;

@@ -1,8 +1,9 @@
 //! The parts that tasks play.
 
-use crate::pipes::{full_pieces, streams};
+use crate::pipes::streams::{Stream, receive, send};
 use crate::users::rounds::swake_twice;
 use crate::users::strangers::{VALUE, change_once};
+use std::alloc::AllocError;
 use std::sync::Wait;
 use test_tasks::meetings;
 use wait_model::tasks::SleepState;
@@ -12,7 +13,7 @@ use wq_user::hashed::wait_until_changed;
 use wq_user::simple::swait;
 
 /// What a task does, which owes nothing before it and after it.
-#[derive(Clone, Copy)]
+#[derive(Copy)]
 pub(crate) enum Part {
     /// A user's task sets the condition of its simple queue and wakes, and wakes again.
     UserSwakes { all: bool },
@@ -26,14 +27,16 @@ pub(crate) enum Part {
     Changes,
     /// It waits for that, and sees the value of the tests.
     SeesChange,
-    /// It sends the bytes of a stream in pieces.
-    Sends { round: u32 },
-    /// It takes them.
-    Receives { round: u32 },
-    /// It sends pieces each of which fills the pipe.
-    SendsFull,
-    /// It takes them.
-    ReceivesFull,
+    /// It sends a stream.
+    Sends(Stream),
+    /// It takes it.
+    Receives(Stream),
+}
+
+impl Clone for Part {
+    fn clone(&self) -> Result<Self, AllocError> {
+        Ok(*self)
+    }
 }
 
 impl meetings::Part for Part {
@@ -48,10 +51,8 @@ impl meetings::Part for Part {
             Part::UserWaits => wait_for_one(rt, domain, task, SleepState::Uninterruptible),
             Part::Changes => change_once(rt, domain, task),
             Part::SeesChange => wait_until_changed(rt, domain, task) == VALUE,
-            Part::Sends { round } => streams::send(rt, domain, task, round),
-            Part::Receives { round } => streams::receive(rt, domain, task, round),
-            Part::SendsFull => full_pieces::send(rt, domain, task),
-            Part::ReceivesFull => full_pieces::receive(rt, domain, task),
+            Part::Sends(stream) => send(rt, domain, task, stream, None),
+            Part::Receives(stream) => receive(rt, domain, task, stream, None),
         }
     }
 }

@@ -5,13 +5,41 @@ ghost use Rattle.wait_model.specs.declared.layout.TheConstants.{PIPES};
 ghost use Rattle.wait_rule.specs.Says.{IsClean};
 ghost use Rattle.user_tests.specs.PipeTasks.{IsAtMost, IsReader, IsWriter};
 
+use std::alloc::AllocError;
 use std::sync::Wait;
+use std::sync::atomic::{AtomicU64, Ordering};
 use wait_leave::Until;
 use wait_pipe::ends::{close_read, close_write, open_read, open_write};
 use wait_pipe::leaves::{read_piece_until, write_piece_until};
 use wait_pipe::peeks::{PipeState, peek_read};
 use wait_pipe::pieces::{PipeEnd, read_piece, write_piece};
 use wait_rule::{Domain, Task};
+
+/// How many bytes a pipe takes in whole cells.
+pub(crate) const FULL: usize = 7 * 1_024;
+
+/// How a task makes a call: by the plain one; or by the one that it can leave, asked as is said, or asked where the count
+/// of the asks differs from what it was.
+#[derive(Copy)]
+pub(crate) enum By<'a> {
+    Plain,
+    Said(bool),
+    Count(&'a AtomicU64, u64),
+}
+
+impl Clone for By<'_> {
+    fn clone(&self) -> Result<Self, AllocError> {
+        Ok(*self)
+    }
+}
+
+/// By the plain call; or asked from now on, where there is a count of the asks.
+pub(crate) fn by_now(asked: Option<&AtomicU64>) -> By<'_> {
+    match asked {
+        None => By::Plain,
+        Some(asked) => By::Count(asked, asked.load(Ordering::SeqCst)),
+    }
+}
 
 /// Takes the write end of a pipe: true where it has it.
 pub(crate) fn take_write(domain: &Domain, task: &mut Task, pipe: u8) -> bool
@@ -126,6 +154,61 @@ pub(crate) fn get_until<R: Wait, Q: Fn() -> bool + Copy>(
     ensures most { IsAtMost (length buf.new) result }
 {
     read_piece_until(rt, domain, task, pipe, buf, asks)
+}
+
+/// Puts a piece in by one of these calls.
+pub(crate) fn put_by<R: Wait>(
+    rt: &R,
+    domain: &Domain,
+    task: &mut Task,
+    pipe: u8,
+    bytes: &[u8],
+    by: By<'_>,
+) -> Until<Result<usize, PipeEnd>>
+    requires of { task.old.domain ≡ domain.now }
+    requires writer { IsWriter pipe task.old }
+    requires pipe { pipe < PIPES }
+    requires bytes { 0 < length bytes.now }
+    ensures of { task.new.domain ≡ domain.now }
+    ensures writer { IsWriter pipe task.new }
+    ensures most { IsAtMost (length bytes.now) result }
+{
+    match by {
+        By::Plain => Until::Over(put(rt, domain, task, pipe, bytes)),
+        By::Said(asked) => put_until(rt, domain, task, pipe, bytes, || asked),
+        By::Count(asked, before) => {
+            let asks = || asked.load(Ordering::SeqCst) != before;
+            put_until(rt, domain, task, pipe, bytes, asks)
+        }
+    }
+}
+
+/// Takes a piece out by one of these calls.
+pub(crate) fn get_by<R: Wait>(
+    rt: &R,
+    domain: &Domain,
+    task: &mut Task,
+    pipe: u8,
+    buf: &mut [u8],
+    by: By<'_>,
+) -> Until<Result<usize, PipeEnd>>
+    requires of { task.old.domain ≡ domain.now }
+    requires reader { IsReader pipe task.old }
+    requires pipe { pipe < PIPES }
+    requires buf { 7 ≤ length buf.old }
+    ensures of { task.new.domain ≡ domain.now }
+    ensures reader { IsReader pipe task.new }
+    ensures same { length buf.new ≡ length buf.old }
+    ensures most { IsAtMost (length buf.new) result }
+{
+    match by {
+        By::Plain => Until::Over(get(rt, domain, task, pipe, buf)),
+        By::Said(asked) => get_until(rt, domain, task, pipe, buf, || asked),
+        By::Count(asked, before) => {
+            let asks = || asked.load(Ordering::SeqCst) != before;
+            get_until(rt, domain, task, pipe, buf, asks)
+        }
+    }
 }
 
 /// Closes the write end.

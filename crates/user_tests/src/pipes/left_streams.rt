@@ -5,11 +5,14 @@ ghost use Rattle.std.specs.Prelude.{◌≡◌};
 ghost use Rattle.wait_rule.specs.Says.{IsClean};
 
 use crate::pipes::calls::{
-    are_from, end_read, end_write, fill_from, get, get_until, put, put_until, take_read, take_write,
+    By, FULL, are_from, end_read, end_write, fill_from, get, get_by, put, put_by, take_read,
+    take_write,
 };
+use crate::pipes::streams::{Stream, receive, send};
 use crate::wants::all_so;
+use std::alloc::AllocError;
 use std::sync::Wait;
-use std::sync::atomic::{AtomicU64, Ordering};
+use std::sync::atomic::AtomicU64;
 use std::test::Fail;
 use test_tasks::late::ask_two_late;
 use test_tasks::meetings::{Part, four_meet};
@@ -19,27 +22,16 @@ use wait_rule::{Domain, Task};
 /// How many rounds each test makes.
 const ROUNDS: u32 = 300;
 
-/// How many bytes a round sends: more than a pipe holds.
-const SENT: u32 = 9_000;
-
-/// How many bytes a piece has at most.
-const PIECE: usize = 64;
-
 /// How often a round asks.
 const ASKS: u32 = 40;
 
-/// How many bytes a pipe takes in whole cells.
-const FULL: usize = 7 * 1_024;
-
-/// The pipe of the streams, one that is empty, and one that is full.
-const PIPE: u8 = 5;
-
+/// A pipe that is empty, and one that is full.
 const EMPTY: u8 = 6;
 
 const FILLED: u8 = 7;
 
 /// What a task does in a round. All share the count of the asks.
-#[derive(Clone, Copy)]
+#[derive(Copy)]
 enum Leaving<'a> {
     Rests,
     /// It sends the bytes of a stream: a call that is asked since it began is left, and made again.
@@ -65,12 +57,22 @@ enum Leaving<'a> {
     LeavesFull(&'a AtomicU64),
 }
 
+impl Clone for Leaving<'_> {
+    fn clone(&self) -> Result<Self, AllocError> {
+        Ok(*self)
+    }
+}
+
 impl Part for Leaving<'_> {
     fn play<R: Wait>(self, rt: &R, domain: &Domain, task: &mut Task) -> bool {
         match self {
             Leaving::Rests => true,
-            Leaving::Sends { asked, round } => send(rt, domain, task, asked, round),
-            Leaving::Receives { asked, round } => receive(rt, domain, task, asked, round),
+            Leaving::Sends { asked, round } => {
+                send(rt, domain, task, Stream::Pieces { round }, Some(asked))
+            }
+            Leaving::Receives { asked, round } => {
+                receive(rt, domain, task, Stream::Pieces { round }, Some(asked))
+            }
             Leaving::Asks {
                 asked,
                 whom,
@@ -81,69 +83,6 @@ impl Part for Leaving<'_> {
             Leaving::LeavesFull(asked) => leave_full(rt, domain, task, asked),
         }
     }
-}
-
-/// Sends the bytes of a stream in pieces of several lengths, and closes the end: whether all went in.
-fn send<R: Wait>(rt: &R, domain: &Domain, task: &mut Task, asked: &AtomicU64, round: u32) -> bool
-    requires of { task.old.domain ≡ domain.now }
-    requires clean { IsClean task.old }
-    ensures of { task.new.domain ≡ domain.now }
-    ensures clean { IsClean task.new }
-{
-    if !take_write(domain, task, PIPE) {
-        return false;
-    }
-    let mut sent = 0u32;
-    for turn in 0..SENT + ASKS {
-        if sent >= SENT {
-            break;
-        }
-        let most = 1 + round.wrapping_add(11 * turn) % PIECE as u32;
-        let length = most.min(SENT - sent) as usize;
-        let mut bytes = [0u8; PIECE];
-        fill_from(sent, &mut bytes);
-        let before = asked.load(Ordering::SeqCst);
-        let asks = || asked.load(Ordering::SeqCst) != before;
-        match put_until(rt, domain, task, PIPE, &bytes[..length], asks) {
-            Until::Over(Ok(n)) => sent += n as u32,
-            Until::Over(Err(_)) => break,
-            Until::Left { seen: _ } => {}
-        }
-    }
-    end_write(rt, domain, task, PIPE);
-    sent == SENT
-}
-
-/// Takes bytes until the end, in buffers of several lengths, and closes the end: whether they are those of the stream,
-/// and as many.
-fn receive<R: Wait>(rt: &R, domain: &Domain, task: &mut Task, asked: &AtomicU64, round: u32) -> bool
-    requires of { task.old.domain ≡ domain.now }
-    requires clean { IsClean task.old }
-    ensures of { task.new.domain ≡ domain.now }
-    ensures clean { IsClean task.new }
-{
-    if !take_read(domain, task, PIPE) {
-        return false;
-    }
-    let mut got = 0u32;
-    let mut right = true;
-    for turn in 0..SENT + ASKS + PIECE as u32 {
-        let length = 7 + (round.wrapping_add(5 * turn) % (PIECE as u32 - 6)) as usize;
-        let mut buf = [0u8; PIECE];
-        let before = asked.load(Ordering::SeqCst);
-        let asks = || asked.load(Ordering::SeqCst) != before;
-        match get_until(rt, domain, task, PIPE, &mut buf[..length], asks) {
-            Until::Over(Ok(0)) => break,
-            Until::Over(Ok(n)) => {
-                right = right && are_from(got, &buf[..n]);
-                got = got.wrapping_add(n as u32);
-            }
-            Until::Over(Err(_)) => right = false,
-            Until::Left { seen: _ } => {}
-        }
-    }
-    end_read(rt, domain, task, PIPE);
-    right && got == SENT
 }
 
 /// Asks so many times, each after some yields, and wakes both tasks.
@@ -178,8 +117,7 @@ fn leave_empty<R: Wait>(rt: &R, domain: &Domain, task: &mut Task, asked: &Atomic
         return false;
     }
     let mut buf = [0u8; 7];
-    let asks = || asked.load(Ordering::SeqCst) != 0;
-    let left = get_until(rt, domain, task, EMPTY, &mut buf, asks);
+    let left = get_by(rt, domain, task, EMPTY, &mut buf, By::Count(asked, 0));
     end_read(rt, domain, task, EMPTY);
     matches!(left, Until::Left { seen: 0 })
 }
@@ -197,8 +135,7 @@ fn leave_full<R: Wait>(rt: &R, domain: &Domain, task: &mut Task, asked: &AtomicU
     let mut bytes = [0u8; FULL];
     fill_from(0, &mut bytes);
     let first = put(rt, domain, task, FILLED, &bytes);
-    let asks = || asked.load(Ordering::SeqCst) != 0;
-    let left = put_until(rt, domain, task, FILLED, &bytes, asks);
+    let left = put_by(rt, domain, task, FILLED, &bytes, By::Count(asked, 0));
     end_write(rt, domain, task, FILLED);
     matches!(first, Ok(FULL)) && matches!(left, Until::Left { seen: 0 })
 }

@@ -6,6 +6,6 @@ use Rattle.wq_user.proofs.stretched.doze.Given as goal
 
 abbrev pub invariant-loop : goal.invariant-loop
 invariant-loop g l = (l.task.domain ≡ l.domain)
-    × (IsAsleepAt g.C.Machine.table l.task l.run l.stage
-    × ((c : Plan) → IsUnderWay g.C.Machine.table c l.fn.task l.run (turn.Asleep l.stage)
-    → IsUnderWay g.C.Machine.table c l.task l.run (turn.Asleep l.stage)))
+    × (IsAsleepAt g.W.Stretched.table l.task l.run l.stage
+    × ((c : Plan) → IsUnderWay g.W.Stretched.table c l.fn.task l.run (turn.Asleep l.stage)
+    → IsUnderWay g.W.Stretched.table c l.task l.run (turn.Asleep l.stage)))

@@ -1,0 +1,19 @@
+//! Two calls of a driver, one after the other.
+
+ghost use Rattle.std.specs.Prelude.{◌≡◌};
+ghost use Rattle.wait_rule.specs.Says.{IsClean};
+
+use crate::calls::{Call, make};
+use std::sync::Wait;
+use wait_rule::{Domain, Task};
+
+/// Makes a call, and then each other one or the same.
+pub fn make_both<R: Wait>(rt: &R, domain: &Domain, task: &mut Task, first: Call, second: Call)
+    requires of { task.old.domain ≡ domain.now }
+    requires clean { IsClean task.old }
+    ensures of { task.new.domain ≡ domain.now }
+    ensures clean { IsClean task.new }
+{
+    make(rt, domain, task, first);
+    make(rt, domain, task, second);
+}

@@ -17,7 +17,14 @@ pub struct Often<P> {
 impl<P: Part + Copy> Part for Often<P> {
     /// Whether each play went well.
     fn play<R: Wait>(self, rt: &R, domain: &Domain, task: &mut Task) -> bool {
-        play_often(rt, domain, task, self.part, self.times)
+        let Often { part, times } = self;
+        let mut well = true;
+        for _ in 0..times {
+            if !part.play(rt, domain, task) {
+                well = false;
+            }
+        }
+        well
     }
 }
 
@@ -27,7 +34,7 @@ pub fn play_often<R: Wait, P: Part + Copy>(
     domain: &Domain,
     task: &mut Task,
     part: P,
-    times: u64,
+    times: u32,
 ) -> bool
     requires of { task.old.domain ≡ domain.now }
     requires clean { IsClean task.old }

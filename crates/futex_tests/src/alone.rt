@@ -1,11 +1,11 @@
 //! One task alone: each call once, with what it answers where nobody else is there.
 
-use crate::wants::all_so;
 use futex_table::{
     FutexEnd, cond_broadcast, cond_signal, futex_store, futex_wait, futex_wake, mutex_lock,
     mutex_open, mutex_try, mutex_unlock,
 };
 use std::test::Fail;
+use test_tasks::wants::all_so;
 use wait_model::tasks::SleepState;
 use wait_rule::{Domain, send_signal};
 
@@ -32,11 +32,7 @@ fn wait_for_another_value(rt: HostRuntime) -> Result<(), Fail> {
     futex_store(&domain, &mut task, 5, 3);
     let second = futex_wait(&rt, &domain, &mut task, 5, 0, state);
     let nobody = futex_wake(&rt, &domain, &mut task, 5, 1);
-    all_so(
-        &rt,
-        &[found(first, 0), none == 0, found(second, 3), nobody == 0],
-    );
-    Ok(())
+    all_so(&[found(first, 0), none == 0, found(second, 3), nobody == 0])
 }
 
 /// A signal that is pending ends a wait for the value that the word has.
@@ -47,8 +43,7 @@ fn signal_ends_a_wait(rt: HostRuntime) -> Result<(), Fail> {
     send_signal(&rt, &domain, &mut task, who, false);
     let end = futex_wait(&rt, &domain, &mut task, 5, 0, SleepState::Interruptible);
     let none = futex_wake(&rt, &domain, &mut task, 5, 1);
-    all_so(&rt, &[is_interrupted(end), none == 0]);
-    Ok(())
+    all_so(&[is_interrupted(end), none == 0])
 }
 
 /// A mutex is taken once it is open, by one task.
@@ -59,8 +54,7 @@ fn tries_of_a_mutex(rt: HostRuntime) -> Result<(), Fail> {
     mutex_open(&rt, &domain, &mut task, 6);
     let open = mutex_try(&domain, &mut task, 6);
     let taken = mutex_try(&domain, &mut task, 6);
-    all_so(&rt, &[!shut, open, !taken]);
-    Ok(())
+    all_so(&[!shut, open, !taken])
 }
 
 /// A signal and a broadcast find nobody, and the mutex stays taken until it is given back.
@@ -75,6 +69,5 @@ fn nobody_waits_for_a_condition_variable(rt: HostRuntime) -> Result<(), Fail> {
     let broadcast = cond_broadcast(&rt, &domain, &mut task, 7, 6);
     mutex_unlock(&rt, &domain, &mut task, 6);
     let open = mutex_try(&domain, &mut task, 6);
-    all_so(&rt, &[signalled == 0, broadcast == 0, open]);
-    Ok(())
+    all_so(&[signalled == 0, broadcast == 0, open])
 }

@@ -13,7 +13,6 @@ use crate::calls::{open, signal, try_lock, unlock};
 use crate::left_locks::has_mutex;
 use crate::monitors::{Whose, add_if_own};
 use crate::turns::{is_free_lock, is_free_wait, open_and_take};
-use crate::wants::{all_so, another};
 use futex_table::cond_stretches::{
     CondStage, CondStop, CondTurn, CondWait, begin_cond_wait, end_cond_wait, end_cond_wait_until,
     stretch_cond_wait, stretch_cond_wait_out, woke_cond_wait,
@@ -26,6 +25,7 @@ use std::sync::atomic::{AtomicU64, Ordering};
 use std::test::Fail;
 use test_tasks::draws::next_number;
 use test_tasks::ends::end_both;
+use test_tasks::wants::{all_so, begin_two};
 use wait_class::stages::Turn;
 use wait_leave::Until;
 use wait_model::layout::FIRST_PLAIN_HEAD;
@@ -306,14 +306,13 @@ fn is_over(at: CondTurn) -> bool {
 fn signal_at_each_moment(rt: HostRuntime) -> Result<(), Fail> {
     for stretches in 0..MOMENTS {
         for rouses in [false, true] {
-            let (domain, mut task) = Domain::new(rt.alloc())?;
-            let mut other = another(&rt, &domain, &mut task);
+            let (domain, mut task, mut other) = begin_two(rt.alloc())?;
             open_and_take(&rt, &domain, &mut task);
             let at = reach(&rt, &domain, &mut task, &mut other, stretches, rouses);
             let early = is_over(at);
             let end = end_by_signal(&rt, &domain, &mut task, &mut other, at);
             let well = is_well_over(&rt, &domain, &mut task, &mut other, end);
-            all_so(&rt, &[!early, well]);
+            all_so(&[!early, well])?;
         }
     }
     Ok(())
@@ -501,9 +500,8 @@ fn play_two<R: Wait>(
 #[test]
 fn two_waits_take_turns(rt: HostRuntime) -> Result<(), Fail> {
     for order in 0..ORDERS {
-        let (domain, mut task) = Domain::new(rt.alloc())?;
+        let (domain, mut task, mut other) = begin_two(rt.alloc())?;
         open(&rt, &domain, &mut task);
-        let mut other = another(&rt, &domain, &mut task);
         let number = AtomicU64::new(0);
         let (met, out) = play_two(
             &rt,
@@ -514,7 +512,7 @@ fn two_waits_take_turns(rt: HostRuntime) -> Result<(), Fail> {
             (order + 1) * 7919,
         );
         let last = number.load(Ordering::SeqCst) == LAST;
-        all_so(&rt, &[!met, last, out]);
+        all_so(&[!met, last, out])?;
     }
     Ok(())
 }
@@ -635,13 +633,12 @@ fn leave_after<R: Wait>(
 fn wait_is_left_at_each_moment(rt: HostRuntime) -> Result<(), Fail> {
     for stretches in 0..MOMENTS {
         for (rouses, signals) in [(false, false), (false, true), (true, false), (true, true)] {
-            let (domain, mut task) = Domain::new(rt.alloc())?;
-            let mut other = another(&rt, &domain, &mut task);
+            let (domain, mut task, mut other) = begin_two(rt.alloc())?;
             open_and_take(&rt, &domain, &mut task);
             let well = leave_after(
                 &rt, &domain, &mut task, &mut other, stretches, rouses, signals,
             );
-            all_so(&rt, &[well]);
+            all_so(&[well])?;
         }
     }
     Ok(())

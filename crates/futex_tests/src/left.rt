@@ -7,7 +7,6 @@ ghost use Rattle.wait_class.specs.Tables.{Lands};
 ghost use Rattle.futex_table.specs.FutexTables.{futex_table};
 
 use crate::calls::{sleep, wake_soon};
-use crate::wants::{all_so, another};
 use futex_table::futexes::{FutexEnd, begin_futex, futex_wake};
 use futex_table::leaves::{end_futex_wait_until, futex_wait_until, leave_futex_wait};
 use futex_table::waits::{FutexRun, FutexStage, FutexTurn};
@@ -16,6 +15,7 @@ use std::sync::atomic::{AtomicU64, Ordering};
 use std::test::Fail;
 use test_tasks::late::ask_late;
 use test_tasks::meetings::{Part, four_meet, two_meet};
+use test_tasks::wants::{all_so, begin_two};
 use wait_class::runs::{stretch, woke};
 use wait_class::stages::Turn;
 use wait_leave::Until;
@@ -128,12 +128,17 @@ fn left_waiter_loses_no_wake(rt: HostRuntime) -> Result<(), Fail> {
         };
         let sleeps = Leaving::Sleeps(&wakes);
         let own = (Leaving::Wakes, passes);
-        let (mut task, went) = four_meet(&rt, &domain, task, own, (sleeps, asks));
-        all_so(&rt, &went);
+        let (mut task, [one, two, three, four]) = four_meet(
+            &rt,
+            &domain,
+            task,
+            own,
+            (sleeps, asks),
+        );
         let nobody = futex_wake(&rt, &domain, &mut task, FUTEX, 8) == 0;
         let got = wakes.load(Ordering::SeqCst) == 1;
         let few = passed.load(Ordering::SeqCst) <= 1;
-        all_so(&rt, &[nobody, got, few]);
+        all_so(&[one, two, three, four, nobody, got, few])?;
     }
     Ok(())
 }
@@ -150,10 +155,9 @@ fn futex_wait_is_left_from_its_sleep(rt: HostRuntime) -> Result<(), Fail> {
             late: round % 8,
         };
         let leaves = Leaving::Leaves(&flag);
-        let (mut task, went) = two_meet(&rt, &domain, task, (asks, leaves));
-        all_so(&rt, &went);
+        let (mut task, [one, two]) = two_meet(&rt, &domain, task, (asks, leaves));
         let nobody = futex_wake(&rt, &domain, &mut task, FUTEX, 8) == 0;
-        assert!(rt; nobody);
+        all_so(&[one, two, nobody])?;
     }
     Ok(())
 }
@@ -247,10 +251,9 @@ fn leave_after<R: Wait>(
 fn futex_wait_is_left_at_each_moment(rt: HostRuntime) -> Result<(), Fail> {
     for stretches in 0..16 {
         for wakes in [false, true] {
-            let (domain, mut task) = Domain::new(rt.alloc())?;
-            let mut other = another(&rt, &domain, &mut task);
+            let (domain, mut task, mut other) = begin_two(rt.alloc())?;
             let so = leave_after(&rt, &domain, &mut task, &mut other, stretches, wakes);
-            all_so(&rt, &[so]);
+            all_so(&[so])?;
         }
     }
     Ok(())

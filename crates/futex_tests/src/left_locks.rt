@@ -7,7 +7,7 @@ ghost use Rattle.futex_table.specs.Holding.{HoldsMutex};
 ghost use Rattle.futex_table.specs.LockLeaves.{is_held_until, is_locked_until};
 
 use crate::calls::{broadcast, lock, open, unlock};
-use crate::wants::all_so;
+use crate::tallies::add_plainly;
 use futex_table::cond_vars::CondEnd;
 use futex_table::futexes::futex_wake;
 use futex_table::lock_leaves::{cond_wait_until, mutex_lock_until};
@@ -15,9 +15,10 @@ use futex_table::mutexes::mutex_try;
 use std::sync::Wait;
 use std::sync::atomic::{AtomicU64, Ordering};
 use std::test::Fail;
-use std::thread;
 use test_tasks::late::{ask_two_late, yield_often};
 use test_tasks::meetings::{Part, four_meet};
+use test_tasks::often::play_often;
+use test_tasks::wants::all_so;
 use wait_leave::Until;
 use wait_model::tasks::SleepState;
 use wait_rule::{Domain, Task};
@@ -45,14 +46,31 @@ struct Shared<'a> {
     flag: &'a AtomicU64,
 }
 
+/// Takes the mutex and adds, or leaves the lock at so many questions: whether it did one of both.
+#[derive(Clone, Copy)]
+struct Counts<'a> {
+    shared: Shared<'a>,
+    patience: u64,
+}
+
+impl Part for Counts<'_> {
+    fn play<R: Wait>(self, rt: &R, domain: &Domain, task: &mut Task) -> bool {
+        let (questions, patience) = (AtomicU64::new(0), self.patience);
+        let asks = || questions.fetch_add(1, Ordering::SeqCst) >= patience;
+        let end = mutex_lock_until(rt, domain, task, LOCK, asks);
+        if has_locked(end) {
+            add_and_unlock(rt, domain, task, self.shared);
+            return true;
+        }
+        count_left(end, self.shared)
+    }
+}
+
 /// What a task does in a round.
 #[derive(Clone, Copy)]
 enum Locking<'a> {
-    /// It takes the mutex and adds, again and again, and leaves a lock at so many questions.
-    Counts {
-        shared: Shared<'a>,
-        patience: u64,
-    },
+    /// It takes the mutex and adds, or leaves the lock, again and again.
+    Counts(Counts<'a>),
     /// With the mutex it waits for the condition variable, until it is woken or asked to leave, and adds.
     Waits(Shared<'a>),
     /// With the mutex it wakes all who wait, after so many yields.
@@ -71,9 +89,7 @@ enum Locking<'a> {
 impl Part for Locking<'_> {
     fn play<R: Wait>(self, rt: &R, domain: &Domain, task: &mut Task) -> bool {
         match self {
-            Locking::Counts { shared, patience } => {
-                count_often(rt, domain, task, shared, patience)
-            }
+            Locking::Counts(counts) => play_often(rt, domain, task, counts, ADDS),
             Locking::Waits(shared) => wait_once(rt, domain, task, shared),
             Locking::Tells { shared, late } => tell_late(rt, domain, task, shared, late),
             Locking::Asks { shared, who, late } => {
@@ -83,16 +99,8 @@ impl Part for Locking<'_> {
     }
 }
 
-/// Adds 1 to the tally by a load and a store: an add of another task between the two would be lost.
-fn add_plainly(shared: Shared<'_>) {
-    let now = shared.tally.load(Ordering::SeqCst);
-    thread::yield_now();
-    shared.tally.store(now.wrapping_add(1), Ordering::SeqCst);
-    shared.added.fetch_add(1, Ordering::SeqCst);
-}
-
 /// Whether a lock took the mutex.
-fn has_locked(end: Until<Result<(), Worn>>) -> bool
+pub(crate) fn has_locked(end: Until<Result<(), Worn>>) -> bool
     ensures { result ≡ is_locked_until end }
 {
     matches!(end, Until::Over(Ok(())))
@@ -102,49 +110,6 @@ fn has_locked(end: Until<Result<(), Worn>>) -> bool
 fn count_left(end: Until<Result<(), Worn>>, shared: Shared<'_>) -> bool {
     shared.left.fetch_add(1, Ordering::SeqCst);
     matches!(end, Until::Left { seen: 0 })
-}
-
-/// Adds with the mutex, or leaves the lock at so many questions: whether it did one of both.
-fn count_once<R: Wait>(
-    rt: &R,
-    domain: &Domain,
-    task: &mut Task,
-    shared: Shared<'_>,
-    patience: u64,
-) -> bool
-    requires of { task.old.domain ≡ domain.now }
-    requires clean { IsClean task.old }
-    ensures of { task.new.domain ≡ domain.now }
-    ensures clean { IsClean task.new }
-{
-    let questions = AtomicU64::new(0);
-    let asks = || questions.fetch_add(1, Ordering::SeqCst) >= patience;
-    let end = mutex_lock_until(rt, domain, task, LOCK, asks);
-    if has_locked(end) {
-        add_and_unlock(rt, domain, task, shared);
-        return true;
-    }
-    count_left(end, shared)
-}
-
-/// The same again and again.
-fn count_often<R: Wait>(
-    rt: &R,
-    domain: &Domain,
-    task: &mut Task,
-    shared: Shared<'_>,
-    patience: u64,
-) -> bool
-    requires of { task.old.domain ≡ domain.now }
-    requires clean { IsClean task.old }
-    ensures of { task.new.domain ≡ domain.now }
-    ensures clean { IsClean task.new }
-{
-    let mut well = true;
-    for _ in 0..ADDS {
-        well = count_once(rt, domain, task, shared, patience) && well;
-    }
-    well
 }
 
 /// Whether a wait has the mutex behind it.
@@ -165,7 +130,8 @@ fn add_and_unlock<R: Wait>(rt: &R, domain: &Domain, task: &mut Task, shared: Sha
     ensures of { task.new.domain ≡ domain.now }
     ensures clean { IsClean task.new }
 {
-    add_plainly(shared);
+    add_plainly(shared.tally);
+    shared.added.fetch_add(1, Ordering::SeqCst);
     unlock(rt, domain, task);
 }
 
@@ -238,23 +204,28 @@ fn tally_of_four_that_leave(rt: HostRuntime) -> Result<(), Fail> {
             flag: &flag,
         };
         open(&rt, &domain, &mut task);
-        let waits = Locking::Counts {
+        let waits = Locking::Counts(Counts {
             shared,
             patience: 1_000_000,
-        };
-        let leaves = Locking::Counts {
+        });
+        let leaves = Locking::Counts(Counts {
             shared,
             patience: u64::from(round % 40),
-        };
-        let (mut task, went) = four_meet(&rt, &domain, task, (waits, leaves), (leaves, leaves));
-        all_so(&rt, &went);
+        });
+        let (mut task, [one, two, three, four]) = four_meet(
+            &rt,
+            &domain,
+            task,
+            (waits, leaves),
+            (leaves, leaves),
+        );
         let exact = tally.load(Ordering::SeqCst) == added.load(Ordering::SeqCst);
         let tries = added
             .load(Ordering::SeqCst)
             .saturating_add(left.load(Ordering::SeqCst));
         let all = tries == 20;
         let free = mutex_try(&domain, &mut task, LOCK);
-        all_so(&rt, &[exact, all, free]);
+        all_so(&[one, two, three, four, exact, all, free])?;
     }
     Ok(())
 }
@@ -284,12 +255,17 @@ fn waits_with_a_limit_have_the_mutex(rt: HostRuntime) -> Result<(), Fail> {
             late: (round / 7) % 9,
         };
         let waits = Locking::Waits(shared);
-        let (mut task, went) = four_meet(&rt, &domain, task, (tells, waits), (waits, asks));
-        all_so(&rt, &went);
+        let (mut task, [one, two, three, four]) = four_meet(
+            &rt,
+            &domain,
+            task,
+            (tells, waits),
+            (waits, asks),
+        );
         let exact = tally.load(Ordering::SeqCst) == 3;
         let nobody = futex_wake(&rt, &domain, &mut task, COND, 8) == 0;
         let free = mutex_try(&domain, &mut task, LOCK);
-        all_so(&rt, &[exact, nobody, free]);
+        all_so(&[one, two, three, four, exact, nobody, free])?;
     }
     Ok(())
 }

@@ -23,5 +23,3 @@ mod races;
 mod tallies;
 #[cfg(test)]
 mod turns;
-#[cfg(test)]
-mod wants;

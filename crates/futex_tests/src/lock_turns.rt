@@ -8,12 +8,11 @@ ghost use Rattle.wait_rule.specs.Says.{IsClean, IsUp};
 ghost use Rattle.wait_class.specs.Posts.{IsOut};
 ghost use Rattle.wait_class.specs.declared.stages.Turn.TheVariants as turn;
 ghost use Rattle.futex_table.specs.Holding.{HoldsMutex};
-ghost use Rattle.futex_table.specs.LockLeaves.{is_locked_until};
 ghost use Rattle.futex_table.specs.LockStretches.{IsLockUnderWay};
 
 use crate::calls::open;
+use crate::left_locks::has_locked;
 use crate::turns::{is_free_lock, open_and_take};
-use crate::wants::{all_so, another};
 use futex_table::futexes::futex_wake;
 use futex_table::lock_stretches::{
     MutexTurn, begin_mutex_lock, end_mutex_lock_until, stretch_mutex_lock, stretch_mutex_lock_out,
@@ -23,6 +22,7 @@ use futex_table::mutexes::{mutex_try, mutex_unlock};
 use std::sync::Wait;
 use std::test::Fail;
 use test_tasks::draws::next_number;
+use test_tasks::wants::{all_so, begin_two};
 use wait_class::stages::Turn;
 use wait_leave::Until;
 use wait_model::watches::Mode;
@@ -45,13 +45,6 @@ struct Sections {
     inside: bool,
     met: bool,
     adds: (u32, u32),
-}
-
-/// Whether a lock took the mutex.
-fn has_locked(end: Until<Result<(), Worn>>) -> bool
-    ensures { result ≡ is_locked_until end }
-{
-    matches!(end, Until::Over(Ok(())))
 }
 
 /// Whether a lock has taken the mutex there.
@@ -258,12 +251,11 @@ fn play_two<R: Wait>(
 #[test]
 fn two_locks_take_turns(rt: HostRuntime) -> Result<(), Fail> {
     for order in 1..ORDERS {
-        let (domain, mut task) = Domain::new(rt.alloc())?;
+        let (domain, mut task, mut other) = begin_two(rt.alloc())?;
         open(&rt, &domain, &mut task);
-        let mut other = another(&rt, &domain, &mut task);
         let sections = play_two(&rt, &domain, &mut task, &mut other, order * 7919);
         let (one, two) = sections.adds;
-        all_so(&rt, &[!sections.met, one > 3, two > 3]);
+        all_so(&[!sections.met, one > 3, two > 3])?;
     }
     Ok(())
 }
@@ -332,14 +324,13 @@ fn leave_after<R: Wait>(
 fn lock_is_left_at_each_moment(rt: HostRuntime) -> Result<(), Fail> {
     for stretches in 0..20 {
         for gives in [false, true] {
-            let (domain, mut task) = Domain::new(rt.alloc())?;
-            let mut other = another(&rt, &domain, &mut task);
+            let (domain, mut task, mut other) = begin_two(rt.alloc())?;
             open_and_take(&rt, &domain, &mut other);
-            let mut waker = another(&rt, &domain, &mut task);
+            let mut waker = task.fork(&domain, 0)?;
             let so = leave_after(
                 &rt, &domain, &mut task, &mut other, &mut waker, stretches, gives,
             );
-            all_so(&rt, &[so]);
+            all_so(&[so])?;
         }
     }
     Ok(())

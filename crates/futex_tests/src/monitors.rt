@@ -6,11 +6,11 @@ ghost use Rattle.wait_rule.specs.Says.{IsClean};
 ghost use Rattle.futex_table.specs.Holding.{HoldsMutex};
 
 use crate::calls::{broadcast, lock, open, unlock, wait};
-use crate::wants::all_so;
 use std::sync::Wait;
 use std::sync::atomic::{AtomicU64, Ordering};
 use std::test::Fail;
 use test_tasks::meetings::{Part, two_meet};
+use test_tasks::wants::all_so;
 use wait_rule::{Domain, Task};
 
 /// How many rounds the test makes.
@@ -103,9 +103,9 @@ fn monitor(rt: HostRuntime) -> Result<(), Fail> {
             number: &number,
             own: 1,
         };
-        let (_task, went) = two_meet(&rt, &domain, task, (own, its));
-        all_so(&rt, &went);
-        assert!(rt; number.load(Ordering::SeqCst) == LAST);
+        let (_task, [one, two]) = two_meet(&rt, &domain, task, (own, its));
+        let exact = number.load(Ordering::SeqCst) == LAST;
+        all_so(&[one, two, exact])?;
     }
     Ok(())
 }

@@ -5,13 +5,13 @@ ghost use Rattle.std.specs.Prelude.{◌≡◌};
 ghost use Rattle.wait_rule.specs.Says.{IsClean};
 
 use crate::calls::{sleep, wake_soon};
-use crate::wants::all_so;
 use futex_table::futex_wake;
 use std::sync::Wait;
 use std::sync::atomic::{AtomicU64, Ordering};
 use std::test::Fail;
 use test_tasks::late::signal_late;
 use test_tasks::meetings::{Part, four_meet};
+use test_tasks::wants::all_so;
 use wait_model::tasks::SleepState;
 use wait_rule::{Domain, Task};
 
@@ -72,11 +72,16 @@ fn signal_races_with_a_wake(rt: HostRuntime) -> Result<(), Fail> {
             late: round % 30,
         };
         let own = (Racing::Wakes, passes);
-        let (mut task, went) = four_meet(&rt, &domain, task, own, (sleeps, signals));
-        all_so(&rt, &went);
+        let (mut task, [one, two, three, four]) = four_meet(
+            &rt,
+            &domain,
+            task,
+            own,
+            (sleeps, signals),
+        );
         let nobody = futex_wake(&rt, &domain, &mut task, FUTEX, 8) == 0;
         let some = wakes.load(Ordering::SeqCst) >= 1;
-        all_so(&rt, &[nobody, some]);
+        all_so(&[one, two, three, four, nobody, some])?;
     }
     Ok(())
 }

@@ -1,17 +1,15 @@
 //! Four tasks that add to a plain tally under one mutex, in threads of their own, again and again, in Domains whose tasks
 //! park at once when they are put asleep.
 
-ghost use Rattle.std.specs.Prelude.{◌≡◌};
-ghost use Rattle.wait_rule.specs.Says.{IsClean};
-
 use crate::calls::{lock, open, unlock};
-use crate::wants::all_so;
 use lock_users::tallies::add_in_two_threads;
 use std::sync::Wait;
 use std::sync::atomic::{AtomicU64, Ordering};
 use std::test::Fail;
 use std::thread;
 use test_tasks::meetings::{Part, four_meet};
+use test_tasks::often::play_often;
+use test_tasks::wants::all_so;
 use wait_rule::{Domain, Task};
 
 /// How many rounds the test makes, and how often each task adds in a round.
@@ -22,50 +20,36 @@ const ADDS: u32 = 25;
 /// How often each of two tasks adds, in each of 20 Domains.
 const MORE_ADDS: u32 = 200;
 
+/// Adds 1 to the tally by a load and a store: an add of another task between the two would be lost.
+pub(crate) fn add_plainly(tally: &AtomicU64) {
+    let now = tally.load(Ordering::SeqCst);
+    thread::yield_now();
+    tally.store(now.wrapping_add(1), Ordering::SeqCst);
+}
+
+/// Adds to the tally with the mutex: whether it had it.
+#[derive(Clone, Copy)]
+struct Adds<'a>(&'a AtomicU64);
+
+impl Part for Adds<'_> {
+    fn play<R: Wait>(self, rt: &R, domain: &Domain, task: &mut Task) -> bool {
+        if lock(rt, domain, task) {
+            add_plainly(self.0);
+            unlock(rt, domain, task);
+            return true;
+        }
+        false
+    }
+}
+
 /// Adds to the tally so often.
 #[derive(Clone, Copy)]
 struct Counts<'a>(&'a AtomicU64);
 
 impl Part for Counts<'_> {
     fn play<R: Wait>(self, rt: &R, domain: &Domain, task: &mut Task) -> bool {
-        count_often(rt, domain, task, self.0)
+        play_often(rt, domain, task, Adds(self.0), ADDS)
     }
-}
-
-/// Adds 1 to the tally by a load and a store: an add of another task between the two would be lost.
-fn add_plainly(tally: &AtomicU64) {
-    let now = tally.load(Ordering::SeqCst);
-    thread::yield_now();
-    tally.store(now.wrapping_add(1), Ordering::SeqCst);
-}
-
-/// The same with the mutex: whether it had it.
-fn count_once<R: Wait>(rt: &R, domain: &Domain, task: &mut Task, tally: &AtomicU64) -> bool
-    requires of { task.old.domain ≡ domain.now }
-    requires clean { IsClean task.old }
-    ensures of { task.new.domain ≡ domain.now }
-    ensures clean { IsClean task.new }
-{
-    if lock(rt, domain, task) {
-        add_plainly(tally);
-        unlock(rt, domain, task);
-        return true;
-    }
-    false
-}
-
-/// The same again and again: whether it had the mutex each time.
-fn count_often<R: Wait>(rt: &R, domain: &Domain, task: &mut Task, tally: &AtomicU64) -> bool
-    requires of { task.old.domain ≡ domain.now }
-    requires clean { IsClean task.old }
-    ensures of { task.new.domain ≡ domain.now }
-    ensures clean { IsClean task.new }
-{
-    let mut well = true;
-    for _ in 0..ADDS {
-        well = count_once(rt, domain, task, tally) && well;
-    }
-    well
 }
 
 /// Whatever the order of the steps, no add is lost.
@@ -77,10 +61,9 @@ fn tally_of_four(rt: HostRuntime) -> Result<(), Fail> {
         open(&rt, &domain, &mut task);
         let counts = Counts(&tally);
         let two = (counts, counts);
-        let (_task, went) = four_meet(&rt, &domain, task, two, two);
-        all_so(&rt, &went);
+        let (_task, [one, two, three, four]) = four_meet(&rt, &domain, task, two, two);
         let exact = tally.load(Ordering::SeqCst) == 100;
-        assert!(rt; exact);
+        all_so(&[one, two, three, four, exact])?;
     }
     Ok(())
 }
@@ -93,10 +76,7 @@ fn tally_of_two(rt: HostRuntime) -> Result<(), Fail> {
         let Some(tally) = add_in_two_threads(&rt, &domain, task, MORE_ADDS) else {
             panic!(rt; "a number is spare, and places are left")
         };
-        all_so(
-            &rt,
-            &[tally.first == 200, tally.second == 200, tally.read == 400],
-        );
+        all_so(&[tally.first == 200, tally.second == 200, tally.read == 400])?;
     }
     Ok(())
 }

@@ -1,6 +1,0 @@
-use Rattle.std.proofs.Common.{◌≡◌}
-use Rattle.wait_rule.specs.Says.{IsClean}
-use Rattle.futex_tests.proofs.left_locks.count_often.Given as goal
-
-abbrev pub invariant-loop : goal.invariant-loop
-invariant-loop g l = record { of : l.task.domain ≡ l.fn.domain; clean : IsClean l.task }

@@ -86,17 +86,6 @@ pub fn lock_by_stretches<R: Wait>(
     }
 }
 
-/// Gives a page back.
-fn give_page<R: Wait>(rt: &R, domain: &Domain, task: &mut Task, page: u8)
-    requires of { task.old.domain ≡ domain.now }
-    requires page { page < BIT_WORDS }
-    requires holder { IsHolder task.old (watch.Bit page 0) }
-    ensures of { task.new.domain ≡ domain.now }
-    ensures clean { IsClean task.new }
-{
-    unlock_page(rt, domain, task, page);
-}
-
 /// Takes page 0 by stretches, and gives it back: true where it took it.
 pub fn hold_by_stretches<R: Wait>(
     rt: &R,
@@ -110,7 +99,7 @@ pub fn hold_by_stretches<R: Wait>(
     ensures clean { IsClean task.new }
 {
     if lock_by_stretches(rt, domain, task, 0, state) {
-        give_page(rt, domain, task, 0);
+        unlock_page(rt, domain, task, 0);
         return true;
     }
     false

@@ -69,18 +69,6 @@ pub fn take_bit_by_stretches<R: Wait>(
     }
 }
 
-/// Gives a bit back.
-fn give_bit<R: Wait>(rt: &R, domain: &Domain, task: &mut Task, word: u8, bit: u8)
-    requires of { task.old.domain ≡ domain.now }
-    requires word { word < BIT_WORDS }
-    requires bit { bit < WORD_BITS }
-    requires holder { IsHolder task.old (watch.Bit word bit) }
-    ensures of { task.new.domain ≡ domain.now }
-    ensures clean { IsClean task.new }
-{
-    clear_and_wake_bit(rt, domain, task, word, bit);
-}
-
 /// Takes bit 1 of bit word 0 by stretches, and gives it back: true where it took it.
 pub fn hold_bit_by_stretches<R: Wait>(
     rt: &R,
@@ -94,7 +82,7 @@ pub fn hold_bit_by_stretches<R: Wait>(
     ensures clean { IsClean task.new }
 {
     if take_bit_by_stretches(rt, domain, task, 0, 1, state) {
-        give_bit(rt, domain, task, 0, 1);
+        clear_and_wake_bit(rt, domain, task, 0, 1);
         return true;
     }
     false

@@ -3,7 +3,7 @@
 mod alone;
 pub(crate) mod calls;
 mod cells;
-mod leave_threads;
+pub(crate) mod leave_threads;
 mod others;
 mod stretches;
 pub(crate) mod threads;

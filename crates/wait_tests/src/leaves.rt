@@ -2,7 +2,7 @@
 //! down so.
 
 mod conditions;
-mod holders;
-mod pool;
+pub(crate) mod holders;
+pub(crate) mod pool;
 mod stretches;
-mod threads;
+pub(crate) mod threads;

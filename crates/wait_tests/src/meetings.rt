@@ -1,26 +1,115 @@
-//! Tasks that meet in threads of their own. A part is one line of a table: what it does stands in the module of its
-//! calls.
+//! Rounds of tasks that meet in threads of their own, in Domains whose tasks park at once when they are put asleep. What
+//! tasks play is a line of a table, and so is what is found then: the rows are `rows`, the calls stand in the modules of
+//! their crates.
 
+mod founds;
 mod parts;
+pub(crate) mod rows;
+mod shares;
 
 ghost use Rattle.std.specs.Prelude.{◌≡◌};
 ghost use Rattle.wait_rule.specs.Says.{IsClean};
 
+pub(crate) use crate::meetings::founds::Found;
 pub(crate) use crate::meetings::parts::Part;
+use crate::meetings::parts::Played;
+pub(crate) use crate::meetings::shares::Shared;
 use crate::wants::all_so;
+use std::alloc::Global;
 use std::process::Abort;
 use std::sync::Wait;
+use std::sync::atomic::Ordering;
+use std::test::Fail;
 use std::thread::Threads;
 use test_tasks::meetings;
 use wait_rule::{Domain, Task};
 
-/// A task and a new one, number 1 of a new Domain, play these parts, and go as they say: the task, which takes the other
-/// one in.
-pub(crate) fn two_meet<R: Abort + Threads + Wait + Sync, P: meetings::Part>(
+/// How many rounds most tests make.
+pub(crate) const ROUNDS: u32 = 300;
+
+/// What the tasks of a round play.
+pub(crate) struct Meeting {
+    /// What the first task plays before the others are there.
+    pub before: Part,
+    /// What it and a new one play.
+    pub own: (Part, Part),
+    /// What two further ones play, where four tasks meet.
+    pub others: Option<(Part, Part)>,
+    /// What the first task finds when it has taken the others in.
+    pub found: Found,
+}
+
+/// So many rounds, each of which plays these meetings one after the other, and each goes as it says.
+pub(crate) fn meet_often<R: Abort + Threads + Wait + Sync>(
+    rt: &R,
+    alloc: Global,
+    rounds: u32,
+    rows: &[Meeting],
+) -> Result<(), Fail> {
+    for round in 0..rounds {
+        for row in rows {
+            meet_once(rt, alloc, round, row)?;
+        }
+    }
+    Ok(())
+}
+
+/// A round, in a Domain of its own, goes as its row says: what its tasks counted together.
+pub(crate) fn meet_once<R: Abort + Threads + Wait + Sync>(
+    rt: &R,
+    alloc: Global,
+    round: u32,
+    row: &Meeting,
+) -> Result<u64, Fail> {
+    let (domain, task) = Domain::with_looks(alloc, 0)?;
+    let shared = Shared::new(round);
+    meet(rt, &domain, task, row, &shared);
+    Ok(shared.count.load(Ordering::SeqCst))
+}
+
+/// The tasks of a round play their parts, and go as these say.
+fn meet<R: Abort + Threads + Wait + Sync>(
     rt: &R,
     domain: &Domain,
     task: Task,
-    parts: (P, P),
+    row: &Meeting,
+    shared: &Shared,
+)
+    requires of { task.domain ≡ domain.now }
+    requires clean { IsClean task }
+{
+    let mut task = task;
+    let began = row.before.play(rt, domain, &mut task, shared);
+    let own = both(row.own, shared);
+    let task = match row.others {
+        None => two_meet(rt, domain, task, own),
+        Some(others) => four_meet(rt, domain, task, own, both(others, shared)),
+    };
+    let found = row.found.is_so(rt, domain, task, shared);
+    all_so(rt, &[began, found]);
+}
+
+/// Two parts of a round.
+pub(crate) fn both<'a>(parts: (Part, Part), shared: &'a Shared) -> (Played<'a>, Played<'a>) {
+    (
+        Played {
+            part: parts.0,
+            shared,
+        },
+        Played {
+            part: parts.1,
+            shared,
+        },
+    )
+}
+
+/// A task and a new one, number 1 where the task was the only one, play these parts, and go as they say: the task, which
+/// takes the other one in.
+fn two_meet<R: Abort + Threads + Wait + Sync>(
+    rt: &R,
+    domain: &Domain,
+    task: Task,
+    parts: (Played, Played),
 ) -> Task
     requires of { task.domain ≡ domain.now }
     requires clean { IsClean task }
@@ -32,13 +121,13 @@ pub(crate) fn two_meet<R: Abort + Threads + Wait + Sync, P: meetings::Part>(
     task
 }
 
-/// The same of a task and three new ones, numbers 1 to 3 of a new Domain.
-pub(crate) fn four_meet<R: Abort + Threads + Wait + Sync, P: meetings::Part>(
+/// The same of a task and three new ones.
+fn four_meet<R: Abort + Threads + Wait + Sync>(
     rt: &R,
     domain: &Domain,
     task: Task,
-    own: (P, P),
-    others: (P, P),
+    own: (Played, Played),
+    others: (Played, Played),
 ) -> Task
     requires of { task.domain ≡ domain.now }
     requires clean { IsClean task }

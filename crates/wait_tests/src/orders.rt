@@ -2,18 +2,23 @@
 //! an executor does.
 
 ghost use Rattle.std.specs.Prelude.{◌≡◌, false};
-ghost use Rattle.wait_class.specs.Tables.{IsAt};
+ghost use Rattle.wait_class.specs.Tables.{IsAt, Lands};
 ghost use Rattle.wait_event.specs.Waits.{wait_table};
 ghost use Rattle.wait_event.specs.declared.waits.WaitStage.TheVariants as stage;
 ghost use Rattle.wait_model.specs.Tasks.{is_killable};
-ghost use Rattle.wait_tests.specs.EventTasks.{IsReadyForEvent, IsTestedWait, IsWaker};
+ghost use Rattle.wait_rule.specs.Says.{IsClean};
 
-use crate::events::stretches::{is_over, set_and_wake_all};
-use crate::simple_queues::stretches::{COND, wake_waiters};
+use crate::completions::calls::{complete, try_wait};
+use crate::completions::threads::CELL;
+use crate::events::stretches::is_over;
+use crate::events::threads::set;
+use crate::simple_queues::threads::{COND, swake_all_or_two};
 use crate::turns::go_on;
-use crate::variables::alone::VAR;
-use crate::variables::stretches::{announce_value, has_found};
+use crate::variables::alone::{VAR, announce};
+use crate::variables::stretches::{VALUE, has_found};
 use crate::wants::another;
+use completion_cell::await_calls::begin_await;
+use completion_cell::awaits::{AwaitOutcome, AwaitStage};
 use std::alloc::Global;
 use std::process::Abort;
 use std::sync::Wait;
@@ -21,7 +26,8 @@ use std::test::Fail;
 use swait_queue::waits::begin_swait;
 use test_tasks::draws::next_number;
 use var_wait::waits::begin_var;
-use wait_class::stages::Turn;
+use wait_class::machines::Machine;
+use wait_class::stages::{Run, Turn};
 use wait_event::wait_events::begin_wait;
 use wait_event::waits::{WaitRun, WaitStage, WaitTurn};
 use wait_model::tasks::{How, SleepState};
@@ -33,7 +39,7 @@ const ORDERS: u32 = 400;
 /// How many turns an order has at most: each wait has fewer than 30 stretches, and two of five turns go to each.
 const TURNS: u32 = 600;
 
-/// What the waker does, once.
+/// What the waker does.
 #[derive(Clone, Copy)]
 pub(crate) enum Wakes {
     /// It sets the condition of the tests of events, and wakes all.
@@ -42,41 +48,50 @@ pub(crate) enum Wakes {
     Queue { all: bool },
     /// It publishes the variable of the tests.
     Variable,
+    /// It completes the completion of the tests, in each of two turns.
+    Cell,
 }
 
 /// The waker's call.
 fn wake<R: Wait>(rt: &R, domain: &Domain, waker: &mut Task, wakes: Wakes)
     requires of { waker.old.domain ≡ domain.now }
-    requires waker { IsWaker waker.old }
+    requires clean { IsClean waker.old }
     ensures of { waker.new.domain ≡ domain.now }
-    ensures waker { IsWaker waker.new }
+    ensures clean { IsClean waker.new }
 {
     match wakes {
-        Wakes::Event => set_and_wake_all(rt, domain, waker),
-        Wakes::Queue { all } => wake_waiters(rt, domain, waker, all),
-        Wakes::Variable => announce_value(rt, domain, waker),
+        Wakes::Event => {
+            set(rt, domain, waker, 0);
+        }
+        Wakes::Queue { all } => {
+            swake_all_or_two(rt, domain, waker, all);
+        }
+        Wakes::Variable => {
+            announce(rt, domain, waker, VALUE);
+        }
+        Wakes::Cell => complete(rt, domain, waker, CELL),
     }
 }
 
-/// The waker's turn: it makes its call where it is to, and has not made it yet. Whether it has made it then.
+/// The waker's turn: it makes a call where it is to, and one is left to be made. How many are left then.
 fn wake_if<R: Wait>(
     rt: &R,
     domain: &Domain,
     waker: &mut Task,
     wakes: Wakes,
     is_to: bool,
-    done: bool,
-) -> bool
+    left: u32,
+) -> u32
     requires of { waker.old.domain ≡ domain.now }
-    requires waker { IsWaker waker.old }
+    requires clean { IsClean waker.old }
     ensures of { waker.new.domain ≡ domain.now }
-    ensures waker { IsWaker waker.new }
+    ensures clean { IsClean waker.new }
 {
-    if is_to && !done {
+    if is_to && left > 0 {
         wake(rt, domain, waker, wakes);
-        return true;
+        return left - 1;
     }
-    done
+    left
 }
 
 /// How the two waits of a simple queue wait.
@@ -92,19 +107,19 @@ fn state_of(first: bool) -> SleepState
 
 /// The first wait begins, or the second one, for what the waker wakes.
 fn begin(task: &Task, wakes: Wakes, first: bool) -> WaitRun
-    requires ready { IsReadyForEvent task.now }
+    requires clean { IsClean task.now }
     ensures { IsAt wait_table task.now result stage.First }
 {
     match wakes {
-        Wakes::Event => {
+        Wakes::Queue { .. } => begin_swait(task, COND, state_of(first)),
+        Wakes::Variable => begin_var(task, VAR, 0, state_of(first)),
+        _ => {
             let how = How {
                 state: SleepState::Interruptible,
                 exclusive: false,
             };
             begin_wait(task, 0, how)
         }
-        Wakes::Queue { .. } => begin_swait(task, COND, state_of(first)),
-        Wakes::Variable => begin_var(task, VAR, 0, state_of(first)),
     }
 }
 
@@ -128,14 +143,49 @@ fn play<R: Wait>(
 ) -> bool
     requires of { (waker.old.domain ≡ domain.now) × (first.old.domain ≡ domain.now)
         × (second.old.domain ≡ domain.now) }
-    requires waker { IsWaker waker.old }
-    requires first { IsReadyForEvent first.old }
-    requires second { IsReadyForEvent second.old }
+    requires waker { IsClean waker.old }
+    requires first { IsClean first.old }
+    requires second { IsClean second.old }
 {
-    let one = begin(first, wakes, true);
-    let two = begin(second, wakes, false);
-    let (one, two) = play_two(rt, domain, waker, wakes, first, one, second, two, seed);
-    ends(wakes, one.0, one.1) && ends(wakes, two.0, two.1)
+    let begins = (Turn::Again(WaitStage::First), Turn::Again(WaitStage::First));
+    let mut one = begin(first, wakes, true);
+    let mut two = begin(second, wakes, false);
+    let last = play_two(
+        rt, domain, waker, wakes, first, &mut one, second, &mut two, begins, seed,
+    );
+    ends(wakes, one, last.0) && ends(wakes, two, last.1)
+}
+
+/// Plays one order of two waits for a completion: whether each has taken one then, and nothing is left of what was
+/// completed twice.
+fn play_cells<R: Wait>(
+    rt: &R,
+    domain: &Domain,
+    waker: &mut Task,
+    first: &mut Task,
+    second: &mut Task,
+    seed: u32,
+) -> bool
+    requires of { (waker.old.domain ≡ domain.now) × (first.old.domain ≡ domain.now)
+        × (second.old.domain ≡ domain.now) }
+    requires waker { IsClean waker.old }
+    requires first { IsClean first.old }
+    requires second { IsClean second.old }
+{
+    let begins = (
+        Turn::Again(AwaitStage::First),
+        Turn::Again(AwaitStage::First),
+    );
+    let mut one = begin_await(first, CELL, SleepState::Interruptible);
+    let mut two = begin_await(second, CELL, SleepState::Uninterruptible);
+    let wakes = Wakes::Cell;
+    let last = play_two(
+        rt, domain, waker, wakes, first, &mut one, second, &mut two, begins, seed,
+    );
+    let rest = try_wait(rt, domain, waker, CELL);
+    let first = matches!(last.0, Turn::Done(AwaitOutcome::Over));
+    let second = matches!(last.1, Turn::Done(AwaitOutcome::Over));
+    first && second && last.2 == 0 && !rest
 }
 
 /// What the waker does in an order: of a simple queue it wakes all in each second one.
@@ -154,52 +204,58 @@ pub(crate) fn play_each<R: Abort + Wait>(rt: &R, alloc: Global, wakes: Wakes) ->
         let (domain, mut waker) = Domain::new(alloc)?;
         let mut first = another(rt, &domain, &mut waker);
         let mut second = another(rt, &domain, &mut waker);
-        let wakes = in_order(wakes, order);
-        let well = play(
-            rt,
-            &domain,
-            &mut waker,
-            wakes,
-            &mut first,
-            &mut second,
-            order + 1,
-        );
+        let (wakes, seed) = (in_order(wakes, order), order + 1);
+        let well = match wakes {
+            Wakes::Cell => play_cells(rt, &domain, &mut waker, &mut first, &mut second, seed),
+            _ => play(
+                rt,
+                &domain,
+                &mut waker,
+                wakes,
+                &mut first,
+                &mut second,
+                seed,
+            ),
+        };
         assert!(rt; well);
     }
     Ok(())
 }
 
-/// Plays one order, of two waits that have just begun: where they stand then.
-fn play_two<R: Wait>(
+/// Plays one order, of two waits that have just begun: where they stand then, and how many calls the waker has not made.
+fn play_two<R: Wait, C: Machine>(
     rt: &R,
     domain: &Domain,
     waker: &mut Task,
     wakes: Wakes,
     first: &mut Task,
-    one: WaitRun,
+    one: &mut Run<C>,
     second: &mut Task,
-    two: WaitRun,
+    two: &mut Run<C>,
+    begins: (Turn<C::Stage, C::Outcome>, Turn<C::Stage, C::Outcome>),
     seed: u32,
-) -> ((WaitRun, WaitTurn), (WaitRun, WaitTurn))
+) -> (Turn<C::Stage, C::Outcome>, Turn<C::Stage, C::Outcome>, u32)
     requires of { (waker.old.domain ≡ domain.now) × (first.old.domain ≡ domain.now)
         × (second.old.domain ≡ domain.now) }
-    requires waker { IsWaker waker.old }
-    requires one { IsAt wait_table first.old one stage.First }
-    requires two { IsAt wait_table second.old two stage.First }
+    requires waker { IsClean waker.old }
+    requires one { Lands C.table first.old one.old begins.0 }
+    requires two { Lands C.table second.old two.old begins.1 }
+    ensures of { waker.new.domain ≡ domain.now }
+    ensures waker { IsClean waker.new }
 {
-    let mut one = one;
-    let mut two = two;
-    let mut one_at = Turn::Again(WaitStage::First);
-    let mut two_at = Turn::Again(WaitStage::First);
+    let (mut one_at, mut two_at) = begins;
     let mut seed = seed;
-    let mut done = false;
+    let mut left = match wakes {
+        Wakes::Cell => 2,
+        _ => 1,
+    };
     for _ in 0..TURNS {
         seed = next_number(seed);
         match seed % 5 {
-            0 | 1 => one_at = go_on(domain, first, &mut one, one_at),
-            2 | 3 => two_at = go_on(domain, second, &mut two, two_at),
-            _ => done = wake_if(rt, domain, waker, wakes, seed % 64 < 8, done),
+            0 | 1 => one_at = go_on(domain, first, one, one_at),
+            2 | 3 => two_at = go_on(domain, second, two, two_at),
+            _ => left = wake_if(rt, domain, waker, wakes, seed % 64 < 8, left),
         }
     }
-    ((one, one_at), (two, two_at))
+    (one_at, two_at, left)
 }

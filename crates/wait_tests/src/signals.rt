@@ -37,6 +37,22 @@ fn interrupted(end: Result<(), BitEnd>) -> Option<u64> {
     }
 }
 
+/// A new task sends a plain signal to this one: false where no number is spare.
+pub(crate) fn get_signal<R: Wait>(rt: &R, domain: &Domain, task: &mut Task) -> bool
+    requires of { task.old.domain ≡ domain.now }
+    requires clean { IsClean task.old }
+    ensures of { task.new.domain ≡ domain.now }
+    ensures clean { IsClean task.new }
+{
+    match task.fork(domain, 0) {
+        Ok(mut sender) => {
+            send_signal(rt, domain, &mut sender, task.number(), false);
+            true
+        }
+        Err(_none) => false,
+    }
+}
+
 /// What is waited for.
 #[derive(Clone, Copy)]
 enum Waits {

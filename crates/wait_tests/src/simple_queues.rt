@@ -2,6 +2,6 @@
 //! calls alone.
 
 mod alone;
-pub(crate) mod stretches;
+mod stretches;
 mod swakes;
 pub(crate) mod threads;

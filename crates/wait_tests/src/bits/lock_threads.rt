@@ -6,16 +6,14 @@ ghost use Rattle.wait_model.specs.declared.watches.Watch.TheVariants as watch;
 ghost use Rattle.wait_rule.specs.Says.{IsClean};
 ghost use Rattle.bit_wait.specs.Holders.{IsHolder};
 
-use crate::bits::alone::{lock, unlock};
-use crate::meetings::{Part, two_meet};
+use crate::bits::alone::unlock;
+use crate::meetings::rows::BIT_TURNS;
+use crate::meetings::{ROUNDS, meet_often};
 use bit_wait::lock_calls::wait_on_bit_lock;
 use std::sync::Wait;
 use std::test::Fail;
 use wait_model::tasks::SleepState;
 use wait_rule::{Domain, Task};
-
-/// How many rounds the test makes.
-const ROUNDS: u32 = 300;
 
 /// Waits until it has taken the bit: true where it has.
 pub(crate) fn lock_in_turn<R: Wait>(rt: &R, domain: &Domain, task: &mut Task) -> bool
@@ -59,10 +57,5 @@ pub(crate) fn take_turns<R: Wait>(rt: &R, domain: &Domain, task: &mut Task) -> b
 /// Whatever the order of the steps, each task takes the bit each time, and in the end it is clear.
 #[test]
 fn two_take_one_bit_in_turn(rt: HostRuntime) -> Result<(), Fail> {
-    for _round in 0..ROUNDS {
-        let (domain, task) = Domain::with_looks(rt.alloc(), 0)?;
-        let mut task = two_meet(&rt, &domain, task, (Part::TakesTurns, Part::TakesTurns));
-        assert!(rt; lock(&domain, &mut task, 0, 0));
-    }
-    Ok(())
+    meet_often(&rt, rt.alloc(), ROUNDS, BIT_TURNS)
 }

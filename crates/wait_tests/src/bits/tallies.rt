@@ -7,24 +7,18 @@ ghost use Rattle.wait_rule.specs.Says.{IsClean};
 ghost use Rattle.bit_wait.specs.Holders.{IsHolder};
 
 use crate::bits::alone::{lock, unlock};
-use crate::meetings::{Part, two_meet};
+use crate::meetings::rows::BIT_TALLY;
+use crate::meetings::{ROUNDS, meet_often};
 use std::sync::Wait;
 use std::test::Fail;
 use std::thread;
 use wait_rule::tallies::tally_add;
 use wait_rule::{Domain, Task};
 
-/// How many rounds the test makes, and how often each task adds in a round.
-const ROUNDS: u32 = 300;
-
+/// How often each task adds in a round, and to the tally of which page.
 const ADDS: u64 = 25;
 
-/// The page, and what each task adds to its tally.
 const PAGE: u8 = 3;
-
-const FIRST: u64 = 5;
-
-const SECOND: u64 = u64::MAX;
 
 /// Adds to the tally of a page whose bit the task keeps, and answers the number before.
 fn add(domain: &Domain, task: &mut Task, page: u8, amount: u64) -> u64
@@ -71,17 +65,5 @@ pub(crate) fn add_often<R: Wait>(rt: &R, domain: &Domain, task: &mut Task, amoun
 /// Whatever the order of the steps, the tally is in the end what both have added, modulo 2^64.
 #[test]
 fn two_add_to_one_tally(rt: HostRuntime) -> Result<(), Fail> {
-    let parts = (
-        Part::AddsAmount { amount: FIRST },
-        Part::AddsAmount { amount: SECOND },
-    );
-    for _round in 0..ROUNDS {
-        let (domain, task) = Domain::with_looks(rt.alloc(), 0)?;
-        let mut task = two_meet(&rt, &domain, task, parts);
-        if !lock(&domain, &mut task, PAGE, 0) {
-            panic!(rt; "each has given the page back")
-        }
-        assert!(rt; add(&domain, &mut task, PAGE, 0) == 100);
-    }
-    Ok(())
+    meet_often(&rt, rt.alloc(), ROUNDS, BIT_TALLY)
 }

@@ -3,7 +3,7 @@
 ghost use Rattle.std.specs.Prelude.{◌≡◌};
 ghost use Rattle.wait_tests.specs.CompletionTasks.{IsReadyForCell, MayComplete};
 
-use crate::completions::stretches::CELL;
+use crate::completions::threads::CELL;
 use crate::turns::go_often;
 use crate::wants::{all_so, another};
 use completion_cell::await_calls::{begin_await, end_of};

@@ -2,12 +2,13 @@
 //! known over the wait.
 
 use crate::completions::calls::{complete, try_wait};
-use crate::events::threads::wait_for_condition;
 use crate::wants::{all_so, another};
 use std::test::Fail;
 use wait_event::conds::set_and_wake;
+use wait_model::tasks::SleepState;
 use wait_model::watches::Mode;
 use wait_rule::Domain;
+use wq_user::events::wait_for_zero;
 
 /// The completion of the test.
 const CELL: u8 = 3;
@@ -19,7 +20,7 @@ fn completed_around_a_wait(rt: HostRuntime) -> Result<(), Fail> {
     let mut other = another(&rt, &domain, &mut task);
     set_and_wake(&rt, &domain, &mut other, 0, 1, Mode::Normal, 0);
     complete(&rt, &domain, &mut task, CELL);
-    let over = wait_for_condition(&rt, &domain, &mut task);
+    let over = wait_for_zero(&rt, &domain, &mut task, SleepState::Uninterruptible);
     complete(&rt, &domain, &mut task, CELL);
     let seen = [
         over,

@@ -6,7 +6,8 @@ ghost use Rattle.wait_rule.specs.Says.{IsClean, told_of};
 ghost use Rattle.wait_tests.specs.EventTasks.{IsCleanHearer, IsHearer};
 
 use crate::in_order::met_nobody;
-use crate::meetings::{Part, two_meet};
+use crate::meetings::rows::HEARERS;
+use crate::meetings::{ROUNDS, meet_often};
 use std::sync::Wait;
 use std::test::Fail;
 use wait_event::entries::{add_entry, remove_entry};
@@ -17,9 +18,6 @@ use wait_model::watches::{Kind, Mode, Watch};
 use wait_rule::queues::cond_load;
 use wait_rule::{Domain, Task};
 use wq_head::wakes::wake;
-
-/// How many rounds the test with threads makes.
-const ROUNDS: u32 = 300;
 
 /// The condition that is waited for.
 const WATCH: Watch = Watch::Plain { cond: 0 };
@@ -125,9 +123,5 @@ pub(crate) fn hear_until_set<R: Wait>(rt: &R, domain: &Domain, task: &mut Task) 
 /// Whatever the order of the steps, the wait ends, and the waker takes its task in.
 #[test]
 fn hearers_are_joined(rt: HostRuntime) -> Result<(), Fail> {
-    for _round in 0..ROUNDS {
-        let (domain, task) = Domain::with_looks(rt.alloc(), 0)?;
-        two_meet(&rt, &domain, task, (Part::Sets { count: 0 }, Part::Hears));
-    }
-    Ok(())
+    meet_often(&rt, rt.alloc(), ROUNDS, HEARERS)
 }

@@ -90,37 +90,6 @@ fn look(domain: &Domain, task: &mut Task) -> Option<WokenTurn>
     }
 }
 
-/// Goes on where it is its turn.
-fn go_if(
-    domain: &Domain,
-    task: &mut Task,
-    last: Option<WokenTurn>,
-    its_turn: bool,
-) -> Option<WokenTurn>
-    requires of { task.old.domain ≡ domain.now }
-    requires hears { IsHearingOn task.old last }
-    ensures of { task.new.domain ≡ domain.now }
-    ensures hears { IsHearingOn task.new result }
-{
-    if its_turn {
-        go_on(domain, task, last)
-    } else {
-        last
-    }
-}
-
-/// Sets the condition where it is the waker's turn, for the first time.
-fn set_if<R: Wait>(rt: &R, domain: &Domain, waker: &mut Task, its_turn: bool)
-    requires of { waker.old.domain ≡ domain.now }
-    requires waker { IsWaker waker.old }
-    ensures of { waker.new.domain ≡ domain.now }
-    ensures waker { IsWaker waker.new }
-{
-    if its_turn {
-        set_and_wake(rt, domain, waker, 0, 1, Mode::Normal, 0);
-    }
-}
-
 /// Plays one order: whether no task sleeps or is in a wait then.
 fn play<R: Wait>(
     rt: &R,
@@ -142,11 +111,15 @@ fn play<R: Wait>(
     let mut set = false;
     for turn in 0..TURNS {
         seed = next_number(seed);
-        one_at = go_if(domain, first, one_at, seed % 5 < 2);
-        two_at = go_if(domain, second, two_at, seed % 5 > 2);
-        let its_turn = !set && (seed % 32 == 2 || turn == 100);
-        set_if(rt, domain, waker, its_turn);
-        set = set || its_turn;
+        match seed % 5 {
+            0 | 1 => one_at = go_on(domain, first, one_at),
+            3 | 4 => two_at = go_on(domain, second, two_at),
+            _ => {}
+        }
+        if !set && (seed % 32 == 2 || turn == 100) {
+            set_and_wake(rt, domain, waker, 0, 1, Mode::Normal, 0);
+            set = true;
+        }
     }
     ends(domain, first, one_at) && ends(domain, second, two_at)
 }

@@ -8,7 +8,8 @@ ghost use Rattle.wait_model.specs.Watches.{IsThere};
 ghost use Rattle.wait_event.specs.Prepares.{SuitsWait, exclusive_in};
 ghost use Rattle.wait_rule.specs.Says.{IsClean};
 
-use crate::meetings::{Part, four_meet, two_meet};
+use crate::meetings::rows::{VALUES_BY_TURNS, WAITERS_BY_TURNS};
+use crate::meetings::{ROUNDS, meet_often};
 use crate::variables::alone::VAR;
 use crate::wants::{all_so, another};
 use std::sync::Wait;
@@ -21,9 +22,6 @@ use wait_model::watches::{Kind, Mode, Watch};
 use wait_rule::queues::cond_load;
 use wait_rule::{Domain, Task, schedule};
 use wq_head::wake;
-
-/// How many rounds the tests in threads make.
-const ROUNDS: u32 = 300;
 
 /// Prepares twice, the second time in the state of the first, and finishes: true where both queued the entry, or found
 /// it queued.
@@ -204,26 +202,11 @@ fn kinds_around_a_wake(rt: HostRuntime) -> Result<(), Fail> {
 /// Whatever the order of the steps, waits by parts end, and the waker takes their tasks in.
 #[test]
 fn turns_are_joined(rt: HostRuntime) -> Result<(), Fail> {
-    for _round in 0..ROUNDS {
-        let (domain, task) = Domain::with_looks(rt.alloc(), 0)?;
-        let waker = (Part::Sets { count: 0 }, Part::Rests);
-        let waiters = (Part::WaitsByTurns, Part::WaitsByTurns);
-        four_meet(&rt, &domain, task, waker, waiters);
-    }
-    Ok(())
+    meet_often(&rt, rt.alloc(), ROUNDS, WAITERS_BY_TURNS)
 }
 
 /// And so do those for a variable, with its last value.
 #[test]
 fn turns_see_each_value(rt: HostRuntime) -> Result<(), Fail> {
-    for _round in 0..ROUNDS {
-        let (domain, task) = Domain::with_looks(rt.alloc(), 0)?;
-        two_meet(
-            &rt,
-            &domain,
-            task,
-            (Part::AnnouncesTwice, Part::SeesByTurns),
-        );
-    }
-    Ok(())
+    meet_often(&rt, rt.alloc(), ROUNDS, VALUES_BY_TURNS)
 }

@@ -4,15 +4,13 @@
 ghost use Rattle.std.specs.Prelude.{◌≡◌};
 ghost use Rattle.wait_rule.specs.Says.{IsClean};
 
-use crate::meetings::{Part, four_meet};
+use crate::meetings::rows::SELECTED;
+use crate::meetings::{ROUNDS, meet_often};
 use std::sync::Wait;
 use std::test::Fail;
 use wait_event::wait_events::{WaitEnd, wait_event};
 use wait_model::tasks::{How, SleepState};
 use wait_rule::{Domain, Task};
-
-/// How many rounds the test makes.
-const ROUNDS: u32 = 300;
 
 /// Waits for condition 0: true where it was set, or where a signal ended the wait and the last load found it not set.
 pub(crate) fn wait_exclusive<R: Wait>(rt: &R, domain: &Domain, task: &mut Task) -> bool
@@ -42,16 +40,5 @@ fn is_not_lost(end: &Result<(), WaitEnd>) -> bool {
 /// the waker, which wakes one exclusive waiter, takes all tasks in.
 #[test]
 fn selected_not_lost(rt: HostRuntime) -> Result<(), Fail> {
-    for _round in 0..ROUNDS {
-        let (domain, task) = Domain::with_looks(rt.alloc(), 0)?;
-        let waker = (Part::Sets { count: 1 }, Part::WaitsExclusively);
-        four_meet(
-            &rt,
-            &domain,
-            task,
-            waker,
-            (Part::Signals { who: 1 }, Part::Rests),
-        );
-    }
-    Ok(())
+    meet_often(&rt, rt.alloc(), ROUNDS, SELECTED)
 }

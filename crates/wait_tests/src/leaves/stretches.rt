@@ -1,11 +1,11 @@
 //! Waits that go on by stretches on one thread and are left from each of them on, by the call that leaves and by
 //! stretches.
 
-ghost use Rattle.std.specs.Prelude.{◌≡◌, MatchOption};
+ghost use Rattle.std.specs.Prelude.{◌≡◌};
 ghost use Rattle.wait_model.specs.declared.watches.Watch.TheVariants as watch;
 ghost use Rattle.wait_rule.specs.PassedLocks.{PassesNone};
 ghost use Rattle.wait_rule.specs.Says.{IsClean, IsUp};
-ghost use Rattle.wait_class.specs.Tables.{IsAt, Lands};
+ghost use Rattle.wait_class.specs.Tables.{Lands};
 ghost use Rattle.bit_wait.specs.Holders.{IsHolder};
 
 use crate::bits::alone::lock;
@@ -53,8 +53,15 @@ const HOW: How = How {
     exclusive: true,
 };
 
+/// After how many turns a wait is left, and whether by stretches or by the call.
+#[derive(Clone, Copy)]
+struct Way {
+    turns: u32,
+    by_stretches: bool,
+}
+
 /// Goes on by so many turns, and is woken by the other task where it was put asleep: the stage at which its task is awake
-/// then. None where the wait is over.
+/// then.
 fn reach<R: Wait, C: Machine>(
     rt: &R,
     domain: &Domain,
@@ -63,25 +70,24 @@ fn reach<R: Wait, C: Machine>(
     run: &mut Run<C>,
     first: Turn<C::Stage, C::Outcome>,
     turns: u32,
-) -> Option<C::Stage>
+) -> Turn<C::Stage, C::Outcome>
     requires of { (other.old.domain ≡ domain.now) × (task.old.domain ≡ domain.now) }
     requires up { IsUp other.old }
     requires waiting { Lands C.table task.old run.old first }
     ensures of { task.new.domain ≡ domain.now }
-    ensures at { MatchOption result (Unit {0}) (λ s. IsAt C.table task.new run.new s) }
+    ensures waiting { Lands C.table task.new run.new result }
 {
     match go_often(domain, task, run, first, turns) {
-        Turn::Again(stage) => Some(stage),
-        Turn::Locked(stage) => Some(stage),
+        Turn::Locked(stage) => Turn::Again(stage),
         Turn::Asleep(stage) => {
             let who = task.number();
             wake_task(rt, domain, other, who, Mode::Normal);
             if woke(domain, task, run, stage) {
-                return Some(stage);
+                return Turn::Again(stage);
             }
-            None
+            Turn::Asleep(stage)
         }
-        Turn::Done(_) => None,
+        at => at,
     }
 }
 
@@ -129,6 +135,29 @@ fn out_often<C: Leavable>(
     at
 }
 
+/// Reaches the stage from which a wait is left, and goes to its end by stretches, where it is not left by the call.
+fn way_out<R: Wait, C: Leavable>(
+    rt: &R,
+    domain: &Domain,
+    other: &mut Task,
+    task: &mut Task,
+    run: &mut Run<C>,
+    first: Turn<C::Stage, C::Outcome>,
+    way: Way,
+) -> Turn<C::Stage, C::Outcome>
+    requires of { (other.old.domain ≡ domain.now) × (task.old.domain ≡ domain.now) }
+    requires up { IsUp other.old }
+    requires waiting { Lands C.table task.old run.old first }
+    ensures of { task.new.domain ≡ domain.now }
+    ensures waiting { Lands C.table task.new run.new result }
+{
+    let at = reach(rt, domain, other, task, run, first, way.turns);
+    if way.by_stretches {
+        return out_often(domain, task, run, at);
+    }
+    at
+}
+
 /// Whether a wait for a condition or a completion, and one for a bit or a page, was left that nobody woke.
 fn is_unset(end: WaitUntil<Result<(), WaitEnd>>) -> bool {
     matches!(
@@ -154,8 +183,7 @@ fn leaves_event<R: Wait>(
     domain: &Domain,
     other: &mut Task,
     task: &mut Task,
-    turns: u32,
-    by_stretches: bool,
+    way: Way,
 ) -> bool
     requires of { (other.old.domain ≡ domain.now) × (task.old.domain ≡ domain.now) }
     requires up { IsUp other.old }
@@ -163,16 +191,11 @@ fn leaves_event<R: Wait>(
 {
     let mut run = begin_wait(task, 0, HOW);
     let begins = Turn::Again(WaitStage::First);
-    let Some(stage) = reach(rt, domain, other, task, &mut run, begins, turns) else {
-        return false;
-    };
-    if by_stretches {
-        return match out_often(domain, task, &mut run, Turn::Again(stage)) {
-            Turn::Done(outcome) => is_unset(end_until(task, &run, outcome)),
-            _ => false,
-        };
+    match way_out(rt, domain, other, task, &mut run, begins, way) {
+        Turn::Again(stage) => is_unset(leave_wait(rt, domain, task, &mut run, stage)),
+        Turn::Done(outcome) => is_unset(end_until(task, &run, outcome)),
+        _ => false,
     }
-    is_unset(leave_wait(rt, domain, task, &mut run, stage))
 }
 
 /// The same of one for completion 1.
@@ -181,8 +204,7 @@ fn leaves_await<R: Wait>(
     domain: &Domain,
     other: &mut Task,
     task: &mut Task,
-    turns: u32,
-    by_stretches: bool,
+    way: Way,
 ) -> bool
     requires of { (other.old.domain ≡ domain.now) × (task.old.domain ≡ domain.now) }
     requires up { IsUp other.old }
@@ -190,43 +212,26 @@ fn leaves_await<R: Wait>(
 {
     let mut run = begin_await(task, 1, STATE);
     let begins = Turn::Again(AwaitStage::First);
-    let Some(stage) = reach(rt, domain, other, task, &mut run, begins, turns) else {
-        return false;
-    };
-    if by_stretches {
-        return match out_often(domain, task, &mut run, Turn::Again(stage)) {
-            Turn::Done(outcome) => is_undone(end_await_until(task, &run, outcome)),
-            _ => false,
-        };
+    match way_out(rt, domain, other, task, &mut run, begins, way) {
+        Turn::Again(stage) => is_undone(leave_await(rt, domain, task, &mut run, stage)),
+        Turn::Done(outcome) => is_undone(end_await_until(task, &run, outcome)),
+        _ => false,
     }
-    is_undone(leave_await(rt, domain, task, &mut run, stage))
 }
 
 /// Of one until bit 0 of word 2 is clear, which the other one keeps.
-fn leaves_bit<R: Wait>(
-    rt: &R,
-    domain: &Domain,
-    other: &mut Task,
-    task: &mut Task,
-    turns: u32,
-    by_stretches: bool,
-) -> bool
+fn leaves_bit<R: Wait>(rt: &R, domain: &Domain, other: &mut Task, task: &mut Task, way: Way) -> bool
     requires of { (other.old.domain ≡ domain.now) × (task.old.domain ≡ domain.now) }
     requires up { IsUp other.old }
     requires clean { IsClean task.old }
 {
     let mut run = begin_bit(task, 2, 0, STATE);
     let begins = Turn::Again(Stage::Test(BitTest::First));
-    let Some(stage) = reach(rt, domain, other, task, &mut run, begins, turns) else {
-        return false;
-    };
-    if by_stretches {
-        return match out_often(domain, task, &mut run, Turn::Again(stage)) {
-            Turn::Done(outcome) => is_set(end_bit_until(domain, task, &run, outcome)),
-            _ => false,
-        };
+    match way_out(rt, domain, other, task, &mut run, begins, way) {
+        Turn::Again(stage) => is_set(leave_bit(rt, domain, task, &mut run, stage)),
+        Turn::Done(outcome) => is_set(end_bit_until(domain, task, &run, outcome)),
+        _ => false,
     }
-    is_set(leave_bit(rt, domain, task, &mut run, stage))
 }
 
 /// Of one to take that bit.
@@ -235,8 +240,7 @@ fn leaves_lock<R: Wait>(
     domain: &Domain,
     other: &mut Task,
     task: &mut Task,
-    turns: u32,
-    by_stretches: bool,
+    way: Way,
 ) -> bool
     requires of { (other.old.domain ≡ domain.now) × (task.old.domain ≡ domain.now) }
     requires up { IsUp other.old }
@@ -244,16 +248,11 @@ fn leaves_lock<R: Wait>(
 {
     let mut run = begin_lock(task, 2, 0, STATE);
     let begins = Turn::Again(Stage::Test(LockTest::First));
-    let Some(stage) = reach(rt, domain, other, task, &mut run, begins, turns) else {
-        return false;
-    };
-    if by_stretches {
-        return match out_often(domain, task, &mut run, Turn::Again(stage)) {
-            Turn::Done(outcome) => is_set(end_lock_until(domain, task, &run, outcome)),
-            _ => false,
-        };
+    match way_out(rt, domain, other, task, &mut run, begins, way) {
+        Turn::Again(stage) => is_set(leave_lock(rt, domain, task, &mut run, stage)),
+        Turn::Done(outcome) => is_set(end_lock_until(domain, task, &run, outcome)),
+        _ => false,
     }
-    is_set(leave_lock(rt, domain, task, &mut run, stage))
 }
 
 /// And of one for page 2, which is that bit.
@@ -262,8 +261,7 @@ fn leaves_page<R: Wait>(
     domain: &Domain,
     other: &mut Task,
     task: &mut Task,
-    turns: u32,
-    by_stretches: bool,
+    way: Way,
 ) -> bool
     requires of { (other.old.domain ≡ domain.now) × (task.old.domain ≡ domain.now) }
     requires up { IsUp other.old }
@@ -271,16 +269,11 @@ fn leaves_page<R: Wait>(
 {
     let mut run = begin_page(task, 2, STATE);
     let begins = Turn::Again(PageStage::First);
-    let Some(stage) = reach(rt, domain, other, task, &mut run, begins, turns) else {
-        return false;
-    };
-    if by_stretches {
-        return match out_often(domain, task, &mut run, Turn::Again(stage)) {
-            Turn::Done(outcome) => is_set(end_page_until(task, &run, outcome)),
-            _ => false,
-        };
+    match way_out(rt, domain, other, task, &mut run, begins, way) {
+        Turn::Again(stage) => is_set(leave_page(rt, domain, task, &mut run, stage)),
+        Turn::Done(outcome) => is_set(end_page_until(task, &run, outcome)),
+        _ => false,
     }
-    is_set(leave_page(rt, domain, task, &mut run, stage))
 }
 
 /// A wait of this kind is left.
@@ -290,19 +283,18 @@ fn leaves<R: Wait>(
     other: &mut Task,
     task: &mut Task,
     kind: u32,
-    turns: u32,
-    by_stretches: bool,
+    way: Way,
 ) -> bool
     requires of { (other.old.domain ≡ domain.now) × (task.old.domain ≡ domain.now) }
     requires up { IsUp other.old }
     requires clean { IsClean task.old }
 {
     match kind {
-        0 => leaves_event(rt, domain, other, task, turns, by_stretches),
-        1 => leaves_await(rt, domain, other, task, turns, by_stretches),
-        2 => leaves_bit(rt, domain, other, task, turns, by_stretches),
-        3 => leaves_lock(rt, domain, other, task, turns, by_stretches),
-        _ => leaves_page(rt, domain, other, task, turns, by_stretches),
+        0 => leaves_event(rt, domain, other, task, way),
+        1 => leaves_await(rt, domain, other, task, way),
+        2 => leaves_bit(rt, domain, other, task, way),
+        3 => leaves_lock(rt, domain, other, task, way),
+        _ => leaves_page(rt, domain, other, task, way),
     }
 }
 
@@ -316,19 +308,11 @@ fn waits_are_left_from_each_stretch(rt: HostRuntime) -> Result<(), Fail> {
         if !lock(&domain, &mut other, 2, 0) {
             panic!(rt; "the bit is clear")
         }
-        let (kind, by_stretches) = (round % 5, (round / 5) % 2 == 1);
-        let turns = round / 10;
-        assert!(rt;
-            leaves(
-                &rt,
-                &domain,
-                &mut other,
-                &mut task,
-                kind,
-                turns,
-                by_stretches
-            )
-        );
+        let way = Way {
+            turns: round / 10,
+            by_stretches: (round / 5) % 2 == 1,
+        };
+        assert!(rt; leaves(&rt, &domain, &mut other, &mut task, round % 5, way));
     }
     Ok(())
 }

@@ -1,19 +1,30 @@
 //! The parts that tasks play.
 
+ghost use Rattle.std.specs.Prelude.{◌≡◌};
+ghost use Rattle.wait_rule.specs.Says.{IsClean};
+
 use crate::bits::lock_threads::take_turns;
 use crate::bits::tallies;
 use crate::completions::calls::wait_for;
+use crate::completions::leave_threads::{complete_late, take_until};
 use crate::completions::threads::{CELL, complete_thrice};
 use crate::events::flags::hear_until_set;
 use crate::events::parts::{see_by_turns, wait_by_turns};
 use crate::events::selected::wait_exclusive;
-use crate::events::threads::{set_condition, wait_for_condition};
+use crate::events::threads::set_late;
+use crate::leaves::holders::{bit_until, clear_until, page_until, turn_of_bit, turn_of_page};
+use crate::leaves::pool::{open, post_all, work};
+use crate::leaves::threads::{Left, leave, leave_or_pass, take_it};
+use crate::meetings::Shared;
+use crate::meetings::shares::Late;
 use crate::pages::threads::add_often;
+use crate::signals::get_signal;
 use crate::signals::threads::{lock_in_vain, wake_then_signal};
 use crate::simple_queues::threads::swake_all_or_two;
 use crate::variables::threads::{announce_twice, wait_twice};
+use std::alloc::AllocError;
 use std::sync::Wait;
-use test_tasks::late::signal_late;
+use test_tasks::late::{ask_late, signal_late};
 use test_tasks::meetings;
 use wait_model::tasks::SleepState;
 use wait_rule::{Domain, Task};
@@ -21,12 +32,12 @@ use wq_user::events::wait_for_zero;
 use wq_user::simple::swait;
 
 /// What a task does, which owes nothing before it and after it.
-#[derive(Clone, Copy)]
+#[derive(Copy)]
 pub(crate) enum Part {
-    /// It plays none: the others are fewer.
+    /// It plays none.
     Rests,
-    /// It sets condition 0, and wakes all, or so many exclusive waiters.
-    Sets { count: u32 },
+    /// It sets condition 0, so late, and wakes all, or so many exclusive waiters.
+    Sets { late: Late, count: u32 },
     /// It waits for condition 0, which is set.
     Waits,
     /// It waits for it by parts.
@@ -35,6 +46,8 @@ pub(crate) enum Part {
     WaitsExclusively,
     /// It sends a plain signal.
     Signals { who: u8 },
+    /// A plain signal is sent to it by a new task.
+    GetsSignal,
     /// It waits for condition 0 by the flag of an entry.
     Hears,
     /// It waits killable for condition 0, which is set, or a signal ends it.
@@ -49,8 +62,12 @@ pub(crate) enum Part {
     Swaits,
     /// It completes the completion of the tests three times.
     CompletesThrice,
+    /// It completes it once, so late.
+    Completes { late: Late },
     /// It waits for that, and takes one.
     TakesOne,
+    /// So too, but leaves once it is asked: what it took it gives to the other one, and counts it.
+    TakesUntil,
     /// It publishes two values of the variable of the tests.
     AnnouncesTwice,
     /// It waits for one after the other.
@@ -63,17 +80,53 @@ pub(crate) enum Part {
     AddsToPage { times: u64 },
     /// It adds this to the tally of a page, again and again, as soon as the page's bit is clear.
     AddsAmount { amount: u64 },
+    /// It asks the task of this number to leave, so late, and wakes it.
+    Asks { who: u8, late: Late },
+    /// It waits for condition 0, and leaves once it is asked: where it has the condition, it passes it on.
+    LeavesOrPasses,
+    /// It waits for it until it has it.
+    TakesIt,
+    /// It waits for what nobody sets, and leaves once it is asked.
+    Leaves(Left),
+    /// It waits for the page or the bit of the tests until it has it, keeps it for a yield, and gives it back.
+    HoldsPage,
+    HoldsBit,
+    /// So too, but it leaves once it is asked.
+    HoldsPageUntil,
+    HoldsBitUntil,
+    /// It waits until the bit is clear, and does not take it.
+    SeesBitUntil,
+    /// It makes room for a job of the pool.
+    OpensPool,
+    /// It posts the jobs, and asks the workers 1 to 3 to leave, so late.
+    PostsJobs { late: Late },
+    /// It does jobs until it is asked to leave.
+    DoesJobs,
 }
 
-impl meetings::Part for Part {
-    fn play<R: Wait>(self, rt: &R, domain: &Domain, task: &mut Task) -> bool {
+impl Clone for Part {
+    fn clone(&self) -> Result<Part, AllocError> {
+        Ok(*self)
+    }
+}
+
+impl Part {
+    /// Whether it went as the part says.
+    pub fn play<R: Wait>(self, rt: &R, domain: &Domain, task: &mut Task, shared: &Shared) -> bool
+        requires of { task.old.domain ≡ domain.now }
+        requires clean { IsClean task.old }
+        ensures of { task.new.domain ≡ domain.now }
+        ensures clean { IsClean task.new }
+    {
+        let round = shared.round;
         match self {
             Part::Rests => true,
-            Part::Sets { count } => set_condition(rt, domain, task, count),
-            Part::Waits => wait_for_condition(rt, domain, task),
+            Part::Sets { late, count } => set_late(rt, domain, task, late.yields(round), count),
+            Part::Waits => wait_for_zero(rt, domain, task, SleepState::Uninterruptible),
             Part::WaitsByTurns => wait_by_turns(rt, domain, task),
             Part::WaitsExclusively => wait_exclusive(rt, domain, task),
             Part::Signals { who } => signal_late(rt, domain, task, who, 0),
+            Part::GetsSignal => get_signal(rt, domain, task),
             Part::Hears => hear_until_set(rt, domain, task),
             Part::WaitsKillable { is_set } => {
                 wait_for_zero(rt, domain, task, SleepState::Killable) == is_set
@@ -83,13 +136,42 @@ impl meetings::Part for Part {
             Part::Swakes { all } => swake_all_or_two(rt, domain, task, all),
             Part::Swaits => swait(rt, domain, task),
             Part::CompletesThrice => complete_thrice(rt, domain, task),
+            Part::Completes { late } => complete_late(rt, domain, task, late.yields(round)),
             Part::TakesOne => wait_for(rt, domain, task, CELL, SleepState::Uninterruptible),
+            Part::TakesUntil => take_until(rt, domain, task, shared),
             Part::AnnouncesTwice => announce_twice(rt, domain, task),
             Part::WaitsTwice => wait_twice(rt, domain, task),
             Part::SeesByTurns => see_by_turns(rt, domain, task),
             Part::TakesTurns => take_turns(rt, domain, task),
             Part::AddsToPage { times } => add_often(rt, domain, task, times),
             Part::AddsAmount { amount } => tallies::add_often(rt, domain, task, amount),
+            Part::Asks { who, late } => {
+                ask_late(rt, domain, task, &shared.flag, who, late.yields(round))
+            }
+            Part::LeavesOrPasses => leave_or_pass(rt, domain, task, shared),
+            Part::TakesIt => take_it(rt, domain, task),
+            Part::Leaves(left) => leave(rt, domain, task, shared, left),
+            Part::HoldsPage => turn_of_page(rt, domain, task, shared),
+            Part::HoldsBit => turn_of_bit(rt, domain, task, shared),
+            Part::HoldsPageUntil => page_until(rt, domain, task, shared),
+            Part::HoldsBitUntil => bit_until(rt, domain, task, shared),
+            Part::SeesBitUntil => clear_until(rt, domain, task, shared),
+            Part::OpensPool => open(rt, domain, task),
+            Part::PostsJobs { late } => post_all(rt, domain, task, shared, late.yields(round)),
+            Part::DoesJobs => work(rt, domain, task, shared),
         }
+    }
+}
+
+/// A part that is played in a round.
+#[derive(Drop)]
+pub(crate) struct Played<'a> {
+    pub part: Part,
+    pub shared: &'a Shared,
+}
+
+impl meetings::Part for Played<'_> {
+    fn play<R: Wait>(self, rt: &R, domain: &Domain, task: &mut Task) -> bool {
+        self.part.play(rt, domain, task, self.shared)
     }
 }

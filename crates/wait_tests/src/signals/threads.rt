@@ -5,7 +5,8 @@ ghost use Rattle.std.specs.Prelude.{◌≡◌};
 ghost use Rattle.wait_rule.specs.Says.{IsClean};
 
 use super::interrupted;
-use crate::meetings::{Part, two_meet};
+use crate::meetings::rows::{FATAL_SIGNAL, PLAIN_SIGNAL};
+use crate::meetings::{Part, ROUNDS, Shared, both, meet_often};
 use crate::pages::alone::{give, take};
 use crate::wants::{all_so, another};
 use page_lock::lock_page;
@@ -16,9 +17,6 @@ use test_tasks::meetings::meet_two;
 use wait_model::tasks::SleepState;
 use wait_model::watches::Mode;
 use wait_rule::{Domain, Task, send_signal, wake_task};
-
-/// How many rounds each test makes.
-const ROUNDS: u32 = 300;
 
 /// The page.
 const PAGE: u8 = 3;
@@ -49,27 +47,13 @@ pub(crate) fn wake_then_signal<R: Wait>(
 /// A plain signal that is pending ends no killable wait: it sleeps until its condition is set.
 #[test]
 fn killable_wait_sleeps_on_under_a_plain_signal(rt: HostRuntime) -> Result<(), Fail> {
-    for _round in 0..ROUNDS {
-        let (domain, mut waiter) = Domain::with_looks(rt.alloc(), 0)?;
-        let mut sender = another(&rt, &domain, &mut waiter);
-        send_signal(&rt, &domain, &mut sender, waiter.number(), false);
-        let waits = Part::WaitsKillable { is_set: true };
-        two_meet(&rt, &domain, waiter, (waits, Part::Sets { count: 0 }));
-    }
-    Ok(())
+    meet_often(&rt, rt.alloc(), ROUNDS, PLAIN_SIGNAL)
 }
 
 /// A fatal signal ends a killable wait that has slept, for a condition that nobody sets.
 #[test]
 fn fatal_signal_ends_a_wait_that_slept(rt: HostRuntime) -> Result<(), Fail> {
-    for _round in 0..ROUNDS {
-        let (domain, waiter) = Domain::with_looks(rt.alloc(), 0)?;
-        let who = waiter.number();
-        let waits = Part::WaitsKillable { is_set: false };
-        let sends = Part::WakesThenSignals { who, fatal: true };
-        two_meet(&rt, &domain, waiter, (waits, sends));
-    }
-    Ok(())
+    meet_often(&rt, rt.alloc(), ROUNDS, FATAL_SIGNAL)
 }
 
 /// Waits for the page, which stays with its holder: true where a signal ended the wait, and the page's word held 1.
@@ -98,9 +82,13 @@ fn signal_ends_a_lock_that_slept(rt: HostRuntime) -> Result<(), Fail> {
         if !take(&rt, &domain, &mut holder, PAGE) {
             panic!(rt; "the page is clear")
         }
-        let who = waiter.number();
-        let sends = Part::WakesThenSignals { who, fatal: false };
-        let (waited, sent) = meet_two(&rt, &domain, waiter, sender, (Part::LocksInVain, sends));
+        let sends = Part::WakesThenSignals {
+            who: waiter.number(),
+            fatal: false,
+        };
+        let shared = Shared::new(0);
+        let parts = both((Part::LocksInVain, sends), &shared);
+        let (waited, sent) = meet_two(&rt, &domain, waiter, sender, parts);
         let walked = give(&rt, &domain, &mut holder, PAGE);
         all_so(
             &rt,

@@ -4,7 +4,7 @@ ghost use Rattle.std.specs.Prelude.{◌≡◌};
 ghost use Rattle.wait_tests.specs.EventTasks.{IsReadyForEvent, IsWaker};
 
 use crate::events::stretches::is_over;
-use crate::simple_queues::stretches::COND;
+use crate::simple_queues::threads::COND;
 use crate::turns::go_often;
 use crate::wants::{all_so, another};
 use std::process::Abort;

@@ -4,14 +4,16 @@
 ghost use Rattle.std.specs.Prelude.{◌≡◌};
 ghost use Rattle.wait_rule.specs.Says.{IsClean};
 
-use crate::meetings::{Part, four_meet};
+use crate::meetings::rows::SWAITERS;
+use crate::meetings::{ROUNDS, meet_often};
 use std::sync::Wait;
 use std::test::Fail;
+use wait_model::layout::FIRST_SIMPLE;
 use wait_rule::{Domain, Task};
 use wq_user::simple::{set_and_swake, set_and_swake_all, swake};
 
-/// How many rounds each test makes.
-const ROUNDS: u32 = 300;
+/// The first condition with a simple head.
+pub(crate) const COND: u8 = FIRST_SIMPLE as u8;
 
 /// Sets the condition, and wakes who waits for it, all at once or one after another.
 pub(crate) fn swake_all_or_two<R: Wait>(rt: &R, domain: &Domain, task: &mut Task, all: bool) -> bool
@@ -29,14 +31,8 @@ pub(crate) fn swake_all_or_two<R: Wait>(rt: &R, domain: &Domain, task: &mut Task
     true
 }
 
-/// Whatever the order of the steps, both waits end, and the waker takes both tasks in.
+/// Whatever the order of the steps, both waits end, and the waker takes both tasks in: a round of each kind of wake.
 #[test]
 fn waiters_are_joined(rt: HostRuntime) -> Result<(), Fail> {
-    for round in 0..ROUNDS {
-        let (domain, task) = Domain::with_looks(rt.alloc(), 0)?;
-        let all = round % 2 == 0;
-        let waker = (Part::Swakes { all }, Part::Rests);
-        four_meet(&rt, &domain, task, waker, (Part::Swaits, Part::Swaits));
-    }
-    Ok(())
+    meet_often(&rt, rt.alloc(), ROUNDS / 2, SWAITERS)
 }

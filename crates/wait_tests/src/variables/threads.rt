@@ -4,16 +4,14 @@
 ghost use Rattle.std.specs.Prelude.{◌≡◌};
 ghost use Rattle.wait_rule.specs.Says.{IsClean};
 
-use crate::meetings::{Part, two_meet};
+use crate::meetings::rows::VALUES;
+use crate::meetings::{ROUNDS, meet_often};
 use crate::variables::alone::{VAR, announce};
 use std::sync::Wait;
 use std::test::Fail;
 use var_wait::waits::wait_var;
 use wait_model::tasks::SleepState;
 use wait_rule::{Domain, Task};
-
-/// How many rounds the test makes.
-const ROUNDS: u32 = 300;
 
 /// Waits until the variable is 2, by what it saw before each time: whether it saw that.
 pub(crate) fn wait_twice<R: Wait>(rt: &R, domain: &Domain, task: &mut Task) -> bool
@@ -47,9 +45,5 @@ pub(crate) fn announce_twice<R: Wait>(rt: &R, domain: &Domain, task: &mut Task) 
 /// Whatever the order of the steps, the wait ends with the last value, and the publisher takes its task in.
 #[test]
 fn waiter_sees_each_value(rt: HostRuntime) -> Result<(), Fail> {
-    for _round in 0..ROUNDS {
-        let (domain, task) = Domain::with_looks(rt.alloc(), 0)?;
-        two_meet(&rt, &domain, task, (Part::AnnouncesTwice, Part::WaitsTwice));
-    }
-    Ok(())
+    meet_often(&rt, rt.alloc(), ROUNDS, VALUES)
 }

@@ -1,5 +1,6 @@
 use Rattle.std.proofs.Common.{◌≡◌}
-use Rattle.wait_tests.specs.EventTasks.{IsTestedWait, IsWaker}
+use Rattle.wait_class.specs.Tables.{Lands}
+use Rattle.wait_rule.specs.Says.{IsClean}
 use Rattle.wait_tests.proofs.orders.play_two.Given as goal
 
 abbrev pub invariant-loop : goal.invariant-loop
@@ -7,7 +8,7 @@ invariant-loop g l = record {
   of_waker : l.waker.domain ≡ l.fn.domain;
   of_first : l.first.domain ≡ l.fn.domain;
   of_second : l.second.domain ≡ l.fn.domain;
-  waker : IsWaker l.waker;
-  one : IsTestedWait l.first l.one l.one_at;
-  two : IsTestedWait l.second l.two l.two_at;
+  waker : IsClean l.waker;
+  one : Lands g.C.Machine.table l.first l.one l.one_at;
+  two : Lands g.C.Machine.table l.second l.two l.two_at;
 }

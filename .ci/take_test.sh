@@ -2,7 +2,8 @@
 # Tests front/take: on toy repositories what it copies, writes, leaves, renews and refuses; and that a program of
 # another repository over crates that were taken from this one is proved, built and run there (front/outside).
 #
-# usage: .ci/take_test.sh           (after `rt ci`: what it proved is kept, so that only the program is proved)
+# usage: .ci/take_test.sh           (after `rt ci`: what it proved is kept, so that only the program is proved; with a kit
+#                                   that keeps nothing the program is tried, and not proved)
 #
 # Prints a line for each case that fails, and at the end 'N passed, M failed'. The status is 1 where one failed.
 set -u
@@ -250,16 +251,9 @@ renewals() {
     holds "from no commit" grep -q '^alone unknown ' -- "$dest/crates/SUGWELAN/taken"
 }
 
-# A program of another repository, over `wq_checked` of this one.
-program() {
-    local mine=$work/outside from=$root/front/outside built
-    mkdir -- "$mine"
-    git init -q -- "$mine"
-    holds "wq_checked is taken" "$root/front/take" "$mine" wq_checked >"$work/out"
-    mkdir -p -- "$mine/crates/hand_over/src"
-    cp -- "$from/main.rt.txt" "$mine/crates/hand_over/src/main.rt"
-    cp -- "$from/stdout" "$mine/crates/hand_over/stdout"
-    cat -- "$from/line.txt" >>"$mine/crates.txt"
+# Proves the program of another repository, builds it by both compilers, and runs what they made.
+prove_program() {
+    local mine=$1 wanted=$2 built
     (cd -- "$mine" && rt ci) >"$work/log" 2>&1 </dev/null
     status=$?
     grep -oE 'done in this run: [^(]*' -- "$work/log"
@@ -269,8 +263,36 @@ program() {
     fi
     pass
     for built in "$mine/crates/hand_over/out/hand_over"{,.by-rattle}; do
-        holds "${built##*/}" cmp -- "$from/stdout" <(timeout 60 "$built" 2>&1)
+        holds "${built##*/}" cmp -- "$wanted" <(timeout 60 "$built" 2>&1)
     done
+}
+
+# Runs the program of another repository with nothing proved.
+try_program() {
+    local mine=$1 wanted=$2
+    echo 'left out: the proof of the program, since this kit would prove all that it stands on once more'
+    (cd -- "$mine/crates/hand_over" && rt try) >"$work/tried" 2>"$work/log" </dev/null
+    status=$?
+    holds "the program is tried: $(tail -n 20 -- "$work/log")" [ "$status" = 0 ]
+    holds "what it writes" cmp -- "$wanted" "$work/tried"
+}
+
+# A program of another repository, over `wq_checked` of this one. With a kit that keeps what it has passed the program
+# alone is proved there: what it stands on is the text that the gate has just proved.
+program() {
+    local mine=$work/outside from=$root/front/outside
+    mkdir -- "$mine"
+    git init -q -- "$mine"
+    holds "wq_checked is taken" "$root/front/take" "$mine" wq_checked >"$work/out"
+    mkdir -p -- "$mine/crates/hand_over/src"
+    cp -- "$from/main.rt.txt" "$mine/crates/hand_over/src/main.rt"
+    cp -- "$from/stdout" "$mine/crates/hand_over/stdout"
+    cat -- "$from/line.txt" >>"$mine/crates.txt"
+    if [[ $(rt help 2>&1 || :) == *--anew* ]]; then
+        prove_program "$mine" "$from/stdout"
+    else
+        try_program "$mine" "$from/stdout"
+    fi
 }
 
 make_toy

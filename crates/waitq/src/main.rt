@@ -70,14 +70,12 @@ fn start<R: Threads + Wait + Sync>(
     run_on(rt, host, words, watch)
 }
 
-/// Does what the words say that the system gives.
-fn run_host(rt: &HostRuntime) -> Result<u8, AllocError> {
-    let words = words(rt)?;
-    start(rt, rt, &words)
-}
-
 fn main(rt: HostRuntime) -> ExitCode {
-    match run_host(&rt) {
+    let status = match words(&rt) {
+        Ok(words) => start(&rt, &rt, &words),
+        Err(AllocError) => Err(AllocError),
+    };
+    match status {
         Ok(status) => ExitCode::from(status),
         Err(AllocError) => {
             ExitCode::from(finish(&mut Writing::new(rt.stderr()), Err(Fault::Memory)))

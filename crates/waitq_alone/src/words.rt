@@ -17,7 +17,7 @@ use std::alloc::Global;
 ///
 /// The commands `replay` and `drill` are done as `run_alone` does them. All other words, those of a copy and of a merge
 /// among them, are no command of this program: the status is 2, or 7 where memory ran out before they were known to be
-/// none, with its line on `err` as of `run_alone`, and nothing is read or written to `out`.
+/// none, with its line on `err` as of `run_alone`. Then the input is as it was, and with status 2 so is `out`.
 pub fn run_words<I: Source, O: Sink, E: Sink>(
     alloc: Global,
     words: &[String],

@@ -7,7 +7,7 @@ use crate::calls::{Call, make};
 use std::sync::Wait;
 use wait_rule::{Domain, Task};
 
-/// Makes a call, and then each other one or the same.
+/// Makes the first call, and then the second, which may be the same.
 pub fn make_both<R: Wait>(rt: &R, domain: &Domain, task: &mut Task, first: Call, second: Call)
     requires of { task.old.domain ≡ domain.now }
     requires clean { IsClean task.old }

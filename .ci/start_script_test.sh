@@ -1,8 +1,8 @@
 #!/usr/bin/env bash
 # Tests the start script ./waitq on toy repositories: a program waitq over a library, both of a few lines, and at the
 # end over two more that do not stand on one another, with a program waitq_replay over one library beside it.
-# What the prover refuses is planted for the kit's rt itself; runs that change, stop, overlap or go in lanes while they
-# build have a stand-in for rt, which builds at once what the source says.
+# What the prover refuses is planted for the kit itself; runs that change, stop, overlap or go side by side while they
+# build have a stand-in for it, which builds at once what the source says.
 #
 # Prints a line for each case that fails, and at the end 'N passed, M failed'. The status is 1 where one failed.
 set -u
@@ -60,34 +60,57 @@ END
     git init -q -- "$toy"
 }
 
-# Makes the folder $work/bin of the start script's tools, without rt, and $work/stand_in of a stand-in for rt.
-# The stand-in notes each call, does what MEDDLE says at a run and MEDDLE_LIB at a library, builds a library that is its
-# name, and a program that shows the number of the source.
+# Makes the folder $work/bin of the start script's tools, without rt, and $work/kit of a stand-in for the kit.
+# Its prover notes each call, does what MEDDLE says at a program and MEDDLE_LIB at a library, builds a library that is its
+# name, and a program that shows the number of the source; its linker takes that as it is.
 write_tools() {
-    mkdir -- "$work/bin" "$work/stand_in"
+    mkdir -- "$work/bin" && mkdir -p -- "$work/kit/bin"
     local tool
     for tool in awk bash cat chmod cp cut dirname find flock mkdir mv nproc readlink rm sed seq sha256sum sleep sort \
         tail touch wc xargs; do
         ln -s -- "$(command -v "$tool")" "$work/bin/$tool"
     done
-    cat >"$work/stand_in/rt" <<'END'
+    cat >"$work/kit/bin/rt" <<'END'
 #!/usr/bin/env bash
-echo "$* in $PWD" >>"$CALLS"
-name=${PWD##*/}
+kit=$(dirname -- "$(dirname -- "$0")")
 case $1 in
-    lib)
-        (eval "${MEDDLE_LIB:-}") || exit
-        mkdir -p out/rlib out/incremental && echo "$name" >out/rlib/stamp && echo "$name" >out/incremental/work
-        ;;
+    doc) echo "$kit/START-HERE.md" ;;
+    version) cat -- "$kit/version" ;;
 esac
-[ "$1" = run ] || exit 0
-mkdir -p out
+END
+    echo 'kit 1' >"$work/kit/version"
+    cat >"$work/kit/bin/rattle" <<'END'
+#!/usr/bin/env bash
+name=${PWD##*/}
+while [ $# -gt 0 ]; do
+    case $1 in
+        -o) to=$2 ;;
+        --jobs) jobs=$2 ;;
+        src/*) root=$1 ;;
+    esac
+    shift
+done
+echo "$root of $name by $jobs" >>"$CALLS"
+if [ "$root" = src/lib.rt ]; then
+    (eval "${MEDDLE_LIB:-}") || exit
+    mkdir -p -- "$to" && echo "$name" >"$to/name"
+    exit
+fi
 number=$(sed -n 's/.*next(\(.*\)).*/\1/p' src/main.rt)
-printf '#!/usr/bin/env bash\necho stand-in %s\n' "$number" >"out/${PWD##*/}"
-chmod +x "out/${PWD##*/}"
+printf '#!/usr/bin/env bash\necho stand-in %s\n' "$number" >"$to"
+chmod +x "$to"
 eval "${MEDDLE:-}"
 END
-    chmod +x -- "$work/stand_in/rt"
+    cat >"$work/kit/bin/rattle-link" <<'END'
+#!/usr/bin/env bash
+while [ $# -gt 0 ]; do
+    [ "$1" != -o ] || to=$2
+    case $1 in *.o) from=$1 ;; esac
+    shift
+done
+cp -- "$from" "$to"
+END
+    chmod +x -- "$work/kit/bin"/*
 }
 
 # Runs the start script with the PATH $1 and the word $2, or copy, from another folder by a link; leaves its status, and
@@ -117,9 +140,22 @@ still_there() {
     echo "$count"
 }
 
-# How many folders of lanes are left.
-lanes_left() {
-    find "$toy/.git" "$toy/out" -maxdepth 1 -name '*lanes' | wc -l
+# Gives libraries another text.
+change() {
+    local name
+    for name in "$@"; do
+        echo "// $RANDOM$RANDOM" >>"$toy/crates/$name/src/lib.rt"
+    done
+}
+
+# The libraries that are kept as proved, by their names.
+kept_libraries() {
+    cat -- "$toy"/.git/waitq-proved/*/*.rlib/name | xargs
+}
+
+# The libraries and programs that the stand-in was asked for in the last run.
+asked_for() {
+    sed -n 's/.* of \(.*\) by .*/\1/p' "$work/calls" | sort | xargs
 }
 
 # Compares the last run with a status, what it wrote, and a part of what it said.
@@ -137,7 +173,7 @@ write_toy
 write_tools
 ln -s -- "$toy/waitq" "$work/link"
 without_rt=$work/bin
-stand_in=$work/stand_in:$work/bin
+stand_in=$work/kit/bin:$work/bin
 
 write_program 7 8
 run "$without_rt"
@@ -168,7 +204,7 @@ expect "one program is kept" 1 "" "isn't on the PATH"
 
 write_program 2 3
 MEDDLE='exit 2' run "$stand_in"
-expect "rt stops after it made the program" 1 "" "waitq is not proved"
+expect "the prover stops after it made the program" 1 "" "waitq is not proved"
 MEDDLE='echo >>../lower/src/lib.rt' run "$stand_in"
 expect "a source changes" 1 "" "a source was changed in the meantime"
 MEDDLE='sleep 0.1; cp src/main.rt src/was; echo >>src/main.rt; mv src/was src/main.rt' run "$stand_in"
@@ -195,7 +231,7 @@ wait $!
 expect "the second of two builds" 0 "stand-in 3" "another run is building the program"
 cp -- "$work/first" "$work/err"
 expect "the first of two builds" 0 "stand-in 3" "stand-in 3"
-expect_number "builds" "$(grep -c '^run' "$work/calls")" 1
+expect_number "builds" "$(grep -c 'main.rt' "$work/calls")" 1
 
 # From here on the program stands on three libraries, of which two do not stand on one another.
 cp -r -- "$toy/crates/lower" "$toy/crates/left"
@@ -211,30 +247,48 @@ echo "$name was alone"; exit 1'
 WAITQ_LANES=2 MEDDLE_LIB=$meet run "$stand_in"
 expect "two lanes" 0 "stand-in 3" "waitq: 1 of 4 proved, under way: left, right"
 expect "the program comes last" 0 "stand-in 3" "waitq: 3 of 4 proved, under way: waitq"
-expect_number "proofs in lanes" "$(grep -c '^lib .*in .*lanes' "$work/calls")" 3
-expect_number "proofs of libraries" "$(grep -c '^lib' "$work/calls")" 3
-expect_number "libraries that the repository has then" "$(cat -- "$toy"/crates/*/out/rlib/stamp | xargs)" "left lower right"
-expect_number "folders of lanes behind a build" "$(lanes_left)" 0
+expect_number "what it proved" "$(asked_for)" "left right waitq"
+expect_number "libraries that are kept then" "$(kept_libraries)" "left lower right"
 
+# What was proved of a library is taken as long as it, all beneath it and the kit are the same.
 write_program 4 5
 : >"$work/calls"
 WAITQ_LANES=1 run "$stand_in"
-expect "one lane" 0 "stand-in 4" "waitq: 1 of 4 proved, under way: left"
-expect_number "proofs in lanes, where there is one" "$(grep -c '^lib .*in .*lanes' "$work/calls")" 0
-
-# Who proves a crate finds there what was built of the crates beneath it, and what earlier checks of it have kept, which
-# it may write anew; what was built of the crates beneath it may only be read.
+expect "one lane, and another program" 0 "stand-in 4" "waitq: 3 of 4 proved, under way: waitq"
+expect_number "what it proved of another program" "$(asked_for)" "waitq"
+change left
+: >"$work/calls"
+run "$stand_in"
+expect "another library" 0 "stand-in 4" "waitq: 2 of 4 proved, under way: left"
+expect_number "what it proved of another library" "$(asked_for)" "left waitq"
+change lower
+: >"$work/calls"
+WAITQ_LANES=1 run "$stand_in"
+expect "another library beneath" 0 "stand-in 4" "waitq: 1 of 4 proved, under way: left"
+expect_number "what it proved of one beneath" "$(asked_for)" "left lower right waitq"
+echo 'kit 2' >"$work/kit/version"
 write_program 5 6
 : >"$work/calls"
-finds='[ "$(cat out/incremental/work)" = "$name" ] && echo written >out/incremental/work || exit 1
-[ "$name" = lower ] || [ "$(cat ../lower/out/rlib/stamp)" = lower ] || exit 1
-[ "$name" = lower ] || [ ! -e ../lower/out/incremental ] || exit 1
-[ "$name" != left ] || { sleep 0.5; echo left is false; exit 1; }
-sleep 60'
-WAITQ_LANES=2 MEDDLE_LIB="[ \$name != lower ] || exit 0; $finds" run "$stand_in"
-expect "who proves finds what was built" 1 "" "left is false"
-expect_number "what was kept, of proofs that did not end" \
-    "$(cat -- "$toy"/crates/{left,right}/out/incremental/work | xargs)" "written written"
+run "$stand_in"
+expect "another kit" 0 "stand-in 5" "waitq: 0 of 4 proved, under way: lower"
+expect_number "what it proved by another kit" "$(asked_for)" "left lower right waitq"
+
+# A library whose proof fails is not kept, and one that was proved before is.
+change left right
+WAITQ_LANES=2 MEDDLE_LIB='[ "$name" != left ] || { sleep 0.5; echo left is false; exit 1; }' run "$stand_in"
+expect "one of two is false" 1 "" "left is false"
+: >"$work/calls"
+run "$stand_in"
+expect "the other one was proved" 0 "stand-in 5" "waitq: 2 of 4 proved, under way: left"
+expect_number "what it proved then" "$(asked_for)" "left waitq"
+
+# A library that is changed while it is proved is not taken for proved as it was.
+change left
+MEDDLE_LIB='sleep 0.1; cp src/lib.rt src/was; echo >>src/lib.rt; mv src/was src/lib.rt' run "$stand_in"
+expect "a library changes and changes back" 1 "" "a source was changed in the meantime"
+: >"$work/calls"
+run "$stand_in"
+expect "it is proved once more" 0 "stand-in 5" "waitq: 2 of 4 proved, under way: left"
 
 # While fewer crates are ready than there are jobs, one has a second job, if it is large; the program is not.
 for name in lower left right; do
@@ -244,23 +298,23 @@ done
 : >"$work/calls"
 WAITQ_LANES=4 run "$stand_in"
 expect "four jobs" 0 "stand-in 5" "waitq: 1 of 4 proved, under way: left, right"
-expect_number "jobs" "$(sed -n 's/.*--jobs \([0-9]*\).*/\1/p' "$work/calls" | sort | xargs)" "1 1 2 2"
+expect_number "jobs" "$(sed -n 's/.* by //p' "$work/calls" | sort | xargs)" "1 1 2 2"
 
 write_program 6 7
 WAITQ_LANES=none run "$stand_in"
 expect "no number of lanes" 1 "" "waitq: not built: WAITQ_LANES is a number"
 
 # A crate that is not proved ends the proof beside it.
+change left right
 rm -f -- "$work"/calls.*
 stay='case $name in lower) ;; *) echo $$ >"$CALLS.process.$name"; exec sleep 60 ;; esac'
 WAITQ_LANES=2 MEDDLE_LIB="[ \$name != left ] || { sleep 0.5; echo left is false; exit 1; }; $stay" run "$stand_in"
 expect "a crate in a lane is not proved" 1 "" "left is false"
-expect "which one" 1 "" "waitq: not built: left is not proved; the whole of what rt said is in $toy/out/log"
-expect_number "what rt said" "$(cat -- "$toy/out/log")" "left is false"
+expect "which one" 1 "" "waitq: not built: left is not proved; the whole of what was said of it is in $toy/out/log"
+expect_number "what was said of it" "$(cat -- "$toy/out/log")" "left is false"
 expect_number "processes behind it" "$(still_there)" 0
-expect_number "folders of lanes behind it" "$(lanes_left)" 0
 
-# A build that is interrupted leaves no process and no lane.
+# A build that is interrupted leaves no process.
 rm -f -- "$work"/calls.*
 (cd / && PATH=$stand_in CALLS=$work/calls WAITQ_LANES=2 MEDDLE_LIB=$stay exec "$work/link" copy) </dev/null \
     >"$work/out" 2>&1 &
@@ -269,7 +323,6 @@ kill -TERM $!
 wait $! 2>"$work/err"
 expect_number "the status of an interrupted build" $? 143
 expect_number "processes behind an interrupted build" "$(still_there)" 0
-expect_number "folders of lanes behind an interrupted build" "$(lanes_left)" 0
 run "$without_rt"
 expect "a build in lanes was interrupted" 1 "" "isn't on the PATH"
 run "$stand_in"
@@ -290,7 +343,7 @@ write_program 7 8
 : >"$work/calls"
 run "$stand_in" replay
 expect "a replay by a program of its own" 0 "stand-in 9" "waitq: 2 of 3 proved, under way: waitq_replay"
-expect_number "programs that it takes" "$(grep -c '^run' "$work/calls")" 1
+expect_number "programs that it takes" "$(grep -c 'main.rt' "$work/calls")" 1
 for word in drill help ''; do
     run "$without_rt" "$word"
     expect "the word '$word'" 0 "stand-in 9" ""

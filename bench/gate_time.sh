@@ -8,7 +8,7 @@
 #
 # NAME: these crates and those below them alone, as `rt ci NAME..` does where it takes names. --keep: plain `rt ci`, which
 # proves only what it has not kept, where it keeps something, and is the real gate at the same time. --start: a first
-# `./waitq replay` in place of the gate, with a kit that keeps nothing yet; --start-copy: a first `./waitq copy`.
+# `./waitq replay` in place of the gate; --start-copy: a first `./waitq copy`.
 # --folder: a clone that is there already, in place of one of this repository's last commit.
 #
 # It uses the processors that the caller may use (taskset). The gate's own output goes to standard error, the table and
@@ -33,19 +33,6 @@ trap 'kill $(jobs -p) 2>/dev/null || :; wait; rm -rf -- "$work"' EXIT
 trap 'exit 130' INT
 trap 'exit 143' TERM
 
-# Makes a kit of the same files in $work/kit. What rt keeps lies beside its kit, so with this one it has kept nothing.
-link_kit() {
-    local kit part
-    kit=$(dirname -- "$(rt doc)")
-    mkdir -p -- "$work/kit/rattle"
-    for part in "$kit"/*; do
-        ln -s -- "$part" "$work/kit/rattle/"
-    done
-    rm -- "$work/kit/rattle/bin"
-    cp -al -- "$kit/bin" "$work/kit/rattle/" 2>"$work/said" || cp -a -- "$kit/bin" "$work/kit/rattle/"
-    PATH=$work/kit/rattle/bin:$PATH
-}
-
 # Whether the kit's gate takes a word --anew and names.
 takes_words() {
     [[ $(rt help 2>&1 || :) == *--anew* ]]
@@ -64,8 +51,8 @@ commit=$(git log -1 --format=%h)
 [ -z "$(git status --porcelain)" ] || commit="$commit with changes"
 printf 'waitq 1\n' >"$work/script"
 case $what in
-    --start) link_kit && set -- ./waitq replay ;;
-    --start-copy) link_kit && set -- ./waitq copy "$work/script" "$work/copied" ;;
+    --start) set -- ./waitq replay ;;
+    --start-copy) set -- ./waitq copy "$work/script" "$work/copied" ;;
     *) set -- rt ci ${what:+"$what"} "$@" ;;
 esac
 COMMIT=$commit python3 "$root/bench/gate_time.py" "$@" <"$work/script" &

@@ -5,23 +5,25 @@ ghost use Rattle.std.specs.Prelude.{length, take, []};
 ghost use Rattle.std.specs.Io.KnownBytes.{append_known, prepend_known};
 ghost use Rattle.edge_io.specs.Faults.{CountsFailed, CountsWanted, HasRisen};
 
-use copy_plan::PIECE;
 use edge_io::{Failed, Sink, SinkFault, Source};
 
-/// A source that gives one piece again and again.
+/// Fills a piece that a source is to give.
+pub fn fill(block: &mut [u8]) {
+    for (i, byte) in block.iter_mut().enumerate() {
+        *byte = (i % 251) as u8;
+    }
+}
+
+/// A source that gives one piece again and again. It borrows it: the threads of a copy hand their source on by value.
 #[derive(Drop)]
-pub struct Blocks {
-    block: [u8; PIECE],
+pub struct Blocks<'a> {
+    block: &'a [u8],
     left: u64,
 }
 
-impl Blocks {
-    /// So many pieces.
-    pub fn new(pieces: u64) -> Blocks {
-        let mut block = [0; PIECE];
-        for (i, byte) in block.iter_mut().enumerate() {
-            *byte = (i % 251) as u8;
-        }
+impl<'a> Blocks<'a> {
+    /// So many times this piece.
+    pub fn new(block: &'a [u8], pieces: u64) -> Blocks<'a> {
         Blocks {
             block,
             left: pieces,
@@ -29,7 +31,7 @@ impl Blocks {
     }
 }
 
-impl Source for Blocks {
+impl Source for Blocks<'_> {
     ghost left = { λ _. None };
 
     ghost faults = { λ _. 0 };
@@ -38,7 +40,7 @@ impl Source for Blocks {
         if self.left == 0 {
             return Ok(0);
         }
-        let taken = buf.len().min(PIECE);
+        let taken = buf.len().min(self.block.len());
         buf[..taken].copy_from_slice(&self.block[..taken]);
         self.left -= 1;
         Ok(taken)

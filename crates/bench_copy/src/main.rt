@@ -5,8 +5,8 @@
 
 mod ends;
 
-use crate::ends::{Blocks, Count};
-use copy_plan::{OpenGate, Stop};
+use crate::ends::{Blocks, Count, fill};
+use copy_plan::{OpenGate, PIECE, Stop};
 use flow_copy::{CopyEnd, copy_all};
 use func_head::NoWatchers;
 use std::alloc::Global;
@@ -28,12 +28,13 @@ const REPEATS: u32 = 5;
 const LOOKS: [u32; 3] = [0, 400, 2_000];
 
 /// A copy of so many pieces; None where there is no memory for a Domain, or for a thread.
-fn copy<R: Threads + Wait + Sync>(
+fn copy<'a, R: Threads + Wait + Sync>(
     rt: &R,
     alloc: Global,
     looks: u32,
+    block: &'a [u8],
     pieces: u64,
-) -> Option<CopyEnd<Blocks, Count, NoWatchers>> {
+) -> Option<CopyEnd<Blocks<'a>, Count, NoWatchers>> {
     let Ok((domain, mut task)) = Domain::with_looks(alloc, looks) else {
         return None;
     };
@@ -41,7 +42,7 @@ fn copy<R: Threads + Wait + Sync>(
         rt,
         &domain,
         &mut task,
-        Blocks::new(pieces),
+        Blocks::new(block, pieces),
         Count::new(),
         NoWatchers,
         &[],
@@ -55,9 +56,10 @@ fn report<R: Clock + Print + Threads + Wait + Sync>(
     rt: &R,
     alloc: Global,
     looks: u32,
+    block: &[u8],
 ) -> io::Result<()> {
     let start = Instant::now(rt)?;
-    let Some(end) = copy(rt, alloc, looks, PIECES) else {
+    let Some(end) = copy(rt, alloc, looks, block, PIECES) else {
         return Ok(());
     };
     let time = start.elapsed(rt)?;
@@ -70,15 +72,17 @@ fn report<R: Clock + Print + Threads + Wait + Sync>(
 fn main(rt: HostRuntime) -> io::Result<()> {
     let words: Vec<String> = env::args(&rt)?.skip(1).collect(rt.alloc())?;
     let alloc = rt.alloc();
+    let mut block = [0; PIECE];
+    fill(&mut block);
     if words.first().is_some_and(|word| word.as_str() == "times") {
         for looks in LOOKS {
             for _ in 0..REPEATS {
-                report(&rt, alloc, looks)?;
+                report(&rt, alloc, looks, &block)?;
             }
         }
         return Ok(());
     }
-    if let Some(end) = copy(&rt, alloc, LOOKS[1], FEW) {
+    if let Some(end) = copy(&rt, alloc, LOOKS[1], &block, FEW) {
         println!(rt; "{} bytes, counted {}", end.sink.bytes(), end.moved)?;
     }
     Ok(())

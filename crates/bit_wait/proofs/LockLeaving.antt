@@ -1,9 +1,7 @@
 -- A wait to take a bit that its task leaves.
 use Rattle.std.proofs.Common.{◌∙◌, ap, sym, refl, subst, inl}
-use Rattle.std.specs.Prelude.{ℕ, ◌≡◌, Bool, true, false, if◌then◌else◌, is_some, Option, Some, None, Result, MatchBool}
+use Rattle.std.specs.Prelude.{ℕ, ◌≡◌, Bool, true, false, None, Result, MatchBool}
 use Rattle.wait_model.specs.declared.points.BitPoint.TheVariants as biting
-use Rattle.wait_model.specs.declared.points.FinishPoint.TheVariants as finishing
-use Rattle.wait_model.specs.declared.points.Planned.{Planned}
 use Rattle.wait_model.specs.declared.points.Point.{Point}
 use Rattle.wait_model.specs.declared.points.Point.TheVariants as at
 use Rattle.wait_model.specs.declared.points.Seen.{Seen}
@@ -15,7 +13,6 @@ use Rattle.wait_model.specs.Tasks.{state_mask}
 use Rattle.wait_rule.specs.Known.{Known}
 use Rattle.wait_rule.specs.Queues.{IsIdle, index}
 use Rattle.wait_rule.specs.Says.{IsClean, IsUp, told_of}
-use Rattle.wait_rule.specs.Tickets.{no_ticket}
 use Rattle.wait_class.specs.Posts.{IsOut, own_of}
 use Rattle.wait_class.specs.declared.stages.Doing.TheVariants as doing
 use Rattle.wait_class.specs.declared.frame_stages.Framed.{Framed}
@@ -23,17 +20,18 @@ use Rattle.wait_class.specs.declared.frame_stages.Stage.{Stage}
 use Rattle.wait_class.specs.declared.frame_stages.Stage.TheVariants as stage
 use Rattle.wait_class.specs.declared.stages.Run.{Run}
 use Rattle.wait_class.specs.declared.stages.Turn.TheVariants as turn
-use Rattle.wait_class.specs.Laws.{HomeGoes, IsLawfulCallTable, StateGoes}
-use Rattle.wait_class.specs.Tables.{IsEnded, Plan, post_of}
+use Rattle.wait_class.specs.Laws.{IsLawfulCallTable}
+use Rattle.wait_class.specs.Tables.{IsEnded, Plan, next_in}
 use Rattle.wait_class.specs.Wholes.{HasRested}
 use Rattle.wait_class.proofs.Framing.{framed_lawful}
 use Rattle.wait_class.proofs.Ground.Standing.{home_waits}
 use Rattle.wait_class.proofs.Wholes.{Rested, rested_idle, rested_out, rests}
-use Rattle.wait_leave.specs.declared.exits.Exit.{Exit}
 use Rattle.wait_leave.specs.declared.exits.Until.{Until}
-use Rattle.wait_leave.specs.ExitLaws.{AreLawfulExits, AwakeOn, ExitLaw}
-use Rattle.wait_leave.specs.Leaves.{stays_awake, with_asked}
+use Rattle.wait_leave.specs.ExitLaws.{AreLawfulExits, AwakeOn, is_awake}
+use Rattle.wait_leave.specs.Leaves.{with_asked}
 use Rattle.wait_leave.specs.OnTheWay.{IsOnWay, OnTheWay}
+use Rattle.wait_leave.proofs.ExitForms.{AskLaw, LawAt, awake_exits, finish_awake, if_asked, lawful_exits, out_at_once}
+use Rattle.wait_leave.proofs.ExitForms.{stays_out}
 use Rattle.wait_leave.proofs.Ways.{awake_since, way_asked, way_domain, way_keeps, way_lands, way_plan}
 use Rattle.bit_wait.specs.LockLeaves.{EndsBitLockUntil, IsAskedFor, IsUntilCause, LeavesBitLock, failed_in, lock_awake}
 use Rattle.bit_wait.specs.LockLeaves.{lock_exit, lock_exits, takes_until, until_in}
@@ -50,111 +48,34 @@ use Rattle.bit_wait.proofs.LockGround.{lock_keeps_none, lock_keeps_on, lock_keep
 use Rattle.bit_wait.proofs.LockKinds.{locks_clean, takes_bit}
 use Rattle.bit_wait.proofs.LockLaws.{lock_lawful}
 
-abbrev LockExit : Type 0
-LockExit = Exit (Stage LockTest) LockOutcome
-
-abbrev goes_out : LockExit
-goes_out = record { to = turn.Again (stage.FinishState true); rests = false }
-
 -- the exits
-exit_by : (r : Framed LockBit) (s : Stage LockTest) → lock_table.drawn s ≡ false → None ≡ (post_of lock_table r s).head
-    → no_ticket ≡ (post_of lock_table r s).ticket → lock_table.took s ≡ false
-    → StateGoes lock_table r s (lock_exits.asks r) (turn.Again (stage.FinishState true))
-    → HomeGoes lock_table r s (lock_exits.asks r) (turn.Again (stage.FinishState true))
-    → ExitLaw lock_table lock_exits r s goes_out
-exit_by r s fresh head ticket took state home = record {
-  fresh = fresh;
-  plain = refl;
-  falls = refl;
-  free = λ rests. absurd (cc);
-  head = head;
-  ticket = ticket;
-  same = refl;
-  fits = λ f. record { word = f.word; bit = f.bit };
-  took = took;
-  state = λ still. state;
-  home = home;
-  trail = λ old new calm u. tt;
-}
+asks_law : AskLaw lock_table lock_exits
+asks_law = record { same = λ r. refl; fits = λ r f. record { word = f.word; bit = f.bit } }
 
-exit_of : Option LockExit → LockExit
-exit_of (Some e) = e
-exit_of None = goes_out
-
-to_exit : (r : Framed LockBit) (s : Stage LockTest) (e : LockExit) → Some goes_out ≡ Some e
-    → ExitLaw lock_table lock_exits r s goes_out → ExitLaw lock_table lock_exits r s e
-unfolding exit_of
-to_exit r s e is = subst (ExitLaw lock_table lock_exits r s) (ap exit_of is)
-
-exit_law : (r : Framed LockBit) (s : Stage LockTest) (e : LockExit) → lock_exit s ≡ Some e
-    → ExitLaw lock_table lock_exits r s e
-exit_law r (stage.Test test.First) e is = to_exit r (stage.Test test.First) e is
-    (exit_by r (stage.Test test.First) refl refl refl refl (λ σ s. inl s) (home_waits (lock_bit_in r.wait)))
-exit_law r (stage.Test test.Load) e is = to_exit r (stage.Test test.Load) e is
-    (exit_by r (stage.Test test.Load) refl refl refl refl (λ σ s. s) (λ o h. h))
-exit_law r (stage.Test test.Again) e is = to_exit r (stage.Test test.Again) e is
-    (exit_by r (stage.Test test.Again) refl refl refl refl (λ σ s. s) (λ o h. h))
-exit_law r (stage.Test test.Worn) e is = absurd (cc)
-exit_law r (stage.Test test.Last) e is = absurd (cc)
-exit_law r stage.PrepareLock e is = to_exit r stage.PrepareLock e is
-    (exit_by r stage.PrepareLock refl refl refl refl (λ σ s. s) (λ o h. h))
-exit_law r stage.PrepareTurn e is = absurd (cc)
-exit_law r stage.PrepareQueue e is = absurd (cc)
-exit_law r stage.PrepareState e is = absurd (cc)
-exit_law r stage.PrepareUnlock e is = absurd (cc)
-exit_law r stage.Sleep e is = to_exit r stage.Sleep e is
-    (exit_by r stage.Sleep refl refl refl refl (λ σ s. s) (λ o h. h))
-exit_law r stage.Look e is = to_exit r stage.Look e is
-    (exit_by r stage.Look refl refl refl refl (λ σ s. inl s) (λ o h. h))
-exit_law r (stage.FinishState b) e is = absurd (cc)
-exit_law r (stage.FinishLook b) e is = absurd (cc)
-exit_law r (stage.FinishLock b) e is = absurd (cc)
-exit_law r (stage.FinishTurn b) e is = absurd (cc)
-exit_law r (stage.FinishQueue b) e is = absurd (cc)
-exit_law r (stage.FinishUnlock b) e is = absurd (cc)
+exit_law : (r : Framed LockBit) (s : Stage LockTest) → LawAt lock_table lock_exits r s
+exit_law r (stage.Test test.First) = out_at_once asks_law refl refl (λ σ s. inl s) (home_waits (lock_bit_in r.wait))
+    (λ old new calm u. tt)
+exit_law r (stage.Test test.Load) = out_at_once asks_law refl refl (λ σ s. s) (λ o h. h) (λ old new calm u. tt)
+exit_law r (stage.Test test.Again) = out_at_once asks_law refl refl (λ σ s. s) (λ o h. h) (λ old new calm u. tt)
+exit_law r stage.PrepareLock = out_at_once asks_law refl refl (λ σ s. s) (λ o h. h) (λ old new calm u. tt)
+exit_law r stage.Sleep = out_at_once asks_law refl refl (λ σ s. s) (λ o h. h) (λ old new calm u. tt)
+exit_law r stage.Look = out_at_once asks_law refl refl (λ σ s. inl s) (λ o h. h) (λ old new calm u. tt)
+exit_law r s = tt
 
 -- each leads to the finish
-out_awake : (e : LockExit) → Some goes_out ≡ Some e → stays_awake lock_table lock_exits e.to ≡ true
-unfolding exit_of
-out_awake e is = subst (λ (f : LockExit). stays_awake lock_table lock_exits f.to ≡ true) (ap exit_of is) refl
-
-exits_awake : (r : Framed LockBit) (s : Stage LockTest) (e : LockExit) → lock_exit s ≡ Some e
-    → stays_awake lock_table lock_exits e.to ≡ true
-exits_awake r (stage.Test test.First) e is = out_awake e is
-exits_awake r (stage.Test test.Load) e is = out_awake e is
-exits_awake r (stage.Test test.Again) e is = out_awake e is
-exits_awake r (stage.Test test.Worn) e is = absurd (cc)
-exits_awake r (stage.Test test.Last) e is = absurd (cc)
-exits_awake r stage.PrepareLock e is = out_awake e is
-exits_awake r stage.PrepareTurn e is = absurd (cc)
-exits_awake r stage.PrepareQueue e is = absurd (cc)
-exits_awake r stage.PrepareState e is = absurd (cc)
-exits_awake r stage.PrepareUnlock e is = absurd (cc)
-exits_awake r stage.Sleep e is = out_awake e is
-exits_awake r stage.Look e is = out_awake e is
-exits_awake r (stage.FinishState b) e is = absurd (cc)
-exits_awake r (stage.FinishLook b) e is = absurd (cc)
-exits_awake r (stage.FinishLock b) e is = absurd (cc)
-exits_awake r (stage.FinishTurn b) e is = absurd (cc)
-exits_awake r (stage.FinishQueue b) e is = absurd (cc)
-exits_awake r (stage.FinishUnlock b) e is = absurd (cc)
+exits_awake : (r : Framed LockBit) (s : Stage LockTest) → stays_out lock_table lock_exits (lock_exit s) ≡ true
+exits_awake r (stage.Test test.First) = refl
+exits_awake r s = refl
 
 -- the program sleeps no more from there on
-either_awake : (c : Bool) (x y : Planned) → AwakeOn lock_awake x → AwakeOn lock_awake y
-    → AwakeOn lock_awake (if c then x else y)
-either_awake true x y a b = a
-either_awake false x y a b = b
+over_awake : (r : LockBit) (b : Bool) → is_awake lock_awake (next_in lock_table (lock_frame.finished r b)) ≡ true
+over_awake r true = refl
+over_awake r false = refl
 
 awake_on : (r : Framed LockBit) (me : ℕ) (p : Point) (seen : Seen) → lock_awake p ≡ true
     → AwakeOn lock_awake ((lock_table.plan_of r).makes me p seen)
-awake_on r me (at.Finish finishing.State b) seen is = (refl, refl)
-awake_on r me (at.Finish finishing.Look true) seen is = either_awake (is_some seen.entry) _ _ (refl, refl) (refl, refl)
-awake_on r me (at.Finish finishing.Look false) seen is = either_awake (is_some seen.entry) _ _ (refl, refl) (refl, refl)
-awake_on r me (at.Finish finishing.Lock b) seen is = (refl, refl)
-awake_on r me (at.Finish finishing.Queue true) seen is = either_awake (is_some seen.entry) _ _ (refl, refl) (refl, refl)
-awake_on r me (at.Finish finishing.Queue false) seen is = either_awake (is_some seen.entry) _ _ (refl, refl) (refl, refl)
-awake_on r me (at.Finish finishing.Unlock true) seen is = (refl, refl)
-awake_on r me (at.Finish finishing.Unlock false) seen is = (refl, refl)
+awake_on r me (at.Finish y b) seen is = finish_awake lock_frame lock_lawful lock_awake (λ y b. refl) r.wait
+    (over_awake r.wait) me seen y b
 awake_on r me (at.Bit biting.Last) seen is = (refl, refl)
 awake_on r me p seen is = absurd (cc)
 
@@ -163,7 +84,7 @@ sleeps_out r stage.Sleep here none = absurd (cc)
 sleeps_out r s here none = absurd (cc)
 
 pub lock_may_leave : AreLawfulExits lock_table lock_exits
-lock_may_leave = record { at = exit_law; sleeps = sleeps_out; awake = awake_on }
+lock_may_leave = lawful_exits lock_table lock_exits exit_law sleeps_out awake_on
 
 -- the answer and its cause
 caused : (k : Known) (e : LockBit) (b : Bool) → WhyFailed b k e → IsUntilCause k e.word e.bit e.state (failed_in b e)
@@ -266,22 +187,19 @@ module _ (A : Type 0) (old ended new : Known) (r q : Run (Framed LockBit)) (s : 
     at = q;
     outcome = o;
     came = came;
-    awake = awake_since lock_table lock_exits (λ c x f is. exits_awake c x f is) old r s ended q (turn.Done o) came;
+    awake = awake_since lock_table lock_exits (awake_exits lock_table lock_exits exits_awake) old r s ended q
+        (turn.Done o) came;
     answer = refl;
     cause = subst (λ (p : Plan). CauseAt ended p.watch p.state (until_in e o)) same (cause_of ended e o at_end.trail.cause);
     rests = h;
   }
 
   -- Left for nobody who was not asked
-  asked_in : (b : Bool) → e.asked ≡ b → (b ≡ true → A) → IsAskedFor A (failed_in e.asked e)
-  asked_in true is cause = subst (λ (c : Bool). IsAskedFor A (failed_in c e)) (sym is) (cause refl)
-  asked_in false is cause = subst (λ (c : Bool). IsAskedFor A (failed_in c e)) (sym is) tt
-
   asked_by : (p : LockOutcome) → r.of.wait.asked ≡ false → IsAskedFor A (until_in e p)
   asked_by outcome.Over unasked = tt
   asked_by outcome.Worn unasked = tt
-  asked_by outcome.Interrupted unasked = asked_in e.asked refl
-      (λ now. way_asked A lock_table lock_exits lock_may_leave lawful old r s ended q (turn.Done o) came unasked now)
+  asked_by outcome.Interrupted unasked = if_asked (λ b. IsAskedFor A (failed_in b e)) e.asked
+      (way_asked A lock_table lock_exits lock_may_leave lawful old r s ended q (turn.Done o) came unasked) tt
 
   pub left_asked : r.of.wait.asked ≡ false → IsAskedFor A (until_in e o)
   left_asked = asked_by o

@@ -1,10 +1,9 @@
 -- A wait for a completion that its task leaves.
 use Rattle.std.proofs.Common.{◌∙◌, ap, append-nil, sym, refl, subst, inl, inr}
 use Rattle.std.proofs.lemmas.Bool.Decides.{eqb_tells}
-use Rattle.std.specs.Prelude.{ℕ, ◌≡◌, ◌≢◌, ◌⊎◌, ◌&&◌, ◌==◌, not, Bool, true, false, if◌then◌else◌, is_some, Option, Some, None}
+use Rattle.std.specs.Prelude.{ℕ, ◌≡◌, ◌≢◌, ◌⊎◌, ◌&&◌, ◌==◌, not, Bool, true, false, is_some, None}
 use Rattle.std.specs.Prelude.{Result, [], ◌∷◌}
 use Rattle.wait_model.specs.declared.points.AwaitPoint.TheVariants as awaiting
-use Rattle.wait_model.specs.declared.points.Planned.{Planned}
 use Rattle.wait_model.specs.declared.points.Point.{Point}
 use Rattle.wait_model.specs.declared.points.Point.TheVariants as at
 use Rattle.wait_model.specs.declared.points.Seen.{Seen}
@@ -31,12 +30,12 @@ use Rattle.wait_class.specs.Wholes.{HasRested}
 use Rattle.wait_class.proofs.Histories.{unmoved_by}
 use Rattle.wait_event.specs.Ends.{wait_change}
 use Rattle.wait_event.specs.declared.wait_events.WaitEnd.{WaitEnd}
-use Rattle.wait_leave.specs.declared.exits.Exit.{Exit}
 use Rattle.wait_leave.specs.declared.exits.Until.{Until}
-use Rattle.wait_leave.specs.ExitLaws.{AreLawfulExits, AwakeOn, ExitLaw}
-use Rattle.wait_leave.specs.Leaves.{GoesOut, asked_run, with_asked}
-use Rattle.wait_leave.specs.OnTheWay.{IsOnWay, OnTheWay, left_at, straight}
-use Rattle.wait_leave.proofs.Ways.{way_asked, way_keeps, way_lands, way_plan}
+use Rattle.wait_leave.specs.ExitLaws.{AreLawfulExits, AwakeOn}
+use Rattle.wait_leave.specs.Leaves.{with_asked}
+use Rattle.wait_leave.specs.OnTheWay.{IsOnWay, OnTheWay}
+use Rattle.wait_leave.proofs.ExitForms.{AskLaw, LawAt, either_awake, if_asked, lawful_exits, out_at_once, out_rested}
+use Rattle.wait_leave.proofs.Ways.{way_asked, way_keeps, way_lands, way_makes, way_plan}
 use Rattle.completion_cell.specs.AwaitLeaves.{EndsAwaitUntil, IsAwaitLeftFor, IsAwaitUntil, LeavesAwait, await_exit}
 use Rattle.completion_cell.specs.AwaitLeaves.{await_exits, await_stopped, await_until, leave_awake}
 use Rattle.completion_cell.specs.Awaits.{CellKeeps, IsFreshAwait, LeavesFor, AwaitTrailEnd, WhyStopped, await_table}
@@ -51,114 +50,33 @@ use Rattle.completion_cell.proofs.AwaitTrails.{still_by}
 use Rattle.completion_cell.proofs.Endings.{carried_by, clean_by, given_back, idle_by, out_by}
 use Rattle.completion_cell.proofs.OtherCells.{IsAside, aside_on, aside_stays, given_off, wait_adds}
 
-abbrev AwaitExit : Type 0
-AwaitExit = Exit AwaitStage AwaitOutcome
+-- the exits: out of a hold that has loaded 0; before its sleep it stores RUNNING
+asks_law : AskLaw await_table await_exits
+asks_law = record { same = λ r. refl; fits = λ r f. f }
 
-abbrev goes_out : AwaitExit
-goes_out = record { to = turn.Again stage.LeaveState; rests = false }
-
-abbrev goes_again : AwaitExit
-goes_again = record { to = turn.Again stage.Again; rests = true }
-
--- out of a hold that has loaded 0
 out_trail : (r : AwaitCall) (k : Known) → Knows k r.cell 0 → LeavesFor true k (await_exits.asks r) []
 out_trail r k u = (u, (history_of k, sym (append-nil (history_of k))))
 
-look_exit : (r : AwaitCall) → ExitLaw await_table await_exits r stage.Look goes_out
-look_exit r = record {
-  fresh = refl;
-  plain = refl;
-  falls = refl;
-  free = λ rests. absurd (cc);
-  head = refl;
-  ticket = refl;
-  same = refl;
-  fits = λ f. f;
-  took = refl;
-  state = λ still σ s. s;
-  home = λ o h. h;
-  trail = λ old new calm u. out_trail r new (still_by old new (unmoved_by old new calm) r stage.Look u).0;
-}
-
-queue_exit : (r : AwaitCall) → ExitLaw await_table await_exits r stage.Queue goes_out
-queue_exit r = record {
-  fresh = refl;
-  plain = refl;
-  falls = refl;
-  free = λ rests. absurd (cc);
-  head = refl;
-  ticket = refl;
-  same = refl;
-  fits = λ f. f;
-  took = refl;
-  state = λ still σ s. s;
-  home = λ o h. h;
-  trail = λ old new calm u. out_trail r new (still_by old new (unmoved_by old new calm) r stage.Queue u);
-}
-
--- before its sleep it stores RUNNING
-sleep_exit : (r : AwaitCall) → ExitLaw await_table await_exits r stage.Sleep goes_again
-sleep_exit r = record {
-  fresh = refl;
-  plain = refl;
-  falls = refl;
-  free = λ rests. refl;
-  head = refl;
-  ticket = refl;
-  same = refl;
-  fits = λ f. f;
-  took = refl;
-  state = λ still. absurd (cc);
-  home = λ o h. h;
-  trail = λ old new calm u. tt;
-}
-
-exit_of : AwaitExit → Option AwaitExit → AwaitExit
-exit_of d (Some e) = e
-exit_of d None = d
-
-to_exit : (r : AwaitCall) (s : AwaitStage) (d e : AwaitExit) → Some d ≡ Some e → ExitLaw await_table await_exits r s d
-    → ExitLaw await_table await_exits r s e
-unfolding exit_of
-to_exit r s d e is = subst (ExitLaw await_table await_exits r s) (ap (exit_of d) is)
-
-exit_law : (r : AwaitCall) (s : AwaitStage) (e : AwaitExit) → await_exit s ≡ Some e
-    → ExitLaw await_table await_exits r s e
-exit_law r stage.Look e is = to_exit r stage.Look goes_out e is (look_exit r)
-exit_law r stage.Queue e is = to_exit r stage.Queue goes_out e is (queue_exit r)
-exit_law r stage.Sleep e is = to_exit r stage.Sleep goes_again e is (sleep_exit r)
-exit_law r stage.First e is = absurd (cc)
-exit_law r stage.FirstTurn e is = absurd (cc)
-exit_law r stage.FirstLoad e is = absurd (cc)
-exit_law r stage.Again e is = absurd (cc)
-exit_law r stage.AgainTurn e is = absurd (cc)
-exit_law r stage.AgainLoad e is = absurd (cc)
-exit_law r stage.State e is = absurd (cc)
-exit_law r stage.Unlock e is = absurd (cc)
-exit_law r stage.LeaveState e is = absurd (cc)
-exit_law r stage.LeaveQueue e is = absurd (cc)
-exit_law r stage.LeaveUnlock e is = absurd (cc)
-exit_law r stage.TakeState e is = absurd (cc)
-exit_law r stage.TakeQueue e is = absurd (cc)
-exit_law r stage.TakeStore e is = absurd (cc)
-exit_law r stage.TakeUnlock e is = absurd (cc)
+exit_law : (r : AwaitCall) (s : AwaitStage) → LawAt await_table await_exits r s
+exit_law r stage.Look = out_at_once asks_law refl refl (λ σ s. s) (λ o h. h)
+    (λ old new calm u. out_trail r new (still_by old new (unmoved_by old new calm) r stage.Look u).0)
+exit_law r stage.Queue = out_at_once asks_law refl refl (λ σ s. s) (λ o h. h)
+    (λ old new calm u. out_trail r new (still_by old new (unmoved_by old new calm) r stage.Queue u))
+exit_law r stage.Sleep = out_rested asks_law refl refl refl (λ o h. h) (λ old new calm u. tt)
+exit_law r s = tt
 
 -- the program sleeps no more from there on
-either_awake : (c : Bool) (x y : Planned) → AwakeOn leave_awake x → AwakeOn leave_awake y
-    → AwakeOn leave_awake (if c then x else y)
-either_awake true x y a b = a
-either_awake false x y a b = b
-
 awake_on : (r : AwaitCall) (me : ℕ) (p : Point) (seen : Seen) → leave_awake p ≡ true
     → AwakeOn leave_awake ((await_table.plan_of r).makes me p seen)
 awake_on r me (at.Await (awaiting.Run true)) seen is = (refl, refl)
 awake_on r me (at.Await (awaiting.Run false)) seen is = (refl, refl)
-awake_on r me (at.Await (awaiting.Off true)) seen is = either_awake (is_some seen.entry) _ _ (refl, refl) (refl, refl)
-awake_on r me (at.Await (awaiting.Off false)) seen is = either_awake (is_some seen.entry) _ _ (refl, refl)
-    (either_awake (is_at_end seen.value) _ _ (refl, refl) (refl, refl))
-awake_on r me (at.Await (awaiting.Last true)) seen is = (refl, refl)
-awake_on r me (at.Await (awaiting.Last false)) seen is = either_awake (is_at_end seen.value) _ _ (refl, refl)
+awake_on r me (at.Await (awaiting.Off true)) seen is = either_awake leave_awake (is_some seen.entry) _ _ (refl, refl)
     (refl, refl)
+awake_on r me (at.Await (awaiting.Off false)) seen is = either_awake leave_awake (is_some seen.entry) _ _ (refl, refl)
+    (either_awake leave_awake (is_at_end seen.value) _ _ (refl, refl) (refl, refl))
+awake_on r me (at.Await (awaiting.Last true)) seen is = (refl, refl)
+awake_on r me (at.Await (awaiting.Last false)) seen is =
+    either_awake leave_awake (is_at_end seen.value) _ _ (refl, refl) (refl, refl)
 awake_on r me (at.Await awaiting.Unlock) seen is = (refl, refl)
 awake_on r me p seen is = absurd (cc)
 
@@ -167,7 +85,7 @@ sleeps_out r stage.Sleep here none = absurd (cc)
 sleeps_out r s here none = absurd (cc)
 
 pub await_may_leave : AreLawfulExits await_table await_exits
-await_may_leave = record { at = exit_law; sleeps = sleeps_out; awake = awake_on }
+await_may_leave = lawful_exits await_table await_exits exit_law sleeps_out awake_on
 
 -- the answer and its cause
 stopped_cause : (k : Known) (e : AwaitCall) (found b : Bool) → WhyStopped b k e found
@@ -197,19 +115,16 @@ CauseFor k p queued x = CauseAt p.watch
 
 left_for : (A : Type 0) (e : AwaitCall) (o : AwaitOutcome) → (e.asked ≡ true → A) → IsAwaitLeftFor A (await_until e o)
 left_for A e outcome.Over asked = tt
-left_for A e (outcome.Signalled found) asked = by e.asked refl
-  where
-    by : (b : Bool) → e.asked ≡ b → IsAwaitLeftFor A (await_stopped b e found)
-    by true is = asked is
-    by false is = tt
+left_for A e (outcome.Signalled found) asked =
+    if_asked (λ b. IsAwaitLeftFor A (await_stopped b e found)) e.asked asked tt
 left_for A e outcome.Worn asked = tt
 
-abbrev cell_in : Watch → ℕ
+abbrev pub cell_in : Watch → ℕ
 cell_in (watch.Done d) = d
 cell_in _ = 0
 
 -- what a rest and a program queue: nothing at another completion
-rest_adds : (c : ℕ) (old new : Known) (b : Bool) → HasRested old new b → Adding (IsAside c) old new
+pub rest_adds : (c : ℕ) (old new : Known) (b : Bool) → HasRested old new b → Adding (IsAside c) old new
 rest_adds c old new false is = record {
   made = [];
   is = ap history_of is ∙ sym (append-nil (history_of old));
@@ -223,27 +138,12 @@ rest_adds c old new true is = record {
   number = ap (λ (k : Known). k.view.number) is;
 }
 
-module _ (A : Type 0) (old : Known) (r : Run AwaitCall) (s : AwaitStage) where
-  way_cell : (new : Known) (q : Run AwaitCall) (u : Turn AwaitStage AwaitOutcome)
-      → OnTheWay A await_table await_exits old r s new q u → q.of.cell ≡ r.of.cell
-  way_cell new q u w = ap (λ (p : Plan). cell_in p.watch)
-      (way_plan A await_table await_exits await_may_leave await_lawful old r s new q u w)
-
-  module _ (c : ℕ) (ne : c ≢ r.of.cell) where
-    out_adds : (e u : Turn AwaitStage AwaitOutcome) (k new : Known) (m q : Run AwaitCall) → m.of.cell ≡ r.of.cell
-        → GoesOut await_table k new m q e u → Adding (IsAside c) k new
-    out_adds (turn.Again n) u k new m q same a = wait_adds c m.of.cell m.of.state (λ is. ne (is ∙ same)) k new _ _
-        a.went.runs
-    out_adds (turn.Asleep n) u k new m q same a = absurd a
-    out_adds (turn.Locked n) u k new m q same a = absurd a
-    out_adds (turn.Done o) u k new m q same a = rest_adds c k new false a.still
-
-    way_adds : (new : Known) (q : Run AwaitCall) (u : Turn AwaitStage AwaitOutcome)
-        → OnTheWay A await_table await_exits old r s new q u → Adding (IsAside c) old new
-    way_adds _ _ _ (straight new q u a) = wait_adds c r.of.cell r.of.state ne old new _ _ a.went.runs
-    way_adds _ _ _ (left_at mid m n new q u cause w l) = aside_on c old mid new (way_adds mid m (turn.Again n) w)
-        (aside_on c mid l.rested new (rest_adds c mid l.rested l.exit.rests l.rests)
-        (out_adds l.exit.to u l.rested new (asked_run await_exits m) q (way_cell mid m (turn.Again n) w) l.on))
+way_adds : (A : Type 0) (old : Known) (r : Run AwaitCall) (s : AwaitStage) (c : ℕ) → c ≢ r.of.cell → (new : Known)
+    (q : Run AwaitCall) (u : Turn AwaitStage AwaitOutcome) → OnTheWay A await_table await_exits old r s new q u
+    → Adding (IsAside c) old new
+way_adds A old r s c ne = way_makes A await_table await_exits await_may_leave await_lawful old r s (Adding (IsAside c))
+    (aside_on c) (rest_adds c) (λ k new m q n u same a.
+    wait_adds c m.of.cell m.of.state (λ is. ne (is ∙ ap (λ (p : Plan). cell_in p.watch) same)) k new _ _ a.went.runs)
 
 module _ (A : Type 0) (old new : Known) (r q : Run AwaitCall) (s : AwaitStage) (o : AwaitOutcome)
     (w : OnTheWay A await_table await_exits old r s new q (turn.Done o)) where
@@ -266,7 +166,7 @@ module _ (A : Type 0) (old new : Known) (r q : Run AwaitCall) (s : AwaitStage) (
   left_idle = idle_by old new q o lands left_kept
 
   pub left_here : LeftOff r.of.cell new
-  left_here = subst (λ (d : ℕ). LeftOff d new) (way_cell A old r s new q (turn.Done o) w)
+  left_here = subst (λ (d : ℕ). LeftOff d new) (ap (λ (p : Plan). cell_in p.watch) same_plan)
       (given_off new q.of (given_back new q.of o lands.trail) left_out)
 
   pub left_off : (told_of old).hold.head ≡ None → StaysOff old new
@@ -296,7 +196,7 @@ module _ (A : Type 0) (old new : Known) (r q : Run AwaitCall) (s : AwaitStage) (
 
   pub left_asked : r.of.asked ≡ false → IsAwaitLeftFor A (await_until q.of o)
   left_asked unasked = left_for A q.of o
-      (λ is. way_asked A await_table await_exits await_may_leave await_lawful old r s new q (turn.Done o) w unasked is)
+      (way_asked A await_table await_exits await_may_leave await_lawful old r s new q (turn.Done o) w unasked)
 
 -- a whole call
 pub ends_until : (A : Type 0) (old new : Known) (r q : Run AwaitCall) (d : ℕ) (st : SleepState) → IsFreshAwait r.of d st

@@ -1,14 +1,12 @@
 -- A `down` that its task leaves; one that nobody asked to leave is such a one.
-use Rattle.std.proofs.Common.{◌∙◌, ap, append-nil, sym, refl, subst}
-use Rattle.std.specs.Prelude.{ℕ, ◌≡◌, ◌≢◌, Bool, true, false, if◌then◌else◌, is_some, Option, Some, None, Result, List}
-use Rattle.std.specs.Prelude.{[], ◌∷◌}
+use Rattle.std.proofs.Common.{◌∙◌, ap, sym, refl, subst}
+use Rattle.std.specs.Prelude.{ℕ, ◌≡◌, ◌≢◌, Bool, true, false, is_some, None, Result, List}
+use Rattle.std.specs.Prelude.{[]}
 use Rattle.wait_model.specs.declared.points.FinishPoint.TheVariants as finishing
-use Rattle.wait_model.specs.declared.points.Planned.{Planned}
 use Rattle.wait_model.specs.declared.points.Point.{Point}
 use Rattle.wait_model.specs.declared.points.Point.TheVariants as at
 use Rattle.wait_model.specs.declared.points.Seen.{Seen}
 use Rattle.wait_model.specs.declared.steps.Step.{Step}
-use Rattle.wait_model.specs.declared.steps.Step.TheVariants as step
 use Rattle.wait_model.specs.declared.tasks.SleepState.{SleepState}
 use Rattle.wait_model.specs.declared.watches.Watch.{Watch}
 use Rattle.wait_model.specs.declared.watches.Watch.TheVariants as watch
@@ -16,25 +14,24 @@ use Rattle.wait_rule.specs.HandedPermits.{StaysOff}
 use Rattle.wait_rule.specs.Known.{Known}
 use Rattle.wait_rule.specs.LeftEntries.{LeftOff}
 use Rattle.wait_rule.specs.Queues.{IsIdle, index}
-use Rattle.wait_rule.specs.Says.{IsClean, IsUp, history_of, told_of}
+use Rattle.wait_rule.specs.Says.{IsClean, IsUp, told_of}
 use Rattle.wait_rule.specs.Stays.{Carries}
 use Rattle.wait_rule.proofs.KnownLaws.OtherCalls.{Adding}
-use Rattle.wait_rule.proofs.KnownLaws.TaskHistories.{history_after}
 use Rattle.wait_class.specs.Posts.{IsOut, own_of}
 use Rattle.wait_class.specs.declared.stages.Doing.TheVariants as doing
 use Rattle.wait_class.specs.declared.stages.Run.{Run}
 use Rattle.wait_class.specs.declared.stages.Turn.{Turn}
 use Rattle.wait_class.specs.declared.stages.Turn.TheVariants as turn
 use Rattle.wait_class.specs.Tables.{IsEnded, Plan}
-use Rattle.wait_class.specs.Wholes.{HasRested}
 use Rattle.wait_class.proofs.Histories.{unmoved_by}
 use Rattle.wait_event.specs.Ends.{wait_change}
-use Rattle.wait_leave.specs.declared.exits.Exit.{Exit}
 use Rattle.wait_leave.specs.declared.exits.Until.{Until}
-use Rattle.wait_leave.specs.ExitLaws.{AreLawfulExits, AwakeOn, ExitLaw}
-use Rattle.wait_leave.specs.Leaves.{GoesOut, asked_run, with_asked}
-use Rattle.wait_leave.specs.OnTheWay.{IsOnWay, OnTheWay, left_at, straight}
-use Rattle.wait_leave.proofs.Ways.{way_asked, way_keeps, way_lands, way_plan}
+use Rattle.wait_leave.specs.ExitLaws.{AreLawfulExits, AwakeOn}
+use Rattle.wait_leave.specs.Leaves.{with_asked}
+use Rattle.wait_leave.specs.OnTheWay.{IsOnWay, OnTheWay}
+use Rattle.wait_leave.proofs.ExitForms.{AskLaw, LawAt, either_awake, if_asked, lawful_exits, out_at_once, out_rested}
+use Rattle.wait_leave.proofs.Ways.{way_asked, way_keeps, way_lands, way_makes, way_plan}
+use Rattle.completion_cell.proofs.AwaitLeaving.{cell_in, rest_adds}
 use Rattle.completion_cell.proofs.OtherCells.{IsAside, aside_on}
 use Rattle.count_sem.specs.DownLeaves.{ClosesDown, EndsDownUntil, IsDownLeftFor, IsDownUntil, LeavesDown, down_exit}
 use Rattle.count_sem.specs.DownLeaves.{down_exits, end_until, out_awake, stopped_until}
@@ -52,106 +49,28 @@ use Rattle.count_sem.proofs.DownLaws.{down_lawful}
 use Rattle.count_sem.proofs.DownPasses.{given_by, passed_adds, passed_behind, passed_here}
 use Rattle.count_sem.proofs.DownTrails.{still_down}
 
-abbrev DownExit : Type 0
-DownExit = Exit DownStage DownOutcome
-
-abbrev goes_out : DownExit
-goes_out = record { to = turn.Again stage.LeaveQueue; rests = false }
-
-abbrev goes_again : DownExit
-goes_again = record { to = turn.Again stage.Again; rests = true }
-
 -- what it has found stays where it is asked
 asked_zero : (k : Known) (r : DownCall) (more : List Step) → FoundZero k r more → FoundZero k (down_exits.asks r) more
 asked_zero k r more u = record { word = u.word; ends = u.ends; stood = u.stood }
 
-look_exit : (r : DownCall) → ExitLaw down_table down_exits r stage.Look goes_out
-look_exit r = record {
-  fresh = refl;
-  plain = refl;
-  falls = refl;
-  free = λ rests. absurd (cc);
-  head = refl;
-  ticket = refl;
-  same = refl;
-  fits = λ f. f;
-  took = refl;
-  state = λ still σ s. s;
-  home = λ o h. h;
-  trail = λ old new calm u. let v = still_down old new (unmoved_by old new calm) r stage.Look u in
-      (v.0, record { look = None; zero = asked_zero new r [] v.1 });
-}
+-- the exits: out of a hold that has loaded 0; before its sleep it stores RUNNING
+asks_law : AskLaw down_table down_exits
+asks_law = record { same = λ r. refl; fits = λ r f. f }
 
-queue_exit : (r : DownCall) → ExitLaw down_table down_exits r stage.Queue goes_out
-queue_exit r = record {
-  fresh = refl;
-  plain = refl;
-  falls = refl;
-  free = λ rests. absurd (cc);
-  head = refl;
-  ticket = refl;
-  same = refl;
-  fits = λ f. f;
-  took = refl;
-  state = λ still σ s. s;
-  home = λ o h. h;
-  trail = λ old new calm u. let v = still_down old new (unmoved_by old new calm) r stage.Queue u in
-      (v.0, record { look = v.1.look; zero = asked_zero new r (looked_by v.1.look []) v.1.zero });
-}
-
--- before its sleep it stores RUNNING
-sleep_exit : (r : DownCall) → ExitLaw down_table down_exits r stage.Sleep goes_again
-sleep_exit r = record {
-  fresh = refl;
-  plain = refl;
-  falls = refl;
-  free = λ rests. refl;
-  head = refl;
-  ticket = refl;
-  same = refl;
-  fits = λ f. f;
-  took = refl;
-  state = λ still. absurd (cc);
-  home = λ o h. h;
-  trail = λ old new calm u. tt;
-}
-
-exit_of : DownExit → Option DownExit → DownExit
-exit_of d (Some e) = e
-exit_of d None = d
-
-to_exit : (r : DownCall) (s : DownStage) (d e : DownExit) → Some d ≡ Some e → ExitLaw down_table down_exits r s d
-    → ExitLaw down_table down_exits r s e
-unfolding exit_of
-to_exit r s d e is = subst (ExitLaw down_table down_exits r s) (ap (exit_of d) is)
-
-exit_law : (r : DownCall) (s : DownStage) (e : DownExit) → down_exit s ≡ Some e → ExitLaw down_table down_exits r s e
-exit_law r stage.Look e is = to_exit r stage.Look goes_out e is (look_exit r)
-exit_law r stage.Queue e is = to_exit r stage.Queue goes_out e is (queue_exit r)
-exit_law r stage.Sleep e is = to_exit r stage.Sleep goes_again e is (sleep_exit r)
-exit_law r stage.First e is = absurd (cc)
-exit_law r stage.FirstTurn e is = absurd (cc)
-exit_law r stage.FirstLoad e is = absurd (cc)
-exit_law r stage.Again e is = absurd (cc)
-exit_law r stage.AgainTurn e is = absurd (cc)
-exit_law r stage.AgainLoad e is = absurd (cc)
-exit_law r stage.State e is = absurd (cc)
-exit_law r stage.Unlock e is = absurd (cc)
-exit_law r stage.LeaveQueue e is = absurd (cc)
-exit_law r stage.LeaveUnlock e is = absurd (cc)
-exit_law r stage.TakeQueue e is = absurd (cc)
-exit_law r stage.TakeStore e is = absurd (cc)
-exit_law r stage.TakeUnlock e is = absurd (cc)
+exit_law : (r : DownCall) (s : DownStage) → LawAt down_table down_exits r s
+exit_law r stage.Look = out_at_once asks_law refl refl (λ σ s. s) (λ o h. h) (λ old new calm u.
+    let v = still_down old new (unmoved_by old new calm) r stage.Look u in
+    (v.0, record { look = None; zero = asked_zero new r [] v.1 }))
+exit_law r stage.Queue = out_at_once asks_law refl refl (λ σ s. s) (λ o h. h) (λ old new calm u.
+    let v = still_down old new (unmoved_by old new calm) r stage.Queue u in
+    (v.0, record { look = v.1.look; zero = asked_zero new r (looked_by v.1.look []) v.1.zero }))
+exit_law r stage.Sleep = out_rested asks_law refl refl refl (λ o h. h) (λ old new calm u. tt)
+exit_law r s = tt
 
 -- the program sleeps no more from there on
-either_awake : (c : Bool) (x y : Planned) → AwakeOn out_awake x → AwakeOn out_awake y
-    → AwakeOn out_awake (if c then x else y)
-either_awake true x y a b = a
-either_awake false x y a b = b
-
 awake_on : (r : DownCall) (me : ℕ) (p : Point) (seen : Seen) → out_awake p ≡ true
     → AwakeOn out_awake ((down_table.plan_of r).makes me p seen)
-awake_on r me (at.Finish finishing.Queue failed) seen is = either_awake (is_some seen.entry) _ _ (refl, refl)
+awake_on r me (at.Finish finishing.Queue failed) seen is = either_awake out_awake (is_some seen.entry) _ _ (refl, refl)
     (refl, refl)
 awake_on r me (at.Finish p failed) seen is = (refl, refl)
 awake_on r me p seen is = absurd (cc)
@@ -161,7 +80,7 @@ sleeps_out r stage.Sleep here none = absurd (cc)
 sleeps_out r s here none = absurd (cc)
 
 pub down_may_leave : AreLawfulExits down_table down_exits
-down_may_leave = record { at = exit_law; sleeps = sleeps_out; awake = awake_on }
+down_may_leave = lawful_exits down_table down_exits exit_law sleeps_out awake_on
 
 -- the answer and its cause
 stopped_cause : (k : Known) (e : DownCall) (b : Bool) (entry : ℕ) → OutFor b k e (left_queue (own_of k) e.cell entry)
@@ -207,52 +126,14 @@ left_for : (A : Type 0) (e : DownCall) (o : DownOutcome) → (e.asked ≡ true �
 left_for A e outcome.Over asked = tt
 left_for A e outcome.Passing asked = tt
 left_for A e outcome.Worn asked = tt
-left_for A e outcome.Interrupted asked = by e.asked refl
-  where
-    by : (b : Bool) → e.asked ≡ b → IsDownLeftFor A (stopped_until b e)
-    by true is = asked is
-    by false is = tt
+left_for A e outcome.Interrupted asked = if_asked (λ b. IsDownLeftFor A (stopped_until b e)) e.asked asked tt
 
-abbrev cell_in : Watch → ℕ
-cell_in (watch.Done d) = d
-cell_in _ = 0
-
--- what a rest and a program queue: nothing at another completion
-rest_adds : (c : ℕ) (old new : Known) (b : Bool) → HasRested old new b → Adding (IsAside c) old new
-rest_adds c old new false is = record {
-  made = [];
-  is = ap history_of is ∙ sym (append-nil (history_of old));
-  adds = tt;
-  number = ap (λ (k : Known). k.view.number) is;
-}
-rest_adds c old new true is = record {
-  made = step.State 0 ∷ [];
-  is = history_after old new (step.State 0) is;
-  adds = (tt, tt);
-  number = ap (λ (k : Known). k.view.number) is;
-}
-
-module _ (A : Type 0) (old : Known) (r : Run DownCall) (s : DownStage) where
-  way_cell : (new : Known) (q : Run DownCall) (u : Turn DownStage DownOutcome)
-      → OnTheWay A down_table down_exits old r s new q u → q.of.cell ≡ r.of.cell
-  way_cell new q u w = ap (λ (p : Plan). cell_in p.watch)
-      (way_plan A down_table down_exits down_may_leave down_lawful old r s new q u w)
-
-  module _ (c : ℕ) (ne : c ≢ r.of.cell) where
-    out_adds : (e u : Turn DownStage DownOutcome) (k new : Known) (m q : Run DownCall) → m.of.cell ≡ r.of.cell
-        → GoesOut down_table k new m q e u → Adding (IsAside c) k new
-    out_adds (turn.Again n) u k new m q same a = down_adds c m.of.cell m.of.state (λ is. ne (is ∙ same)) k new _ _
-        (part_runs k new m q n u a)
-    out_adds (turn.Asleep n) u k new m q same a = absurd a
-    out_adds (turn.Locked n) u k new m q same a = absurd a
-    out_adds (turn.Done o) u k new m q same a = rest_adds c k new false a.still
-
-    way_adds : (new : Known) (q : Run DownCall) (u : Turn DownStage DownOutcome)
-        → OnTheWay A down_table down_exits old r s new q u → Adding (IsAside c) old new
-    way_adds _ _ _ (straight new q u a) = down_adds c r.of.cell r.of.state ne old new _ _ (part_runs old new r q s u a)
-    way_adds _ _ _ (left_at mid m n new q u cause w l) = aside_on c old mid new (way_adds mid m (turn.Again n) w)
-        (aside_on c mid l.rested new (rest_adds c mid l.rested l.exit.rests l.rests)
-        (out_adds l.exit.to u l.rested new (asked_run down_exits m) q (way_cell mid m (turn.Again n) w) l.on))
+way_adds : (A : Type 0) (old : Known) (r : Run DownCall) (s : DownStage) (c : ℕ) → c ≢ r.of.cell → (new : Known)
+    (q : Run DownCall) (u : Turn DownStage DownOutcome) → OnTheWay A down_table down_exits old r s new q u
+    → Adding (IsAside c) old new
+way_adds A old r s c ne = way_makes A down_table down_exits down_may_leave down_lawful old r s (Adding (IsAside c))
+    (aside_on c) (rest_adds c) (λ k new m q n u same a. down_adds c m.of.cell m.of.state
+    (λ is. ne (is ∙ ap (λ (p : Plan). cell_in p.watch) same)) k new _ _ (part_runs k new m q n u a))
 
 -- how a task stands behind one that has ended, with what comes behind that, and where it has left its entry
 module _ (ended new : Known) (q : Run DownCall) where
@@ -301,7 +182,7 @@ module _ (A : Type 0) (old ended new : Known) (r q : Run DownCall) (s : DownStag
   same_plan = way_plan A down_table down_exits down_may_leave down_lawful old r s ended q (turn.Done o) w
 
   same_cell : q.of.cell ≡ r.of.cell
-  same_cell = way_cell A old r s ended q (turn.Done o) w
+  same_cell = ap (λ (p : Plan). cell_in p.watch) same_plan
 
   pub way_up : IsUp new
   way_up = behind.up
@@ -344,7 +225,7 @@ module _ (A : Type 0) (old ended new : Known) (r q : Run DownCall) (s : DownStag
 
   pub left_asked : r.of.asked ≡ false → IsDownLeftFor A (end_until q.of o)
   left_asked unasked = left_for A q.of o
-      (λ is. way_asked A down_table down_exits down_may_leave down_lawful old r s ended q (turn.Done o) w unasked is)
+      (way_asked A down_table down_exits down_may_leave down_lawful old r s ended q (turn.Done o) w unasked)
 
 -- a whole call
 pub ends_until : (A : Type 0) (old ended new : Known) (r q : Run DownCall) (d : ℕ) (st : SleepState)

@@ -30,7 +30,7 @@ use Rattle.wait_event.proofs.Setting.{has_set, set_carries}
 use Rattle.wait_leave.specs.declared.exits.Until.{Until}
 use Rattle.wait_leave.specs.declared.exits.Until.TheVariants as until
 use Rattle.wait_leave.specs.OnTheWay.{OnTheWay}
-use Rattle.wait_leave.proofs.Ways.{way_again, way_lands, way_risen, way_then}
+use Rattle.wait_leave.proofs.Ways.{way_again, way_as, way_lands, way_risen, way_then}
 use Rattle.futex_table.specs.declared.cond_stretches.CondStage.{CondStage}
 use Rattle.futex_table.specs.declared.cond_stretches.CondWait.{CondWait}
 use Rattle.futex_table.specs.declared.cond_vars.CondEnd.{CondEnd}
@@ -55,7 +55,7 @@ use Rattle.futex_table.specs.TallyUses.{LeavesTallies, StoresWord}
 use Rattle.futex_table.proofs.CondVaring.{cond_on, load_held, of_set, of_unchanged, of_wait, sets_out}
 use Rattle.futex_table.proofs.FutexLaws.{futex_lawful}
 use Rattle.futex_table.proofs.FutexLeaving.{ends_until, futex_may_leave, left_carried, left_held, left_idle, left_out}
-use Rattle.futex_table.proofs.FutexLeaving.{left_up, way_as}
+use Rattle.futex_table.proofs.FutexLeaving.{left_up}
 use Rattle.futex_table.proofs.LeftTallies.{until_leaves}
 use Rattle.futex_table.proofs.LockLeaving.{cond_until_held}
 use Rattle.futex_table.proofs.LockStretching.{lock_begins, plain_wait, way_dozed}
@@ -166,15 +166,13 @@ module _ (b : Bool) (w : CondWait) (old new : Known) (q : Run FutexWait) (o : Fu
   end = futex_until_in q.of o
 
   waited : EndsFutexUntil (AskedIf b) x.unlocked new w.cond x.seen w.state end
-  waited = ends_until (AskedIf b) x.unlocked new x.first q w.cond x.seen w.state x.fresh o x.came
+  waited = ends_until x.fresh x.came
 
   over_left : LeavesCond w.lock old new false
   over_left = cond_waited w.lock old x.unlocked new x.left
-      (left_carried (AskedIf b) x.unlocked new x.first q stage.First o x.came x.left.up x.left.idle
-      (x.told.head ∙ x.left.idle.free.head)) (left_held (AskedIf b) x.unlocked new x.first q stage.First o x.came)
-      (until_leaves w.lock x.unlocked new waited) (left_up (AskedIf b) x.unlocked new x.first q stage.First o x.came)
-      (left_idle (AskedIf b) x.unlocked new x.first q stage.First o x.came x.left.idle.unmarked)
-      (left_out (AskedIf b) x.unlocked new x.first q stage.First o x.came)
+      (left_carried x.came x.left.up x.left.idle (x.told.head ∙ x.left.idle.free.head)) (left_held x.came)
+      (until_leaves w.lock x.unlocked new waited) (left_up x.came) (left_idle x.came x.left.idle.unmarked)
+      (left_out x.came)
 
   cond_over : IsCondWaiting b w old new (awaited_to q (turn.Done o))
   cond_over = record {
@@ -253,7 +251,7 @@ cond_may_be_asked b w old new q u x = record {
   told = x.told;
   first = x.first;
   fresh = x.fresh;
-  came = way_as (λ a. tt) x.unlocked x.first stage.First new q u x.came;
+  came = way_as (λ a. tt) new q u x.came;
 }
 
 pub either_awaits : (c b : Bool) (w : CondWait) (old k : Known) (s : CondStage)

@@ -1,8 +1,7 @@
 -- A wait on a futex that its task leaves.
 use Rattle.std.proofs.Common.{◌∙◌, ap, refl, subst}
-use Rattle.std.specs.Prelude.{ℕ, ◌≡◌, Bool, true, false, if◌then◌else◌, is_some, Option, Some, None, Result, [], ◌∷◌}
+use Rattle.std.specs.Prelude.{ℕ, ◌≡◌, Bool, true, false, is_some, None, Result, [], ◌∷◌}
 use Rattle.wait_model.specs.declared.points.FinishPoint.TheVariants as finishing
-use Rattle.wait_model.specs.declared.points.Planned.{Planned}
 use Rattle.wait_model.specs.declared.points.Point.{Point}
 use Rattle.wait_model.specs.declared.points.Point.TheVariants as at
 use Rattle.wait_model.specs.declared.points.Seen.{Seen}
@@ -21,13 +20,13 @@ use Rattle.wait_class.specs.declared.stages.Turn.TheVariants as turn
 use Rattle.wait_class.specs.Tables.{IsEnded, Plan}
 use Rattle.wait_class.specs.Wholes.{HasRested}
 use Rattle.wait_event.specs.Ends.{wait_change}
-use Rattle.wait_leave.specs.declared.exits.Exit.{Exit}
 use Rattle.wait_leave.specs.declared.exits.Until.{Until}
 use Rattle.wait_leave.specs.declared.exits.Until.TheVariants as until
-use Rattle.wait_leave.specs.ExitLaws.{AreLawfulExits, AwakeOn, ExitLaw}
-use Rattle.wait_leave.specs.Leaves.{GoesOut, asked_run, stays_awake, with_asked}
+use Rattle.wait_leave.specs.ExitLaws.{AreLawfulExits, AwakeOn}
+use Rattle.wait_leave.specs.Leaves.{stays_awake, with_asked}
 use Rattle.wait_leave.specs.OnTheWay.{IsOnWay, OnTheWay, left_at, straight}
-use Rattle.wait_leave.proofs.Ways.{way_asked, way_keeps, way_lands, way_plan}
+use Rattle.wait_leave.proofs.ExitForms.{AskLaw, LawAt, either_awake, lawful_exits, out_at_once, out_rested}
+use Rattle.wait_leave.proofs.Ways.{way_as, way_asked, way_keeps, way_lands, way_makes, way_plan}
 use Rattle.futex_table.specs.declared.futexes.FutexEnd.{FutexEnd}
 use Rattle.futex_table.specs.declared.waits.FutexOutcome.{FutexOutcome}
 use Rattle.futex_table.specs.declared.waits.FutexOutcome.TheVariants as outcome
@@ -44,96 +43,26 @@ use Rattle.futex_table.proofs.FutexTrails.{loaded_more, stands_from, stands_more
 use Rattle.futex_table.proofs.Mutexing.{one_holds}
 use Rattle.futex_table.proofs.WordSteps.{futex_holds}
 
-abbrev FutexExit : Type 0
-FutexExit = Exit FutexStage FutexOutcome
-
 -- the exits: in the hold of its load, before its sleep, and in the hold that takes its entry off
-abbrev at_once : FutexExit
-at_once = record { to = turn.Again (stage.Leave true); rests = false }
+asks_law : AskLaw futex_table futex_exits
+asks_law = record { same = λ r. refl; fits = λ r f. f }
 
-abbrev to_hold : FutexExit
-to_hold = record { to = turn.Again stage.OffLock; rests = true }
-
-abbrev in_hold : FutexExit
-in_hold = record { to = turn.Again (stage.Leave false); rests = false }
-
-queue_exit : (r : FutexWait) → ExitLaw futex_table futex_exits r stage.Queue at_once
-queue_exit r = record {
-  fresh = refl;
-  plain = refl;
-  falls = refl;
-  free = λ rests. absurd (cc);
-  head = refl;
-  ticket = refl;
-  same = refl;
-  fits = λ f. f;
-  took = refl;
-  state = λ still σ s. s;
-  home = λ o h. h;
-  trail = λ old new calm u. (refl, loaded_more old new r.futex r.expected [] calm u.1);
-}
-
-sleep_exit : (r : FutexWait) → ExitLaw futex_table futex_exits r stage.Sleep to_hold
-sleep_exit r = record {
-  fresh = refl;
-  plain = refl;
-  falls = refl;
-  free = λ rests. refl;
-  head = refl;
-  ticket = refl;
-  same = refl;
-  fits = λ f. f;
-  took = refl;
-  state = λ still. absurd (cc);
-  home = λ o h. h;
-  trail = λ old new calm u. stands_from old new (futex_exits.asks r)
-      (step.State (state_mask r.state) ∷ step.Unlock (futex_head r.futex) false ∷ []) _ calm
-      (refl, (refl, (refl, tt))) u;
-}
-
-off_exit : (r : FutexWait) → ExitLaw futex_table futex_exits r (stage.Off false) in_hold
-off_exit r = record {
-  fresh = refl;
-  plain = refl;
-  falls = refl;
-  free = λ rests. absurd (cc);
-  head = refl;
-  ticket = refl;
-  same = refl;
-  fits = λ f. f;
-  took = refl;
-  state = λ still σ s. s;
-  home = λ o h. h;
-  trail = λ old new calm u.
-      let v = stands_more old new r [] calm tt u in
-      (refl, record { since = v.since; queued = v.queued; unloaded = v.unloaded });
-}
-
-exit_of : FutexExit → Option FutexExit → FutexExit
-exit_of d (Some e) = e
-exit_of d None = d
-
-to_exit : (r : FutexWait) (s : FutexStage) (d e : FutexExit) → Some d ≡ Some e → ExitLaw futex_table futex_exits r s d
-    → ExitLaw futex_table futex_exits r s e
-unfolding exit_of
-to_exit r s d e is = subst (ExitLaw futex_table futex_exits r s) (ap (exit_of d) is)
-
-exit_law : (r : FutexWait) (s : FutexStage) (e : FutexExit) → futex_exit s ≡ Some e
-    → ExitLaw futex_table futex_exits r s e
-exit_law r stage.Queue e is = to_exit r stage.Queue at_once e is (queue_exit r)
-exit_law r stage.Sleep e is = to_exit r stage.Sleep to_hold e is (sleep_exit r)
-exit_law r (stage.Off false) e is = to_exit r (stage.Off false) in_hold e is (off_exit r)
-exit_law r s e is = absurd (cc)
+exit_law : (r : FutexWait) (s : FutexStage) → LawAt futex_table futex_exits r s
+exit_law r stage.Queue = out_at_once asks_law refl refl (λ σ s. s) (λ o h. h)
+    (λ old new calm u. (refl, loaded_more old new r.futex r.expected [] calm u.1))
+exit_law r stage.Sleep = out_rested asks_law refl refl refl (λ o h. h) (λ old new calm u. stands_from old new
+    (futex_exits.asks r) (step.State (state_mask r.state) ∷ step.Unlock (futex_head r.futex) false ∷ []) _ calm
+    (refl, (refl, (refl, tt))) u)
+exit_law r (stage.Off false) = out_at_once asks_law refl refl (λ σ s. s) (λ o h. h) (λ old new calm u.
+    let v = stands_more old new r [] calm tt u in
+    (refl, record { since = v.since; queued = v.queued; unloaded = v.unloaded }))
+exit_law r s = tt
 
 -- the program sleeps no more from there on
-either_awake : (c : Bool) (x y : Planned) → AwakeOn futex_awake x → AwakeOn futex_awake y
-    → AwakeOn futex_awake (if c then x else y)
-either_awake true x y a b = a
-either_awake false x y a b = b
-
 awake_on : (r : FutexWait) (me : ℕ) (p : Point) (seen : Seen) → futex_awake p ≡ true
     → AwakeOn futex_awake ((futex_table.plan_of r).makes me p seen)
-awake_on r me (at.Finish finishing.Queue true) seen is = either_awake (is_some seen.entry) _ _ (refl, refl) (refl, refl)
+awake_on r me (at.Finish finishing.Queue true) seen is = either_awake futex_awake (is_some seen.entry) _ _
+    (refl, refl) (refl, refl)
 awake_on r me (at.Finish finishing.Unlock true) seen is = (refl, refl)
 awake_on r me p seen is = absurd (cc)
 
@@ -142,7 +71,7 @@ sleeps_out r stage.Sleep here none = absurd (cc)
 sleeps_out r s here none = absurd (cc)
 
 pub futex_may_leave : AreLawfulExits futex_table futex_exits
-futex_may_leave = record { at = exit_law; sleeps = sleeps_out; awake = awake_on }
+futex_may_leave = lawful_exits futex_table futex_exits exit_law sleeps_out awake_on
 
 -- the answer and its cause
 module _ (new : Known) (q : FutexWait) (f v : ℕ) (st : SleepState) (futex : q.futex ≡ f) (expected : q.expected ≡ v)
@@ -171,22 +100,11 @@ rest_holds : (old new : Known) (b : Bool) → HasRested old new b → StayHeld o
 rest_holds old new false is m = ap (λ (k : Known). holds_mutex k m) is
 rest_holds old new true is m = one_holds m old new (step.State 0) is
 
-module _ (A : Type 0) (old : Known) (r : Run FutexWait) (s : FutexStage) where
-  out_holds : (e u : Turn FutexStage FutexOutcome) (k new : Known) (m q : Run FutexWait)
-      → GoesOut futex_table k new m q e u → StayHeld k new
-  out_holds (turn.Again n) u k new m q a = futex_holds m.of.futex m.of.expected m.of.state k.view.number k new _ _
-      a.went.runs
-  out_holds (turn.Asleep n) u k new m q a = absurd a
-  out_holds (turn.Locked n) u k new m q a = absurd a
-  out_holds (turn.Done o) u k new m q a = rest_holds k new false a.still
-
-  pub way_holds : (new : Known) (q : Run FutexWait) (u : Turn FutexStage FutexOutcome)
-      → OnTheWay A futex_table futex_exits old r s new q u → StayHeld old new
-  way_holds _ _ _ (straight new q u a) = futex_holds r.of.futex r.of.expected r.of.state old.view.number old new _ _
-      a.went.runs
-  way_holds _ _ _ (left_at mid m n new q u why w l) = λ c.
-      out_holds l.exit.to u l.rested new (asked_run futex_exits m) q l.on c
-      ∙ (rest_holds mid l.rested l.exit.rests l.rests c ∙ way_holds mid m (turn.Again n) w c)
+way_holds : (A : Type 0) (old : Known) (r : Run FutexWait) (s : FutexStage) (new : Known) (q : Run FutexWait)
+    (u : Turn FutexStage FutexOutcome) → OnTheWay A futex_table futex_exits old r s new q u → StayHeld old new
+way_holds A old r s = way_makes A futex_table futex_exits futex_may_leave futex_lawful old r s StayHeld
+    (λ a b c one more m. more m ∙ one m) rest_holds (λ k new m q n u same a.
+    futex_holds m.of.futex m.of.expected m.of.state k.view.number k new _ _ a.went.runs)
 
 -- it does not sleep behind such a hold
 pub way_awake : {A : Type 0} {old : Known} {r : Run FutexWait} {s : FutexStage} (new : Known) (q : Run FutexWait)
@@ -196,13 +114,6 @@ way_awake _ _ _ (left_at mid m n new q u why w l) = λ fresh to.
     l.awake (ap (stays_awake futex_table futex_exits) to)
 
 -- for another cause, which comes of this one
-pub way_as : {A B : Type 0} → (A → B) → (old : Known) (r : Run FutexWait) (s : FutexStage) (new : Known) (q : Run FutexWait)
-    (u : Turn FutexStage FutexOutcome) → OnTheWay A futex_table futex_exits old r s new q u
-    → OnTheWay B futex_table futex_exits old r s new q u
-way_as f old r s _ _ _ (straight new q u a) = straight new q u a
-way_as f old r s _ _ _ (left_at mid m n new q u why w l) = left_at mid m n new q u (f why)
-    (way_as f old r s mid m (turn.Again n) w) l
-
 asked_as : {A B : Type 0} → (A → B) → (x : Until (Result (Unit {0}) FutexEnd)) → IsFutexLeftFor A x
     → IsFutexLeftFor B x
 asked_as f (until.Over end) u = tt
@@ -212,7 +123,7 @@ pub until_as : {A B : Type 0} → (A → B) → (old new : Known) (f v : ℕ) (s
     (x : Until (Result (Unit {0}) FutexEnd)) → EndsFutexUntil A old new f v st x → EndsFutexUntil B old new f v st x
 until_as by old new f v st x u =
     let l = u.leaves in
-    let came = way_as by old u.first stage.First new l.at (turn.Done l.outcome) l.came in
+    let came = way_as by new l.at (turn.Done l.outcome) l.came in
     record {
       first = u.first;
       fresh = u.fresh;
@@ -227,7 +138,7 @@ until_as by old new f v st x u =
       asked = asked_as by x u.asked;
     }
 
-module _ (A : Type 0) (old new : Known) (r q : Run FutexWait) (s : FutexStage) (o : FutexOutcome)
+module _ {A : Type 0} {old new : Known} {r q : Run FutexWait} {s : FutexStage} {o : FutexOutcome}
     (w : OnTheWay A futex_table futex_exits old r s new q (turn.Done o)) where
   over : IsEnded futex_table new q o
   over = way_lands A futex_table futex_exits futex_may_leave futex_lawful old r s new q (turn.Done o) w
@@ -272,21 +183,20 @@ module _ (A : Type 0) (old new : Known) (r q : Run FutexWait) (s : FutexStage) (
 
   pub left_asked : r.of.asked ≡ false → IsFutexLeftFor A (futex_until_in q.of o)
   left_asked unasked = left_for A new q.of o over.trail
-      (λ is. way_asked A futex_table futex_exits futex_may_leave futex_lawful old r s new q (turn.Done o) w unasked is)
+      (way_asked A futex_table futex_exits futex_may_leave futex_lawful old r s new q (turn.Done o) w unasked)
 
 -- a whole call
-pub ends_until : (A : Type 0) (old new : Known) (r q : Run FutexWait) (f v : ℕ) (st : SleepState)
-    → IsFreshFutexWait r.of f v st → (o : FutexOutcome)
-    → OnTheWay A futex_table futex_exits old r stage.First new q (turn.Done o)
+pub ends_until : {A : Type 0} {old new : Known} {r q : Run FutexWait} {f v : ℕ} {st : SleepState} {o : FutexOutcome}
+    → IsFreshFutexWait r.of f v st → OnTheWay A futex_table futex_exits old r stage.First new q (turn.Done o)
     → EndsFutexUntil A old new f v st (futex_until_in q.of o)
-ends_until A old new r q f v st fresh o w = record {
-  first = r;
+ends_until fresh w = record {
+  first = _;
   fresh = fresh;
-  leaves = leaves_futex A old new r q stage.First o w;
-  asked = left_asked A old new r q stage.First o w fresh.unasked;
+  leaves = leaves_futex w;
+  asked = left_asked w fresh.unasked;
 }
 
 -- and whoever had begun owing nothing
-pub way_clean : (A : Type 0) (c : Plan) (k : Known) (q : Run FutexWait) (o : FutexOutcome)
+pub way_clean : {A : Type 0} {c : Plan} {k : Known} {q : Run FutexWait} {o : FutexOutcome}
     → IsOnWay A futex_table futex_exits c k q (turn.Done o) → IsClean k
-way_clean A c k q o i = left_clean A i.old k i.began q i.start o i.came i.clean i.told
+way_clean i = left_clean i.came i.clean i.told

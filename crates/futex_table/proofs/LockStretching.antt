@@ -21,7 +21,7 @@ use Rattle.wait_leave.specs.declared.exits.Until.{Until}
 use Rattle.wait_leave.specs.declared.exits.Until.TheVariants as until
 use Rattle.wait_leave.specs.Leaves.{GoesOut, Leaves, asked_run}
 use Rattle.wait_leave.specs.OnTheWay.{OnTheWay, left_at, straight}
-use Rattle.wait_leave.proofs.Ways.{way_again, way_lands, way_risen, way_then}
+use Rattle.wait_leave.proofs.Ways.{way_again, way_as, way_lands, way_risen, way_then}
 use Rattle.futex_table.specs.declared.futexes.FutexEnd.{FutexEnd}
 use Rattle.futex_table.specs.declared.lock_stretches.LockStage.{LockStage}
 use Rattle.futex_table.specs.declared.waits.FutexOutcome.{FutexOutcome}
@@ -40,7 +40,7 @@ use Rattle.futex_table.specs.Mutexes.{HasWaitedRounds, LocksMutex, WaitsRound, W
 use Rattle.futex_table.specs.TallyUses.{LeavesTallies}
 use Rattle.futex_table.proofs.FutexEndings.{ends_futex}
 use Rattle.futex_table.proofs.FutexLaws.{futex_lawful}
-use Rattle.futex_table.proofs.FutexLeaving.{ends_until, futex_may_leave, until_as, way_as, left_carried, left_held}
+use Rattle.futex_table.proofs.FutexLeaving.{ends_until, futex_may_leave, until_as, left_carried, left_held}
 use Rattle.futex_table.proofs.FutexLeaving.{left_idle, left_out, left_up}
 use Rattle.futex_table.proofs.LeftTallies.{until_leaves}
 use Rattle.futex_table.proofs.LockLeaving.{locks_by, round_unlocks}
@@ -100,18 +100,15 @@ module _ (b : Bool) (m : ℕ) (old new : Known) (q : Run FutexWait) (o : FutexOu
   end = futex_until_in q.of o
 
   waited : EndsFutexUntil (AskedIf b) x.tried new m 0 states.Uninterruptible end
-  waited = ends_until (AskedIf b) x.tried new x.first q m 0 states.Uninterruptible x.fresh o x.came
+  waited = ends_until x.fresh x.came
 
   round : AsksRound (AskedIf b) m x.mid new end
   round = record { tried = x.tried; found = x.found; waited = waited }
 
   over_left : (took : Bool) → took ≡ false → LeavesLock m old new took
   over_left = left_waited m old x.tried new x.left
-      (left_carried (AskedIf b) x.tried new x.first q stage.First o x.came x.left.up x.left.idle
-      (x.told.head ∙ x.left.idle.free.head)) (left_held (AskedIf b) x.tried new x.first q stage.First o x.came)
-      (until_leaves m x.tried new waited) (left_up (AskedIf b) x.tried new x.first q stage.First o x.came)
-      (left_idle (AskedIf b) x.tried new x.first q stage.First o x.came x.left.idle.unmarked)
-      (left_out (AskedIf b) x.tried new x.first q stage.First o x.came)
+      (left_carried x.came x.left.up x.left.idle (x.told.head ∙ x.left.idle.free.head)) (left_held x.came)
+      (until_leaves m x.tried new waited) (left_up x.came) (left_idle x.came x.left.idle.unmarked) (left_out x.came)
 
   over_to : (z : Option (Until (Result (Unit {0}) Worn))) → round_end end ≡ z → IsMutexLocking b m old new (ended_to z)
   over_to (Some result) is = record {
@@ -251,7 +248,7 @@ may_be_asked b m old new q u x = record {
   told = x.told;
   first = x.first;
   fresh = x.fresh;
-  came = way_as (λ a. tt) x.tried x.first stage.First new q u x.came;
+  came = way_as (λ a. tt) new q u x.came;
 }
 
 -- how the task stands

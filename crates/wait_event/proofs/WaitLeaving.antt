@@ -1,9 +1,8 @@
 -- A wait for a plain condition or a variable that its task leaves.
 use Rattle.std.proofs.Common.{◌∙◌, ap, sym, refl, subst}
-use Rattle.std.specs.Prelude.{ℕ, ◌≡◌, ◌||◌, ◌&&◌, not, Bool, true, false, if◌then◌else◌, is_some, Option, Some, None}
+use Rattle.std.specs.Prelude.{ℕ, ◌≡◌, ◌||◌, ◌&&◌, not, Bool, true, false, is_some, None}
 use Rattle.wait_model.specs.declared.points.FinishPoint.TheVariants as finishing
 use Rattle.wait_model.specs.declared.points.LeavePoint.TheVariants as leaving
-use Rattle.wait_model.specs.declared.points.Planned.{Planned}
 use Rattle.wait_model.specs.declared.points.Point.{Point}
 use Rattle.wait_model.specs.declared.points.Point.TheVariants as at
 use Rattle.wait_model.specs.declared.points.Seen.{Seen}
@@ -20,11 +19,11 @@ use Rattle.wait_class.specs.declared.stages.Run.{Run}
 use Rattle.wait_class.specs.declared.stages.Turn.{Turn}
 use Rattle.wait_class.specs.declared.stages.Turn.TheVariants as turn
 use Rattle.wait_class.specs.Tables.{IsEnded, Plan}
-use Rattle.wait_leave.specs.declared.exits.Exit.{Exit}
-use Rattle.wait_leave.specs.ExitLaws.{AreLawfulExits, AwakeOn, ExitLaw}
+use Rattle.wait_leave.specs.ExitLaws.{AreLawfulExits, AwakeOn}
 use Rattle.wait_leave.specs.Leaves.{GoesOut, stays_awake}
 use Rattle.wait_leave.specs.OnTheWay.{IsOnWay, OnTheWay, left_at, straight}
-use Rattle.wait_leave.proofs.Ways.{way_asked, way_keeps, way_lands}
+use Rattle.wait_leave.proofs.ExitForms.{AskLaw, LawAt, either_awake, if_asked, lawful_exits, out_at_once, out_rested}
+use Rattle.wait_leave.proofs.Ways.{way_asked, way_keeps, way_lands, way_stays}
 use Rattle.wait_event.specs.Ends.{wait_change}
 use Rattle.wait_event.specs.WaitLeaves.{EndsWaitUntil, IsAskedWait, IsAwakeOff, IsWaitCause, LeavesWait, out_queues}
 use Rattle.wait_event.specs.WaitLeaves.{parted_in, wait_awake, wait_exit, wait_exits, wait_until_in, way_queues}
@@ -35,104 +34,34 @@ use Rattle.wait_event.specs.declared.waits.WaitOutcome.TheVariants as outcome
 use Rattle.wait_event.specs.declared.waits.WaitStage.{WaitStage}
 use Rattle.wait_event.specs.declared.waits.WaitStage.TheVariants as stage
 use Rattle.wait_event.proofs.Endings.{over_carried, over_clean, over_idle, over_out}
+use Rattle.wait_event.proofs.Tellings.{or_assoc, or_none}
 use Rattle.wait_event.proofs.WaitLaws.{wait_lawful}
 
-abbrev WaitExit : Type 0
-WaitExit = Exit WaitStage WaitOutcome
-
 -- the exits: in the hold of the prepare, and before it
-abbrev off_exit : WaitExit
-off_exit = record { to = turn.Again stage.LeaveQueue; rests = false }
+asks_law : AskLaw wait_table wait_exits
+asks_law = record { same = λ r. refl; fits = λ r f. record { there = f.there; suits = f.suits } }
 
-abbrev back_exit : WaitExit
-back_exit = record { to = turn.Again stage.PrepareLock; rests = true }
-
-exit_of : WaitExit → Option WaitExit → WaitExit
-exit_of d (Some e) = e
-exit_of d None = d
-
-to_exit : (r : WaitCall) (s : WaitStage) (d e : WaitExit) → Some d ≡ Some e → ExitLaw wait_table wait_exits r s d
-    → ExitLaw wait_table wait_exits r s e
-unfolding exit_of
-to_exit r s d e is = subst (ExitLaw wait_table wait_exits r s) (ap (exit_of d) is)
-
-exit_law : (r : WaitCall) (s : WaitStage) (e : WaitExit) → wait_exit s ≡ Some e → ExitLaw wait_table wait_exits r s e
-exit_law r stage.PrepareLook e is = to_exit r stage.PrepareLook off_exit e is (record {
-  fresh = refl;
-  plain = refl;
-  falls = refl;
-  free = λ rests. absurd (cc);
-  head = refl;
-  ticket = refl;
-  same = refl;
-  fits = λ f. record { there = f.there; suits = f.suits };
-  took = refl;
-  state = λ still σ s. s;
-  home = λ o h. h;
-  trail = λ old new calm u. tt;
-})
-exit_law r stage.PrepareQueue e is = to_exit r stage.PrepareQueue off_exit e is (record {
-  fresh = refl;
-  plain = refl;
-  falls = refl;
-  free = λ rests. absurd (cc);
-  head = refl;
-  ticket = refl;
-  same = refl;
-  fits = λ f. record { there = f.there; suits = f.suits };
-  took = refl;
-  state = λ still σ s. s;
-  home = λ o h. h;
-  trail = λ old new calm u. tt;
-})
-exit_law r stage.Test e is = to_exit r stage.Test back_exit e is (record {
-  fresh = refl;
-  plain = refl;
-  falls = refl;
-  free = λ rests. refl;
-  head = refl;
-  ticket = refl;
-  same = refl;
-  fits = λ f. record { there = f.there; suits = f.suits };
-  took = refl;
-  state = λ still. absurd (cc);
-  home = λ o h. h;
-  trail = λ old new calm u. tt;
-})
-exit_law r stage.Sleep e is = to_exit r stage.Sleep back_exit e is (record {
-  fresh = refl;
-  plain = refl;
-  falls = refl;
-  free = λ rests. refl;
-  head = refl;
-  ticket = refl;
-  same = refl;
-  fits = λ f. record { there = f.there; suits = f.suits };
-  took = refl;
-  state = λ still. absurd (cc);
-  home = λ o h. h;
-  trail = λ old new calm u. tt;
-})
-exit_law r s e is = absurd (cc)
+exit_law : (r : WaitCall) (s : WaitStage) → LawAt wait_table wait_exits r s
+exit_law r stage.PrepareLook = out_at_once asks_law refl refl (λ σ s. s) (λ o h. h) (λ old new calm u. tt)
+exit_law r stage.PrepareQueue = out_at_once asks_law refl refl (λ σ s. s) (λ o h. h) (λ old new calm u. tt)
+exit_law r stage.Test = out_rested asks_law refl refl refl (λ o h. h) (λ old new calm u. tt)
+exit_law r stage.Sleep = out_rested asks_law refl refl refl (λ o h. h) (λ old new calm u. tt)
+exit_law r s = tt
 
 -- from where it leaves its queue on the program sleeps no more
-either_awake : (c : Bool) (x y : Planned) → AwakeOn wait_awake x → AwakeOn wait_awake y
-    → AwakeOn wait_awake (if c then x else y)
-either_awake true x y a b = a
-either_awake false x y a b = b
-
 awake_on : (r : WaitCall) (me : ℕ) (p : Point) (seen : Seen) → wait_awake p ≡ true
     → AwakeOn wait_awake ((wait_table.plan_of r).makes me p seen)
-awake_on r me (at.Leave leaving.Queue) seen is = either_awake (is_some seen.entry) _ _ (refl, refl) (refl, refl)
+awake_on r me (at.Leave leaving.Queue) seen is =
+    either_awake wait_awake (is_some seen.entry) _ _ (refl, refl) (refl, refl)
 awake_on r me (at.Leave leaving.Unlock) seen is = (refl, refl)
 awake_on r me (at.Leave leaving.Load) seen is =
-    either_awake (misses r.watch seen.value) _ _ (refl, refl) (refl, refl)
+    either_awake wait_awake (misses r.watch seen.value) _ _ (refl, refl) (refl, refl)
 awake_on r me (at.Finish finishing.State false) seen is = (refl, refl)
 awake_on r me (at.Finish finishing.Look false) seen is =
-    either_awake (is_some seen.entry) _ _ (refl, refl) (refl, refl)
+    either_awake wait_awake (is_some seen.entry) _ _ (refl, refl) (refl, refl)
 awake_on r me (at.Finish finishing.Lock false) seen is = (refl, refl)
 awake_on r me (at.Finish finishing.Queue false) seen is =
-    either_awake (is_some seen.entry) _ _ (refl, refl) (refl, refl)
+    either_awake wait_awake (is_some seen.entry) _ _ (refl, refl) (refl, refl)
 awake_on r me (at.Finish finishing.Unlock false) seen is = (refl, refl)
 awake_on r me p seen is = absurd (cc)
 
@@ -141,7 +70,7 @@ sleeps_out r stage.Sleep here none = absurd (cc)
 sleeps_out r s here none = absurd (cc)
 
 pub wait_may_leave : AreLawfulExits wait_table wait_exits
-wait_may_leave = record { at = exit_law; sleeps = sleeps_out; awake = awake_on }
+wait_may_leave = lawful_exits wait_table wait_exits exit_law sleeps_out awake_on
 
 -- the cause of an answer
 parted : (k : Known) (e : WaitCall) (found : Bool) (b : Bool) → LeftSo b k e found (last_load e) → IsUnset e.watch e.seen
@@ -174,29 +103,8 @@ cause_of k e outcome.Worn u = record {
 }
 
 -- it is the same call, and tells whether it has queued its entry
-or_none : (b : Bool) → (b || false) ≡ b
-or_none true = refl
-or_none false = refl
-
-or_assoc : (a b c : Bool) → ((a || b) || c) ≡ (a || (b || c))
-or_assoc true b c = refl
-or_assoc false b c = refl
-
-same_on : (r m q : WaitCall) → SameCall r m → SameCall m q → SameCall r q
-same_on r m q a b = record { watch_is = b.watch_is ∙ a.watch_is; how = b.how ∙ a.how }
-
 abbrev asks : Run WaitCall → Run WaitCall
 asks m = record m { of = wait_exits.asks m.of }
-
-out_same : (e u : Turn WaitStage WaitOutcome) (old new : Known) (m q : Run WaitCall)
-    → GoesOut wait_table old new (asks m) q e u → SameCall m.of q.of
-out_same (turn.Again s) u old new m q a = record { watch_is = a.went.tells.same.watch_is; how = a.went.tells.same.how }
-out_same (turn.Asleep s) u old new m q a = absurd a
-out_same (turn.Locked s) u old new m q a = absurd a
-out_same (turn.Done o) u old new m q a = record {
-  watch_is = ap (λ (r : Run WaitCall). r.of.watch) a.same;
-  how = ap (λ (r : Run WaitCall). r.of.how) a.same;
-}
 
 out_tells : (e u : Turn WaitStage WaitOutcome) (old new : Known) (m q : Run WaitCall)
     → (a : GoesOut wait_table old new (asks m) q e u)
@@ -209,9 +117,12 @@ out_tells (turn.Done o) u old new m q a = ap (λ (r : Run WaitCall). r.of.queued
 module _ {A : Type 0} {old : Known} {r : Run WaitCall} {s : WaitStage} where
   way_same : (new : Known) (q : Run WaitCall) (u : Turn WaitStage WaitOutcome)
       → OnTheWay A wait_table wait_exits old r s new q u → SameCall r.of q.of
-  way_same _ _ _ (straight new q u a) = a.went.tells.same
-  way_same _ _ _ (left_at mid m n new q u cause w l) = same_on r.of m.of q.of (way_same mid m (turn.Again n) w)
-      (out_same l.exit.to u l.rested new m q l.on)
+  way_same new q u w = record {
+    watch_is = way_stays A wait_table wait_exits (λ (c : WaitCall). c.watch) (λ c n e is. refl)
+        (λ k j m p n v a. a.went.tells.same.watch_is) new q u w;
+    how = way_stays A wait_table wait_exits (λ (c : WaitCall). c.how) (λ c n e is. refl)
+        (λ k j m p n v a. a.went.tells.same.how) new q u w;
+  }
 
   way_tells : (new : Known) (q : Run WaitCall) (u : Turn WaitStage WaitOutcome)
       → (w : OnTheWay A wait_table wait_exits old r s new q u) → q.of.queued ≡ (r.of.queued || way_queues new q u w)
@@ -269,15 +180,11 @@ module _ (A : Type 0) (old new : Known) (r q : Run WaitCall) (s : WaitStage) (o 
       }
 
   -- Left for nobody who was not asked
-  asked_in : (found : Bool) (b : Bool) → (b ≡ true → A) → IsAskedWait A (parted_in b q.of found)
-  asked_in found true cause = cause refl
-  asked_in found false cause = tt
-
   asked_by : (p : WaitOutcome) → r.of.asked ≡ false → IsAskedWait A (wait_until_in q.of p)
   asked_by outcome.Over unasked = tt
   asked_by outcome.Worn unasked = tt
-  asked_by (outcome.Signalled found) unasked = asked_in found q.of.asked
-      (λ now. way_asked A wait_table wait_exits wait_may_leave wait_lawful old r s new q (turn.Done o) came unasked now)
+  asked_by (outcome.Signalled found) unasked = if_asked (λ b. IsAskedWait A (parted_in b q.of found)) q.of.asked
+      (way_asked A wait_table wait_exits wait_may_leave wait_lawful old r s new q (turn.Done o) came unasked) tt
 
   pub left_asked : r.of.asked ≡ false → IsAskedWait A (wait_until_in q.of o)
   left_asked = asked_by o

@@ -1,5 +1,5 @@
 -- Waits under way that may have been asked to leave.
-use Rattle.std.proofs.Common.{◌∙◌, ap, subst, sym}
+use Rattle.std.proofs.Common.{◌∙◌, ap, refl, subst, sym}
 use Rattle.std.specs.Prelude.{ℕ, ◌≡◌, ◌≤◌, ◌+◌, Bool, true, false, Some}
 use Rattle.wait_model.specs.declared.layout.TheConstants.{HEADS}
 use Rattle.wait_model.specs.declared.watches.Watch.{Watch}
@@ -11,6 +11,7 @@ use Rattle.wait_class.specs.declared.stages.Turn.{Turn}
 use Rattle.wait_class.specs.declared.stages.Turn.TheVariants as turn
 use Rattle.wait_class.specs.Laws.{IsLawfulCallTable}
 use Rattle.wait_class.specs.Tables.{Advances, CallTable, IsAt, Lands, Plan, SleepsNot, took_in, watch_in}
+use Rattle.wait_class.specs.Wholes.{HasRested}
 use Rattle.wait_class.specs.UnderWay.{IsUnderWay, going}
 use Rattle.wait_class.proofs.Turns.{advances_none, advances_on, again}
 use Rattle.wait_class.proofs.UnderWay.{woke_on}
@@ -19,6 +20,23 @@ use Rattle.wait_leave.specs.declared.exits.Exit.{Exit}
 use Rattle.wait_leave.specs.Leaves.{Exits, GoesOut, Leaves, asked_run, stays_awake, with_asked}
 use Rattle.wait_leave.specs.OnTheWay.{IsAwakeSince, IsOnWay, OnTheWay, left_at, straight}
 use Rattle.wait_leave.proofs.Leaving.{leaves_again, leaves_lands, leaves_on, leaves_risen}
+
+-- what of the call neither a turn nor asking changes
+module _ {C S O D : Type 0} (A : Type 0) (t : CallTable C S O) (x : Exits C S O) (f : C → D)
+    (asked : (r : C) (s : S) (e : Exit S O) → x.exit r s ≡ Some e → f (x.asks r) ≡ f r)
+    (turned : (k new : Known) (m q : Run C) (n : S) (u : Turn S O) → Advances t k new m q n u → f q.of ≡ f m.of) where
+  out_stays : (e u : Turn S O) (k new : Known) (m q : Run C) → GoesOut t k new m q e u → f q.of ≡ f m.of
+  out_stays (turn.Again n) u k new m q a = turned k new m q n u a
+  out_stays (turn.Asleep n) u k new m q a = absurd a
+  out_stays (turn.Locked n) u k new m q a = absurd a
+  out_stays (turn.Done o) u k new m q a = ap (λ (p : Run C). f p.of) a.same
+
+  pub way_stays : {old : Known} {r : Run C} {s : S} (new : Known) (q : Run C) (u : Turn S O)
+      → OnTheWay A t x old r s new q u → f q.of ≡ f r.of
+  way_stays _ _ _ (straight new q u a) = turned _ new _ q _ u a
+  way_stays _ _ _ (left_at mid m n new q u cause w l) =
+      out_stays l.exit.to u l.rested new (asked_run x m) q l.on
+      ∙ (asked m.of n l.exit l.is ∙ way_stays mid m (turn.Again n) w)
 
 module _ {C S O : Type 0} (A : Type 0) (t : CallTable C S O) (x : Exits C S O) (law : AreLawfulExits t x)
     (lawful : IsLawfulCallTable t) (old : Known) (r : Run C) (s : S) where
@@ -73,22 +91,30 @@ module _ {C S O : Type 0} (A : Type 0) (t : CallTable C S O) (x : Exits C S O) (
   way_going new q (turn.Done o) w = w
 
   -- it is the same call
-  out_same : (e u : Turn S O) (k new : Known) (m q : Run C) → GoesOut t k new m q e u → t.plan_of q.of ≡ t.plan_of m.of
-  out_same (turn.Again n) u k new m q a = a.same
-  out_same (turn.Asleep n) u k new m q a = absurd a
-  out_same (turn.Locked n) u k new m q a = absurd a
-  out_same (turn.Done o) u k new m q a = ap (λ (p : Run C). t.plan_of p.of) a.same
-
-  leaves_same : (k new : Known) (m q : Run C) (n : S) (u : Turn S O) → Leaves t x k new m q n u
-      → t.plan_of q.of ≡ with_asked true (t.plan_of m.of)
-  leaves_same k new m q n u l = out_same l.exit.to u l.rested new (asked_run x m) q l.on
-      ∙ (law.at m.of n l.exit l.is).same
-
   pub way_plan : (new : Known) (q : Run C) (u : Turn S O) → OnTheWay A t x old r s new q u
       → with_asked false (t.plan_of q.of) ≡ with_asked false (t.plan_of r.of)
-  way_plan _ _ _ (straight new q u a) = ap (with_asked false) a.same
-  way_plan _ _ _ (left_at mid m n new q u cause w l) = ap (with_asked false) (leaves_same mid new m q n u l)
-      ∙ way_plan mid m (turn.Again n) w
+  way_plan = way_stays A t x (λ (c : C). with_asked false (t.plan_of c))
+      (λ m n e is. ap (with_asked false) (law.at m n e is).same) (λ k new m q n u a. ap (with_asked false) a.same)
+
+  -- what it made on its way, where turns make such, and RUNNING is such: of the same call, but for whether it was asked
+  module _ (Made : Known → Known → Type 0) (on : (a b c : Known) → Made a b → Made b c → Made a c)
+      (rested : (k new : Known) (b : Bool) → HasRested k new b → Made k new)
+      (turned : (k new : Known) (m q : Run C) (n : S) (u : Turn S O)
+      → with_asked false (t.plan_of m.of) ≡ with_asked false (t.plan_of r.of) → Advances t k new m q n u
+      → Made k new) where
+    out_makes : (e u : Turn S O) (k new : Known) (m q : Run C)
+        → with_asked false (t.plan_of m.of) ≡ with_asked false (t.plan_of r.of) → GoesOut t k new m q e u → Made k new
+    out_makes (turn.Again n) u k new m q same a = turned k new m q n u same a
+    out_makes (turn.Asleep n) u k new m q same a = absurd a
+    out_makes (turn.Locked n) u k new m q same a = absurd a
+    out_makes (turn.Done o) u k new m q same a = rested k new false a.still
+
+    pub way_makes : (new : Known) (q : Run C) (u : Turn S O) → OnTheWay A t x old r s new q u → Made old new
+    way_makes _ _ _ (straight new q u a) = turned old new r q s u refl a
+    way_makes _ _ _ (left_at mid m n new q u cause w l) = on old mid new (way_makes mid m (turn.Again n) w)
+        (on mid l.rested new (rested mid l.rested l.exit.rests l.rests)
+        (out_makes l.exit.to u l.rested new (asked_run x m) q
+        (ap (with_asked false) (law.at m.of n l.exit l.is).same ∙ way_plan mid m (turn.Again n) w) l.on))
 
   -- whose plan says so has been asked, and had a cause
   pub way_asked : (new : Known) (q : Run C) (u : Turn S O) → OnTheWay A t x old r s new q u
@@ -146,13 +172,17 @@ pub record IsOutStretch {C S O : Type 0} (t : CallTable C S O) (x : Exits C S O)
   pub awake : SleepsNot old new
   pub low : t.depth n + turns ≤ 6
 
--- a way that is left whatever the cause
+-- for another cause, which comes of this one
+pub way_as : {C S O A B : Type 0} {t : CallTable C S O} {x : Exits C S O} {old : Known} {r : Run C} {s : S} → (A → B)
+    → (new : Known) (q : Run C) (u : Turn S O) → OnTheWay A t x old r s new q u → OnTheWay B t x old r s new q u
+way_as f _ _ _ (straight new q u a) = straight new q u a
+way_as f _ _ _ (left_at mid m n new q u cause w l) = left_at mid m n new q u (f cause) (way_as f mid m (turn.Again n) w) l
+
+-- whatever the cause
 pub way_for : {C S O : Type 0} (A : Type 0) → A → (t : CallTable C S O) (x : Exits C S O) (old : Known) (r : Run C)
     (s : S) (new : Known) (q : Run C) (u : Turn S O) → OnTheWay (Unit {0}) t x old r s new q u
     → OnTheWay A t x old r s new q u
-way_for A cause t x old r s _ _ _ (straight new q u a) = straight new q u a
-way_for A cause t x old r s _ _ _ (left_at mid m n new q u c w l) = left_at mid m n new q u cause
-    (way_for A cause t x old r s mid m (turn.Again n) w) l
+way_for A cause t x old r s new q u w = way_as (λ c. cause) new q u w
 
 -- where each exit leads to a point from which on the program sleeps no more
 pub awake_since : {C S O : Type 0} {A : Type 0} (t : CallTable C S O) (x : Exits C S O)
@@ -162,10 +192,10 @@ awake_since t x awake old r s _ _ _ (straight new q u a) = tt
 awake_since t x awake old r s _ _ _ (left_at mid m n new q u cause w l) = l.awake (awake m.of n l.exit l.is)
 
 -- a call that is on its way
-pub on_way_then : {C S O : Type 0} (A : Type 0) (t : CallTable C S O) (x : Exits C S O) (law : AreLawfulExits t x)
-    (lawful : IsLawfulCallTable t) (c : Plan) (mid new : Known) (m q : Run C) (n : S) (u : Turn S O)
+pub on_way_then : {C S O A : Type 0} {t : CallTable C S O} {x : Exits C S O} (law : AreLawfulExits t x)
+    (lawful : IsLawfulCallTable t) {c : Plan} {mid new : Known} {m q : Run C} {n : S} {u : Turn S O}
     → IsOnWay A t x c mid m (turn.Again n) → OnTheWay A t x mid m n new q u → IsOnWay A t x c new q u
-on_way_then A t x law lawful c mid new m q n u i w = record {
+on_way_then law lawful i w = record {
   old = i.old;
   began = i.began;
   start = i.start;
@@ -173,8 +203,8 @@ on_way_then A t x law lawful c mid new m q n u i w = record {
   told = i.told;
   nothing = i.nothing;
   plan = i.plan;
-  came = way_going A t x law lawful i.old i.began i.start new q u
-      (way_then A t x law lawful i.old i.began i.start mid new m q n u i.came w);
+  came = way_going _ _ _ law lawful i.old i.began i.start _ _ _
+      (way_then _ _ _ law lawful i.old i.began i.start _ _ _ _ _ _ i.came w);
 }
 
 -- a call that nobody asked to leave yet is on its way

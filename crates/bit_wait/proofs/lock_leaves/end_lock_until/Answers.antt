@@ -11,9 +11,8 @@ use Rattle.bit_wait.proofs.lock_leaves.end_lock_until.Goals as goal
 pub returns-clause-holder : goal.returns-clause-holder
 returns-clause-holder c p i = subst (λ (x : Until (Result (Unit {0}) BitEnd)). MatchBool (takes_until x)
     (IsHolder c.rest.new.task p.watch) (IsClean c.rest.new.task)) (sym c.until_of.ensures)
-    (left_clean (Unit {0}) p c.args.task.now c.rest.new.task c.args.wait.now c.args.outcome i c.rest.ensures)
+    (left_clean _ _ _ _ _ _ i c.rest.ensures)
 
 pub returns-clause-ends : goal.returns-clause-ends
 returns-clause-ends c start f s came = subst (LeavesBitLock (Unit {0}) start c.rest.new.task f s)
-    (sym c.until_of.ensures) (left_lock (Unit {0}) start c.args.task.now c.rest.new.task f c.args.wait.now s
-    c.args.outcome came c.rest.ensures)
+    (sym c.until_of.ensures) (left_lock _ _ _ _ _ _ _ _ came c.rest.ensures)

@@ -5,10 +5,10 @@ use Rattle.bit_wait.proofs.BitLeaving.{left_clean, left_wait}
 use Rattle.bit_wait.proofs.wait_leaves.end_bit_until.Goals as goal
 
 pub returns-clause-clean : goal.returns-clause-clean
-returns-clause-clean c p i = left_clean (Unit {0}) p c.args.task.now c.rest.new.task c.args.wait.now c.args.outcome i
-    (subst (HasRested c.args.task.now c.rest.new.task) c.is_bit_worn.ensures c.rest.ensures)
+returns-clause-clean c p i = left_clean _ _ _ _ _ _ i
+    (subst (HasRested _ _) c.is_bit_worn.ensures c.rest.ensures)
 
 pub returns-clause-ends : goal.returns-clause-ends
 returns-clause-ends c start f s came = subst (LeavesBitWait (Unit {0}) start c.rest.new.task f s)
-    (sym c.until_of.ensures) (left_wait (Unit {0}) start c.args.task.now c.rest.new.task f c.args.wait.now s
-    c.args.outcome came (subst (HasRested c.args.task.now c.rest.new.task) c.is_bit_worn.ensures c.rest.ensures))
+    (sym c.until_of.ensures)
+    (left_wait _ _ _ _ _ _ _ _ came (subst (HasRested _ _) c.is_bit_worn.ensures c.rest.ensures))

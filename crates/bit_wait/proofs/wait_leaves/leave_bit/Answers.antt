@@ -1,10 +1,9 @@
 use Rattle.std.proofs.Common.{◌∙◌, subst, sym}
 use Rattle.wait_class.specs.Wholes.{HasRested}
-use Rattle.wait_class.specs.declared.stages.Turn.TheVariants as turn
 use Rattle.wait_class.proofs.Framing.{framed_lawful}
 use Rattle.wait_leave.proofs.Ways.{on_way_then}
-use Rattle.bit_wait.specs.BitLeaves.{LeavesBitWait, bit_exits}
-use Rattle.bit_wait.specs.BitTables.{bit_frame, bit_table}
+use Rattle.bit_wait.specs.BitLeaves.{LeavesBitWait}
+use Rattle.bit_wait.specs.BitTables.{bit_frame}
 use Rattle.bit_wait.proofs.BitLaws.{bit_lawful}
 use Rattle.bit_wait.proofs.BitLeaving.{bit_may_leave, left_clean, left_domain, left_ended, left_idle, left_kept, left_out, left_up, left_wait}
 use Rattle.wait_class.proofs.AwakeSteps.{sleeps_not_on}
@@ -14,45 +13,35 @@ use Rattle.bit_wait.proofs.wait_leaves.leave_bit.Goals as goal
 pub returns-clause-leaves : goal.returns-clause-leaves
 returns-clause-leaves g c = subst (LeavesBitWait (Unit {0}) c.args.task.now c.rest.new.task c.args.call.now c.args.stage)
     (sym c.until_of.ensures)
-    (left_wait (Unit {0}) c.args.task.now c.leave-outcome.new.task c.rest.new.task c.args.call.now
-    c.leave-outcome.new.call c.args.stage c.leave-outcome.result c.leave-outcome.ensures.way
-    (subst (HasRested c.leave-outcome.new.task c.rest.new.task) c.is_bit_worn.ensures c.rest.ensures))
+    (left_wait _ _ _ _ _ _ _ _ c.leave-outcome.ensures.way
+    (subst (HasRested _ _) c.is_bit_worn.ensures c.rest.ensures))
 
 pub returns-clause-up : goal.returns-clause-up
-returns-clause-up g c = left_up (Unit {0}) c.args.task.now c.leave-outcome.new.task c.rest.new.task c.args.call.now
-    c.leave-outcome.new.call c.args.stage c.leave-outcome.result c.leave-outcome.ensures.way
-    (subst (HasRested c.leave-outcome.new.task c.rest.new.task) c.is_bit_worn.ensures c.rest.ensures)
+returns-clause-up g c = left_up _ _ _ _ _ _ _ _ c.leave-outcome.ensures.way
+    (subst (HasRested _ _) c.is_bit_worn.ensures c.rest.ensures)
 
 pub returns-clause-out : goal.returns-clause-out
-returns-clause-out g c = left_out (Unit {0}) c.args.task.now c.leave-outcome.new.task c.rest.new.task c.args.call.now
-    c.leave-outcome.new.call c.args.stage c.leave-outcome.result c.leave-outcome.ensures.way
-    (subst (HasRested c.leave-outcome.new.task c.rest.new.task) c.is_bit_worn.ensures c.rest.ensures)
+returns-clause-out g c = left_out _ _ _ _ _ _ _ _ c.leave-outcome.ensures.way
+    (subst (HasRested _ _) c.is_bit_worn.ensures c.rest.ensures)
 
 pub returns-clause-idle : goal.returns-clause-idle
-returns-clause-idle g c = left_idle (Unit {0}) c.args.task.now c.leave-outcome.new.task c.rest.new.task c.args.call.now
-    c.leave-outcome.new.call c.args.stage c.leave-outcome.result c.leave-outcome.ensures.way
-    (subst (HasRested c.leave-outcome.new.task c.rest.new.task) c.is_bit_worn.ensures c.rest.ensures)
+returns-clause-idle g c = left_idle _ _ _ _ _ _ _ _ c.leave-outcome.ensures.way
+    (subst (HasRested _ _) c.is_bit_worn.ensures c.rest.ensures)
 
 pub returns-clause-keeps : goal.returns-clause-keeps
-returns-clause-keeps g c = left_kept (Unit {0}) c.args.task.now c.leave-outcome.new.task c.rest.new.task c.args.call.now
-    c.leave-outcome.new.call c.args.stage c.leave-outcome.result c.leave-outcome.ensures.way
-    (subst (HasRested c.leave-outcome.new.task c.rest.new.task) c.is_bit_worn.ensures c.rest.ensures)
+returns-clause-keeps g c = left_kept _ _ _ _ _ _ _ _ c.leave-outcome.ensures.way
+    (subst (HasRested _ _) c.is_bit_worn.ensures c.rest.ensures)
 
 pub returns-clause-clean : goal.returns-clause-clean
-returns-clause-clean g c p i = left_clean (Unit {0}) p c.leave-outcome.new.task c.rest.new.task
-    c.leave-outcome.new.call c.leave-outcome.result
-    (on_way_then (Unit {0}) bit_table bit_exits bit_may_leave (framed_lawful bit_frame bit_lawful) p c.args.task.now
-    c.leave-outcome.new.task c.args.call.now c.leave-outcome.new.call c.args.stage (turn.Done c.leave-outcome.result) i
-    c.leave-outcome.ensures.way)
-    (subst (HasRested c.leave-outcome.new.task c.rest.new.task) c.is_bit_worn.ensures c.rest.ensures)
+returns-clause-clean g c p i = left_clean _ _ _ _ _ _
+    (on_way_then bit_may_leave (framed_lawful bit_frame bit_lawful) i c.leave-outcome.ensures.way)
+    (subst (HasRested _ _) c.is_bit_worn.ensures c.rest.ensures)
 
 pub rest-requires-clause-of : goal.rest-requires-clause-of
-rest-requires-clause-of g c = left_domain (Unit {0}) c.args.task.now c.leave-outcome.new.task c.args.call.now
-    c.leave-outcome.new.call c.args.stage c.leave-outcome.result c.leave-outcome.ensures.way ∙ c.requires.of
+rest-requires-clause-of g c = left_domain _ _ _ _ _ _ _ c.leave-outcome.ensures.way ∙ c.requires.of
 
 pub rest-requires-clause-up : goal.rest-requires-clause-up
-rest-requires-clause-up g c = λ worn. (left_ended (Unit {0}) c.args.task.now c.leave-outcome.new.task c.args.call.now
-    c.leave-outcome.new.call c.args.stage c.leave-outcome.result c.leave-outcome.ensures.way).up
+rest-requires-clause-up g c = λ worn. (left_ended _ _ _ _ _ _ _ c.leave-outcome.ensures.way).up
 
 pub returns-clause-awake : goal.returns-clause-awake
 returns-clause-awake g c = sleeps_not_on c.args.task.now c.leave-outcome.new.task c.rest.new.task

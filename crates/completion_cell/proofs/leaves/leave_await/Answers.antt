@@ -6,28 +6,22 @@ use Rattle.completion_cell.proofs.leaves.leave_await.Goals as goal
 pub returns-clause-leaves : goal.returns-clause-leaves
 returns-clause-leaves g c = subst (LeavesAwait (Unit {0}) c.args.task.now c.leave-outcome.new.task c.args.call.now
     c.args.stage) (sym c.until_of.ensures)
-    (leaves_await (Unit {0}) c.args.task.now c.leave-outcome.new.task c.args.call.now c.leave-outcome.new.call
-    c.args.stage c.leave-outcome.result c.leave-outcome.ensures.way)
+    (leaves_await _ _ _ _ _ _ _ c.leave-outcome.ensures.way)
 
 pub returns-clause-up : goal.returns-clause-up
-returns-clause-up g c = left_up (Unit {0}) c.args.task.now c.leave-outcome.new.task c.args.call.now c.leave-outcome.new.call
-    c.args.stage c.leave-outcome.result c.leave-outcome.ensures.way
+returns-clause-up g c = left_up _ _ _ _ _ _ _ c.leave-outcome.ensures.way
 
 pub returns-clause-out : goal.returns-clause-out
-returns-clause-out g c = left_out (Unit {0}) c.args.task.now c.leave-outcome.new.task c.args.call.now c.leave-outcome.new.call
-    c.args.stage c.leave-outcome.result c.leave-outcome.ensures.way
+returns-clause-out g c = left_out _ _ _ _ _ _ _ c.leave-outcome.ensures.way
 
 pub returns-clause-idle : goal.returns-clause-idle
-returns-clause-idle g c = left_idle (Unit {0}) c.args.task.now c.leave-outcome.new.task c.args.call.now c.leave-outcome.new.call
-    c.args.stage c.leave-outcome.result c.leave-outcome.ensures.way
+returns-clause-idle g c = left_idle _ _ _ _ _ _ _ c.leave-outcome.ensures.way
 
 pub returns-clause-left : goal.returns-clause-left
-returns-clause-left g c = left_here (Unit {0}) c.args.task.now c.leave-outcome.new.task c.args.call.now c.leave-outcome.new.call
-    c.args.stage c.leave-outcome.result c.leave-outcome.ensures.way
+returns-clause-left g c = left_here _ _ _ _ _ _ _ c.leave-outcome.ensures.way
 
 pub returns-clause-keeps : goal.returns-clause-keeps
-returns-clause-keeps g c = left_kept (Unit {0}) c.args.task.now c.leave-outcome.new.task c.args.call.now c.leave-outcome.new.call
-    c.args.stage c.leave-outcome.result c.leave-outcome.ensures.way
+returns-clause-keeps g c = left_kept _ _ _ _ _ _ _ c.leave-outcome.ensures.way
 
 pub returns-clause-awake : goal.returns-clause-awake
 returns-clause-awake g c = c.leave-outcome.ensures.awake

@@ -4,8 +4,7 @@ use Rattle.count_sem.proofs.DownLeaving.{ends_until, on_way_clean, plain_closes}
 use Rattle.count_sem.proofs.leaves.end_down_until.Goals as goal
 
 pub returns-clause-clean : goal.returns-clause-clean
-returns-clause-clean c = λ p i. on_way_clean (Unit {0}) p c.args.task.now c.args.task.now c.args.wait.now c.args.outcome
-    i
+returns-clause-clean c = λ p i. on_way_clean _ _ _ _ _ _ i
     (plain_closes c.args.task.now c.args.wait.now.of c.args.outcome c.requires.over)
 
 pub returns-clause-ends : goal.returns-clause-ends

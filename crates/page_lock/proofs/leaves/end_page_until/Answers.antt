@@ -11,9 +11,9 @@ use Rattle.page_lock.proofs.leaves.end_page_until.Goals as goal
 pub returns-clause-holder : goal.returns-clause-holder
 returns-clause-holder c = λ p i. subst (λ (x : Until (Result (Unit {0}) BitEnd)). MatchBool (takes_page_until x)
     (IsHolder c.args.task.now p.watch) (IsClean c.args.task.now)) (sym c.until_of.ensures)
-    (way_clean (Unit {0}) p c.args.task.now c.args.wait.now c.args.outcome i)
+    (way_clean _ _ _ _ _ i)
 
 pub returns-clause-ends : goal.returns-clause-ends
 returns-clause-ends c = λ start f page state fresh w. subst (EndsPageUntil (Unit {0}) start c.args.task.now page state)
     (sym c.until_of.ensures)
-    (ends_until (Unit {0}) start c.args.task.now f c.args.wait.now page state fresh c.args.outcome w)
+    (ends_until _ _ _ _ _ _ _ fresh c.args.outcome w)

@@ -12,31 +12,25 @@ use Rattle.page_lock.proofs.leaves.leave_page.Goals as goal
 pub returns-clause-leaves : goal.returns-clause-leaves
 returns-clause-leaves g c = subst (LeavesPage (Unit {0}) c.args.task.now c.leave-outcome.new.task c.args.call.now
     c.args.stage) (sym c.until_of.ensures)
-    (leaves_page (Unit {0}) c.args.task.now c.leave-outcome.new.task c.args.call.now c.leave-outcome.new.call
-    c.args.stage c.leave-outcome.result c.leave-outcome.ensures.way)
+    (leaves_page _ _ _ _ _ _ _ c.leave-outcome.ensures.way)
 
 pub returns-clause-up : goal.returns-clause-up
-returns-clause-up g c = left_up (Unit {0}) c.args.task.now c.leave-outcome.new.task c.args.call.now
-    c.leave-outcome.new.call c.args.stage c.leave-outcome.result c.leave-outcome.ensures.way
+returns-clause-up g c = left_up _ _ _ _ _ _ _ c.leave-outcome.ensures.way
 
 pub returns-clause-out : goal.returns-clause-out
-returns-clause-out g c = left_out (Unit {0}) c.args.task.now c.leave-outcome.new.task c.args.call.now
-    c.leave-outcome.new.call c.args.stage c.leave-outcome.result c.leave-outcome.ensures.way
+returns-clause-out g c = left_out _ _ _ _ _ _ _ c.leave-outcome.ensures.way
 
 pub returns-clause-idle : goal.returns-clause-idle
-returns-clause-idle g c = left_idle (Unit {0}) c.args.task.now c.leave-outcome.new.task c.args.call.now
-    c.leave-outcome.new.call c.args.stage c.leave-outcome.result c.leave-outcome.ensures.way
+returns-clause-idle g c = left_idle _ _ _ _ _ _ _ c.leave-outcome.ensures.way
 
 pub returns-clause-asks : goal.returns-clause-asks
-returns-clause-asks g c = left_asks (Unit {0}) c.args.task.now c.leave-outcome.new.task c.args.call.now
-    c.leave-outcome.new.call c.args.stage c.leave-outcome.result c.leave-outcome.ensures.way
+returns-clause-asks g c = left_asks _ _ _ _ _ _ _ c.leave-outcome.ensures.way
 
 pub returns-clause-keeps : goal.returns-clause-keeps
 returns-clause-keeps g c = subst (λ (x : Until (Result (Unit {0}) BitEnd)). PageKeeps
     (index c.args.task.now.view.number 0) (page_in c.args.call.now.of) (page_table.took c.args.stage)
     (takes_page_until x) c.args.task.now c.leave-outcome.new.task) (sym c.until_of.ensures)
-    (left_kept (Unit {0}) c.args.task.now c.leave-outcome.new.task c.args.call.now c.leave-outcome.new.call
-    c.args.stage c.leave-outcome.result c.leave-outcome.ensures.way)
+    (left_kept _ _ _ _ _ _ _ c.leave-outcome.ensures.way)
 
 pub returns-clause-awake : goal.returns-clause-awake
 returns-clause-awake g c = c.leave-outcome.ensures.awake

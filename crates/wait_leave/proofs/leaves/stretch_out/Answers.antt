@@ -68,69 +68,57 @@ pub unreachable-requires : goal.unreachable-requires
 unreachable-requires g c = let low = c.loop-turn.invariant.0.low in absurd (omega (arith, low))
 
 pub returns-then-is_free-clause-way : goal.returns-then-is_free-clause-way
-returns-then-is_free-clause-way g c = way_then (Unit {0}) g.C.Machine.table g.C.Leavable.exits c.may_leave.ensures c.lawful.ensures
-    c.args.task.now c.args.call.now c.args.stage c.loop-turn.task c.turn_out.new.task c.loop-turn.call c.turn_out.new.call c.loop-turn.at
-    (turn.Again c.in-Again.next) c.loop-turn.invariant.0.way c.in-Again.ensures.way
+returns-then-is_free-clause-way g c = way_then _ _ _ c.may_leave.ensures c.lawful.ensures _ _ _ _ _ _ _ _ _
+    c.loop-turn.invariant.0.way c.in-Again.ensures.way
 
 pub returns-then-is_free-clause-given : goal.returns-then-is_free-clause-given
-returns-then-is_free-clause-given g c = given_on c.args.task.now c.loop-turn.task c.turn_out.new.task c.turn_out.new.passing.head
-    c.loop-turn.invariant.0.given c.in-Again.ensures.given
+returns-then-is_free-clause-given g c = given_on _ _ _ _ c.loop-turn.invariant.0.given c.in-Again.ensures.given
 
 pub returns-then-is_free-clause-under : goal.returns-then-is_free-clause-under
-returns-then-is_free-clause-under g c p i = on_way_then (Unit {0}) g.C.Machine.table g.C.Leavable.exits c.may_leave.ensures c.lawful.ensures
-    p c.args.task.now c.turn_out.new.task c.args.call.now c.turn_out.new.call c.args.stage (turn.Again c.in-Again.next) i (returns-then-is_free-clause-way g c)
+returns-then-is_free-clause-under g c p i = on_way_then c.may_leave.ensures c.lawful.ensures i (returns-then-is_free-clause-way g c)
 
 pub returns-in-Asleep-clause-way : goal.returns-in-Asleep-clause-way
-returns-in-Asleep-clause-way g c = way_then (Unit {0}) g.C.Machine.table g.C.Leavable.exits c.may_leave.ensures c.lawful.ensures
-    c.args.task.now c.args.call.now c.args.stage c.loop-turn.task c.turn_out.new.task c.loop-turn.call c.turn_out.new.call c.loop-turn.at
-    (turn.Asleep c.in-Asleep.next) c.loop-turn.invariant.0.way c.in-Asleep.ensures.way
+returns-in-Asleep-clause-way g c = way_then _ _ _ c.may_leave.ensures c.lawful.ensures _ _ _ _ _ _ _ _ _
+    c.loop-turn.invariant.0.way c.in-Asleep.ensures.way
 
 pub returns-in-Asleep-clause-given : goal.returns-in-Asleep-clause-given
-returns-in-Asleep-clause-given g c = given_on c.args.task.now c.loop-turn.task c.turn_out.new.task c.turn_out.new.passing.head
-    c.loop-turn.invariant.0.given c.in-Asleep.ensures.given
+returns-in-Asleep-clause-given g c = given_on _ _ _ _ c.loop-turn.invariant.0.given c.in-Asleep.ensures.given
 
 pub returns-in-Asleep-clause-under : goal.returns-in-Asleep-clause-under
-returns-in-Asleep-clause-under g c p i = on_way_then (Unit {0}) g.C.Machine.table g.C.Leavable.exits c.may_leave.ensures c.lawful.ensures
-    p c.args.task.now c.turn_out.new.task c.args.call.now c.turn_out.new.call c.args.stage (turn.Asleep c.in-Asleep.next) i (returns-in-Asleep-clause-way g c)
+returns-in-Asleep-clause-under g c p i = on_way_then c.may_leave.ensures c.lawful.ensures i (returns-in-Asleep-clause-way g c)
 
 pub returns-in-Locked-clause-way : goal.returns-in-Locked-clause-way
-returns-in-Locked-clause-way g c = way_then (Unit {0}) g.C.Machine.table g.C.Leavable.exits c.may_leave.ensures c.lawful.ensures
-    c.args.task.now c.args.call.now c.args.stage c.loop-turn.task c.turn_out.new.task c.loop-turn.call c.turn_out.new.call c.loop-turn.at
-    (turn.Locked c.in-Locked.next) c.loop-turn.invariant.0.way c.in-Locked.ensures.way
+returns-in-Locked-clause-way g c = way_then _ _ _ c.may_leave.ensures c.lawful.ensures _ _ _ _ _ _ _ _ _
+    c.loop-turn.invariant.0.way c.in-Locked.ensures.way
 
 pub returns-in-Locked-clause-given : goal.returns-in-Locked-clause-given
-returns-in-Locked-clause-given g c = given_on c.args.task.now c.loop-turn.task c.turn_out.new.task c.turn_out.new.passing.head
-    c.loop-turn.invariant.0.given c.in-Locked.ensures.given
+returns-in-Locked-clause-given g c = given_on _ _ _ _ c.loop-turn.invariant.0.given c.in-Locked.ensures.given
 
 pub returns-in-Locked-clause-under : goal.returns-in-Locked-clause-under
-returns-in-Locked-clause-under g c p i = on_way_then (Unit {0}) g.C.Machine.table g.C.Leavable.exits c.may_leave.ensures c.lawful.ensures
-    p c.args.task.now c.turn_out.new.task c.args.call.now c.turn_out.new.call c.args.stage (turn.Locked c.in-Locked.next) i (returns-in-Locked-clause-way g c)
+returns-in-Locked-clause-under g c p i = on_way_then c.may_leave.ensures c.lawful.ensures i (returns-in-Locked-clause-way g c)
 
 pub returns-in-Done-clause-way : goal.returns-in-Done-clause-way
-returns-in-Done-clause-way g c = way_then (Unit {0}) g.C.Machine.table g.C.Leavable.exits c.may_leave.ensures c.lawful.ensures
-    c.args.task.now c.args.call.now c.args.stage c.loop-turn.task c.turn_out.new.task c.loop-turn.call c.turn_out.new.call c.loop-turn.at
-    (turn.Done c.in-Done.outcome) c.loop-turn.invariant.0.way c.in-Done.ensures.way
+returns-in-Done-clause-way g c = way_then _ _ _ c.may_leave.ensures c.lawful.ensures _ _ _ _ _ _ _ _ _
+    c.loop-turn.invariant.0.way c.in-Done.ensures.way
 
 pub returns-in-Done-clause-given : goal.returns-in-Done-clause-given
-returns-in-Done-clause-given g c = given_on c.args.task.now c.loop-turn.task c.turn_out.new.task c.turn_out.new.passing.head
-    c.loop-turn.invariant.0.given c.in-Done.ensures.given
+returns-in-Done-clause-given g c = given_on _ _ _ _ c.loop-turn.invariant.0.given c.in-Done.ensures.given
 
 pub returns-in-Done-clause-under : goal.returns-in-Done-clause-under
-returns-in-Done-clause-under g c p i = on_way_then (Unit {0}) g.C.Machine.table g.C.Leavable.exits c.may_leave.ensures c.lawful.ensures
-    p c.args.task.now c.turn_out.new.task c.args.call.now c.turn_out.new.call c.args.stage (turn.Done c.in-Done.outcome) i (returns-in-Done-clause-way g c)
+returns-in-Done-clause-under g c p i = on_way_then c.may_leave.ensures c.lawful.ensures i (returns-in-Done-clause-way g c)
 
 pub returns-then-is_free-clause-awake : goal.returns-then-is_free-clause-awake
-returns-then-is_free-clause-awake g c = sleeps_not_on c.args.task.now c.loop-turn.task c.turn_out.new.task c.loop-turn.invariant.0.awake
+returns-then-is_free-clause-awake g c = sleeps_not_on _ _ _ c.loop-turn.invariant.0.awake
     c.in-Again.ensures.awake
 
 pub returns-in-Asleep-clause-awake : goal.returns-in-Asleep-clause-awake
-returns-in-Asleep-clause-awake g c = sleeps_not_on c.args.task.now c.loop-turn.task c.turn_out.new.task c.loop-turn.invariant.0.awake
+returns-in-Asleep-clause-awake g c = sleeps_not_on _ _ _ c.loop-turn.invariant.0.awake
     c.in-Asleep.ensures.awake
 
 pub returns-in-Locked-clause-awake : goal.returns-in-Locked-clause-awake
-returns-in-Locked-clause-awake g c = sleeps_not_on c.args.task.now c.loop-turn.task c.turn_out.new.task c.loop-turn.invariant.0.awake
+returns-in-Locked-clause-awake g c = sleeps_not_on _ _ _ c.loop-turn.invariant.0.awake
     c.in-Locked.ensures.awake
 
 pub returns-in-Done-clause-awake : goal.returns-in-Done-clause-awake
-returns-in-Done-clause-awake g c = sleeps_not_on c.args.task.now c.loop-turn.task c.turn_out.new.task c.loop-turn.invariant.0.awake
+returns-in-Done-clause-awake g c = sleeps_not_on _ _ _ c.loop-turn.invariant.0.awake
     c.in-Done.ensures.awake

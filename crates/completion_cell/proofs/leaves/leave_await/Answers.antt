@@ -28,6 +28,3 @@ returns-clause-left g c = left_here (Unit {0}) c.args.task.now c.leave-outcome.n
 pub returns-clause-keeps : goal.returns-clause-keeps
 returns-clause-keeps g c = left_kept (Unit {0}) c.args.task.now c.leave-outcome.new.task c.args.call.now c.leave-outcome.new.call
     c.args.stage c.leave-outcome.result c.leave-outcome.ensures.way
-
-pub returns-clause-awake : goal.returns-clause-awake
-returns-clause-awake g c = c.leave-outcome.ensures.awake

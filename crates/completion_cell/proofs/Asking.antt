@@ -1,5 +1,5 @@
 -- A count is asked, cleared, and taken where it is there: the transitions, and what the calls carry on.
-use Rattle.std.proofs.Common.{◌∙◌, ap, sym, refl, subst, arith, append_assoc, append-nil, eq-eqb}
+use Rattle.std.proofs.Common.{◌∙◌, ap, sym, refl, subst, arith, append_assoc, append-nil}
 use Rattle.std.specs.Prelude.{ℕ, ◌≡◌, ◌≤◌, ◌-◌, ◌||◌, ◌==◌, not, nat_lt, if◌then◌else◌, Bool, true, false, Some, None}
 use Rattle.std.specs.Prelude.{List, [], ◌∷◌, ◌++◌, MatchBool}
 use Rattle.std.proofs.lemmas.Bool.Decides.{nat_tests}
@@ -20,7 +20,6 @@ use Rattle.wait_model.proofs.SentenceLaws.SentenceAwaits.{shown_count}
 use Rattle.wait_rule.specs.declared.journal.Item.{Item}
 use Rattle.wait_rule.specs.declared.journal.Item.TheVariants as item
 use Rattle.wait_rule.specs.Counts.{FindsCount, StoresCount}
-use Rattle.wait_rule.specs.HeldValues.{count_in}
 use Rattle.wait_rule.specs.Items.{steps_of}
 use Rattle.wait_rule.specs.Known.{Known}
 use Rattle.wait_rule.specs.Queues.{IsTold, walk_of_hold}
@@ -39,7 +38,7 @@ use Rattle.wait_event.proofs.Entering.{hold_carried, looked_carried}
 use Rattle.wait_class.proofs.Ground.Going.{runs_none, runs_on}
 use Rattle.wait_class.proofs.Histories.{unlocked_history}
 use Rattle.completion_cell.specs.Asks.{HasCountedDone, Decides, HasAsked, HasReset, HasTriedCell, TakesOne, hit_answer}
-use Rattle.completion_cell.proofs.Ground.{as_looks, count_after_step, count_loads, count_locks, count_peeks}
+use Rattle.completion_cell.proofs.Ground.{as_looks, count_loads, count_locks, count_peeks, loaded_count}
 use Rattle.completion_cell.proofs.Ground.{count_unlocks, quiet_store}
 use Rattle.completion_cell.proofs.RangedLoads.{AreSmall, called_by, set_small, small_on}
 
@@ -89,6 +88,16 @@ locked_history old a h l = ap history_of l.is
         ∙ (ap history_of l.waits.is
         ∙ (silent_items (old.view.items ++ item.Drawn h l.ticket ∷ []) l.waits.tries l.waits.no_steps
         ∙ silent_items old.view.items (item.Drawn h l.ticket ∷ []) refl))
+
+-- a count that was loaded in a hold
+pub counted_after : (d n : ℕ) (old new : Known) → old.book.head ≡ Some (head_of (watch.Done d))
+    → new ≡ added old (item.Made (step.Load (watch.Done d) n)) → FindsCount old d n → Carries unchanged old new
+    → HasCountedDone new d n
+counted_after d n old new held is finds carries = record {
+  held = carries.head ∙ held;
+  loaded = loaded_count d n old new is;
+  small = finds.0;
+}
 
 -- a count is asked
 module _ (old a : Known) (d v : ℕ) (is : a ≡ added old (item.Made (step.Load (watch.Done d) v)))
@@ -285,12 +294,7 @@ module _ (old a b b2 : Known) (d v n h : ℕ) (same : h ≡ head_of (watch.Done 
     (first : FindsCount old d v) (l : HasLocked a b h (walk_of_hold h None)) (again : b2 ≡ added b (item.Made (step.Load (watch.Done d) n)))
     (finds : FindsCount b d n) (two : Carries unchanged b b2) where
   pub try_counted : HasCountedDone b2 d n
-  try_counted = record {
-    held = two.head ∙ (ap (λ (k : Known). k.book.head) l.is ∙ ap Some same);
-    loaded = count_after_step d b b2 (step.Load (watch.Done d) n) (history_after b b2 _ again)
-        ∙ ap (λ (z : Bool). if z then Some n else count_in d (history_of b)) (eq-eqb d d refl);
-    small = finds.0;
-  }
+  try_counted = counted_after d n b b2 (ap (λ (k : Known). k.book.head) l.is ∙ ap Some same) again finds two
 
   module _ (c new : Known) (took : Bool) (takes : TakesOne n took)
       (made : MatchBool took (StoresCount b2 c d (n - 1)) (c ≡ b2)) (u : HasUnlocked c new false) where

@@ -1,5 +1,5 @@
 -- The count is loaded in a hold of a wait.
-use Rattle.std.proofs.Common.{◌∙◌, ap, sym, refl, subst, arith, eq-eqb}
+use Rattle.std.proofs.Common.{◌∙◌, ap, sym, refl, subst, arith}
 use Rattle.std.proofs.lemmas.Bool.Decides.{nat_tests}
 use Rattle.std.specs.Prelude.{ℕ, ◌≡◌, ◌≢◌, ◌<◌, ◌==◌, Bool, true, false, if◌then◌else◌, Option, Some, None, [], ◌∷◌, ◌++◌}
 use Rattle.wait_model.specs.declared.layout.TheConstants.{COMPLETIONS}
@@ -16,18 +16,17 @@ use Rattle.wait_model.specs.PointFacts.{IsHome, waits}
 use Rattle.wait_model.specs.Tasks.{looks_in}
 use Rattle.wait_rule.specs.declared.journal.Item.TheVariants as item
 use Rattle.wait_rule.specs.Counts.{FindsCount}
-use Rattle.wait_rule.specs.HeldValues.{count_in}
 use Rattle.wait_rule.specs.Known.{Known}
-use Rattle.wait_rule.specs.Says.{IsUp, added, history_of}
+use Rattle.wait_rule.specs.Says.{Excuse, IsUp, added, history_of}
 use Rattle.wait_rule.specs.Queues.{IsAgreedHold}
-use Rattle.wait_rule.specs.Stays.{Carries, unchanged, with_entry, with_left_entry}
+use Rattle.wait_rule.specs.Stays.{Carries, unchanged, with_entry}
 use Rattle.wait_rule.specs.Transitions.{OnlyLooks, Transition, by_step}
 use Rattle.wait_rule.specs.Items.{Book}
 use Rattle.wait_event.specs.Waits.{is_queue}
 use Rattle.wait_rule.proofs.KnownLaws.TaskHistories.{history_after}
 use Rattle.wait_rule.proofs.KnownLaws.Transitions.{only_none}
 use Rattle.wait_class.specs.Findings.{with_value}
-use Rattle.wait_class.specs.Posts.{HasSeenOwn, IsStateFor, Post, Stands, own_of}
+use Rattle.wait_class.specs.Posts.{HasSeenOwn, IsStateFor, KeepsBut, Post, Stands, own_of}
 use Rattle.wait_class.specs.Tables.{IsAt, Turned, falls, next_in, post_of}
 use Rattle.wait_class.specs.Laws.{IsPlainTurn, TurnTrail, turn_post}
 use Rattle.wait_class.specs.declared.stages.Run.{Run}
@@ -45,7 +44,7 @@ use Rattle.completion_cell.specs.declared.awaits.AwaitStage.{AwaitStage}
 use Rattle.completion_cell.specs.declared.awaits.AwaitStage.TheVariants as stage
 use Rattle.completion_cell.proofs.AwaitLaws.{told_by}
 use Rattle.completion_cell.proofs.AwaitTrails.{again_begun, load_loaded}
-use Rattle.completion_cell.proofs.Ground.{count_after_step, step_behind}
+use Rattle.completion_cell.proofs.Ground.{step_behind, loaded_count}
 
 abbrev load_stage : Bool → AwaitStage
 load_stage false = stage.FirstLoad
@@ -75,7 +74,7 @@ counted_falls false true true = refl
 counted_falls false true false = refl
 counted_falls false false looks = refl
 
-none_is : (v : ℕ) → (v == 0) ≡ true → v ≡ 0
+pub none_is : (v : ℕ) → (v == 0) ≡ true → v ≡ 0
 none_is v is = grind (arith, nat_tests, is)
 
 some_is : (v : ℕ) → (v == 0) ≡ false → v ≢ 0
@@ -92,6 +91,20 @@ still_stands_at old new carries differs p q s head ticket stirs state home =
     (subst (λ (b : Bool). IsStateFor b q.state old.book.state) (sym stirs)
     (subst (λ (σ : ℕ). IsStateFor p.stirs σ old.book.state) (sym state) s.state)) home
 
+pub keeps_unchanged : {f : Excuse → Excuse} (i : ℕ) (old new : Known) → Carries unchanged old new → KeepsBut f i old new
+keeps_unchanged {f} i old new carries = keeps_of i unchanged old new carries (λ w. refl) (λ x away. refl)
+    (λ x. carries.owes (with_entry i (f x)))
+
+-- what a load makes known, in any hold
+pub loads_known : (d : ℕ) (knew new : Known) (v : ℕ) → HasBegunHold d knew
+    → new ≡ added knew (item.Made (step.Load (watch.Done d) v)) → FindsCount knew d v → Carries unchanged knew new
+    → Knows new d v
+loads_known d knew new v begun is finds carries =
+    record {
+      counts = (loaded_count d v knew new is, finds.0);
+      loaded = load_loaded d knew new v (history_after knew new (step.Load (watch.Done d) v) is) carries.number begun;
+    }
+
 module _ (old knew new : Known) (run : Run AwaitCall) (v : ℕ) (there : run.of.cell < COMPLETIONS)
     (looks : OnlyLooks old knew) (begun : HasBegunHold run.of.cell knew) (up : IsUp knew)
     (keeps : CellKeeps (own_of old) old knew)
@@ -107,14 +120,7 @@ module _ (old knew new : Known) (run : Run AwaitCall) (v : ℕ) (there : run.of.
   e = step.Load (watch.Done r.cell) v
 
   knows : Knows new r.cell v
-  knows = record {
-    counts = (
-      count_after_step r.cell knew new e (history_after knew new e is)
-          ∙ ap (λ (b : Bool). if b then Some v else count_in r.cell (history_of knew)) (eq-eqb r.cell r.cell refl),
-      finds.0,
-    );
-    loaded = load_loaded r.cell knew new v (history_after knew new e is) carries.number begun;
-  }
+  knows = loads_known r.cell knew new v begun is finds carries
 
   trail : (zero admits waited : Bool) → (v == 0) ≡ zero → TurnTrail await_table new q (counted_by zero admits waited)
   trail true true waited none = (
@@ -149,8 +155,7 @@ module _ (old knew new : Known) (run : Run AwaitCall) (v : ℕ) (there : run.of.
   admits = looks_in r.state
 
   kept : CellKeeps (own_of old) old new
-  kept = keeps_on (own_of old) old knew new keeps (keeps_of (own_of old) unchanged knew new carries (λ w. refl)
-      (λ x away. refl) (λ x. carries.owes (with_entry (own_of old) (with_left_entry x))))
+  kept = keeps_on (own_of old) old knew new keeps (keeps_unchanged (own_of old) knew new carries)
 
   tells : (x : Transition) → x.did ≡ by_step e → AwaitTells r q (x ∷ [])
   tells x did = told_by r q x refl refl refl (ap is_queue did) (subst InRange (sym did) finds.0)

@@ -1,6 +1,6 @@
 -- The table of a wait for a completion keeps its laws.
 use Rattle.std.proofs.Common.{◌∙◌, ap, sym, refl, subst, arith}
-use Rattle.std.specs.Prelude.{◌≡◌, ◌≤◌, ◌||◌, Bool, true, false, if◌then◌else◌, None, [], ◌∷◌}
+use Rattle.std.specs.Prelude.{ℕ, ◌≡◌, ◌≤◌, ◌||◌, Bool, true, false, if◌then◌else◌, None, [], ◌∷◌}
 use Rattle.wait_model.specs.declared.points.AwaitPoint.TheVariants as awaiting
 use Rattle.wait_model.specs.declared.points.Next.TheVariants as next
 use Rattle.wait_model.specs.declared.points.Point.TheVariants as at
@@ -16,6 +16,7 @@ use Rattle.wait_rule.specs.Stays.{with_left_entry}
 use Rattle.wait_rule.specs.Transitions.{OnlyLooks, StepOrLook, Transition}
 use Rattle.wait_rule.proofs.KnownLaws.Transitions.{only_looked}
 use Rattle.wait_class.specs.Posts.{own_of}
+use Rattle.wait_class.specs.Tables.{CallTable}
 use Rattle.wait_class.specs.Laws.{HasJoined, IsLawfulCallTable, LawOf, LookLaw, QueueLaw}
 use Rattle.wait_class.specs.declared.stages.Turn.TheVariants as turn
 use Rattle.wait_class.proofs.Histories.{ends_calm, stored_history, unmoved_by}
@@ -46,22 +47,21 @@ told_by r q x cell state queued none ranged = record {
   ranged = (ranged, tt);
 }
 
-or_yes : (b : Bool) → (b || (true || false)) ≡ true
+pub or_yes : (b : Bool) → (b || (true || false)) ≡ true
 or_yes true = refl
 or_yes false = refl
 
 -- the own entry is queued, where the count is known to be 0
-joined_knows : (r : AwaitCall) (old mid new : Known) → OnlyLooks old mid → HasJoined await_table r stage.Queue mid new
-    → Knows old r.cell 0 → Knows new r.cell 0
-joined_knows r old mid new looks x u =
-    let s = knows_looks r.cell mid x.seen 0
-    (only_looked mid x.seen x.looks.items x.looks.same x.looks.looks x.looks.is)
-    (knows_looks r.cell old mid 0 looks u) in
+pub joined_knows : {C S O : Type 0} (t : CallTable C S O) (r : C) (s : S) (d : ℕ) (old mid new : Known) → OnlyLooks old mid
+    → HasJoined t r s mid new → Knows old d 0 → Knows new d 0
+joined_knows t r s d old mid new looks x u =
+    let known = knows_looks d mid x.seen 0 (only_looked mid x.seen x.looks.items x.looks.same x.looks.looks x.looks.is)
+    (knows_looks d old mid 0 looks u) in
     let same : index mid.view.number 0 ≡ own x.seen.view.number =
     ap (λ (k : Known). index k.view.number 0) (sym x.looks.is) ∙ omega arith in
-    knows_by r.cell x.seen new 0 (step.Queue (index mid.view.number 0) x.entry ∷ [])
+    knows_by d x.seen new 0 (step.Queue (index mid.view.number 0) x.entry ∷ [])
     (stored_history x.seen new (step.Queue (index mid.view.number 0) x.entry) x.is)
-    (ap (λ (k : Known). k.view.number) x.is) (λ k. ((same, refl), (refl, refl))) refl s
+    (ap (λ (k : Known). k.view.number) x.is) (λ k. ((same, refl), (refl, refl))) refl known
 
 module _ (r : AwaitCall) where
   -- a hold that found 0
@@ -90,7 +90,7 @@ module _ (r : AwaitCall) where
         state = refl;
         queued = sym (ap (λ (d : StepOrLook). r.queued || (is_queue d || false)) did ∙ or_yes r.queued);
         ranged = (subst InRange (sym did) tt, tt);
-      }) (joined_knows r) tt (λ me. refl) (λ p. refl) (λ p σ s. s) (λ p. tt)
+      }) (joined_knows await_table r stage.Queue r.cell) tt (λ me. refl) (λ p. refl) (λ p σ s. s) (λ p. tt)
       (λ old last fits looks at u. knows_none r.cell last at (knows_looks r.cell old last 0 looks u))
       (λ old last new p looks noted is u. (
         (history_of last, is),

@@ -31,7 +31,7 @@ use Rattle.wait_rule.specs.Items.{Book}
 use Rattle.wait_rule.specs.Known.{Known}
 use Rattle.wait_rule.specs.Queues.{IsAgreed, IsLocked, MayUnqueue, index}
 use Rattle.wait_rule.specs.Says.{IsUp, added, history_of, stored_with, told_of, unlocked_with}
-use Rattle.wait_rule.specs.Stays.{Carries, take_off_change, unchanged, with_entry, with_left_entry}
+use Rattle.wait_rule.specs.Stays.{Carries, take_off_change, unchanged}
 use Rattle.wait_rule.specs.Transitions.{FindsValue, IsMadeFor, IsSeenAs, OnlyLooks, Transition, by_step}
 use Rattle.wait_rule.proofs.KnownLaws.MemberBits.{bit_looks}
 use Rattle.wait_rule.proofs.KnownLaws.TaskHistories.{history_after}
@@ -47,7 +47,7 @@ use Rattle.wait_class.specs.Tables.{IsAt, SleepsNot, Turned, falls, is_sleep, po
 use Rattle.wait_class.specs.Laws.{Calm, IsPlainTurn, is_quiet_event, turn_post}
 use Rattle.wait_class.specs.declared.stages.Run.{Run}
 use Rattle.wait_class.specs.declared.stages.Turn.TheVariants as turn
-use Rattle.wait_class.proofs.Ground.Keeping.{keeps_none, keeps_of, keeps_on, keeps_taken, own_keeps}
+use Rattle.wait_class.proofs.Ground.Keeping.{keeps_none, keeps_on, keeps_taken, own_keeps}
 use Rattle.wait_class.proofs.Ground.Standing.{carried_stands, finds_own, owner_own, seen_book, seen_home, seen_looks}
 use Rattle.wait_class.proofs.Ground.Standing.{seen_off, seen_shows, seen_stands}
 use Rattle.wait_class.proofs.CalmSteps.{calm_on, calm_removed, calm_saw, calm_unlock}
@@ -70,7 +70,7 @@ use Rattle.completion_cell.specs.declared.awaits.AwaitOutcome.TheVariants as out
 use Rattle.completion_cell.specs.declared.awaits.AwaitStage.{AwaitStage}
 use Rattle.completion_cell.specs.declared.awaits.AwaitStage.TheVariants as stage
 use Rattle.completion_cell.proofs.Asking.{lowers, one_less, take_carried}
-use Rattle.completion_cell.proofs.AwaitCounts.{still_stands_at}
+use Rattle.completion_cell.proofs.AwaitCounts.{keeps_unchanged, still_stands_at}
 use Rattle.completion_cell.proofs.AwaitLaws.{await_lawful, told_by}
 use Rattle.completion_cell.proofs.AwaitTrails.{has_quit, knows_for, knows_none, knows_off, knows_saw, left_off, left_queued}
 use Rattle.completion_cell.proofs.Completing.{stored_agreed}
@@ -83,12 +83,23 @@ use Rattle.completion_cell.proofs.WaitFronts.{waits_may_end, waits_on}
 at_the_end : (n : ℕ) → n ≢ 0 → false ≡ not ((n == 0) || (n == ALL_DONE)) → ALL_DONE ≤ n
 at_the_end n some took = grind (arith, nat_tests, took, some)
 
-takes_owed : (n r k : ℕ) → r ≡ n → k ≤ 1 → after_store (n - 1) r k ≡ 0
+pub takes_owed : (n r k : ℕ) → r ≡ n → k ≤ 1 → after_store (n - 1) r k ≡ 0
 takes_owed n r k same few = by (n - 1 == 0) refl
   where
     by : (b : Bool) → (n - 1 == 0) ≡ b → (if b then 0 else k + (n - 1) - r) ≡ 0
     by true is = refl
     by false is = let ne : n - 1 ≢ 0 = grind (arith, nat_tests, is) in omega (arith, same, few, ne)
+
+pub waits_less : (d n : ℕ) (old new : Known) (known : Knows old d n) (made : StoresCount old new d (n - 1))
+    → made.found ≡ n → new.view.number ≡ old.view.number → WaitsIn d new (Some (n - 1)) 0
+waits_less d n old new known made same number =
+    let e = set_step (watch.Done d) (n - 1) made.found in
+    let owes = known.loaded.owes in
+    waits_on d old new (Some n) (Some (n - 1)) owes 0
+    (held_by d old new (e ∷ []) (Some n) (Some (n - 1)) owes 0 (history_after old new e made.is) number
+    (subst (λ (m : ℕ). Deals d (own old.view.number) (e ∷ []) (Some n) owes (Some (n - 1)) m)
+    (takes_owed n made.found owes same known.loaded.settled.0)
+    (store_deals d (own old.view.number) (n - 1) made.found (Some n) owes))) known.loaded.waits
 
 gone_seen : (look : Look) → look ≡ gone → IsSeenAs look None
 gone_seen look q = subst (λ (l : Look). IsSeenAs l None) (sym q) refl
@@ -195,16 +206,10 @@ module _ (start k : Known) (run : Run AwaitCall) (found : Bool) (t : TakesFrom s
     carries = take_carried k new d n counted true takes made
 
     waits_new : WaitsIn d new (Some (n - 1)) 0
-    waits_new = waits_on d k new (Some n) (Some (n - 1)) some.0.loaded.owes 0
-        (held_by d k new (set_step (watch.Done d) (n - 1) made.found ∷ []) (Some n) (Some (n - 1)) some.0.loaded.owes 0
-        (history_after k new (set_step (watch.Done d) (n - 1) made.found) made.is) carries.number
-        (subst (λ (m : ℕ). Deals d (own k.view.number) (set_step (watch.Done d) (n - 1) made.found ∷ []) (Some n)
-        some.0.loaded.owes (Some (n - 1)) m) (takes_owed n made.found some.0.loaded.owes same some.0.loaded.settled.0)
-        (store_deals d (own k.view.number) (n - 1) made.found (Some n) some.0.loaded.owes))) some.0.loaded.waits
+    waits_new = waits_less d n k new some.0 made same carries.number
 
     kept : CellKeeps (own_of start) start new
-    kept = keeps_on (own_of start) start k new off.keeps (keeps_of (own_of start) unchanged k new carries (λ w. refl)
-        (λ x away. refl) (λ x. carries.owes (with_entry (own_of start) (with_left_entry x))))
+    kept = keeps_on (own_of start) start k new off.keeps (keeps_unchanged (own_of start) k new carries)
 
     stood : Stands new (turn_post await_table r (turn.Again stage.TakeUnlock))
     stood = still_stands_at k new carries (stored_agreed k new d (n - 1) made.found made.is) p _ stands refl refl refl
@@ -536,10 +541,13 @@ set_gives : (b : Bool) (w : Watch) (n found : ℕ)
 set_gives true w n found = refl
 set_gives false w n found = refl
 
+pub store_gives : (old new : Known) (d n : ℕ) → StoresCount old new d n → LastGiven old new HEADS
+store_gives old new d n s = given_as old new _ HEADS (sym (set_gives _ (watch.Done d) n s.found))
+    (given_step old new (set_step (watch.Done d) n s.found) s.is)
+
 pub stored_count : (old new : Known) (d n : ℕ) (took : Bool) → took ≡ true
     → MatchBool took (StoresCount old new d n) (new ≡ old) → LastGiven old new HEADS
-stored_count old new d n true is s = given_as old new _ HEADS (sym (set_gives _ (watch.Done d) n s.found))
-    (given_step old new (set_step (watch.Done d) n s.found) s.is)
+stored_count old new d n true is s = store_gives old new d n s
 stored_count old new d n false is s = absurd (cc)
 
 pub stays_count : (old new : Known) (d n : ℕ) (took : Bool) → took ≡ false
@@ -552,8 +560,11 @@ set_awake : (b : Bool) (w : Watch) (n found : ℕ)
 set_awake true w n found = refl
 set_awake false w n found = refl
 
+pub store_awake : (old new : Known) (d n : ℕ) → StoresCount old new d n → SleepsNot old new
+store_awake old new d n s = awake_step old new (set_step (watch.Done d) n s.found) s.is
+    (set_awake _ (watch.Done d) n s.found)
+
 pub stored_awake : (old new : Known) (d n : ℕ) (took : Bool) → took ≡ true
     → MatchBool took (StoresCount old new d n) (new ≡ old) → SleepsNot old new
-stored_awake old new d n true is s = awake_step old new (set_step (watch.Done d) n s.found) s.is
-    (set_awake _ (watch.Done d) n s.found)
+stored_awake old new d n true is s = store_awake old new d n s
 stored_awake old new d n false is s = absurd (cc)

@@ -1,5 +1,5 @@
 -- A call on a completion that is made by stretches: its first steps, and its looks at its ticket.
-use Rattle.std.proofs.Common.{◌∙◌, refl, sym, subst}
+use Rattle.std.proofs.Common.{◌∙◌, sym, subst}
 use Rattle.std.specs.Prelude.{ℕ, ◌≡◌, ◌<◌, Bool, true, false, MatchBool}
 use Rattle.wait_model.specs.declared.layout.TheConstants.{HEADS, COMPLETIONS}
 use Rattle.wait_model.specs.declared.steps.Step.TheVariants as step
@@ -10,7 +10,6 @@ use Rattle.wait_rule.specs.Known.{Known}
 use Rattle.wait_rule.specs.Queues.{IsTold}
 use Rattle.wait_rule.specs.Says.{IsFree, IsUp, added}
 use Rattle.wait_rule.specs.Stays.{Carries, unchanged}
-use Rattle.wait_event.specs.Entries.{hold_change}
 use Rattle.wq_head.specs.LockTurns.{AwaitsLock, TookLock}
 use Rattle.completion_cell.specs.declared.cell_turns.CellCall.{CellCall}
 use Rattle.completion_cell.specs.declared.cell_turns.CellCall.TheVariants as call
@@ -22,7 +21,7 @@ use Rattle.completion_cell.specs.CellTurns.{HasCellTurned, HoldsForCell, IsAtCel
 use Rattle.completion_cell.specs.CellTurns.{peeks_first}
 use Rattle.completion_cell.proofs.Asking.{asked_none, free_on, tried_none}
 use Rattle.completion_cell.proofs.CallPermits.{ask_off}
-use Rattle.completion_cell.proofs.Ground.{head_there}
+use Rattle.completion_cell.proofs.Ground.{as_hold, head_there}
 
 pub fits : (d h : ℕ) → d < COMPLETIONS → h ≡ cell_head d → h < HEADS
 fits d h there same = subst (λ (n : ℕ). n < HEADS) (sym same) (head_there d there)
@@ -44,25 +43,6 @@ from_start start now new r s hit at did = subst (λ (k : Known). MatchBool hit (
     (IsCellOver r.call r.cell false k new)) at.stands did
 
 -- a call that found the count 0 is over
-as_hold : (old new : Known) → Carries unchanged old new → Carries (hold_change new.at) old new
-as_hold old new k = record {
-  domain = k.domain;
-  number = k.number;
-  awake = k.awake;
-  state = k.state;
-  head = k.head;
-  ticket = k.ticket;
-  hold = k.hold;
-  at = refl;
-  mark = k.mark;
-  fewer = k.fewer;
-  stored = λ x none away. absurd (cc);
-  out = k.out;
-  stands = k.stands;
-  keeps = k.keeps;
-  owes = k.owes;
-}
-
 pub peeked_none : (c : CellCall) (d v : ℕ) (start new : Known) → true ≡ peeks_first c → IsUp start → IsFree start
     → IsTold start → new ≡ added start (item.Made (step.Load (watch.Done d) v)) → Carries unchanged start new → v ≡ 0
     → IsCellOver c d false start new

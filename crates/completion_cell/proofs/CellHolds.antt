@@ -1,6 +1,6 @@
 -- The holds of the calls that wait for nobody but a lock, from where each began.
 use Rattle.std.proofs.Common.{◌∙◌, ap, sym, refl, subst}
-use Rattle.std.specs.Prelude.{ℕ, ◌≡◌, ◌+◌, ◌-◌, ◌==◌, not, Bool, true, false, Some, MatchBool}
+use Rattle.std.specs.Prelude.{ℕ, ◌≡◌, ◌+◌, ◌-◌, ◌==◌, not, Bool, true, false, MatchBool}
 use Rattle.wait_model.specs.declared.layout.TheConstants.{ALL_DONE}
 use Rattle.wait_model.specs.declared.steps.Step.TheVariants as step
 use Rattle.wait_model.specs.declared.watches.Watch.TheVariants as watch
@@ -26,8 +26,9 @@ use Rattle.completion_cell.proofs.Asking.{behind_load, clears_none, free_on, is_
 use Rattle.completion_cell.proofs.Asking.{take_carried, tried_some, try_carried, try_counted, whole_carried}
 use Rattle.completion_cell.proofs.CallPermits.{ask_off, complete_all_hold, complete_hold, is_done_hold, reinit_hold}
 use Rattle.completion_cell.proofs.CallPermits.{try_hold}
-use Rattle.completion_cell.proofs.Completing.{all_at, all_carried, all_holds, complete_at, complete_carried, complete_counted, complete_holds, complete_simple, has_completed, has_completed_all, stored_agreed}
+use Rattle.completion_cell.proofs.Completing.{all_at, all_carried, all_holds, complete_at, complete_carried, complete_counted, complete_holds, complete_simple, has_completed, has_completed_all, stored_agreed, count_agreed}
 use Rattle.completion_cell.proofs.Permits.{MayEndHold, ends_off, ends_owing_none}
+use Rattle.completion_cell.proofs.Ground.{holding_on}
 
 -- where a call did nothing before its ticket
 took_from : (d : ℕ) (start base now : Known) → start ≡ base → TookLock base now (cell_head d)
@@ -38,11 +39,6 @@ gives_free : (m new : Known) (spent : Bool) → new ≡ unlocked_with m m.at spe
 gives_free m new spent is = subst IsFree (sym is) (unlocked_free m m.at spent)
 
 -- a count that is taken leaves no word that differs from its bit
-taken_agreed : (old new : Known) (d n : ℕ) (took : Bool)
-    → MatchBool took (StoresCount old new d (n - 1)) (new ≡ old) → new.book.differs ≡ old.book.differs
-taken_agreed old new d n true made = stored_agreed old new d (n - 1) made.found made.is
-taken_agreed old new d n false made = ap (λ (k : Known). k.book.differs) made
-
 -- `complete`
 module _ (d v n : ℕ) (start a a2 b m new : Known) (i : HoldsForCell call.Complete d start a)
     (is : a2 ≡ added a (item.Made (step.Load (watch.Done d) v))) (finds : FindsCount a d v)
@@ -141,11 +137,8 @@ module _ (d : ℕ) (start a b new : Known) (i : HoldsForCell call.Reinit d start
   reset_took = took_from d start i.base a i.begun i.took
 
   pub reset_holds : IsHolding b
-  reset_holds = record {
-    locked = stored.publishes.head ∙ (reset_took.held.locked ∙ ap Some (sym stored.publishes.at));
-    agreed = stored_agreed a b d 0 stored.found stored.is ∙ reset_took.held.agreed;
-    told = stored.publishes.hold ∙ (reset_took.held.told ∙ ap Some (sym stored.publishes.at));
-  }
+  reset_holds = holding_on a b stored.publishes.head stored.publishes.hold stored.publishes.at
+      (stored_agreed a b d 0 stored.found stored.is) reset_took.held
 
   reset_may : MayEndHold d start b
   reset_may = reinit_hold start a b d (cell_head d) refl i.free i.told reset_took.locked reset_took.carries stored
@@ -213,11 +206,8 @@ module _ (d n : ℕ) (start a a2 b new : Known) (i : HoldsForCell call.TryWait d
     tried_carries = unchanged_on a a2 b loaded (take_carried a2 b d n tried_counted took takes made)
 
     pub tried_holds : IsHolding b
-    tried_holds = record {
-      locked = tried_carries.head ∙ (i.took.held.locked ∙ ap Some (sym tried_carries.at));
-      agreed = taken_agreed a2 b d n took made ∙ (ap (λ (k : Known). k.book.differs) again ∙ i.took.held.agreed);
-      told = tried_carries.hold ∙ (i.took.held.told ∙ ap Some (sym tried_carries.at));
-    }
+    tried_holds = holding_on a b tried_carries.head tried_carries.hold tried_carries.at
+        (count_agreed a2 b d (n - 1) took made ∙ ap (λ (k : Known). k.book.differs) again) i.took.held
 
     pub tried_at : b.at ≡ cell_head d
     tried_at = tried_carries.at ∙ i.took.carries.at

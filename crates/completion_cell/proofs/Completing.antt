@@ -1,5 +1,5 @@
 -- A completion is made done: the transitions, and what the calls carry on.
-use Rattle.std.proofs.Common.{◌∙◌, ap, sym, refl, subst, arith, inl, inr, eq-eqb, eqb-true}
+use Rattle.std.proofs.Common.{◌∙◌, ap, sym, refl, subst, arith, inl, inr, eqb-true}
 use Rattle.std.specs.Prelude.{ℕ, ◌≡◌, ◌≢◌, ◌<◌, ◌≤◌, ◌+◌, ◌⊎◌, ◌&&◌, ◌||◌, ◌==◌, not, nat_lt, if◌then◌else◌, Bool, true}
 use Rattle.std.specs.Prelude.{false, Some, None, [], ◌∷◌, ◌++◌, MatchBool}
 use Rattle.std.proofs.lemmas.Bool.Decides.{nat_tests}
@@ -25,15 +25,14 @@ use Rattle.wait_model.proofs.SentenceLaws.SentenceAwaits.{shown_count}
 use Rattle.wait_model.proofs.WaitLaws.OutsideStages.{either}
 use Rattle.wait_rule.specs.declared.journal.Item.TheVariants as item
 use Rattle.wait_rule.specs.Counts.{FindsCount, StoresCount}
-use Rattle.wait_rule.specs.HeldValues.{count_in}
 use Rattle.wait_rule.specs.Known.{Known}
 use Rattle.wait_rule.specs.Queues.{IsTold, IsWholeBook, MayRise, index, simple_watch, walk_of_hold}
-use Rattle.wait_rule.specs.Says.{IsFree, Excuse, added, history_of, told_of, unlocked_with, OwesBut}
-use Rattle.wait_rule.specs.Stays.{Carries, lock_change, only_looks, publish_change, unchanged, unlock_change}
+use Rattle.wait_rule.specs.Says.{IsFree, Excuse, added, told_of, unlocked_with, OwesBut}
+use Rattle.wait_rule.specs.Stays.{Carries, Change, lock_change, only_looks, publish_change, unchanged, unlock_change}
 use Rattle.wait_rule.specs.Stays.{with_wakes}
 use Rattle.wait_rule.specs.Transitions.{by_step, call_program}
 use Rattle.wait_rule.proofs.KnownLaws.AfterSteps.{told_added}
-use Rattle.wait_rule.proofs.KnownLaws.CarriedTasks.{unchanged_none}
+use Rattle.wait_rule.proofs.KnownLaws.CarriedTasks.{unchanged_first, unchanged_none}
 use Rattle.wait_rule.proofs.KnownLaws.CarriedCounts.{as_publish}
 use Rattle.wait_rule.proofs.KnownLaws.StayingParts.{stays_same}
 use Rattle.wait_rule.proofs.KnownLaws.TaskHistories.{history_after}
@@ -49,9 +48,9 @@ use Rattle.wait_class.specs.Findings.{saw_nothing, with_value}
 use Rattle.wait_class.proofs.Ground.Going.{runs_none, runs_on, runs_one}
 use Rattle.completion_cell.specs.Asks.{HasCountedDone}
 use Rattle.completion_cell.specs.Completes.{HasCompleted, HasCompletedAll, RaisesOne}
-use Rattle.completion_cell.proofs.Asking.{locked_history}
+use Rattle.completion_cell.proofs.Asking.{locked_history, counted_after}
 use Rattle.completion_cell.proofs.RangedLoads.{is_selecting, ranged_by, ranged_on, selects_ranged}
-use Rattle.completion_cell.proofs.Ground.{count_after_step, quiet_store, step_behind}
+use Rattle.completion_cell.proofs.Ground.{as_looks, quiet_store, step_behind, holding_on}
 
 -- the head of a completion is a simple one
 pub done_simple : (d : ℕ) → FIRST_SIMPLE_HEAD ≤ head_of (watch.Done d)
@@ -81,7 +80,7 @@ enough_none n = by (n == 0)
     by false = refl
 
 -- what a load leaves of the hold's walk, and a store
-simple_loaded : (old new : Known) (l : Watch) (r : ℕ) → new ≡ added old (item.Made (step.Load l r)) → IsSimpleHold old
+pub simple_loaded : (old new : Known) (l : Watch) (r : ℕ) → new ≡ added old (item.Made (step.Load l r)) → IsSimpleHold old
     → IsSimpleHold new
 simple_loaded old new l r is s = subst IsSimpleHold (sym is) (record {
   simple = s.simple;
@@ -93,7 +92,7 @@ simple_loaded old new l r is s = subst IsSimpleHold (sym is) (record {
   };
 })
 
-simple_stored : (old new : Known) (d n r : ℕ) → new ≡ added old (item.Made (set_step (watch.Done d) n r))
+pub simple_stored : (old new : Known) (d n r : ℕ) → new ≡ added old (item.Made (set_step (watch.Done d) n r))
     → IsSimpleHold old → IsSimpleHold new
 simple_stored old new d n r is s = by (nat_lt r n || (n == ALL_DONE)) is
   where
@@ -124,48 +123,87 @@ simple_stored old new d n r is s = by (nat_lt r n || (n == ALL_DONE)) is
 pub rise_none : (k : Known) → MayRise k false
 rise_none k = record { used = λ e. absurd (cc); counts = λ w is e. absurd (cc) }
 
--- From the lock on: the count is stored, or stays at its end; then the selection, and the unlock. What is owed of the
--- completion is owed no more.
-module _ (d : ℕ) (old a b m new : Known) (most n : ℕ) (spent : Bool) (free : IsFree old) (told : IsTold old)
-    (one : Carries (lock_change (head_of (watch.Done d))) old a)
-    (two : Carries (publish_change (watch.Done d)) a b) (three : Carries only_looks b m)
-    (four : Carries unlock_change m new) (hold : IsSimpleHold m) (at_d : m.at ≡ head_of (watch.Done d))
-    (s : HasSelected b m most n) (full : n ≡ most → most ≢ 0 → spent ≡ true)
-    (is : new ≡ unlocked_with m m.at spent) where
-  over : (spent ≡ true) ⊎ ((IsWholeBook m) × (ShowsNoEntry m))
-  over = elim s.ends [ inl all ↦ inl (full all.1 all.0) | inr none ↦ inr (s.whole, none.0) ]
+-- a change, with looks before and behind it
+pub looked_around : (c : Change) (w x y z : Known) → Carries only_looks w x → Carries c x y → Carries only_looks y z
+    → Carries (record c { looks = true }) w z
+looked_around c w x y z one two three = record {
+  domain = three.domain ∙ (two.domain ∙ one.domain);
+  number = three.number ∙ (two.number ∙ one.number);
+  awake = three.awake ∙ (two.awake ∙ ap c.awake one.awake);
+  state = three.state ∙ (two.state ∙ ap c.state one.state);
+  head = three.head ∙ (two.head ∙ ap c.head one.head);
+  ticket = three.ticket ∙ (two.ticket ∙ ap c.ticket one.ticket);
+  hold = three.hold ∙ (two.hold ∙ ap c.head one.hold);
+  at = three.at ∙ (two.at ∙ ap c.at one.at);
+  mark = three.mark ∙ (two.mark ∙ one.mark);
+  fewer = λ v σ p is. three.fewer v σ refl (two.fewer v σ p (one.fewer v σ refl is));
+  stored = λ i none away. absurd (cc);
+  out = λ i away none. three.out i refl (two.out i away (one.out i refl none));
+  stands = λ slot few away e own kind.
+      let by_x = one.stands slot few refl e own kind in
+      let by_y = two.stands slot few (ap (λ (m : ℕ). c.but (index m slot)) one.number ∙ away) e
+      (subst (λ (m : ℕ). (told_of x).bits.stored (index m slot) ≡ Some e) (sym one.number) by_x) kind in
+      subst (λ (m : ℕ). (told_of z).bits.stored (index m slot) ≡ Some e) (two.number ∙ one.number)
+      (three.stands slot few refl e
+      (subst (λ (m : ℕ). (told_of y).bits.stored (index m slot) ≡ Some e) (sym two.number) by_y) kind);
+  keeps = λ v p. three.keeps v refl ∙ (two.keeps v p ∙ one.keeps v refl);
+  owes = λ e o. three.owes (c.to e) (two.owes e (one.owes (c.from e) o));
+}
 
+looks_none : (k : Known) → Carries only_looks k k
+looks_none k = as_looks k k (unchanged_none k)
+
+pub looked_first : (c : Change) (w x y : Known) → Carries only_looks w x → Carries c x y
+    → Carries (record c { looks = true }) w y
+looked_first c w x y one two = looked_around c w x y y one two (looks_none y)
+
+-- From the lock on: what is counted, with looks, and the unlock. What is owed of the completion is owed no more.
+module _ (d : ℕ) (old a m new : Known) (spent : Bool) (free : IsFree old) (told : IsTold old)
+    (one : Carries (lock_change (head_of (watch.Done d))) old a)
+    (two : Carries (record (publish_change (watch.Done d)) { looks = true }) a m) (three : Carries unlock_change m new)
+    (hold : IsSimpleHold m) (at_d : m.at ≡ head_of (watch.Done d))
+    (over : (spent ≡ true) ⊎ ((IsWholeBook m) × (ShowsNoEntry m))) (is : new ≡ unlocked_with m m.at spent) where
   ends_owed : (x : Excuse) → OwesBut (with_wakes (watch.Done d) mode.Normal x) m → OwesBut x new
   ends_owed x o = (simple_ended m m new spent (stays_same m) (λ c σ. refl) refl hold over is).settled x
       (subst (λ (c : Watch). OwesBut (with_wakes c mode.Normal x) m) (sym (ap simple_watch at_d ∙ own_done d)) o)
 
-  pub completed_carried : Carries (set_change (watch.Done d) mode.Normal new.at) old new
-  completed_carried = record {
-    domain = four.domain ∙ (three.domain ∙ (two.domain ∙ one.domain));
-    number = four.number ∙ (three.number ∙ (two.number ∙ one.number));
-    awake = four.awake ∙ (three.awake ∙ (two.awake ∙ one.awake));
-    state = four.state ∙ (three.state ∙ (two.state ∙ one.state));
-    head = four.head ∙ sym free.head;
-    ticket = four.ticket ∙ sym free.ticket;
-    hold = four.hold ∙ sym (told.head ∙ free.head);
+  pub ended_carried : Carries (set_change (watch.Done d) mode.Normal new.at) old new
+  ended_carried = record {
+    domain = three.domain ∙ (two.domain ∙ one.domain);
+    number = three.number ∙ (two.number ∙ one.number);
+    awake = three.awake ∙ (two.awake ∙ one.awake);
+    state = three.state ∙ (two.state ∙ one.state);
+    head = three.head ∙ sym free.head;
+    ticket = three.ticket ∙ sym free.ticket;
+    hold = three.hold ∙ sym (told.head ∙ free.head);
     at = refl;
-    mark = four.mark ∙ (three.mark ∙ (two.mark ∙ one.mark));
-    fewer = λ w σ p is. four.fewer w σ refl (three.fewer w σ refl (two.fewer w σ p (one.fewer w σ refl is)));
+    mark = three.mark ∙ (two.mark ∙ one.mark);
+    fewer = λ w σ p is. three.fewer w σ refl (two.fewer w σ p (one.fewer w σ refl is));
     stored = λ x none away. absurd (cc);
-    out = λ x away none. four.out x refl (three.out x refl (two.out x refl (one.out x refl none)));
+    out = λ x away none. three.out x refl (two.out x refl (one.out x refl none));
     stands = λ slot few away e own kind.
         let by_a = one.stands slot few refl e own kind in
-        let by_b = two.stands slot few refl e
+        let by_m = two.stands slot few refl e
         (subst (λ (i : ℕ). (told_of a).bits.stored (index i slot) ≡ Some e) (sym one.number) by_a) kind in
-        let by_m = three.stands slot few refl e
-        (subst (λ (i : ℕ). (told_of b).bits.stored (index i slot) ≡ Some e) (sym two.number) by_b) kind in
-        subst (λ (i : ℕ). (told_of new).bits.stored (index i slot) ≡ Some e)
-        (three.number ∙ (two.number ∙ one.number))
-        (four.stands slot few refl e
-        (subst (λ (i : ℕ). (told_of m).bits.stored (index i slot) ≡ Some e) (sym three.number) by_m) kind);
-    keeps = λ w p. four.keeps w refl ∙ (three.keeps w refl ∙ (two.keeps w p ∙ one.keeps w refl));
-    owes = λ x o. ends_owed x (three.owes (with_wakes (watch.Done d) mode.Normal x) (two.owes x (one.owes x o)));
+        subst (λ (i : ℕ). (told_of new).bits.stored (index i slot) ≡ Some e) (two.number ∙ one.number)
+        (three.stands slot few refl e
+        (subst (λ (i : ℕ). (told_of m).bits.stored (index i slot) ≡ Some e) (sym two.number) by_m) kind);
+    keeps = λ w p. three.keeps w refl ∙ (two.keeps w p ∙ one.keeps w refl);
+    owes = λ x o. ends_owed x (two.owes x (one.owes x o));
   }
+
+-- The count is stored, or stays at its end; then the selection.
+pub completed_carried : (d : ℕ) (old a b m new : Known) (most n : ℕ) (spent : Bool) → IsFree old → IsTold old
+    → Carries (lock_change (head_of (watch.Done d))) old a → Carries (publish_change (watch.Done d)) a b
+    → Carries only_looks b m → Carries unlock_change m new → IsSimpleHold m → m.at ≡ head_of (watch.Done d)
+    → HasSelected b m most n → (n ≡ most → most ≢ 0 → spent ≡ true) → new ≡ unlocked_with m m.at spent
+    → Carries (set_change (watch.Done d) mode.Normal new.at) old new
+completed_carried d old a b m new most n spent free told one two three four hold at_d s full is =
+    ended_carried d old a m new spent free told one
+    (looked_around (publish_change (watch.Done d)) a a b m (looks_none a) two three) four hold at_d over is
+  where
+    over : (spent ≡ true) ⊎ ((IsWholeBook m) × (ShowsNoEntry m))
+    over = elim s.ends [ inl all ↦ inl (full all.1 all.0) | inr none ↦ inr (s.whole, none.0) ]
 
 -- a count is raised by one, unless it is at its end
 module _ (old new : Known) (d n : ℕ) (c : HasCountedDone old d n) (raised : Bool) (raises : RaisesOne n raised)
@@ -248,34 +286,10 @@ stored_agreed old new d n r is = by (nat_lt r n || (n == ALL_DONE)) is
     by true made = ap (λ (k : Known). k.book.differs) made
     by false made = ap (λ (k : Known). k.book.differs) made
 
-raise_agreed : (old new : Known) (d n : ℕ) → HasCountedDone old d n → (raised : Bool) → RaisesOne n raised
-    → MatchBool raised (StoresCount old new d (n + 1)) (new ≡ old) → new.book.differs ≡ old.book.differs
-raise_agreed old new d n c true raises made = stored_agreed old new d (n + 1) made.found made.is
-raise_agreed old new d n c false raises made = ap (λ (k : Known). k.book.differs) made
-
--- a load before a publish
-load_and_publish : (c : Watch) (a a2 b : Known) → Carries unchanged a a2 → Carries (publish_change c) a2 b
-    → Carries (publish_change c) a b
-load_and_publish c a a2 b one two = record {
-  domain = two.domain ∙ one.domain;
-  number = two.number ∙ one.number;
-  awake = two.awake ∙ one.awake;
-  state = two.state ∙ one.state;
-  head = two.head ∙ one.head;
-  ticket = two.ticket ∙ one.ticket;
-  hold = two.hold ∙ one.hold;
-  at = two.at ∙ one.at;
-  mark = two.mark ∙ one.mark;
-  fewer = λ w σ p is. two.fewer w σ p (one.fewer w σ refl is);
-  stored = λ x none away. two.stored x none away ∙ one.stored x none away;
-  out = λ x away is. two.out x away (one.out x away is);
-  stands = λ slot few away e is own. subst (λ (n : ℕ). (told_of b).bits.stored (index n slot) ≡ Some e) one.number
-      (two.stands slot few refl e
-      (subst (λ (n : ℕ). (told_of a2).bits.stored (index n slot) ≡ Some e) (sym one.number)
-      (one.stands slot few refl e is own)) own);
-  owes = λ x o. two.owes x (one.owes x o);
-  keeps = λ d p. two.keeps d p ∙ one.keeps d refl;
-}
+pub count_agreed : (old new : Known) (d n : ℕ) (did : Bool) → MatchBool did (StoresCount old new d n) (new ≡ old)
+    → new.book.differs ≡ old.book.differs
+count_agreed old new d n true made = stored_agreed old new d n made.found made.is
+count_agreed old new d n false made = ap (λ (k : Known). k.book.differs) made
 
 -- `complete`
 module _ (old a a2 b m new : Known) (d v n h : ℕ) (same : h ≡ head_of (watch.Done d)) (free : IsFree old)
@@ -286,12 +300,7 @@ module _ (old a a2 b m new : Known) (d v n h : ℕ) (same : h ≡ head_of (watch
   at_a = ap (λ (k : Known). k.at) l.is ∙ same
 
   pub complete_counted : HasCountedDone a2 d v
-  complete_counted = record {
-    held = loaded.head ∙ (ap (λ (k : Known). k.book.head) l.is ∙ ap Some same);
-    loaded = count_after_step d a a2 (step.Load (watch.Done d) v) (history_after a a2 _ is)
-        ∙ ap (λ (z : Bool). if z then Some v else count_in d (history_of a)) (eq-eqb d d refl);
-    small = finds.0;
-  }
+  complete_counted = counted_after d v a a2 (ap (λ (k : Known). k.book.head) l.is ∙ ap Some same) is finds loaded
 
   module _ (raised : Bool) (raises : RaisesOne v raised)
       (made : MatchBool raised (StoresCount a2 b d (v + 1)) (b ≡ a2)) where
@@ -307,12 +316,8 @@ module _ (old a a2 b m new : Known) (d v n h : ℕ) (same : h ≡ head_of (watch
         (simple (subst (λ (i : ℕ). FIRST_SIMPLE_HEAD ≤ i) (sym same) (done_simple d))))
 
     pub complete_holds : IsHolding a → IsHolding b
-    complete_holds g = record {
-      locked = raise.head ∙ (loaded.head ∙ (g.locked ∙ ap Some (sym (raise.at ∙ loaded.at))));
-      agreed = raise_agreed a2 b d v complete_counted raised raises made ∙ (ap (λ (k : Known). k.book.differs) is
-          ∙ g.agreed);
-      told = raise.hold ∙ (loaded.hold ∙ (g.told ∙ ap Some (sym (raise.at ∙ loaded.at))));
-    }
+    complete_holds g = holding_on a b (raise.head ∙ loaded.head) (raise.hold ∙ loaded.hold) (raise.at ∙ loaded.at)
+        (count_agreed a2 b d (v + 1) raised made ∙ ap (λ (k : Known). k.book.differs) is) g
 
     module _ (s : HasSelected b m 1 n) (select : Carries only_looks b m) (kept : IsSimpleHold b → IsSimpleHold m)
         (u : HasUnlocked m new (n == 1)) where
@@ -369,7 +374,7 @@ module _ (old a a2 b m new : Known) (d v n h : ℕ) (same : h ≡ head_of (watch
           → Carries (set_change (watch.Done d) mode.Normal new.at) old new
       complete_carried back = completed_carried d old a b m new 1 n (n == 1) free told
           (subst (λ (i : ℕ). Carries (lock_change i) old a) same one)
-          (load_and_publish (watch.Done d) a a2 b loaded raise) select back (kept complete_simple) at_m s
+          (unchanged_first (publish_change (watch.Done d)) a a2 b loaded raise) select back (kept complete_simple) at_m s
           (λ all some. ap (λ (i : ℕ). i == 1) all) u.is
 
 pub complete_rises : (m : Known) (n : ℕ) → (0 < n → MayRise m true) → (e : Bool) → (n == 1) ≡ e → MayRise m e
@@ -388,11 +393,8 @@ module _ (old a b m new : Known) (d n h : ℕ) (same : h ≡ head_of (watch.Done
       (simple (subst (λ (i : ℕ). FIRST_SIMPLE_HEAD ≤ i) (sym same) (done_simple d)))
 
   pub all_holds : IsHolding a → IsHolding b
-  all_holds g = record {
-    locked = stored.publishes.head ∙ (g.locked ∙ ap Some (sym stored.publishes.at));
-    agreed = stored_agreed a b d ALL_DONE stored.found stored.is ∙ g.agreed;
-    told = stored.publishes.hold ∙ (g.told ∙ ap Some (sym stored.publishes.at));
-  }
+  all_holds g = holding_on a b stored.publishes.head stored.publishes.hold stored.publishes.at
+      (stored_agreed a b d ALL_DONE stored.found stored.is) g
 
   module _ (s : HasSelected b m 0 n) (select : Carries only_looks b m) (kept : IsSimpleHold b → IsSimpleHold m)
       (u : HasUnlocked m new false) where

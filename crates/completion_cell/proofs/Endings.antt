@@ -15,28 +15,28 @@ use Rattle.wait_rule.specs.HeldValues.{count_in}
 use Rattle.wait_rule.specs.Known.{Known}
 use Rattle.wait_rule.specs.LeftEntries.{LeftOff}
 use Rattle.wait_rule.specs.Queues.{IsIdle, IsTold, index}
-use Rattle.wait_rule.specs.Says.{Excuse, IsClean, IsUp, OwesBut, history_of, no_excuse, told_of}
-use Rattle.wait_rule.specs.Stays.{Carries, with_left_entry}
+use Rattle.wait_rule.specs.Says.{IsClean, IsUp, history_of, told_of}
+use Rattle.wait_rule.specs.Stays.{Carries}
 use Rattle.wait_rule.specs.Transitions.{Goes, Program, call_program}
-use Rattle.wait_rule.proofs.KnownLaws.StayingParts.{owes_also, owes_left, owes_off, owes_out}
-use Rattle.wait_rule.proofs.KnownLaws.CalledPermits.{shows_none}
 use Rattle.wait_class.specs.Posts.{IsOut}
 use Rattle.wait_event.specs.Ends.{wait_change}
 use Rattle.wait_class.specs.Posts.{EndsWith, own_of}
 use Rattle.wait_event.specs.Waits.{has_queued_in}
-use Rattle.wait_class.proofs.Wholes.{begins, none_of}
+use Rattle.wait_event.proofs.Behind.{behind_at}
+use Rattle.wait_class.proofs.Wholes.{begins}
 use Rattle.completion_cell.specs.AwaitEnds.{EndsAwait, HasAwaited, await_end_in}
 use Rattle.wait_class.specs.Tables.{Advances, IsAt, IsEnded, Plan}
 use Rattle.wait_class.specs.declared.stages.Run.{Run}
 use Rattle.wait_class.specs.declared.stages.Turn.TheVariants as turn
 use Rattle.completion_cell.specs.Awaits.{CellKeeps, FoundNoPlaceForCell, HasGivenBack, IsFreshAwait, AwaitTrailEnd}
-use Rattle.completion_cell.specs.Awaits.{WasAwaitSignalled, WhyStopped, answer_to_await, await_table, await_watch}
-use Rattle.completion_cell.specs.Awaits.{await_left_by}
+use Rattle.completion_cell.specs.Awaits.{WasAwaitSignalled, WhyStopped, answer_to_await, await_table}
+use Rattle.completion_cell.specs.Awaits.{await_end_post, await_left_by}
 use Rattle.completion_cell.specs.declared.awaits.AwaitOutcome.{AwaitOutcome}
 use Rattle.completion_cell.specs.declared.awaits.AwaitOutcome.TheVariants as outcome
 use Rattle.completion_cell.specs.declared.awaits.AwaitCall.{AwaitCall}
 use Rattle.completion_cell.specs.declared.awaits.AwaitStage.{AwaitStage}
 use Rattle.completion_cell.specs.declared.awaits.AwaitStage.TheVariants as stage
+use Rattle.completion_cell.proofs.Behind.{StandsBehind, behind_carried, behind_clean, behind_idle}
 use Rattle.completion_cell.proofs.OtherCells.{wait_stays_off}
 
 -- a task that is idle, with its entry off, may begin
@@ -54,54 +54,22 @@ given_back k r outcome.Worn u = u.0
 -- A wait that ended; it was asked to leave on its way or not.
 module _ (old new : Known) (q : Run AwaitCall) (o : AwaitOutcome) (ended : IsEnded await_table new q o)
     (keeps : CellKeeps (own_of old) old new) where
+  behind : StandsBehind old new
+  behind = behind_at (await_end_post q.of o) (record { head = refl; ticket = refl; stirs = refl; zone = refl }) old new
+      ended.up ended.stands keeps
+
   pub idle_by : (told_of old).mark ≡ None → IsIdle new
-  idle_by unmarked = record {
-    running = ended.stands.state;
-    free = record { head = ended.stands.head; ticket = ended.stands.ticket };
-    unmarked = keeps.mark ∙ unmarked;
-  }
+  idle_by = behind_idle old new behind
 
   pub out_by : IsOut new
-  out_by = none_of (await_watch q.of) ((told_of new).bits.stored (index new.view.number 0)) ended.stands.home
-
-  -- who began idle goes on as it was, and leaves no entry at a completion
-  pub owed_by : StaysOff old new → (x : Excuse) → OwesBut x old → OwesBut x new
-  owed_by off x o = owes_off x new (λ none d. off d (o.debts.off none d)) (λ none. shows_none new ended.stands.told)
-      (owes_out (own_of old) (with_left_entry x) new
-      (ap (λ (n : ℕ). (told_of new).bits.stored (index n 0)) (sym keeps.number) ∙ out_by)
-      (keeps.owes x (owes_also (own_of old) (with_left_entry x) old (owes_left x old o))))
+  out_by = behind.out
 
   pub carried_by : StaysOff old new → IsUp old → IsIdle old → (told_of old).hold.head ≡ None
       → Carries (wait_change (index old.view.number 0) new.at) old new
-  carried_by off up idle held =
-      let stands = ended.stands in record {
-        domain = keeps.domain;
-        number = keeps.number;
-        awake = ended.up ∙ sym up;
-        state = stands.state ∙ sym idle.running;
-        head = stands.head ∙ sym idle.free.head;
-        ticket = stands.ticket ∙ sym idle.free.ticket;
-        hold = stands.told ∙ sym held;
-        at = refl;
-        mark = keeps.mark;
-        fewer = λ w σ none is. keeps.fewer w σ is;
-        stored = λ x none away. absurd (cc);
-        out = keeps.out;
-        stands = keeps.stands;
-        keeps = λ d _. keeps.keeps d;
-        owes = owed_by off;
-      }
+  carried_by = behind_carried old new behind
 
-  -- who began owing nothing
   pub clean_by : StaysOff old new → IsClean old → IsClean new
-  clean_by off clean =
-      let idle = idle_by clean.settled.unmarked in
-      record {
-        up = ended.up;
-        running = idle.running;
-        free = idle.free;
-        settled = owed_by off no_excuse clean.settled;
-      }
+  clean_by = behind_clean old new behind
 
 module _ (old new : Known) (r q : Run AwaitCall) (s : AwaitStage) (o : AwaitOutcome)
     (a : Advances await_table old new r q s (turn.Done o)) where

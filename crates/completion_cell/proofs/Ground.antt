@@ -1,6 +1,6 @@
 -- Events of a completion's calls, and what holds of a completion's head carry on.
-use Rattle.std.proofs.Common.{◌∙◌, ap, sym, refl, subst, arith}
-use Rattle.std.specs.Prelude.{ℕ, ◌≡◌, ◌<◌, ◌||◌, ◌==◌, if◌then◌else◌, Bool, true, false, pos, Option, None, List, []}
+use Rattle.std.proofs.Common.{◌∙◌, ap, sym, refl, subst, arith, eq-eqb}
+use Rattle.std.specs.Prelude.{ℕ, ◌≡◌, ◌<◌, ◌||◌, ◌==◌, if◌then◌else◌, Bool, true, false, pos, Option, Some, None, List, []}
 use Rattle.std.specs.Prelude.{◌∷◌, ◌++◌}
 use Rattle.wait_model.specs.declared.layout.TheConstants.{COMPLETIONS, HEADS}
 use Rattle.wait_model.specs.declared.calls.Call.{Call}
@@ -25,7 +25,7 @@ use Rattle.wait_model.specs.Watches.{head_of}
 use Rattle.wait_rule.specs.declared.journal.Item.{Item}
 use Rattle.wait_rule.specs.declared.journal.Item.TheVariants as item
 use Rattle.wait_rule.specs.Known.{Known}
-use Rattle.wait_rule.specs.Says.{added, history_of, unlocked_with}
+use Rattle.wait_rule.specs.Says.{added, history_of, told_of, unlocked_with}
 use Rattle.wait_rule.specs.HeldValues.{count_in, value_after, value_from}
 use Rattle.wait_rule.specs.Items.{steps_of}
 use Rattle.wait_rule.specs.Queues.{at_head, walk_of_hold}
@@ -35,7 +35,7 @@ use Rattle.wait_rule.specs.Transitions.{StepOrLook, after_step_or_look, by_step,
 use Rattle.wait_rule.proofs.KnownLaws.HeldCounts.{value_snoc}
 use Rattle.wait_rule.proofs.KnownLaws.Transitions.{only_none}
 use Rattle.wait_rule.proofs.TableSteps.ItemLists.{steps_append}
-use Rattle.wq_head.specs.Holds.{HasLocked}
+use Rattle.wq_head.specs.Holds.{HasLocked, IsHolding}
 use Rattle.wq_head.proofs.LockWaits.{turn_looks, turn_of}
 use Rattle.wait_event.specs.Entries.{hold_change}
 use Rattle.wait_class.specs.Posts.{Runs}
@@ -44,6 +44,7 @@ use Rattle.wait_class.specs.Findings.{saw_nothing, with_value}
 use Rattle.wait_event.proofs.Entering.{runs_lock, unlock_looks}
 use Rattle.wait_class.proofs.Ways.{either_event}
 use Rattle.wait_class.proofs.Ground.Going.{runs_one}
+use Rattle.wait_rule.proofs.KnownLaws.TaskHistories.{history_after}
 
 -- the head of a completion is there
 pub head_there : (d : ℕ) → d < COMPLETIONS → head_of (watch.Done d) < HEADS
@@ -59,6 +60,22 @@ step_behind old new e is = subst (OnlyLooks (added old (item.Made e))) (sym is) 
 pub count_after_step : (d : ℕ) (old new : Known) (e : Step) → history_of new ≡ history_of old ++ e ∷ []
     → count_in d (history_of new) ≡ value_after (watch.Done d) e (count_in d (history_of old))
 count_after_step d old new e more = ap (count_in d) more ∙ value_snoc (watch.Done d) None (history_of old) e
+
+pub loaded_count : (d n : ℕ) (old new : Known) → new ≡ added old (item.Made (step.Load (watch.Done d) n))
+    → count_in d (history_of new) ≡ Some n
+loaded_count d n old new is =
+    count_after_step d old new (step.Load (watch.Done d) n) (history_after old new (step.Load (watch.Done d) n) is)
+    ∙ ap (λ (b : Bool). if b then Some n else count_in d (history_of old)) (eq-eqb d d refl)
+
+-- a hold goes on over what changes nothing of it
+pub holding_on : (old new : Known) → new.book.head ≡ old.book.head
+    → (told_of new).hold.head ≡ (told_of old).hold.head → new.at ≡ old.at → new.book.differs ≡ old.book.differs
+    → IsHolding old → IsHolding new
+holding_on old new head hold at differs g = record {
+  locked = head ∙ (g.locked ∙ ap Some (sym at));
+  agreed = differs ∙ g.agreed;
+  told = hold ∙ (g.told ∙ ap Some (sym at));
+}
 
 -- a run in which nothing is queued
 abbrev pub QuietRuns : Program → Known → Known → Point → Next → Type 0

@@ -93,10 +93,10 @@ pub head_apart : (c d : ℕ) → done_head d ≡ done_head c → d ≡ c
 unfolding head_of
 head_apart c d same = omega (arith, same)
 
--- where the own entry is known to be off, the hold that was given back left it so
-module _ (d a : ℕ) (front : List Step) (o : Order a (front ++ step.Unlock (done_head d) false ∷ [])) where
+-- where the own entry is known to be off, the hold that was given back left it so, whether its spent count rose or not
+module _ (d a : ℕ) (spent : Bool) (front : List Step) (o : Order a (front ++ step.Unlock (done_head d) spent ∷ [])) where
   abbrev back : Step
-  back = step.Unlock (done_head d) false
+  back = step.Unlock (done_head d) spent
 
   at_back : OrderStep a front back
   at_back = order_step a front back [] o
@@ -124,7 +124,7 @@ module _ (d a : ℕ) (front : List Step) (o : Order a (front ++ step.Unlock (don
     where
       was : (view_of front).bits.stored (own a) ≡ None
       was = sym (ap (λ (b : Bits). b.stored (own a)) (ap (λ (v : View). v.bits) (after_snoc blank front back)
-          ∙ unlock_bits (view_of front) (view_of front).walk false)) ∙ none
+          ∙ unlock_bits (view_of front) (view_of front).walk spent)) ∙ none
 
       by : (l : Look) → (view_of front).hold.book (own a) ≡ l → shows_at (done_head d) l ≡ false
       by unseen is = refl

@@ -16,6 +16,7 @@ pub mod AwaitCounts
 pub mod AwaitTakes
 pub mod AwaitAdds
 pub mod OtherCells
+pub mod Behind
 pub mod CellPoints
 pub mod FollowedCells
 pub mod StoppedAwaits

@@ -29,7 +29,7 @@ use Rattle.wait_rule.specs.Transitions.{IsStepFor, call_program}
 use Rattle.wait_rule.proofs.KnownLaws.CalledPermits.{away_of, order_as}
 use Rattle.wait_rule.proofs.KnownLaws.HandedSteps.{IsAway, IsAwayAt, OrderStep, away_next, order_front, order_step}
 use Rattle.wait_rule.proofs.KnownLaws.OtherCalls.{Adding, AddsBy, AllAddBy, goes_adding}
-use Rattle.wait_class.specs.Posts.{Runs}
+use Rattle.wait_class.specs.Posts.{EndsWith, IsOut, Runs}
 use Rattle.completion_cell.specs.Awaits.{HasGivenBack}
 use Rattle.completion_cell.specs.declared.awaits.AwaitCall.{AwaitCall}
 use Rattle.completion_cell.proofs.HoldTurns.{head_apart, home_left}
@@ -65,19 +65,19 @@ apart_head c d ne = by (done_head d == done_head c) refl
     by false q = q
     by true q = absurd (ne (sym (head_apart c d (grind (arith, q)))))
 
--- at the completions that it does not wait for
+-- at the completions that it does not wait for; so each program that is given what such a wait is
 module _ (c d : ℕ) (st : SleepState) (ne : c ≢ d) (me : ℕ) where
-  asks : (p : Point) (k : Known) (e : Event) (s : Step)
+  pub asks_aside : (p : Point) (k : Known) (e : Event) (s : Step)
       → IsStepFor k (call_program me 0 (calls.WaitFor d st)).own (given_at (calls.WaitFor d st) p) e s
       → AddsBy (IsAside c) s
-  asks p k (event.Queue h form) (step.Queue x e) q = subst (IsAside c) (sym q.3) (apart_head c d ne)
-  asks p k e (step.Queue x f) q = absurd q
-  asks p k e s q = tt
+  asks_aside p k (event.Queue h form) (step.Queue x e) q = subst (IsAside c) (sym q.3) (apart_head c d ne)
+  asks_aside p k e (step.Queue x f) q = absurd q
+  asks_aside p k e s q = tt
 
 pub wait_adds : (c d : ℕ) (st : SleepState) → c ≢ d → (old new : Known) (from to : Next)
     → Runs (call_program old.view.number 0 (calls.WaitFor d st)) old new from to → Adding (IsAside c) old new
 wait_adds c d st ne old new from to runs = goes_adding (IsAside c)
-    (call_program old.view.number 0 (calls.WaitFor d st)) (asks c d st ne old.view.number) old new from to
+    (call_program old.view.number 0 (calls.WaitFor d st)) (asks_aside c d st ne old.view.number) old new from to
     runs.transitions runs.goes
 
 -- over such steps the own entry stays off at a completion
@@ -91,10 +91,14 @@ aside_stays c old new l free left order =
     subst (λ (i : ℕ). (dealt c i (history_of new)).left ≡ false) (sym l.number)
     (subst (λ (l : List Step). (dealt c a l).left ≡ false) (sym l.is) w.left)
 
-wait_others : (c d : ℕ) (st : SleepState) → c ≢ d → (old new : Known) (from to : Next)
-    → Runs (call_program old.view.number 0 (calls.WaitFor d st)) old new from to → (told_of old).hold.head ≡ None
-    → LeftOff c old → LeftOff c new
-wait_others c d st ne old new from to runs = aside_stays c old new (wait_adds c d st ne old new from to runs)
+-- so where the own entry is left off at the one that it waits for, it is left at none
+pub stays_off_by : (old new : Known) (d : ℕ) → ((c : ℕ) → c ≢ d → Adding (IsAside c) old new)
+    → (told_of old).hold.head ≡ None → LeftOff d new → StaysOff old new
+stays_off_by old new d adds free off c left = by (eqb_tells c d)
+  where
+    by : (((c == d) ≡ true) × (c ≡ d)) ⊎ (((c == d) ≡ false) × (c ≢ d)) → LeftOff c new
+    by (inl q) = subst (λ (i : ℕ). LeftOff i new) (sym q.1) off
+    by (inr q) = aside_stays c old new (adds c q.1) free left
 
 -- such steps, one after the other
 all_aside : (c : ℕ) (es fs : List Step) → AllAddBy (IsAside c) es → AllAddBy (IsAside c) fs
@@ -112,23 +116,23 @@ aside_on c old mid new one two = record {
 }
 
 -- who has given the head back, and knows its own entry to be off
-pub given_off : (new : Known) (r : AwaitCall) → HasGivenBack new r
-    → (told_of new).bits.stored (index new.view.number 0) ≡ None → LeftOff r.cell new
-given_off new r back none order =
+pub given_by : (new : Known) (d : ℕ) (spent : Bool) → EndsWith new (step.Unlock (done_head d) spent ∷ []) → IsOut new
+    → LeftOff d new
+given_by new d spent back none order =
     let a = new.view.number in
-    let d = r.cell in
     let here : index a 0 ≡ own a = omega arith in
     subst (λ (l : List Step). (dealt d a l).left ≡ false) (sym back.1)
-    (home_left d a back.0 (order_as a new (back.0 ++ step.Unlock (done_head d) false ∷ []) refl back.1 order)
+    (home_left d a spent back.0 (order_as a new (back.0 ++ step.Unlock (done_head d) spent ∷ []) refl back.1 order)
     (ap (λ (l : List Step). (view_of l).bits.stored (own a)) (sym back.1) ∙ (ap (told_of new).bits.stored (sym here)
     ∙ none)))
+
+pub given_off : (new : Known) (r : AwaitCall) → HasGivenBack new r → IsOut new → LeftOff r.cell new
+given_off new r = given_by new r.cell false
 
 -- a whole wait
 pub wait_stays_off : (old new : Known) (r : AwaitCall) (d : ℕ) (st : SleepState) (from to : Next) → r.cell ≡ d
     → Runs (call_program old.view.number 0 (calls.WaitFor d st)) old new from to → (told_of old).hold.head ≡ None
     → HasGivenBack new r → (told_of new).bits.stored (index new.view.number 0) ≡ None → StaysOff old new
-wait_stays_off old new r d st from to same runs free back none c left = by (eqb_tells c d)
-  where
-    by : (((c == d) ≡ true) × (c ≡ d)) ⊎ (((c == d) ≡ false) × (c ≢ d)) → LeftOff c new
-    by (inl q) = subst (λ (i : ℕ). LeftOff i new) (same ∙ sym q.1) (given_off new r back none)
-    by (inr q) = wait_others c d st q.1 old new from to runs free left
+wait_stays_off old new r d st from to same runs free back none = stays_off_by old new d
+    (λ c ne. wait_adds c d st ne old new from to runs) free
+    (subst (λ (i : ℕ). LeftOff i new) same (given_off new r back none))

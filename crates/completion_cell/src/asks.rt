@@ -99,7 +99,7 @@ pub fn reinit<R: Wait>(rt: &R, domain: &Domain, task: &mut Task, cell: u8)
 }
 
 /// Takes one of the count that the hold has loaded, unless there is none; a count at its end stays.
-pub(crate) fn take_one(domain: &Domain, task: &mut Task, cell: u8, count: u32) -> bool
+pub fn take_one(domain: &Domain, task: &mut Task, cell: u8, count: u32) -> bool
     requires of { task.old.domain ≡ domain.now }
     requires up { IsUp task.old }
     requires cell { cell < COMPLETIONS }

@@ -1,6 +1,5 @@
 -- The count is loaded in a hold of a `down`.
-use Rattle.std.proofs.Common.{◌∙◌, ap, sym, refl, subst, arith, eq-eqb, append_assoc, eqb-true}
-use Rattle.std.proofs.lemmas.Bool.Decides.{nat_tests}
+use Rattle.std.proofs.Common.{◌∙◌, ap, sym, refl, subst, arith, append_assoc, eqb-true}
 use Rattle.std.specs.Prelude.{ℕ, ◌≡◌, ◌≤◌, ◌==◌, ◌||◌, Bool, true, false, is_some, if◌then◌else◌, Option, Some, None}
 use Rattle.std.specs.Prelude.{[], ◌∷◌, ◌++◌}
 use Rattle.wait_model.specs.declared.layout.TheConstants.{ALL_DONE}
@@ -24,12 +23,11 @@ use Rattle.wait_model.specs.Words.{entry_of}
 use Rattle.wait_model.proofs.SentenceLaws.SentenceAwaits.{shown_count}
 use Rattle.wait_rule.specs.declared.journal.Item.TheVariants as item
 use Rattle.wait_rule.specs.Counts.{FindsCount}
-use Rattle.wait_rule.specs.HeldValues.{count_in}
 use Rattle.wait_rule.specs.Items.{Book}
 use Rattle.wait_rule.specs.Known.{Known}
 use Rattle.wait_rule.specs.Says.{added, history_of, told_of}
 use Rattle.wait_rule.specs.Queues.{IsAgreedHold, index, saw}
-use Rattle.wait_rule.specs.Stays.{Carries, unchanged, with_entry, with_left_entry}
+use Rattle.wait_rule.specs.Stays.{Carries, unchanged}
 use Rattle.wait_rule.proofs.KnownLaws.AfterSteps.{told_added}
 use Rattle.wait_rule.proofs.KnownLaws.TaskHistories.{history_after}
 use Rattle.wait_rule.proofs.KnownLaws.Transitions.{only_none}
@@ -40,16 +38,16 @@ use Rattle.wait_class.specs.Laws.{IsPlainTurn, TurnTrail, turn_post}
 use Rattle.wait_class.specs.declared.stages.Run.{Run}
 use Rattle.wait_class.specs.declared.stages.Turn.TheVariants as turn
 use Rattle.wait_class.proofs.CalmSteps.{calm_saw}
-use Rattle.wait_class.proofs.Ground.Keeping.{keeps_none, keeps_of, keeps_on, own_keeps}
+use Rattle.wait_class.proofs.Ground.Keeping.{keeps_none, keeps_on, own_keeps}
 use Rattle.wait_class.proofs.Ground.Standing.{finds_own, home_waits, seen_book, seen_home, seen_looks, seen_off}
 use Rattle.wait_class.proofs.Ground.Standing.{seen_shows, seen_stands}
 use Rattle.wait_class.proofs.OwnSteps.{own_goes}
 use Rattle.wait_class.proofs.Turns.{GoesOn, advance_by}
 use Rattle.wait_event.specs.Waits.{is_queue}
 use Rattle.completion_cell.specs.HeldPermits.{HasBegunHold, Knows, WaitsIn}
-use Rattle.completion_cell.proofs.AwaitCounts.{still_stands_at}
-use Rattle.completion_cell.proofs.AwaitTrails.{again_begun, load_loaded}
-use Rattle.completion_cell.proofs.Ground.{count_after_step, step_behind}
+use Rattle.completion_cell.proofs.AwaitCounts.{keeps_unchanged, loads_known, none_is, still_stands_at}
+use Rattle.completion_cell.proofs.AwaitTrails.{again_begun}
+use Rattle.completion_cell.proofs.Ground.{step_behind}
 use Rattle.count_sem.specs.SemPrograms.{again_next}
 use Rattle.count_sem.specs.Downs.{DownKeeps, DownTurn, FoundZero, HasCount, HasWalk, again_by, again_to, down_head}
 use Rattle.count_sem.specs.Downs.{down_post, down_table, first_by, first_to}
@@ -113,10 +111,7 @@ again_falls false true looks ends = refl
 again_falls false false looks true = refl
 again_falls false false looks false = refl
 
-none_is : (v : ℕ) → (v == 0) ≡ true → v ≡ 0
-none_is v is = grind (arith, nat_tests, is)
-
-end_is : (v : ℕ) → (v == ALL_DONE) ≡ true → ALL_DONE ≤ v
+pub end_is : (v : ℕ) → (v == ALL_DONE) ≡ true → ALL_DONE ≤ v
 end_is v is = let e = eqb-true v ALL_DONE is in omega (arith, e)
 
 pub at_end : (v : ℕ) → v ≤ ALL_DONE → is_at_end v ≡ (v == ALL_DONE)
@@ -130,14 +125,7 @@ module _ (r : DownCall) (knew new : Known) (v : ℕ) (begun : HasBegunHold r.cel
   e = step.Load (watch.Done r.cell) v
 
   knows : Knows new r.cell v
-  knows = record {
-    counts = (
-      count_after_step r.cell knew new e (history_after knew new e is)
-          ∙ ap (λ (b : Bool). if b then Some v else count_in r.cell (history_of knew)) (eq-eqb r.cell r.cell refl),
-      finds.0,
-    );
-    loaded = load_loaded r.cell knew new v (history_after knew new e is) carries.number begun;
-  }
+  knows = loads_known r.cell knew new v begun is finds carries
 
   knows_zero : (v == 0) ≡ true → Knows new r.cell 0
   knows_zero none = subst (Knows new r.cell) (none_is v none) knows
@@ -159,8 +147,7 @@ module _ (r : DownCall) (knew new : Known) (v : ℕ) (begun : HasBegunHold r.cel
   moved = still_stands_at knew new carries (ap (λ (k : Known). k.book.differs) is)
 
   kept_on : (old : Known) → DownKeeps (own_of old) old knew → DownKeeps (own_of old) old new
-  kept_on old keeps = keeps_on (own_of old) old knew new keeps (keeps_of (own_of old) unchanged knew new carries
-      (λ w. refl) (λ x away. refl) (λ x. carries.owes (with_entry (own_of old) (with_left_entry x))))
+  kept_on old keeps = keeps_on (own_of old) old knew new keeps (keeps_unchanged (own_of old) knew new carries)
 
 -- the first hold
 module _ (old new : Known) (run : Run DownCall) (v : ℕ) (a : IsAt down_table old run stage.FirstLoad)

@@ -1,46 +1,35 @@
 -- Whole calls of `down`: how they begin, how a task stands behind them, and what they say at their end.
-use Rattle.std.proofs.Common.{◌∙◌, ap, sym, refl, subst, arith, inl, inr}
-use Rattle.std.proofs.lemmas.Bool.Decides.{eqb_tells}
-use Rattle.std.specs.Prelude.{ℕ, ◌≡◌, ◌≢◌, ◌<◌, ◌⊎◌, ◌==◌, ◌||◌, Bool, true, false, None, List, [], ◌∷◌}
+use Rattle.std.proofs.Common.{◌∙◌, ap, sym, refl, subst}
+use Rattle.std.specs.Prelude.{ℕ, ◌≡◌, ◌≢◌, ◌<◌, ◌||◌, Bool, false, List, [], ◌∷◌}
 use Rattle.wait_model.specs.declared.layout.TheConstants.{COMPLETIONS}
-use Rattle.wait_model.specs.declared.calls.Call.TheVariants as calls
-use Rattle.wait_model.specs.declared.calls.Event.{Event}
-use Rattle.wait_model.specs.declared.calls.Event.TheVariants as event
 use Rattle.wait_model.specs.declared.points.AwaitPoint.TheVariants as awaiting
 use Rattle.wait_model.specs.declared.points.Next.{Next}
 use Rattle.wait_model.specs.declared.points.Next.TheVariants as next
-use Rattle.wait_model.specs.declared.points.Point.{Point}
 use Rattle.wait_model.specs.declared.points.Point.TheVariants as at
-use Rattle.wait_model.specs.declared.steps.Step.{Step}
 use Rattle.wait_model.specs.declared.steps.Step.TheVariants as step
 use Rattle.wait_model.specs.declared.tasks.SleepState.{SleepState}
-use Rattle.wait_model.specs.Permits.{done_head}
-use Rattle.wait_model.specs.Points.{given_at}
 use Rattle.wait_model.specs.Tasks.{pending, state_mask, task_of}
-use Rattle.wait_rule.specs.HandedPermits.{StaysOff}
 use Rattle.wait_rule.specs.HeldValues.{count_in}
 use Rattle.wait_rule.specs.Known.{Known}
 use Rattle.wait_rule.specs.LeftEntries.{LeftOff}
-use Rattle.wait_rule.specs.Queues.{IsIdle, IsTold, index}
-use Rattle.wait_rule.specs.Says.{Excuse, IsClean, IsFree, IsUp, OwesBut, history_of, no_excuse, told_of}
-use Rattle.wait_rule.specs.Stays.{Carries, with_left_entry}
-use Rattle.wait_rule.specs.Transitions.{Goes, IsStepFor, Program, Transition, after_transition}
-use Rattle.wait_rule.proofs.KnownLaws.CalledPermits.{shows_none}
-use Rattle.wait_rule.proofs.KnownLaws.OtherCalls.{Adding, AddsBy, goes_adding}
-use Rattle.wait_rule.proofs.KnownLaws.StayingParts.{owes_also, owes_left, owes_off, owes_out}
+use Rattle.wait_rule.specs.Queues.{IsIdle, IsTold}
+use Rattle.wait_rule.specs.Says.{IsUp, history_of}
+use Rattle.wait_rule.specs.Transitions.{Goes, Program, Transition, after_transition}
+use Rattle.wait_rule.proofs.KnownLaws.OtherCalls.{Adding, goes_adding}
 use Rattle.wait_class.specs.Posts.{EndsWith, IsOut, Post, Runs, Stands, own_of}
 use Rattle.wait_class.specs.Tables.{Advances, IsAt, IsEnded, Plan, next_in, plan_program}
 use Rattle.wait_class.specs.declared.stages.Run.{Run}
 use Rattle.wait_class.specs.declared.stages.Turn.{Turn}
 use Rattle.wait_class.specs.declared.stages.Turn.TheVariants as turn
-use Rattle.wait_class.proofs.Wholes.{begins, none_of}
-use Rattle.wait_event.specs.Ends.{wait_change}
+use Rattle.wait_event.proofs.Behind.{behind_at}
+use Rattle.wait_class.proofs.Wholes.{begins}
 use Rattle.wait_event.specs.Waits.{has_queued_in}
-use Rattle.completion_cell.proofs.HoldTurns.{head_apart}
-use Rattle.completion_cell.proofs.OtherCells.{IsAside, aside_stays}
+pub use Rattle.completion_cell.proofs.Behind.{StandsBehind, behind_carried, behind_clean, behind_idle}
+pub use Rattle.completion_cell.proofs.OtherCells.{stays_off_by}
+use Rattle.completion_cell.proofs.OtherCells.{IsAside, asks_aside}
 use Rattle.count_sem.specs.SemPrograms.{down_plan, down_program, joined, joins, sem_head}
 use Rattle.count_sem.specs.Downs.{DownKeeps, FoundNoSeat, FoundDownSignal, IsFreshDown, OutFor, StoodThere}
-use Rattle.count_sem.specs.Downs.{WentOutOfDown, down_answer, down_post, down_table, down_watch, found_zero, left_queue}
+use Rattle.count_sem.specs.Downs.{WentOutOfDown, down_answer, down_post, down_table, found_zero, left_queue}
 use Rattle.count_sem.specs.DownEnds.{EndsDown, down_end_in}
 use Rattle.count_sem.specs.declared.downs.DownCall.{DownCall}
 use Rattle.count_sem.specs.declared.downs.DownOutcome.{DownOutcome}
@@ -65,83 +54,11 @@ joined_goes f old (next.Go p) (t ∷ ts) new m g = (
   joined_goes f (after_transition t) (f.plan p t.seen).next ts new m g.1,
 )
 
-apart_head : (c d : ℕ) → c ≢ d → (done_head d == done_head c) ≡ false
-apart_head c d ne = by (done_head d == done_head c) refl
-  where
-    by : (b : Bool) → (done_head d == done_head c) ≡ b → (done_head d == done_head c) ≡ false
-    by false q = q
-    by true q = absurd (ne (sym (head_apart c d (grind (arith, q)))))
-
 -- at the completions that are not the semaphore
-module _ (c d : ℕ) (st : SleepState) (ne : c ≢ d) (me : ℕ) where
-  asks : (p : Point) (k : Known) (e : Event) (s : Step)
-      → IsStepFor k (down_program me d st).own (given_at (calls.WaitFor d st) p) e s → AddsBy (IsAside c) s
-  asks p k (event.Queue h form) (step.Queue x e) q = subst (IsAside c) (sym q.3) (apart_head c d ne)
-  asks p k e (step.Queue x f) q = absurd q
-  asks p k e s q = tt
-
 pub down_adds : (c d : ℕ) (st : SleepState) → c ≢ d → (old new : Known) (from to : Next)
     → Runs (down_program old.view.number d st) old new from to → Adding (IsAside c) old new
 down_adds c d st ne old new from to runs = goes_adding (IsAside c) (down_program old.view.number d st)
-    (asks c d st ne old.view.number) old new from to runs.transitions runs.goes
-
--- so where the own entry is left off at the semaphore, it is left at none
-pub stays_off_by : (old new : Known) (d : ℕ) → ((c : ℕ) → c ≢ d → Adding (IsAside c) old new)
-    → (told_of old).hold.head ≡ None → LeftOff d new → StaysOff old new
-stays_off_by old new d adds free off c left = by (eqb_tells c d)
-  where
-    by : (((c == d) ≡ true) × (c ≡ d)) ⊎ (((c == d) ≡ false) × (c ≢ d)) → LeftOff c new
-    by (inl q) = subst (λ (i : ℕ). LeftOff i new) (sym q.1) off
-    by (inr q) = aside_stays c old new (adds c q.1) free left
-
--- how a task stands behind a `down` that has given the head back
-pub record StandsBehind (old new : Known) : Type 0 where
-  pub up : IsUp new
-  pub running : new.book.state ≡ 0
-  pub free : IsFree new
-  pub told : (told_of new).hold.head ≡ None
-  pub out : IsOut new
-  pub keeps : DownKeeps (own_of old) old new
-
-module _ (old new : Known) (b : StandsBehind old new) where
-  pub behind_idle : (told_of old).mark ≡ None → IsIdle new
-  behind_idle unmarked = record { running = b.running; free = b.free; unmarked = b.keeps.mark ∙ unmarked }
-
-  -- who began idle goes on as it was
-  behind_owed : StaysOff old new → (x : Excuse) → OwesBut x old → OwesBut x new
-  behind_owed off x w = owes_off x new (λ none d. off d (w.debts.off none d)) (λ none. shows_none new b.told)
-      (owes_out (own_of old) (with_left_entry x) new
-      (ap (λ (n : ℕ). (told_of new).bits.stored (index n 0)) (sym b.keeps.number) ∙ b.out)
-      (b.keeps.owes x (owes_also (own_of old) (with_left_entry x) old (owes_left x old w))))
-
-  pub behind_carried : StaysOff old new → IsUp old → IsIdle old → (told_of old).hold.head ≡ None
-      → Carries (wait_change (index old.view.number 0) new.at) old new
-  behind_carried off up idle held =
-      let keeps = b.keeps in record {
-        domain = keeps.domain;
-        number = keeps.number;
-        awake = b.up ∙ sym up;
-        state = b.running ∙ sym idle.running;
-        head = b.free.head ∙ sym idle.free.head;
-        ticket = b.free.ticket ∙ sym idle.free.ticket;
-        hold = b.told ∙ sym held;
-        at = refl;
-        mark = keeps.mark;
-        fewer = λ w σ none is. keeps.fewer w σ is;
-        stored = λ x none away. absurd (cc);
-        out = keeps.out;
-        stands = keeps.stands;
-        keeps = λ d _. keeps.keeps d;
-        owes = behind_owed off;
-      }
-
-  pub behind_clean : StaysOff old new → IsClean old → IsClean new
-  behind_clean off clean = record {
-    up = b.up;
-    running = b.running;
-    free = b.free;
-    settled = behind_owed off no_excuse clean.settled;
-  }
+    (asks_aside c d st ne old.view.number) old new from to runs.transitions runs.goes
 
 -- one that has not found more permits than its own
 abbrev pub IsPlainEnd : DownOutcome → Type 0
@@ -167,15 +84,9 @@ stands_plain k r outcome.Worn p u = u
 -- so it stands that has ended
 pub plain_behind : (old new : Known) (q : Run DownCall) (o : DownOutcome) → IsPlainEnd o → IsEnded down_table new q o
     → DownKeeps (own_of old) old new → StandsBehind old new
-plain_behind old new q o plain ended keeps =
-    let stands = stands_plain new q.of o plain ended.stands in record {
-      up = ended.up;
-      running = stands.state;
-      free = record { head = stands.head; ticket = stands.ticket };
-      told = stands.told;
-      out = none_of (down_watch q.of) ((told_of new).bits.stored (index new.view.number 0)) stands.home;
-      keeps = keeps;
-    }
+plain_behind old new q o plain ended keeps = behind_at (plain_post q.of)
+    (record { head = refl; ticket = refl; stirs = refl; zone = refl }) old new ended.up
+    (stands_plain new q.of o plain ended.stands) keeps
 
 -- a part of a call, in its whole program
 pub part_runs : (old new : Known) (r q : Run DownCall) (s : DownStage) (u : Turn DownStage DownOutcome)

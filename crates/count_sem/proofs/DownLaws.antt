@@ -6,25 +6,24 @@ use Rattle.wait_model.specs.declared.points.Next.TheVariants as next
 use Rattle.wait_model.specs.declared.points.Point.TheVariants as at
 use Rattle.wait_model.specs.declared.points.PreparePoint.TheVariants as preparing
 use Rattle.wait_model.specs.declared.steps.Step.TheVariants as step
-use Rattle.wait_model.specs.Runs.{own}
 use Rattle.wait_model.specs.Tasks.{state_mask}
 use Rattle.wait_rule.specs.Known.{Known}
-use Rattle.wait_rule.specs.Queues.{index, walk_of_hold}
+use Rattle.wait_rule.specs.Queues.{walk_of_hold}
 use Rattle.wait_rule.specs.Says.{history_of}
 use Rattle.wait_rule.specs.Stays.{with_left_entry}
-use Rattle.wait_rule.specs.Transitions.{OnlyLooks, StepOrLook, Transition}
-use Rattle.wait_rule.proofs.KnownLaws.Transitions.{only_looked}
+use Rattle.wait_rule.specs.Transitions.{StepOrLook, Transition}
 use Rattle.wait_class.specs.Posts.{own_of}
-use Rattle.wait_class.specs.Laws.{Calm, HasJoined, IsLawfulCallTable, LawOf, LookLaw, PareLaw, QueueLaw}
+use Rattle.wait_class.specs.Laws.{Calm, IsLawfulCallTable, LawOf, LookLaw, PareLaw, QueueLaw}
 use Rattle.wait_class.specs.declared.stages.Turn.TheVariants as turn
-use Rattle.wait_class.proofs.Histories.{stored_history, unmoved_by}
+use Rattle.wait_class.proofs.Histories.{unmoved_by}
 use Rattle.wait_class.proofs.Holds.{draw_by, give_by, lock_by, pare_by, queue_by, state_by, unlock_by}
 use Rattle.wait_class.proofs.Stays.{stays_but}
 use Rattle.wait_class.proofs.Ways.{look_by, sleep_by, way}
 use Rattle.wait_event.specs.Waits.{is_queue, has_queued_in}
 use Rattle.wait_event.proofs.Tellings.{or_none, queues_append, quiet_queues}
-use Rattle.completion_cell.specs.HeldPermits.{Knows}
-use Rattle.completion_cell.proofs.AwaitTrails.{first_begun, knows_by, knows_look, knows_looks, knows_none, knows_off}
+use Rattle.completion_cell.proofs.AwaitAdds.{QueuesAtCell}
+use Rattle.completion_cell.proofs.AwaitLaws.{joined_knows, or_yes}
+use Rattle.completion_cell.proofs.AwaitTrails.{first_begun, knows_look, knows_looks, knows_none, knows_off}
 use Rattle.completion_cell.proofs.AwaitTrails.{knows_saw, knows_state, knows_stayed}
 use Rattle.completion_cell.proofs.Ground.{count_after_step, head_there, looked_count}
 use Rattle.completion_cell.proofs.WaitFronts.{waits_may_end}
@@ -44,22 +43,9 @@ told_by r q x cell state queued none = record {
   queued = queued ∙ sym (ap (λ (b : Bool). r.queued || (b || false)) none ∙ or_none r.queued);
 }
 
-or_yes : (b : Bool) → (b || (true || false)) ≡ true
-or_yes true = refl
-or_yes false = refl
-
--- the own entry is queued, where the count is known to be 0
-joined_knows : (r : DownCall) (old mid new : Known) → OnlyLooks old mid → HasJoined down_table r stage.Queue mid new
-    → Knows old r.cell 0 → Knows new r.cell 0
-joined_knows r old mid new looks x u =
-    let s = knows_looks r.cell mid x.seen 0
-    (only_looked mid x.seen x.looks.items x.looks.same x.looks.looks x.looks.is) (knows_looks r.cell old mid 0 looks u)
-    in
-    let same : index mid.view.number 0 ≡ own x.seen.view.number =
-    ap (λ (k : Known). index k.view.number 0) (sym x.looks.is) ∙ omega arith in
-    knows_by r.cell x.seen new 0 (step.Queue (index mid.view.number 0) x.entry ∷ [])
-    (stored_history x.seen new (step.Queue (index mid.view.number 0) x.entry) x.is)
-    (ap (λ (k : Known). k.view.number) x.is) (λ k. ((same, refl), (refl, refl))) refl s
+-- its entry is queued at the tail of the semaphore's head
+pub down_queues : (r : DownCall) → QueuesAtCell down_table r stage.Queue r.cell
+down_queues r = record { form = refl; entry = λ place. refl; about = refl; keeps = λ old new k. k }
 
 module _ (r : DownCall) where
   -- a hold that found 0
@@ -88,7 +74,7 @@ module _ (r : DownCall) where
         cell = refl;
         state = refl;
         queued = sym (ap (λ (d : StepOrLook). r.queued || (is_queue d || false)) did ∙ or_yes r.queued);
-      }) (λ old mid new looks x u. joined_knows r old mid new looks x u.0) tt (λ me. refl) (λ p. refl) (λ p σ s. s)
+      }) (λ old mid new looks x u. joined_knows down_table r stage.Queue r.cell old mid new looks x u.0) tt (λ me. refl) (λ p. refl) (λ p σ s. s)
       (λ p. tt) (λ old last fits looks at u. knows_none r.cell last at (knows_looks r.cell old last 0 looks u.0))
       (λ old last new p looks noted is u. (
         (history_of last, is),

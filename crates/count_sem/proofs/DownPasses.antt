@@ -1,43 +1,27 @@
 -- A whole `down` that handed a permit on.
-use Rattle.std.proofs.Common.{◌∙◌, ap, sym, refl, subst, arith, eq-eqb}
-use Rattle.std.specs.Prelude.{ℕ, ◌≡◌, ◌≢◌, Bool, false, if◌then◌else◌, Some, None, Ok, List, [], ◌∷◌, ◌++◌}
+use Rattle.std.proofs.Common.{◌∙◌, ap, refl, subst}
+use Rattle.std.specs.Prelude.{ℕ, ◌≢◌, false, Ok}
 use Rattle.wait_model.specs.declared.points.AwaitPoint.TheVariants as awaiting
 use Rattle.wait_model.specs.declared.points.Next.TheVariants as next
 use Rattle.wait_model.specs.declared.points.Point.TheVariants as at
-use Rattle.wait_model.specs.declared.steps.Step.{Step}
-use Rattle.wait_model.specs.declared.steps.Step.TheVariants as step
 use Rattle.wait_model.specs.declared.tasks.SleepState.{SleepState}
-use Rattle.wait_model.specs.declared.watches.Entry.{Entry}
-use Rattle.wait_model.specs.Facts.{Agrees}
-use Rattle.wait_model.specs.Fold.{view_of}
-use Rattle.wait_model.specs.Permits.{Dealt, dealt, done_head, none_dealt, shows_at}
 use Rattle.wait_model.specs.Programs.{zero_answer}
-use Rattle.wait_model.specs.Runs.{own}
-use Rattle.wait_model.specs.Tables.{Table}
-use Rattle.wait_model.specs.Views.{Bits, Look, View, blank, elsewhere, off, shown, unseen}
-use Rattle.wait_model.proofs.HistoryLaws.HoldLooks.{after_snoc}
-use Rattle.wait_model.proofs.PermitLaws.OwnTurns.{deals_snoc}
-use Rattle.wait_model.proofs.StepLaws.UnlockSteps.{unlock_bits}
-use Rattle.wait_model.proofs.WordLaws.DecodedWords.{owner_own}
-use Rattle.wait_rule.specs.Interleavings.{table_of}
 use Rattle.wait_rule.specs.Known.{Known}
-use Rattle.wait_rule.specs.LeftEntries.{LeftOff, Order}
+use Rattle.wait_rule.specs.LeftEntries.{LeftOff}
 use Rattle.wait_rule.specs.Queues.{index}
 use Rattle.wait_rule.specs.Says.{told_of}
 use Rattle.wait_rule.specs.Stays.{with_entry, with_left_entry}
-use Rattle.wait_rule.proofs.KnownLaws.CalledPermits.{order_as}
-use Rattle.wait_rule.proofs.KnownLaws.HandedSteps.{OrderStep, order_step, order_view}
-use Rattle.wait_rule.proofs.KnownLaws.Moments.{kept_of}
 use Rattle.wait_rule.proofs.KnownLaws.OtherCalls.{Adding}
-use Rattle.wait_class.specs.Posts.{EndsWith, IsOut, Runs, own_of}
+use Rattle.wait_class.specs.Posts.{IsOut, Runs, own_of}
 use Rattle.wait_class.specs.Tables.{Advances, IsEnded}
 use Rattle.wait_class.specs.declared.stages.Run.{Run}
 use Rattle.wait_class.specs.declared.stages.Turn.TheVariants as turn
 use Rattle.wait_class.proofs.Ground.Going.{runs_on}
 use Rattle.wait_class.proofs.Ground.Keeping.{keeps_of, keeps_on}
 use Rattle.wait_class.proofs.Wholes.{none_of}
+pub use Rattle.completion_cell.proofs.OtherCells.{given_by}
 use Rattle.completion_cell.proofs.OtherCells.{IsAside}
-use Rattle.count_sem.specs.SemPrograms.{down_program, pass_point, sem_head}
+use Rattle.count_sem.specs.SemPrograms.{down_program, pass_point}
 use Rattle.count_sem.specs.Downs.{DownKeeps, IsFreshDown, down_table, down_watch}
 use Rattle.count_sem.specs.DownEnds.{EndsDown}
 use Rattle.count_sem.specs.Passes.{HasPassedOn, pass_change}
@@ -47,56 +31,6 @@ use Rattle.count_sem.specs.declared.downs.DownStage.{DownStage}
 use Rattle.count_sem.specs.declared.downs.DownStage.TheVariants as stage
 use Rattle.count_sem.proofs.DownEndings.{StandsBehind, down_adds, part_runs}
 use Rattle.count_sem.proofs.DownTrails.{own_same}
-
--- where the own entry is known to be off, the hold that was given back left it so, whether its spent count rose or not
-module _ (d a : ℕ) (sp : Bool) (front : List Step) (o : Order a (front ++ step.Unlock (done_head d) sp ∷ [])) where
-  abbrev back : Step
-  back = step.Unlock (done_head d) sp
-
-  at_back : OrderStep a front back
-  at_back = order_step a front back [] o
-
-  abbrev s : Table
-  s = table_of at_back.order.steps
-
-  stood : (e : Entry) → (view_of front).hold.book (own a) ≡ shown e → (view_of front).bits.stored (own a) ≡ Some e
-  stood e is =
-      let kept = kept_of at_back.order.steps at_back.order.may in
-      let told = order_view a front at_back.order in
-      let agrees = (kept.facts.views a).hold.agrees (done_head d) (own a) at_back.allowed.0 in
-      let now : Agrees (done_head d) (shown e) (s.entry (own a)) =
-      subst (λ (l : Look). Agrees (done_head d) l (s.entry (own a)))
-      (ap (λ (v : View). v.hold.book (own a)) told ∙ is) agrees in
-      sym (ap (λ (v : View). v.bits.stored (own a)) told)
-      ∙ (sym (ap (λ (i : ℕ). (s.view i).bits.stored (own a)) (owner_own a)) ∙ kept.bits.stored_is (own a) e now.0)
-
-  home_left_by : (view_of (front ++ back ∷ [])).bits.stored (own a) ≡ None
-      → (dealt d a (front ++ back ∷ [])).left ≡ false
-  home_left_by none = ap (λ (u : Dealt). u.left) (deals_snoc d (own a) blank none_dealt front back)
-      ∙ (ap (λ (b : Bool). if b then shows_at (done_head d) ((view_of front).hold.book (own a))
-      else (dealt d a front).left) (eq-eqb (done_head d) (done_head d) refl) ∙ by ((view_of front).hold.book (own a))
-      refl)
-    where
-      was : (view_of front).bits.stored (own a) ≡ None
-      was = sym (ap (λ (b : Bits). b.stored (own a)) (ap (λ (v : View). v.bits) (after_snoc blank front back)
-          ∙ unlock_bits (view_of front) (view_of front).walk sp)) ∙ none
-
-      by : (l : Look) → (view_of front).hold.book (own a) ≡ l → shows_at (done_head d) l ≡ false
-      by unseen is = refl
-      by off is = refl
-      by elsewhere is = refl
-      by (shown e) is = absurd (let no : None ≡ Some e = sym was ∙ stood e is in cc)
-
--- who has given the head back, and knows its own entry to be off
-pub given_by : (new : Known) (d : ℕ) (sp : Bool) → EndsWith new (step.Unlock (sem_head d) sp ∷ []) → IsOut new → LeftOff
-    d new
-given_by new d sp back none order =
-    let a = new.view.number in
-    let here : index a 0 ≡ own a = omega arith in
-    subst (λ (l : List Step). (dealt d a l).left ≡ false) (sym back.1)
-    (home_left_by d a sp back.0 (order_as a new (back.0 ++ step.Unlock (done_head d) sp ∷ []) refl back.1 order)
-    (ap (λ (l : List Step). (view_of l).bits.stored (own a)) (sym back.1) ∙ (ap (told_of new).bits.stored (sym here)
-    ∙ none)))
 
 -- how the task stands behind one that handed on, and where it has left its entry
 module _ (mid new : Known) (q : Run DownCall) (ended : IsEnded down_table mid q outcome.Passing)

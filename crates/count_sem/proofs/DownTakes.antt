@@ -1,60 +1,53 @@
 -- A `down` takes its own entry off, and one of the count.
-use Rattle.std.proofs.Common.{◌∙◌, ap, sym, refl, subst, arith, inl, eqb-true}
+use Rattle.std.proofs.Common.{◌∙◌, ap, sym, refl, subst, arith, inl}
 use Rattle.std.proofs.lemmas.Bool.Decides.{nat_tests}
-use Rattle.std.specs.Prelude.{ℕ, ◌≡◌, ◌≢◌, ◌<◌, ◌≤◌, ◌+◌, ◌-◌, ◌==◌, if◌then◌else◌, Bool, true, false, Some, [], ◌∷◌}
-use Rattle.wait_model.specs.declared.layout.TheConstants.{ALL_DONE, HEADS}
+use Rattle.std.specs.Prelude.{ℕ, ◌≡◌, ◌<◌, ◌≤◌, ◌-◌, ◌==◌, if◌then◌else◌, Bool, true, false, Some, [], ◌∷◌}
+use Rattle.wait_model.specs.declared.layout.TheConstants.{ALL_DONE}
 use Rattle.wait_model.specs.declared.points.AwaitPoint.TheVariants as awaiting
 use Rattle.wait_model.specs.declared.points.Next.{Next}
 use Rattle.wait_model.specs.declared.points.Next.TheVariants as next
 use Rattle.wait_model.specs.declared.points.Point.TheVariants as at
 use Rattle.wait_model.specs.declared.steps.Step.{Step}
 use Rattle.wait_model.specs.declared.steps.Step.TheVariants as step
-use Rattle.wait_model.specs.declared.watches.Watch.{Watch}
 use Rattle.wait_model.specs.declared.watches.Watch.TheVariants as watch
-use Rattle.wait_model.specs.Permits.{after_store}
 use Rattle.wait_model.specs.PointFacts.{IsHome, absent}
-use Rattle.wait_model.specs.Runs.{is_publishing, own, set_step}
+use Rattle.wait_model.specs.Runs.{is_publishing, own}
 use Rattle.wait_model.specs.Views.{Look}
 use Rattle.wait_rule.specs.declared.journal.Item.TheVariants as item
 use Rattle.wait_rule.specs.Counts.{StoresCount}
 use Rattle.wait_rule.specs.Known.{Known}
 use Rattle.wait_rule.specs.Queues.{MayUnqueue, index}
 use Rattle.wait_rule.specs.Says.{added, stored_with, told_of}
-use Rattle.wait_rule.specs.Stays.{Carries, take_off_change, unchanged, with_entry, with_left_entry}
+use Rattle.wait_rule.specs.Stays.{Carries, take_off_change, unchanged}
 use Rattle.wait_rule.specs.Transitions.{IsSeenAs, OnlyLooks}
 use Rattle.wait_rule.proofs.KnownLaws.MemberBits.{bit_looks}
-use Rattle.wait_rule.proofs.KnownLaws.TaskHistories.{history_after}
 use Rattle.wait_rule.proofs.KnownLaws.Transitions.{only_none}
 use Rattle.wq_head.specs.Adds.{HasRemoved}
 use Rattle.wq_head.specs.Holds.{IsHolding}
 use Rattle.wait_class.specs.Findings.{saw_nothing, with_value}
-use Rattle.wait_class.specs.Handing.{LastGiven, given_back_by}
 use Rattle.wait_class.specs.Posts.{Post, Stands, own_of}
-use Rattle.wait_class.specs.Tables.{IsAt, SleepsNot, Turned, falls, is_sleep, next_in, post_of}
+use Rattle.wait_class.specs.Tables.{IsAt, Turned, falls, next_in, post_of}
 use Rattle.wait_class.specs.Laws.{Calm, IsPlainTurn, TurnTrail, turn_post}
 use Rattle.wait_class.specs.declared.stages.Run.{Run}
 use Rattle.wait_class.specs.declared.stages.Turn.TheVariants as turn
 use Rattle.wait_class.proofs.CalmSteps.{calm_removed}
-use Rattle.wait_class.proofs.Ground.Keeping.{keeps_of, keeps_taken}
+use Rattle.wait_class.proofs.Ground.Keeping.{keeps_taken}
 use Rattle.wait_class.proofs.Ground.Standing.{carried_stands, owner_own}
-use Rattle.wait_class.proofs.AwakeSteps.{awake_step}
-use Rattle.wait_class.proofs.Handed.{given_as, given_step}
 use Rattle.wait_class.proofs.OwnSteps.{own_goes}
 use Rattle.wait_class.proofs.Turns.{GoesOn, advance_by}
 use Rattle.wait_event.specs.Waits.{is_queue}
 use Rattle.completion_cell.specs.Asks.{HasCountedDone}
-use Rattle.completion_cell.specs.HeldPermits.{Deals, Knows, WaitsIn}
-use Rattle.completion_cell.proofs.AwaitCounts.{still_stands_at}
+use Rattle.completion_cell.specs.HeldPermits.{Knows, WaitsIn}
+use Rattle.completion_cell.proofs.AwaitCounts.{keeps_unchanged, still_stands_at}
+use Rattle.completion_cell.proofs.AwaitTakes.{waits_less}
 use Rattle.completion_cell.proofs.AwaitTrails.{knows_by}
 use Rattle.completion_cell.proofs.Completing.{stored_agreed}
 use Rattle.completion_cell.proofs.Ground.{step_behind}
-use Rattle.completion_cell.proofs.HeldSteps.{held_by, store_deals}
-use Rattle.completion_cell.proofs.WaitFronts.{waits_on}
 use Rattle.count_sem.specs.Downs.{down_head, down_table, takes_by, takes_to}
 use Rattle.count_sem.specs.declared.downs.DownCall.{DownCall}
 use Rattle.count_sem.specs.declared.downs.DownStage.{DownStage}
 use Rattle.count_sem.specs.declared.downs.DownStage.TheVariants as stage
-use Rattle.count_sem.proofs.DownCounts.{at_end}
+use Rattle.count_sem.proofs.DownCounts.{at_end, end_is}
 use Rattle.count_sem.proofs.DownLaws.{told_by}
 
 takes_next : (ends : Bool) → ◌≡◌ {A = Next} (next.Go (at.Await (if ends then awaiting.Unlock else awaiting.Last false)))
@@ -69,9 +62,6 @@ takes_plain false = refl
 pub takes_falls : (ends : Bool) → falls down_table stage.TakeQueue (turn.Again (takes_by ends)) ≡ true
 takes_falls true = refl
 takes_falls false = refl
-
-end_is : (v : ℕ) → (v == ALL_DONE) ≡ true → ALL_DONE ≤ v
-end_is v is = let e = eqb-true v ALL_DONE is in omega (arith, e)
 
 -- the own entry, which the hold has seen, is taken off
 module _ (old : Known) (run : Run DownCall) (a : IsAt down_table old run stage.TakeQueue) where
@@ -159,14 +149,6 @@ module _ (old : Known) (run : Run DownCall) (a : IsAt down_table old run stage.T
         (advance_by down_table old new run run stage.TakeQueue (turn.Again (takes_to c)) refl a.fits
         (takes_plain (c.count == ALL_DONE)) goes)
 
--- what is owed where one is taken
-pub takes_owed : (n r k : ℕ) → r ≡ n → k ≤ 1 → after_store (n - 1) r k ≡ 0
-takes_owed n r k same few = by (n - 1 == 0) refl
-  where
-    by : (b : Bool) → (n - 1 == 0) ≡ b → (if b then 0 else k + (n - 1) - r) ≡ 0
-    by true is = refl
-    by false is = let ne : n - 1 ≢ 0 = grind (arith, nat_tests, is) in omega (arith, same, few, ne)
-
 -- a count that is lowered makes no permit
 pub lowers_none : (d n found : ℕ) → (n == 0) ≡ false → n ≤ ALL_DONE → found ≡ n
     → is_publishing (watch.Done d) found (n - 1) ≡ false
@@ -213,18 +195,12 @@ module _ (old : Known) (run : Run DownCall) (a : IsAt down_table old run stage.T
     carries = made.consumes lower
 
     waits_new : WaitsIn d new (Some (n - 1)) 0
-    waits_new = waits_on d old new (Some n) (Some (n - 1)) known.loaded.owes 0
-        (held_by d old new (set_step (watch.Done d) (n - 1) made.found ∷ []) (Some n) (Some (n - 1)) known.loaded.owes 0
-        (history_after old new (set_step (watch.Done d) (n - 1) made.found) made.is) carries.number
-        (subst (λ (m : ℕ). Deals d (own old.view.number) (set_step (watch.Done d) (n - 1) made.found ∷ []) (Some n)
-        known.loaded.owes (Some (n - 1)) m) (takes_owed n made.found known.loaded.owes same known.loaded.settled.0)
-        (store_deals d (own old.view.number) (n - 1) made.found (Some n) known.loaded.owes))) known.loaded.waits
+    waits_new = waits_less d n old new known made same carries.number
 
     take_goes : GoesOn down_table old new r r stage.TakeStore (turn.Again stage.TakeUnlock)
     take_goes = own_goes down_table old old new r r stage.TakeStore (turn.Again stage.TakeUnlock) e (with_value n)
         (only_none old) (step_behind old new e is) (λ x did. told_by r r x refl refl refl (ap is_queue did))
-        (keeps_of (own_of old) unchanged old new carries (λ w. refl) (λ i away. refl)
-        (λ i. carries.owes (with_entry (own_of old) (with_left_entry i)))) refl (refl, refl, lower)
+        (keeps_unchanged (own_of old) old new carries) refl (refl, refl, lower)
         (sym same, known.counts.0, tt) (carries.awake ∙ a.up)
         (still_stands_at old new carries (stored_agreed old new d (n - 1) made.found made.is) p _ a.stands refl refl
         refl
@@ -233,22 +209,3 @@ module _ (old : Known) (run : Run DownCall) (a : IsAt down_table old run stage.T
     pub take_turned : Turned down_table old new run run stage.TakeStore (turn.Again stage.TakeUnlock)
     take_turned = advance_by down_table old new run run stage.TakeStore (turn.Again stage.TakeUnlock) refl a.fits refl
         take_goes
-
--- a store of the count gives no lock back
-set_gives : (b : Bool) (w : Watch) (m found : ℕ)
-    → given_back_by (if b then step.Publish w m found else step.Consume w m found) HEADS ≡ HEADS
-set_gives true w m found = refl
-set_gives false w m found = refl
-
-pub store_gives : (old new : Known) (d m : ℕ) → StoresCount old new d m → LastGiven old new HEADS
-store_gives old new d m s = given_as old new _ HEADS (sym (set_gives _ (watch.Done d) m s.found))
-    (given_step old new (set_step (watch.Done d) m s.found) s.is)
-
-set_awake : (b : Bool) (w : Watch) (m found : ℕ)
-    → is_sleep (if b then step.Publish w m found else step.Consume w m found) ≡ false
-set_awake true w m found = refl
-set_awake false w m found = refl
-
-pub store_awake : (old new : Known) (d m : ℕ) → StoresCount old new d m → SleepsNot old new
-store_awake old new d m s = awake_step old new (set_step (watch.Done d) m s.found) s.is
-    (set_awake _ (watch.Done d) m s.found)

@@ -20,7 +20,7 @@ use Rattle.wait_rule.specs.Counts.{StoresCount}
 use Rattle.wait_rule.specs.HandedPermits.{OwesNoPermit}
 use Rattle.wait_rule.specs.Known.{Known}
 use Rattle.wait_rule.specs.LeftEntries.{OrderOf}
-use Rattle.wait_rule.specs.Queues.{IsWholeBook, MayRise, index}
+use Rattle.wait_rule.specs.Queues.{IsWholeBook, MayRise}
 use Rattle.wait_rule.specs.Says.{IsUp, added, history_of, told_of, unlocked_with}
 use Rattle.wait_rule.specs.Shown.{look_entry, shown_entry}
 use Rattle.wait_rule.specs.Stays.{Carries, only_looks, unchanged, unlock_change}
@@ -44,8 +44,9 @@ use Rattle.wait_class.specs.Tables.{IsEnded}
 use Rattle.wait_class.specs.declared.stages.Run.{Run}
 use Rattle.wait_class.proofs.Ground.Going.{runs_looks, runs_on, runs_one}
 use Rattle.completion_cell.specs.Asks.{HasCountedDone}
-use Rattle.completion_cell.proofs.Completing.{done_simple, stored_agreed}
-use Rattle.completion_cell.proofs.Ground.{looked_count, quiet_store}
+use Rattle.completion_cell.proofs.AwaitTakes.{takes_owed}
+use Rattle.completion_cell.proofs.Completing.{done_simple, looked_around, looked_first, simple_stored, stored_agreed}
+use Rattle.completion_cell.proofs.Ground.{looked_count, quiet_store, holding_on}
 use Rattle.completion_cell.proofs.Permits.{inside_join, inside_looks, inside_step, nobody, selection_inside}
 use Rattle.completion_cell.proofs.Permits.{store_inside, store_owes, unlocked_steps}
 use Rattle.count_sem.specs.SemPrograms.{down_program, gives_to, joined, pass_gives, pass_point, sem_head}
@@ -53,11 +54,11 @@ use Rattle.count_sem.specs.Downs.{down_table}
 use Rattle.count_sem.specs.Passes.{HasPassedOn, HasWaiter, pass_change}
 use Rattle.count_sem.specs.declared.downs.DownCall.{DownCall}
 use Rattle.count_sem.specs.declared.downs.DownOutcome.TheVariants as outcome
-use Rattle.count_sem.proofs.DownTakes.{lowers_none, takes_owed}
+use Rattle.count_sem.proofs.DownTakes.{lowers_none}
 use Rattle.count_sem.proofs.FirstWaiters.{gives_runs}
 use Rattle.count_sem.proofs.FoundWaiters.{first_waits}
 use Rattle.count_sem.proofs.PassedHolds.{Passes, passes_owing_none}
-use Rattle.count_sem.proofs.SemBooks.{book_store, simple_stored}
+use Rattle.count_sem.proofs.SemBooks.{book_store}
 
 -- an event of a part of a program, in the whole of it
 abbrev plan_joined : Planned → Planned
@@ -66,31 +67,8 @@ plan_joined p = record { event = p.event; next = joined p.next }
 -- looks, a store that makes no permit, a selection, and the unlock
 passed_carried : (old l b m new : Known) → Carries only_looks old l → Carries unchanged l b → Carries only_looks b m
     → Carries unlock_change m new → Carries pass_change old new
-passed_carried old l b m new one two three four = record {
-  domain = four.domain ∙ (three.domain ∙ (two.domain ∙ one.domain));
-  number = four.number ∙ (three.number ∙ (two.number ∙ one.number));
-  awake = four.awake ∙ (three.awake ∙ (two.awake ∙ one.awake));
-  state = four.state ∙ (three.state ∙ (two.state ∙ one.state));
-  head = four.head;
-  ticket = four.ticket;
-  hold = four.hold;
-  at = four.at ∙ (three.at ∙ (two.at ∙ one.at));
-  mark = four.mark ∙ (three.mark ∙ (two.mark ∙ one.mark));
-  fewer = λ w σ p is. four.fewer w σ refl (three.fewer w σ refl (two.fewer w σ refl (one.fewer w σ refl is)));
-  stored = λ x none away. absurd (cc);
-  out = λ x away none. four.out x refl (three.out x refl (two.out x refl (one.out x refl none)));
-  stands = λ slot few away e is kind.
-      let by_l = one.stands slot few refl e is kind in
-      let by_b = two.stands slot few refl e
-      (subst (λ (i : ℕ). (told_of l).bits.stored (index i slot) ≡ Some e) (sym one.number) by_l) kind in
-      let by_m = three.stands slot few refl e
-      (subst (λ (i : ℕ). (told_of b).bits.stored (index i slot) ≡ Some e) (sym two.number) by_b) kind in
-      subst (λ (i : ℕ). (told_of new).bits.stored (index i slot) ≡ Some e) (three.number ∙ (two.number ∙ one.number))
-      (four.stands slot few refl e
-      (subst (λ (i : ℕ). (told_of m).bits.stored (index i slot) ≡ Some e) (sym three.number) by_m) kind);
-  keeps = λ w p. four.keeps w refl ∙ (three.keeps w refl ∙ (two.keeps w refl ∙ one.keeps w refl));
-  owes = λ x o. four.owes x (three.owes x (two.owes x (one.owes x o)));
-}
+passed_carried old l b m new one two three four =
+    looked_first unlock_change old m new (looked_around unchanged old l b m one two three) four
 
 module _ (old : Known) (run : Run DownCall) (a : IsEnded down_table old run outcome.Passing) where
   abbrev r : DownCall
@@ -185,11 +163,8 @@ module _ (old : Known) (run : Run DownCall) (a : IsEnded down_table old run outc
         lowered_up = stored.awake ∙ looking_up
 
         pub lowered_holds : IsHolding b
-        lowered_holds = record {
-          locked = stored.head ∙ (looking_holds.locked ∙ ap Some (sym stored.at));
-          agreed = stored_agreed l b d (r.count - 1) made.found made.is ∙ looking_holds.agreed;
-          told = stored.hold ∙ (looking_holds.told ∙ ap Some (sym stored.at));
-        }
+        lowered_holds = holding_on l b stored.head stored.hold stored.at
+            (stored_agreed l b d (r.count - 1) made.found made.is) looking_holds
 
         pub lowered_simple : IsSimpleHold b
         lowered_simple = simple_stored l b d (r.count - 1) made.found made.is (hold_simple old l k_l pass_simple)

@@ -6,7 +6,6 @@ pub mod DownTrails
 pub mod DownLaws
 pub mod DownCounts
 pub mod DownTakes
-pub mod DownAdds
 pub mod DownEndings
 pub mod PassedHolds
 pub mod FoundWaiters

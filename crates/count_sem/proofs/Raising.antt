@@ -1,7 +1,7 @@
 -- A permit is given back: to the first who waits, or to the count.
-use Rattle.std.proofs.Common.{◌∙◌, ap, sym, refl, subst, arith, inl, inr, eq-eqb, append_assoc}
+use Rattle.std.proofs.Common.{◌∙◌, ap, sym, refl, subst, arith, inl, inr, append_assoc}
 use Rattle.std.proofs.lemmas.Bool.Decides.{nat_tests}
-use Rattle.std.specs.Prelude.{ℕ, ◌≡◌, ◌<◌, ◌≤◌, ◌+◌, ◌-◌, ◌⊎◌, if◌then◌else◌, Bool, true, false, Option, Some, None}
+use Rattle.std.specs.Prelude.{ℕ, ◌≡◌, ◌<◌, ◌≤◌, ◌+◌, ◌-◌, if◌then◌else◌, Bool, true, false, Option, Some, None}
 use Rattle.std.specs.Prelude.{Err, Ok, [], ◌∷◌, ◌++◌}
 use Rattle.wait_model.specs.declared.layout.TheConstants.{FIRST_SIMPLE_HEAD}
 use Rattle.wait_model.specs.declared.calls.Call.TheVariants as calls
@@ -14,7 +14,6 @@ use Rattle.wait_model.specs.declared.points.SelectPoint.TheVariants as selecting
 use Rattle.wait_model.specs.declared.queues.CalledEntry.{CalledEntry}
 use Rattle.wait_model.specs.declared.steps.Step.TheVariants as step
 use Rattle.wait_model.specs.declared.watches.Mode.TheVariants as mode
-use Rattle.wait_model.specs.declared.watches.Watch.{Watch}
 use Rattle.wait_model.specs.declared.watches.Watch.TheVariants as watch
 use Rattle.wait_model.specs.Permits.{done_head}
 use Rattle.wait_model.specs.Programs.{zero_answer}
@@ -22,19 +21,17 @@ use Rattle.wait_model.specs.Runs.{called_by, set_step}
 use Rattle.wait_rule.specs.declared.journal.Item.TheVariants as item
 use Rattle.wait_rule.specs.Counts.{FindsCount, StoresCount}
 use Rattle.wait_rule.specs.HandedPermits.{OwesNoPermit, StaysOff}
-use Rattle.wait_rule.specs.HeldValues.{count_in}
 use Rattle.wait_rule.specs.Known.{Known}
 use Rattle.wait_rule.specs.LeftEntries.{LeftOff}
-use Rattle.wait_rule.specs.Queues.{IsTold, IsWholeBook, index, simple_watch, walk_of_hold}
-use Rattle.wait_rule.specs.Says.{Excuse, IsFree, IsUp, OwesBut, added, history_of, told_of, unlocked_with}
+use Rattle.wait_rule.specs.Queues.{IsTold, IsWholeBook, walk_of_hold}
+use Rattle.wait_rule.specs.Says.{IsFree, IsUp, added, history_of, unlocked_with}
 use Rattle.wait_rule.specs.Shown.{shown_entry}
 use Rattle.wait_rule.specs.Stays.{Carries, Stays, StaysOwing, lock_change, no_entries, only_looks, publish_change}
-use Rattle.wait_rule.specs.Stays.{unchanged, unlock_change, with_wakes}
+use Rattle.wait_rule.specs.Stays.{unchanged}
 use Rattle.wait_rule.specs.Transitions.{OnlyLooks, Program, by_step}
 use Rattle.wait_rule.proofs.KnownLaws.CarriedCounts.{as_publish}
-use Rattle.wait_rule.proofs.KnownLaws.CarriedTasks.{unchanged_none}
+use Rattle.wait_rule.proofs.KnownLaws.CarriedTasks.{unchanged_first, unchanged_none}
 use Rattle.wait_rule.proofs.KnownLaws.HeldPermits.{owed}
-use Rattle.wait_rule.proofs.KnownLaws.StayingParts.{stays_same}
 use Rattle.wait_rule.proofs.KnownLaws.TaskHistories.{history_after}
 use Rattle.wait_rule.proofs.KnownLaws.Transitions.{only_none}
 use Rattle.wait_rule.proofs.KnownLaws.Turns.{serve_looks}
@@ -47,7 +44,7 @@ use Rattle.wq_head.proofs.KeptHolds.{hold_carried, hold_holds}
 use Rattle.wq_head.proofs.LockWaits.{turn_of}
 use Rattle.wq_head.proofs.LookingHold.{looks_only}
 use Rattle.wq_head.proofs.SelectedRuns.{lock_goes}
-use Rattle.wq_head.proofs.SimpleHolds.{own_done, simple_ended}
+use Rattle.wq_head.proofs.SimpleHolds.{own_done}
 use Rattle.wait_event.specs.Conds.{set_change}
 use Rattle.wait_class.specs.Findings.{saw_nothing, with_value}
 use Rattle.wait_class.specs.Posts.{Runs}
@@ -55,55 +52,18 @@ use Rattle.wait_class.specs.Tables.{plan_program}
 use Rattle.wait_class.proofs.Ground.Going.{runs_looks, runs_on, runs_one}
 use Rattle.wait_class.proofs.Histories.{unlocked_history}
 use Rattle.completion_cell.specs.Asks.{HasCountedDone}
-use Rattle.completion_cell.proofs.Asking.{none_held}
-use Rattle.completion_cell.proofs.Completing.{done_simple, stored_agreed}
-use Rattle.completion_cell.proofs.Ground.{count_after_step, quiet_store, step_behind}
+use Rattle.completion_cell.proofs.Asking.{none_held, counted_after}
+use Rattle.completion_cell.proofs.Completing.{done_simple, ended_carried, looked_first, simple_loaded, simple_stored}
+use Rattle.completion_cell.proofs.Completing.{stored_agreed}
+use Rattle.completion_cell.proofs.Ground.{quiet_store, step_behind, holding_on}
 use Rattle.completion_cell.proofs.Permits.{MayEndHold, ends_off, ends_owing_none, hold_made, inside_join, inside_step}
 use Rattle.completion_cell.proofs.Permits.{nobody, selection_inside, store_inside}
 use Rattle.count_sem.specs.declared.ups.TheConstants.{FULL}
 use Rattle.count_sem.specs.SemPrograms.{full_answer, gives_to, is_full, sem_head, up_next, up_plan}
 use Rattle.count_sem.specs.Ups.{FoundNobody, HasRaised}
 use Rattle.count_sem.proofs.FirstWaiters.{gives_runs}
-use Rattle.count_sem.proofs.SemBooks.{SameBook, book_load, book_on, book_store, nobody_on, simple_loaded, simple_stored}
+use Rattle.count_sem.proofs.SemBooks.{SameBook, book_load, book_on, book_store, nobody_on}
 use Rattle.count_sem.proofs.SemBooks.{whole_on}
-
--- what an `up` carries on: the lock, looks, what is counted, and the unlock
-module _ (d : ℕ) (old a m b new : Known) (spent : Bool) (free : IsFree old) (told : IsTold old)
-    (one : Carries (lock_change (sem_head d)) old a) (two : Carries only_looks a m)
-    (three : Carries (publish_change (watch.Done d)) m b) (four : Carries unlock_change b new)
-    (hold : IsSimpleHold b) (at_d : b.at ≡ sem_head d)
-    (over : (spent ≡ true) ⊎ ((IsWholeBook b) × (ShowsNoEntry b))) (is : new ≡ unlocked_with b b.at spent) where
-  ends_owed : (x : Excuse) → OwesBut (with_wakes (watch.Done d) mode.Normal x) b → OwesBut x new
-  ends_owed x o = (simple_ended b b new spent (stays_same b) (λ c σ. refl) refl hold over is).settled x
-      (subst (λ (c : Watch). OwesBut (with_wakes c mode.Normal x) b) (sym (ap simple_watch at_d ∙ own_done d)) o)
-
-  pub up_carried : Carries (set_change (watch.Done d) mode.Normal new.at) old new
-  up_carried = record {
-    domain = four.domain ∙ (three.domain ∙ (two.domain ∙ one.domain));
-    number = four.number ∙ (three.number ∙ (two.number ∙ one.number));
-    awake = four.awake ∙ (three.awake ∙ (two.awake ∙ one.awake));
-    state = four.state ∙ (three.state ∙ (two.state ∙ one.state));
-    head = four.head ∙ sym free.head;
-    ticket = four.ticket ∙ sym free.ticket;
-    hold = four.hold ∙ sym (told.head ∙ free.head);
-    at = refl;
-    mark = four.mark ∙ (three.mark ∙ (two.mark ∙ one.mark));
-    fewer = λ w σ p is. four.fewer w σ refl (three.fewer w σ p (two.fewer w σ refl (one.fewer w σ refl is)));
-    stored = λ x none away. absurd (cc);
-    out = λ x away none. four.out x refl (three.out x refl (two.out x refl (one.out x refl none)));
-    stands = λ slot few away e own kind.
-        let by_a = one.stands slot few refl e own kind in
-        let by_m = two.stands slot few refl e
-        (subst (λ (i : ℕ). (told_of a).bits.stored (index i slot) ≡ Some e) (sym one.number) by_a) kind in
-        let by_b = three.stands slot few refl e
-        (subst (λ (i : ℕ). (told_of m).bits.stored (index i slot) ≡ Some e) (sym two.number) by_m) kind in
-        subst (λ (i : ℕ). (told_of new).bits.stored (index i slot) ≡ Some e)
-        (three.number ∙ (two.number ∙ one.number))
-        (four.stands slot few refl e
-        (subst (λ (i : ℕ). (told_of b).bits.stored (index i slot) ≡ Some e) (sym three.number) by_b) kind);
-    keeps = λ w p. four.keeps w refl ∙ (three.keeps w p ∙ (two.keeps w refl ∙ one.keeps w refl));
-    owes = λ x o. ends_owed x (three.owes x (two.owes x (one.owes x o)));
-  }
 
 -- the program's lock, and its unlocks
 module _ (me d : ℕ) where
@@ -177,8 +137,9 @@ module _ (d : ℕ) (old a m new : Known) (took : TookLock old a (sem_head d)) (f
 
     pub given_carried : (IsSimpleHold a → IsSimpleHold m)
         → Carries (set_change (watch.Done d) mode.Normal new.at) old new
-    given_carried simple = up_carried d old a m m new true free told took.carries (hold_carried a m k)
-        (as_publish (watch.Done d) m m (unchanged_none m)) (unlock_carried m new true is)
+    given_carried simple = ended_carried d old a m new true free told took.carries
+        (looked_first (publish_change (watch.Done d)) a m m (hold_carried a m k)
+        (as_publish (watch.Done d) m m (unchanged_none m))) (unlock_carried m new true is)
         (simple (took.simple (done_simple d))) given_at (inl refl) is
 
     pub has_given : HasRaised old new d (Ok tt)
@@ -207,22 +168,14 @@ module _ (d : ℕ) (old m : Known) (f : FoundNobody old m d) where
   module _ (b : Known) (v : ℕ) (is : b ≡ added m (item.Made (step.Load (watch.Done d) v))) (finds : FindsCount m d v)
       (loaded : Carries unchanged m b) where
     pub found_counted : HasCountedDone b d v
-    found_counted = record {
-      held = loaded.head ∙ (found_holds.locked ∙ ap Some at_m);
-      loaded = count_after_step d m b (step.Load (watch.Done d) v) (history_after m b _ is)
-          ∙ ap (λ (z : Bool). if z then Some v else count_in d (history_of m)) (eq-eqb d d refl);
-      small = finds.0;
-    }
+    found_counted = counted_after d v m b (found_holds.locked ∙ ap Some at_m) is finds loaded
 
     at_b : b.at ≡ sem_head d
     at_b = loaded.at ∙ at_m
 
     pub loaded_holds : IsHolding b
-    loaded_holds = record {
-      locked = loaded.head ∙ (found_holds.locked ∙ ap Some (sym loaded.at));
-      agreed = ap (λ (k : Known). k.book.differs) is ∙ found_holds.agreed;
-      told = loaded.hold ∙ (found_holds.told ∙ ap Some (sym loaded.at));
-    }
+    loaded_holds = holding_on m b loaded.head loaded.hold loaded.at
+        (ap (λ (k : Known). k.book.differs) is) found_holds
 
     starts : (n : CountPoint) → (if is_full v then counting.Unlock false else counting.Store) ≡ n
         → Runs (up_program old.view.number d) old b (next.Go (at.Select selecting.Lock)) (next.Go (at.Count n))
@@ -257,8 +210,9 @@ module _ (d : ℕ) (old m : Known) (f : FoundNobody old m d) where
         full_off = ends_off d old b new false full_may gave
 
         pub full_carried : Carries (set_change (watch.Done d) mode.Normal new.at) old new
-        full_carried = up_carried d old f.locked m b new false f.free f.told f.took.carries look
-            (as_publish (watch.Done d) m b loaded) (unlock_carried b new false gave) (simple_loaded m b d v is f.simple)
+        full_carried = ended_carried d old f.locked b new false f.free f.told f.took.carries
+            (looked_first (publish_change (watch.Done d)) f.locked m b look (as_publish (watch.Done d) m b loaded))
+            (unlock_carried b new false gave) (simple_loaded m b (watch.Done d) v is f.simple)
             at_b (inr (whole_on m b (book_load m b d v is) f.whole, nobody_on m b (book_load m b d v is) f.nobody)) gave
 
         pub has_refused : HasRaised old new d (Err (record { count = v }))
@@ -293,11 +247,8 @@ module _ (d : ℕ) (old m : Known) (f : FoundNobody old m d) where
       at_c = made.publishes.at ∙ at_b
 
       pub raised_holds : IsHolding c
-      raised_holds = record {
-        locked = made.publishes.head ∙ (loaded_holds.locked ∙ ap Some (sym made.publishes.at));
-        agreed = stored_agreed b c d (v + 1) made.found made.is ∙ loaded_holds.agreed;
-        told = made.publishes.hold ∙ (loaded_holds.told ∙ ap Some (sym made.publishes.at));
-      }
+      raised_holds = holding_on b c made.publishes.head made.publishes.hold made.publishes.at
+          (stored_agreed b c d (v + 1) made.found made.is) loaded_holds
 
       raised_may : MayEndHold d old c
       raised_may = hold_made d old f.locked c (sem_head d) refl f.took.locked
@@ -322,39 +273,17 @@ module _ (d : ℕ) (old m : Known) (f : FoundNobody old m d) where
           tt b (only_none b) made.is).0
 
       published : Carries (publish_change (watch.Done d)) m c
-      published = load_then m b c loaded made.publishes
-        where
-          load_then : (x y z : Known) → Carries unchanged x y → Carries (publish_change (watch.Done d)) y z
-              → Carries (publish_change (watch.Done d)) x z
-          load_then x y z one two = record {
-            domain = two.domain ∙ one.domain;
-            number = two.number ∙ one.number;
-            awake = two.awake ∙ one.awake;
-            state = two.state ∙ one.state;
-            head = two.head ∙ one.head;
-            ticket = two.ticket ∙ one.ticket;
-            hold = two.hold ∙ one.hold;
-            at = two.at ∙ one.at;
-            mark = two.mark ∙ one.mark;
-            fewer = λ w σ p is. two.fewer w σ p (one.fewer w σ refl is);
-            stored = λ i none away. two.stored i none away ∙ one.stored i none away;
-            out = λ i away is. two.out i away (one.out i away is);
-            stands = λ slot few away e is own. subst (λ (n : ℕ). (told_of z).bits.stored (index n slot) ≡ Some e)
-                one.number (two.stands slot few refl e
-                (subst (λ (n : ℕ). (told_of y).bits.stored (index n slot) ≡ Some e) (sym one.number)
-                (one.stands slot few refl e is own)) own);
-            owes = λ i o. two.owes i (one.owes i o);
-            keeps = λ w p. two.keeps w p ∙ one.keeps w refl;
-          }
+      published = unchanged_first (publish_change (watch.Done d)) m b c loaded made.publishes
 
       module _ (new : Known) (gave : new ≡ unlocked_with c c.at false) where
         pub raised_off : StaysOff old new
         raised_off = ends_off d old c new false raised_may gave
 
         pub raised_carried : Carries (set_change (watch.Done d) mode.Normal new.at) old new
-        raised_carried = up_carried d old f.locked m c new false f.free f.told f.took.carries look published
+        raised_carried = ended_carried d old f.locked c new false f.free f.told f.took.carries
+            (looked_first (publish_change (watch.Done d)) f.locked m c look published)
             (unlock_carried c new false gave)
-            (simple_stored b c d (v + 1) made.found made.is (simple_loaded m b d v is f.simple)) at_c
+            (simple_stored b c d (v + 1) made.found made.is (simple_loaded m b (watch.Done d) v is f.simple)) at_c
             (inr (whole_on m c kept f.whole, nobody_on m c kept f.nobody)) gave
 
         pub has_raised : HasRaised old new d (Ok tt)

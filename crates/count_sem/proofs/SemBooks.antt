@@ -1,10 +1,9 @@
--- Loads and stores of a count change nothing of what a hold has seen, nor of its walk.
-use Rattle.std.proofs.Common.{◌∙◌, ap, sym, subst}
+-- Loads and stores of a count change nothing of what a hold has seen.
+use Rattle.std.proofs.Common.{◌∙◌, ap, sym}
 use Rattle.std.specs.Prelude.{ℕ, ◌≡◌, ◌||◌, ◌==◌, nat_lt, if◌then◌else◌, Bool, true, false}
 use Rattle.wait_model.specs.declared.layout.TheConstants.{ALL_DONE}
 use Rattle.wait_model.specs.declared.steps.Step.TheVariants as step
 use Rattle.wait_model.specs.declared.watches.Watch.TheVariants as watch
-use Rattle.wait_model.specs.Fold.{begun_anew}
 use Rattle.wait_model.specs.Runs.{set_step}
 use Rattle.wait_model.specs.Views.{View as Told}
 use Rattle.wait_rule.specs.declared.journal.Item.TheVariants as item
@@ -13,7 +12,7 @@ use Rattle.wait_rule.specs.Notes.{Notes}
 use Rattle.wait_rule.specs.Queues.{IsWholeBook}
 use Rattle.wait_rule.specs.Says.{added, noted, told_of}
 use Rattle.wait_rule.proofs.KnownLaws.AfterSteps.{noted_added, told_added}
-use Rattle.wq_head.specs.Selects.{IsSimpleHold, ShowsNoEntry}
+use Rattle.wq_head.specs.Selects.{ShowsNoEntry}
 use Rattle.wq_head.proofs.ShownMembers.{entry_same, whole_same}
 
 -- what a hold has seen stays
@@ -70,43 +69,3 @@ whole_on k new s w = whole_same k new s.book s.marks s.at w
 
 pub nobody_on : (k new : Known) → SameBook k new → ShowsNoEntry k → ShowsNoEntry new
 nobody_on k new s none x e low is = none x e low (sym (entry_same k new s.book s.marks s.at x) ∙ is)
-
--- the hold's walk
-pub simple_loaded : (old new : Known) (d r : ℕ) → new ≡ added old (item.Made (step.Load (watch.Done d) r))
-    → IsSimpleHold old → IsSimpleHold new
-simple_loaded old new d r is s = subst IsSimpleHold (sym is) (record {
-  simple = s.simple;
-  walk = s.walk;
-  under = record {
-    under = ap (λ (v : Told). v.walk) (told_added old (item.Made (step.Load (watch.Done d) r))) ∙ s.under.under;
-    watch = s.under.watch;
-    mask = s.under.mask;
-  };
-})
-
-pub simple_stored : (old new : Known) (d n r : ℕ) → new ≡ added old (item.Made (set_step (watch.Done d) n r))
-    → IsSimpleHold old → IsSimpleHold new
-simple_stored old new d n r is s = by (nat_lt r n || (n == ALL_DONE)) is
-  where
-    by : (b : Bool) → new ≡ added old (item.Made (if b then step.Publish (watch.Done d) n r
-        else step.Consume (watch.Done d) n r)) → IsSimpleHold new
-    by true made = subst IsSimpleHold (sym made) (record {
-      simple = s.simple;
-      walk = record (s.walk) { from = 0 };
-      under = record {
-        under = ap (λ (v : Told). v.walk) (told_added old (item.Made (step.Publish (watch.Done d) n r)))
-            ∙ ap begun_anew s.under.under;
-        watch = s.under.watch;
-        mask = s.under.mask;
-      };
-    })
-    by false made = subst IsSimpleHold (sym made) (record {
-      simple = s.simple;
-      walk = s.walk;
-      under = record {
-        under = ap (λ (v : Told). v.walk) (told_added old (item.Made (step.Consume (watch.Done d) n r)))
-            ∙ s.under.under;
-        watch = s.under.watch;
-        mask = s.under.mask;
-      };
-    })

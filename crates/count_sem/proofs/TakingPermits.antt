@@ -1,6 +1,6 @@
 -- A permit is taken where one is there, in one hold.
-use Rattle.std.proofs.Common.{◌∙◌, ap, sym, refl, subst, eq-eqb, append_assoc}
-use Rattle.std.specs.Prelude.{ℕ, ◌≡◌, ◌-◌, ◌==◌, not, Bool, true, false, if◌then◌else◌, Some, None, List, [], ◌∷◌, ◌++◌}
+use Rattle.std.proofs.Common.{◌∙◌, ap, sym, refl, subst, append_assoc}
+use Rattle.std.specs.Prelude.{ℕ, ◌≡◌, ◌-◌, ◌==◌, not, Bool, false, Some, None, List, [], ◌∷◌, ◌++◌}
 use Rattle.std.specs.Prelude.{MatchBool}
 use Rattle.wait_model.specs.declared.calls.Call.TheVariants as calls
 use Rattle.wait_model.specs.declared.points.CountPoint.TheVariants as counting
@@ -14,7 +14,6 @@ use Rattle.wait_model.specs.Watches.{head_of}
 use Rattle.wait_rule.specs.declared.journal.Item.TheVariants as item
 use Rattle.wait_rule.specs.Counts.{FindsCount, StoresCount}
 use Rattle.wait_rule.specs.HandedPermits.{OwesNoPermit, StaysOff}
-use Rattle.wait_rule.specs.HeldValues.{count_in}
 use Rattle.wait_rule.specs.Known.{Known}
 use Rattle.wait_rule.specs.LeftEntries.{LeftOff}
 use Rattle.wait_rule.specs.Queues.{IsTold, walk_of_hold}
@@ -29,30 +28,20 @@ use Rattle.wait_class.specs.Posts.{Runs}
 use Rattle.wait_class.proofs.Ground.Going.{runs_on}
 use Rattle.wait_class.proofs.Histories.{unlocked_history}
 use Rattle.completion_cell.specs.Asks.{HasCountedDone, TakesOne, hit_answer}
-use Rattle.completion_cell.proofs.Asking.{locked_history, none_held, steps_on, take_carried, take_history, take_runs}
+use Rattle.completion_cell.proofs.Asking.{locked_history, none_held, steps_on, take_carried, take_history, take_runs, counted_after}
 use Rattle.completion_cell.proofs.Asking.{whole_carried}
 use Rattle.completion_cell.proofs.CallPermits.{try_hold}
-use Rattle.completion_cell.proofs.Completing.{stored_agreed}
-use Rattle.completion_cell.proofs.Ground.{count_after_step, count_loads, count_locks, count_unlocks}
+use Rattle.completion_cell.proofs.Completing.{count_agreed}
+use Rattle.completion_cell.proofs.Ground.{count_loads, count_locks, count_unlocks, holding_on}
 use Rattle.completion_cell.proofs.Permits.{MayEndHold, ends_off, ends_owing_none}
 use Rattle.count_sem.specs.Ups.{HasTakenPermit}
-
-taken_agreed : (old new : Known) (d n : ℕ) (took : Bool)
-    → MatchBool took (StoresCount old new d (n - 1)) (new ≡ old) → new.book.differs ≡ old.book.differs
-taken_agreed old new d n true made = stored_agreed old new d (n - 1) made.found made.is
-taken_agreed old new d n false made = ap (λ (k : Known). k.book.differs) made
 
 module _ (d n h : ℕ) (old a b : Known) (same : h ≡ head_of (watch.Done d)) (free : IsFree old) (told : IsTold old)
     (l : HasLocked old a h (walk_of_hold h None)) (lock : Carries (lock_change h) old a) (held : IsHolding a)
     (is : b ≡ added a (item.Made (step.Load (watch.Done d) n))) (finds : FindsCount a d n)
     (loaded : Carries unchanged a b) where
   pub permit_counted : HasCountedDone b d n
-  permit_counted = record {
-    held = loaded.head ∙ (ap (λ (k : Known). k.book.head) l.is ∙ ap Some same);
-    loaded = count_after_step d a b (step.Load (watch.Done d) n) (history_after a b _ is)
-        ∙ ap (λ (z : Bool). if z then Some n else count_in d (history_of a)) (eq-eqb d d refl);
-    small = finds.0;
-  }
+  permit_counted = counted_after d n a b (ap (λ (k : Known). k.book.head) l.is ∙ ap Some same) is finds loaded
 
   module _ (c : Known) (took : Bool) (takes : TakesOne n took)
       (made : MatchBool took (StoresCount b c d (n - 1)) (c ≡ b)) where
@@ -60,11 +49,8 @@ module _ (d n h : ℕ) (old a b : Known) (same : h ≡ head_of (watch.Done d)) (
     carries = unchanged_on a b c loaded (take_carried b c d n permit_counted took takes made)
 
     pub permit_holds : IsHolding c
-    permit_holds = record {
-      locked = carries.head ∙ (held.locked ∙ ap Some (sym carries.at));
-      agreed = taken_agreed b c d n took made ∙ (ap (λ (k : Known). k.book.differs) is ∙ held.agreed);
-      told = carries.hold ∙ (held.told ∙ ap Some (sym carries.at));
-    }
+    permit_holds = holding_on a c carries.head carries.hold carries.at
+        (count_agreed b c d (n - 1) took made ∙ ap (λ (k : Known). k.book.differs) is) held
 
     may : MayEndHold d old c
     may = try_hold old a b c d n h same (none_held old told free) l lock is loaded permit_counted took made

@@ -1,6 +1,6 @@
 //! The calls on semaphores that wait for nobody but a lock: a permit given back, and one taken where it is there.
 
-ghost use Rattle.std.specs.Prelude.{◌≡◌, ◌<◌, ◌+◌, ◌-◌, MatchBool};
+ghost use Rattle.std.specs.Prelude.{◌≡◌, ◌<◌, ◌+◌, ◌-◌};
 ghost use Rattle.wait_model.specs.declared.layout.TheConstants.{COMPLETIONS};
 ghost use Rattle.wait_model.specs.declared.watches.Mode.TheVariants as mode;
 ghost use Rattle.wait_model.specs.declared.watches.Watch.TheVariants as watch;
@@ -12,13 +12,13 @@ ghost use Rattle.wait_rule.specs.Says.{IsFree, IsUp};
 ghost use Rattle.wait_rule.specs.Stays.{Carries};
 ghost use Rattle.wait_event.specs.Conds.{set_change};
 ghost use Rattle.wait_event.specs.Entries.{hold_change};
-ghost use Rattle.completion_cell.specs.Asks.{HasCountedDone, TakesOne};
+ghost use Rattle.completion_cell.specs.Asks.{HasCountedDone};
 ghost use Rattle.count_sem.specs.declared.ups.TheConstants.{FULL};
 ghost use Rattle.count_sem.specs.Ups.{FoundNobody, HasRaised, HasTakenPermit};
 
+use completion_cell::asks::take_one;
 use std::sync::Wait;
 use wait_model::heads::head_of;
-use wait_model::layout::ALL_DONE;
 use wait_model::watches::Watch;
 use wait_rule::counts::{done_load, done_store};
 use wait_rule::{Domain, Task};
@@ -32,22 +32,6 @@ pub const FULL: u32 = 4_294_967_294;
 #[derive(Clone, Copy)]
 pub struct SemFull {
     pub count: u32,
-}
-
-/// Takes one of the count that the hold has loaded, unless there is none; a count at its end stays.
-fn take_one(domain: &Domain, task: &mut Task, cell: u8, count: u32) -> bool
-    requires of { task.old.domain ≡ domain.now }
-    requires up { IsUp task.old }
-    requires cell { cell < COMPLETIONS }
-    requires counted { HasCountedDone task.old cell count }
-    ensures stores { MatchBool result (StoresCount task.old task.new cell (count - 1)) (task.new ≡ task.old) }
-    ensures took { TakesOne count result }
-{
-    if count == 0 || u64::from(count) == ALL_DONE {
-        return false;
-    }
-    done_store(domain, task, cell, count - 1);
-    true
 }
 
 /// Takes a permit of semaphore `cell`, below `COMPLETIONS`, where one is there (kernel/locking/semaphore.c,

@@ -6,18 +6,18 @@ use Rattle.wait_model.specs.declared.tasks.SleepState.{SleepState}
 use Rattle.wait_model.specs.Tasks.{pending, state_mask, task_of}
 use Rattle.wait_rule.specs.Known.{Known}
 use Rattle.wait_rule.specs.Queues.{IsIdle, IsTold, index}
-use Rattle.wait_rule.specs.Says.{IsClean, IsUp, no_excuse, told_of}
+use Rattle.wait_rule.specs.Says.{IsClean, IsUp, told_of}
 use Rattle.wait_rule.specs.Stays.{Carries}
-use Rattle.wait_rule.proofs.KnownLaws.StayingParts.{owes_also, owes_out}
 use Rattle.wait_event.specs.Ends.{wait_change}
+use Rattle.wait_event.proofs.Behind.{IsBehind, behind_at, carried_behind, clean_behind, idle_behind, owes_behind}
 use Rattle.wait_class.specs.declared.stages.Run.{Run}
 use Rattle.wait_class.specs.declared.stages.Turn.TheVariants as turn
 use Rattle.wait_class.specs.Posts.{EndsWith, FoundWorn, IsOut, Keeps, own_of}
 use Rattle.wait_class.specs.Tables.{Advances, IsAt, IsEnded, Plan}
-use Rattle.wait_class.proofs.Wholes.{begins, ended_runs, none_of}
+use Rattle.wait_class.proofs.Wholes.{begins, ended_runs}
 use Rattle.wait_leave.specs.Leaves.{with_asked}
 use Rattle.futex_table.specs.FutexTables.{FoundOff, FutexTrailEnd, HasLoadedWord, IsFreshFutexWait, IsFutex}
-use Rattle.futex_table.specs.FutexTables.{futex_answer, futex_head, futex_plan, futex_table, futex_word}
+use Rattle.futex_table.specs.FutexTables.{futex_answer, futex_end, futex_head, futex_plan, futex_table, futex_word}
 use Rattle.futex_table.specs.FutexEnds.{EndsFutexWait, IsFutexCause, futex_answer_of, futex_end_in}
 use Rattle.futex_table.specs.declared.waits.FutexOutcome.{FutexOutcome}
 use Rattle.futex_table.specs.declared.waits.FutexOutcome.TheVariants as outcome
@@ -33,68 +33,30 @@ begins_at k r fits told up idle out = begins futex_table k r stage.First fits re
 -- how a task stands whose wait has ended, whatever way it came there
 module _ (old new : Known) (q : Run FutexWait) (o : FutexOutcome) (over : IsEnded futex_table new q o)
     (keeps : Keeps (index old.view.number 0) old new) where
-  pub over_idle : (told_of old).mark ≡ None → IsIdle new
-  over_idle unmarked = record {
-    running = over.stands.state;
-    free = record { head = over.stands.head; ticket = over.stands.ticket };
-    unmarked = keeps.mark ∙ unmarked;
-  }
-
-  pub over_out : IsOut new
-  over_out = none_of (futex_word q.of.futex) ((told_of new).bits.stored (index new.view.number 0)) over.stands.home
-
-  -- who began idle goes on as it was
-  pub over_carried : IsUp old → IsIdle old → (told_of old).hold.head ≡ None
-      → Carries (wait_change (index old.view.number 0) new.at) old new
-  over_carried up idle held =
-      let i = index old.view.number 0 in record {
-        domain = keeps.domain;
-        number = keeps.number;
-        awake = over.up ∙ sym up;
-        state = over.stands.state ∙ sym idle.running;
-        head = over.stands.head ∙ sym idle.free.head;
-        ticket = over.stands.ticket ∙ sym idle.free.ticket;
-        hold = over.stands.told ∙ sym held;
-        at = refl;
-        mark = keeps.mark;
-        fewer = λ w σ none is. keeps.fewer w σ is;
-        stored = λ x none away. absurd (cc);
-        out = keeps.out;
-        stands = keeps.stands;
-        keeps = λ d _. keeps.keeps d;
-        owes = λ x owes. owes_out i x new (ap (λ (n : ℕ). (told_of new).bits.stored (index n 0)) (sym keeps.number)
-            ∙ over_out) (keeps.owes x (owes_also i x old owes));
-      }
-
-  -- who began owing nothing
-  pub over_clean : IsClean old → IsTold old → IsClean new
-  over_clean clean told =
-      let idle = over_idle clean.settled.unmarked in
-      let was : IsIdle old = record { running = clean.running; free = clean.free; unmarked = clean.settled.unmarked } in
-      record {
-        up = over.up;
-        running = idle.running;
-        free = idle.free;
-        settled = (over_carried clean.up was (told.head ∙ clean.free.head)).owes no_excuse clean.settled;
-      }
+  pub over_behind : IsBehind (λ x. x) old new
+  over_behind = behind_at (futex_end q.of o) (record { head = refl; ticket = refl; stirs = refl; zone = refl }) old new
+      over.up over.stands keeps
 
 module _ (old new : Known) (r q : Run FutexWait) (s : FutexStage) (o : FutexOutcome)
     (a : Advances futex_table old new r q s (turn.Done o)) where
+  ended : IsBehind (λ x. x) old new
+  ended = over_behind old new q o a.lands a.went.keeps
+
   pub ends_up : IsUp new
   ends_up = a.lands.up
 
   pub ends_idle : (told_of old).mark ≡ None → IsIdle new
-  ends_idle = over_idle old new q o a.lands a.went.keeps
+  ends_idle = idle_behind old new ended
 
   pub ends_out : IsOut new
-  ends_out = over_out old new q o a.lands a.went.keeps
+  ends_out = ended.out
 
   pub ends_carried : IsUp old → IsIdle old → (told_of old).hold.head ≡ None
       → Carries (wait_change (index old.view.number 0) new.at) old new
-  ends_carried = over_carried old new q o a.lands a.went.keeps
+  ends_carried = carried_behind old new ended (owes_behind old new ended)
 
   pub ends_clean : IsClean old → IsTold old → IsClean new
-  ends_clean = over_clean old new q o a.lands a.went.keeps
+  ends_clean clean told = clean_behind old new ended (owes_behind old new ended) clean
 
 -- what it says at its end, by the numbers that it began with
 pub plain_is : (a b : ℕ) → futex_word a ≡ futex_word b → a ≡ b

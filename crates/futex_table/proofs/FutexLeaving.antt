@@ -37,7 +37,8 @@ use Rattle.futex_table.specs.FutexLeaves.{EndsFutexUntil, IsFutexAwake, IsFutexL
 use Rattle.futex_table.specs.FutexLeaves.{futex_awake, futex_exit, futex_exits, futex_until_in}
 use Rattle.futex_table.specs.FutexTables.{FutexTrailEnd, HasLeftFutex, IsFreshFutexWait, futex_head, futex_table}
 use Rattle.futex_table.specs.Holding.{StayHeld, holds_mutex}
-use Rattle.futex_table.proofs.FutexEndings.{cause, first_is, over_carried, over_clean, over_idle, over_out, plain_is}
+use Rattle.wait_event.proofs.Behind.{IsBehind, carried_behind, clean_behind, idle_behind, owes_behind}
+use Rattle.futex_table.proofs.FutexEndings.{cause, first_is, over_behind, plain_is}
 use Rattle.futex_table.proofs.FutexLaws.{futex_lawful}
 use Rattle.futex_table.proofs.FutexTrails.{loaded_more, stands_from, stands_more}
 use Rattle.futex_table.proofs.Mutexing.{one_holds}
@@ -149,21 +150,24 @@ module _ {A : Type 0} {old new : Known} {r q : Run FutexWait} {s : FutexStage} {
   same_plan : with_asked false (futex_table.plan_of q.of) ≡ with_asked false (futex_table.plan_of r.of)
   same_plan = way_plan A futex_table futex_exits futex_may_leave futex_lawful old r s new q (turn.Done o) w
 
+  behind : IsBehind (λ x. x) old new
+  behind = over_behind old new q o over left_kept
+
   pub left_up : IsUp new
   left_up = over.up
 
   pub left_out : IsOut new
-  left_out = over_out old new q o over left_kept
+  left_out = behind.out
 
   pub left_idle : (told_of old).mark ≡ None → IsIdle new
-  left_idle = over_idle old new q o over left_kept
+  left_idle = idle_behind old new behind
 
   pub left_carried : IsUp old → IsIdle old → (told_of old).hold.head ≡ None
       → Carries (wait_change (index old.view.number 0) new.at) old new
-  left_carried = over_carried old new q o over left_kept
+  left_carried = carried_behind old new behind (owes_behind old new behind)
 
   pub left_clean : IsClean old → IsTold old → IsClean new
-  left_clean = over_clean old new q o over left_kept
+  left_clean clean told = clean_behind old new behind (owes_behind old new behind) clean
 
   pub left_held : StayHeld old new
   left_held = way_holds A old r s new q (turn.Done o) w

@@ -10,13 +10,12 @@ use Rattle.wait_model.specs.Tasks.{pending, state_mask, task_of}
 use Rattle.wait_model.specs.Watches.{head_of}
 use Rattle.wait_rule.specs.Ends.{WasWorn}
 use Rattle.wait_rule.specs.Known.{Known}
-use Rattle.wait_rule.specs.Says.{IsClean, IsUp, no_excuse, told_of}
+use Rattle.wait_rule.specs.Says.{IsClean, IsUp, told_of}
 use Rattle.wait_rule.specs.Queues.{IsIdle, IsTold, index}
 use Rattle.wait_rule.specs.Stays.{Carries}
 use Rattle.wait_rule.specs.Transitions.{Goes, Program, call_program}
-use Rattle.wait_rule.proofs.KnownLaws.StayingParts.{owes_also, owes_out}
 use Rattle.wait_event.specs.WaitPlans.{call_for}
-use Rattle.wait_event.specs.Waits.{IsFreshWait, IsRunningWait, IsUnset, LeftQueue, LeftSo, SameCall, answer_to_wait, last_load, wait_left_by, wait_point_at, has_queued_in, wait_table}
+use Rattle.wait_event.specs.Waits.{IsFreshWait, IsRunningWait, IsUnset, LeftQueue, LeftSo, SameCall, answer_to_wait, last_load, wait_left_by, wait_end_post, wait_point_at, has_queued_in, wait_table}
 use Rattle.wait_class.specs.Posts.{EndsWith, own_of}
 use Rattle.wait_event.specs.Ends.{EndsWait, FoundNoPlace, HasWaitedFor, WasSignalled, wait_end_in, wait_change}
 use Rattle.wait_class.specs.Posts.{IsOut, Keeps}
@@ -28,7 +27,8 @@ use Rattle.wait_event.specs.declared.waits.WaitStage.TheVariants as stage
 use Rattle.wait_class.specs.declared.stages.Run.{Run}
 use Rattle.wait_class.specs.declared.stages.Turn.TheVariants as turn
 use Rattle.wait_class.specs.Tables.{Advances, IsAt, IsEnded, Plan}
-use Rattle.wait_class.proofs.Wholes.{begins, none_of}
+use Rattle.wait_class.proofs.Wholes.{begins}
+use Rattle.wait_event.proofs.Behind.{IsBehind, behind_at, carried_behind, clean_behind, idle_behind, owes_behind}
 use Rattle.wait_event.proofs.Plans.{program_is}
 
 -- a task that is idle, with its entry off, may begin
@@ -39,69 +39,32 @@ begins_at k r runs = begins wait_table k r stage.First runs refl refl refl refl 
 -- how a task stands whose wait has ended, whatever way it came there
 module _ (old new : Known) (q : Run WaitCall) (o : WaitOutcome) (over : IsEnded wait_table new q o)
     (keeps : Keeps (index old.view.number 0) old new) where
-  pub over_idle : (told_of old).mark ≡ None → IsIdle new
-  over_idle unmarked = record {
-    running = over.stands.state;
-    free = record { head = over.stands.head; ticket = over.stands.ticket };
-    unmarked = keeps.mark ∙ unmarked;
-  }
-
-  pub over_out : IsOut new
-  over_out = none_of q.of.watch ((told_of new).bits.stored (index new.view.number 0)) over.stands.home
-
-  -- who began idle goes on as it was
-  pub over_carried : IsUp old → IsIdle old → (told_of old).hold.head ≡ None
-      → Carries (wait_change (index old.view.number 0) new.at) old new
-  over_carried up idle held =
-      let i = index old.view.number 0 in record {
-        domain = keeps.domain;
-        number = keeps.number;
-        awake = over.up ∙ sym up;
-        state = over.stands.state ∙ sym idle.running;
-        head = over.stands.head ∙ sym idle.free.head;
-        ticket = over.stands.ticket ∙ sym idle.free.ticket;
-        hold = over.stands.told ∙ sym held;
-        at = refl;
-        mark = keeps.mark;
-        fewer = λ w σ none is. keeps.fewer w σ is;
-        stored = λ x none away. absurd (cc);
-        out = keeps.out;
-        stands = keeps.stands;
-        keeps = λ d _. keeps.keeps d;
-        owes = λ x owes. owes_out i x new (ap (λ (n : ℕ). (told_of new).bits.stored (index n 0)) (sym keeps.number)
-            ∙ over_out) (keeps.owes x (owes_also i x old owes));
-      }
-
-  -- who began owing nothing
-  pub over_clean : IsClean old → IsTold old → IsClean new
-  over_clean clean told =
-      let idle = over_idle clean.settled.unmarked in
-      let was : IsIdle old = record { running = clean.running; free = clean.free; unmarked = clean.settled.unmarked } in
-      record {
-        up = over.up;
-        running = idle.running;
-        free = idle.free;
-        settled = (over_carried clean.up was (told.head ∙ clean.free.head)).owes no_excuse clean.settled;
-      }
+  pub over_behind : IsBehind (λ x. x) old new
+  over_behind = behind_at (wait_end_post q.of o) (record { head = refl; ticket = refl; stirs = refl; zone = refl }) old new
+      over.up over.stands keeps
 
 module _ (old new : Known) (r q : Run WaitCall) (s : WaitStage) (o : WaitOutcome)
     (a : Advances wait_table old new r q s (turn.Done o)) where
+  ended : IsBehind (λ x. x) old new
+  ended = over_behind old new q o a.lands a.went.keeps
+
   pub ends_up : IsUp new
   ends_up = a.lands.up
 
   pub ends_idle : (told_of old).mark ≡ None → IsIdle new
-  ends_idle = over_idle old new q o a.lands a.went.keeps
+  ends_idle = idle_behind old new ended
 
   pub ends_out : IsOut new
-  ends_out = over_out old new q o a.lands a.went.keeps
+  ends_out = ended.out
 
   pub ends_carried : IsUp old → IsIdle old → (told_of old).hold.head ≡ None
       → Carries (wait_change (index old.view.number 0) new.at) old new
-  ends_carried = over_carried old new q o a.lands a.went.keeps
+  ends_carried = carried_behind old new ended (owes_behind old new ended)
 
 pub ends_clean : (old new : Known) (r q : Run WaitCall) (s : WaitStage) (o : WaitOutcome)
     → Advances wait_table old new r q s (turn.Done o) → IsClean old → IsTold old → IsClean new
-ends_clean old new r q s o a = over_clean old new q o a.lands a.went.keeps
+ends_clean old new r q s o a clean told =
+    clean_behind old new (ended old new r q s o a) (owes_behind old new (ended old new r q s o a)) clean
 
 -- what it says at its end
 module _ (old new : Known) (r q : Run WaitCall) (w : Watch) (how : How) (fresh : IsFreshWait r.of w how)

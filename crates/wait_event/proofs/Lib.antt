@@ -6,6 +6,7 @@ pub mod WaitTrails
 pub mod WaitLaws
 pub mod WaitAdds
 pub mod FirstLoads
+pub mod Behind
 pub mod Endings
 pub mod WaitLeaving
 pub mod Hearing

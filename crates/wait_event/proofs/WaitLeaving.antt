@@ -33,7 +33,8 @@ use Rattle.wait_event.specs.declared.waits.WaitOutcome.{WaitOutcome}
 use Rattle.wait_event.specs.declared.waits.WaitOutcome.TheVariants as outcome
 use Rattle.wait_event.specs.declared.waits.WaitStage.{WaitStage}
 use Rattle.wait_event.specs.declared.waits.WaitStage.TheVariants as stage
-use Rattle.wait_event.proofs.Endings.{over_carried, over_clean, over_idle, over_out}
+use Rattle.wait_event.proofs.Behind.{IsBehind, carried_behind, clean_behind, idle_behind, owes_behind}
+use Rattle.wait_event.proofs.Endings.{over_behind}
 use Rattle.wait_event.proofs.Tellings.{or_assoc, or_none}
 use Rattle.wait_event.proofs.WaitLaws.{wait_lawful}
 
@@ -148,21 +149,24 @@ module _ (A : Type 0) (old new : Known) (r q : Run WaitCall) (s : WaitStage) (o 
   pub left_kept : Keeps (index old.view.number 0) old new
   left_kept = way_keeps A wait_table wait_exits wait_may_leave wait_lawful old r s new q (turn.Done o) came
 
+  behind : IsBehind (λ x. x) old new
+  behind = over_behind old new q o over left_kept
+
   pub left_up : IsUp new
   left_up = over.up
 
   pub left_idle : (told_of old).mark ≡ None → IsIdle new
-  left_idle = over_idle old new q o over left_kept
+  left_idle = idle_behind old new behind
 
   pub left_out : IsOut new
-  left_out = over_out old new q o over left_kept
+  left_out = behind.out
 
   pub left_carried : IsUp old → IsIdle old → (told_of old).hold.head ≡ None
       → Carries (wait_change (index old.view.number 0) new.at) old new
-  left_carried = over_carried old new q o over left_kept
+  left_carried = carried_behind old new behind (owes_behind old new behind)
 
   pub left_clean : IsClean old → IsTold old → IsClean new
-  left_clean = over_clean old new q o over left_kept
+  left_clean clean told = clean_behind old new behind (owes_behind old new behind) clean
 
   pub left_wait : LeavesWait A old new r s (wait_until_in q.of o)
   left_wait =

@@ -5,35 +5,11 @@ use Rattle.wait_class.proofs.Handed.{given_as, given_on}
 use Rattle.wait_class.proofs.AwakeSteps.{sleeps_not_on}
 use Rattle.completion_cell.proofs.awaits.off_event.Goals as goal
 
-pub pare-found-requires-clause-of : goal.pare-found-requires-clause-of
-pare-found-requires-clause-of c = c.requires.of
-
-pub pare-found-requires-clause-at : goal.pare-found-requires-clause-at
-pare-found-requires-clause-at c = c.requires.at
-
-pub quit_event-requires-clause-passes : goal.quit_event-requires-clause-passes
-quit_event-requires-clause-passes c = c.requires.passes
-
-pub take_event-requires-clause-passes : goal.take_event-requires-clause-passes
-take_event-requires-clause-passes c = c.requires.passes
-
 pub returns-in-true-true-clause-passes : goal.returns-in-true-true-clause-passes
 returns-in-true-true-clause-passes c = inl c.requires.passes
 
 pub returns-in-false-true-clause-passes : goal.returns-in-false-true-clause-passes
 returns-in-false-true-clause-passes c = inl c.requires.passes
-
-pub returns-in-true-false-clause-passes : goal.returns-in-true-false-clause-passes
-returns-in-true-false-clause-passes c = c.quit_event.ensures.passes
-
-pub returns-in-false-false-clause-passes : goal.returns-in-false-false-clause-passes
-returns-in-false-false-clause-passes c = c.take_event.ensures.passes
-
-pub returns-in-true-true-clause-awake : goal.returns-in-true-true-clause-awake
-returns-in-true-true-clause-awake c = c.pare-found.ensures.awake
-
-pub returns-in-false-true-clause-awake : goal.returns-in-false-true-clause-awake
-returns-in-false-true-clause-awake c = c.pare-found.ensures.awake
 
 pub returns-in-true-false-clause-turned : goal.returns-in-true-false-clause-turned
 returns-in-true-false-clause-turned c = quit_off c.args.task.now c.pare-found.new.task c.quit_event.new.task

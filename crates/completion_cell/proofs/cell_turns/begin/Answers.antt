@@ -8,29 +8,8 @@ use Rattle.completion_cell.proofs.CellDraws.{fits, peeked_none}
 use Rattle.completion_cell.proofs.CellRousing.{none_counted}
 use Rattle.completion_cell.proofs.cell_turns.begin.Goals as goal
 
-pub draw_lock-run-requires-clause-of : goal.draw_lock-run-requires-clause-of
-draw_lock-run-requires-clause-of c = c.requires.of
-
-pub draw_lock-run-requires-clause-up : goal.draw_lock-run-requires-clause-up
-draw_lock-run-requires-clause-up c = c.requires.up
-
-pub draw_lock-run-requires-clause-free : goal.draw_lock-run-requires-clause-free
-draw_lock-run-requires-clause-free c = c.requires.free
-
-pub returns-then-not-peeks_first-clause-of : goal.returns-then-not-peeks_first-clause-of
-returns-then-not-peeks_first-clause-of c = c.draw_lock-run.ensures.of
-
 pub returns-then-not-peeks_first-clause-fresh : goal.returns-then-not-peeks_first-clause-fresh
 returns-then-not-peeks_first-clause-fresh c = record { call_is = refl; cell = refl }
-
-pub done_load-requires-clause-of : goal.done_load-requires-clause-of
-done_load-requires-clause-of c = c.requires.of
-
-pub done_load-requires-clause-up : goal.done_load-requires-clause-up
-done_load-requires-clause-up c = c.requires.up
-
-pub done_load-requires-clause-cell : goal.done_load-requires-clause-cell
-done_load-requires-clause-cell c = c.requires.there
 
 pub returns-then-done_load-eq0-clause-of : goal.returns-then-done_load-eq0-clause-of
 returns-then-done_load-eq0-clause-of c = c.done_load.ensures.carries.domain ∙ c.requires.of
@@ -43,9 +22,6 @@ draw_lock-run-requires-2-clause-of c = c.done_load.ensures.carries.domain ∙ c.
 
 pub draw_lock-run-requires-2-clause-up : goal.draw_lock-run-requires-2-clause-up
 draw_lock-run-requires-2-clause-up c = c.done_load.ensures.carries.awake ∙ c.requires.up
-
-pub returns-clause-of : goal.returns-clause-of
-returns-clause-of c = c.draw_lock-run-2.ensures.of
 
 pub returns-clause-fresh : goal.returns-clause-fresh
 returns-clause-fresh c = record { call_is = refl; cell = refl }

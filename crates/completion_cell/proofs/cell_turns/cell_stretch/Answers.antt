@@ -4,36 +4,6 @@ use Rattle.wq_head.proofs.RousedTasks.{rousing_from, rousing_none, rousing_on}
 use Rattle.completion_cell.proofs.CellDraws.{awaits, fits, holds_for, rests_of, waits_on}
 use Rattle.completion_cell.proofs.cell_turns.cell_stretch.Goals as goal
 
-pub draw_turn-requires-clause-of : goal.draw_turn-requires-clause-of
-draw_turn-requires-clause-of c = c.requires.of
-
-pub draw_turn-requires-clause-at : goal.draw_turn-requires-clause-at
-draw_turn-requires-clause-at c = c.requires.at
-
-pub returns-then-not-draw_turn-clause-of : goal.returns-then-not-draw_turn-clause-of
-returns-then-not-draw_turn-clause-of c = c.draw_turn.ensures.of
-
-pub lock_turn-requires-clause-of : goal.lock_turn-requires-clause-of
-lock_turn-requires-clause-of c = c.draw_turn.ensures.of
-
-pub hold-requires-clause-passes : goal.hold-requires-clause-passes
-hold-requires-clause-passes c = c.requires.passes
-
-pub hold-requires-clause-none : goal.hold-requires-clause-none
-hold-requires-clause-none c = c.requires.none
-
-pub returns-in-Err-clause-passes : goal.returns-in-Err-clause-passes
-returns-in-Err-clause-passes c = c.requires.passes
-
-pub returns-in-Ok-hold-clause-of : goal.returns-in-Ok-hold-clause-of
-returns-in-Ok-hold-clause-of c = c.hold.ensures.of
-
-pub returns-in-Err-hold-clause-of : goal.returns-in-Err-hold-clause-of
-returns-in-Err-hold-clause-of c = c.hold.ensures.of
-
-pub returns-in-Err-hold-clause-passes : goal.returns-in-Err-hold-clause-passes
-returns-in-Err-hold-clause-passes c = c.in-Err-hold.ensures.passes
-
 pub returns-then-not-draw_turn-clause-rouses : goal.returns-then-not-draw_turn-clause-rouses
 returns-then-not-draw_turn-clause-rouses c = rousing_on c.args.task.now c.args.task.now c.draw_turn.new.task
     c.args.rousing.now c.draw_turn.ensures.rouses (rousing_none c.args.task.now c.args.rousing.now c.requires.none)

@@ -9,20 +9,11 @@ use Rattle.completion_cell.proofs.CellRousing.{none_set}
 use Rattle.completion_cell.proofs.Completing.{done_simple, rise_none}
 use Rattle.completion_cell.proofs.completes.complete_all_hold.Goals as goal
 
-pub done_store-requires-clause-of : goal.done_store-requires-clause-of
-done_store-requires-clause-of c = c.requires.of
-
-pub done_store-requires-clause-cell : goal.done_store-requires-clause-cell
-done_store-requires-clause-cell c = c.requires.cell
-
 pub select_tries-requires-clause-of : goal.select_tries-requires-clause-of
 select_tries-requires-clause-of c = c.done_store.ensures.publishes.domain ∙ c.requires.of
 
 pub select_tries-requires-clause-up : goal.select_tries-requires-clause-up
 select_tries-requires-clause-up c = c.done_store.ensures.publishes.awake ∙ c.requires.holds.1.took.up
-
-pub select_tries-requires-clause-none : goal.select_tries-requires-clause-none
-select_tries-requires-clause-none c = c.requires.none
 
 pub give_back-requires-clause-of : goal.give_back-requires-clause-of
 give_back-requires-clause-of c =
@@ -37,9 +28,6 @@ give_back-requires-clause-held c = c.select_tries.ensures.held.locked
 
 pub give_back-requires-clause-agreed : goal.give_back-requires-clause-agreed
 give_back-requires-clause-agreed c = c.select_tries.ensures.held.agreed
-
-pub put-requires : goal.put-requires
-put-requires c = c.requires.passes
 
 pub returns-clause-of : goal.returns-clause-of
 returns-clause-of c =

@@ -22,17 +22,8 @@ raised_awake : (d n : ℕ) (old new : Known) (raised : Bool) → MatchBool raise
 raised_awake d n old new true s = s.publishes.awake
 raised_awake d n old new false s = ap (λ (k : Known). k.book.awake) s
 
-pub done_load-count-requires-clause-of : goal.done_load-count-requires-clause-of
-done_load-count-requires-clause-of c = c.requires.of
-
-pub done_load-count-requires-clause-cell : goal.done_load-count-requires-clause-cell
-done_load-count-requires-clause-cell c = c.requires.cell
-
 pub raise_one-requires-clause-of : goal.raise_one-requires-clause-of
 raise_one-requires-clause-of c = c.done_load-count.ensures.carries.domain ∙ c.requires.of
-
-pub raise_one-requires-clause-cell : goal.raise_one-requires-clause-cell
-raise_one-requires-clause-cell c = c.requires.cell
 
 pub select_tries-requires-clause-of : goal.select_tries-requires-clause-of
 select_tries-requires-clause-of c =
@@ -47,9 +38,6 @@ select_tries-requires-clause-up c =
     let r = c.raise_one in
     raised_awake c.args.cell (l.result + 1) l.new.task r.new.task r.result r.ensures.stores
     ∙ (l.ensures.carries.awake ∙ c.requires.holds.1.took.up)
-
-pub select_tries-requires-clause-none : goal.select_tries-requires-clause-none
-select_tries-requires-clause-none c = c.requires.none
 
 pub give_back-requires-clause-of : goal.give_back-requires-clause-of
 give_back-requires-clause-of c =
@@ -72,9 +60,6 @@ give_back-requires-clause-held c = c.select_tries.ensures.held.locked
 
 pub give_back-requires-clause-agreed : goal.give_back-requires-clause-agreed
 give_back-requires-clause-agreed c = c.select_tries.ensures.held.agreed
-
-pub put-requires : goal.put-requires
-put-requires c = c.requires.passes
 
 pub returns-clause-of : goal.returns-clause-of
 returns-clause-of c =

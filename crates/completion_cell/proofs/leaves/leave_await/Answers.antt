@@ -22,6 +22,3 @@ returns-clause-left g c = left_here _ _ _ _ _ _ _ c.leave-outcome.ensures.way
 
 pub returns-clause-keeps : goal.returns-clause-keeps
 returns-clause-keeps g c = left_kept _ _ _ _ _ _ _ c.leave-outcome.ensures.way
-
-pub returns-clause-awake : goal.returns-clause-awake
-returns-clause-awake g c = c.leave-outcome.ensures.awake

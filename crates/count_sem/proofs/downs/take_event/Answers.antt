@@ -1,5 +1,6 @@
 use Rattle.std.proofs.Common.{◌-◌}
-use Rattle.count_sem.proofs.DownTakes.{store_awake, store_gives, take_counted, take_some, take_turned}
+use Rattle.completion_cell.proofs.AwaitTakes.{store_awake, store_gives}
+use Rattle.count_sem.proofs.DownTakes.{take_counted, take_some, take_turned}
 use Rattle.count_sem.proofs.downs.take_event.Goals as goal
 
 pub lower_one-requires-clause-counted : goal.lower_one-requires-clause-counted

@@ -13,32 +13,27 @@ lock_turn-requires-clause-awaits c =
     let x = c.requires.at in
     waits_from (PollAskedIf x.0) c.args.poll x.1 c.args.task.now c.args.stage c.args.head c.args.ticket c.requires.awaits x.2
 
-pub work_held-next-requires-clause-up : goal.work_held-next-requires-clause-up
-work_held-next-requires-clause-up c =
+pub work_held-next-requires : goal.work_held-next-requires
+work_held-next-requires c =
     let x = c.requires.at in
     let w = waits_from (PollAskedIf x.0) c.args.poll x.1 c.args.task.now c.args.stage c.args.head c.args.ticket
     c.requires.awaits x.2 in
-    (c.in-Ok.ensures.turned w.0 w.1).up
-
-pub work_held-next-requires-clause-held : goal.work_held-next-requires-clause-held
-work_held-next-requires-clause-held c =
-    let x = c.requires.at in
-    let w = waits_from (PollAskedIf x.0) c.args.poll x.1 c.args.task.now c.args.stage c.args.head c.args.ticket
-    c.requires.awaits x.2 in
-    (c.in-Ok.ensures.turned w.0 w.1).held
-
-pub work_held-next-requires-clause-at : goal.work_held-next-requires-clause-at
-work_held-next-requires-clause-at c =
-    let x = c.requires.at in record {
-      old = c.args.task.now;
-      asked = x.0;
-      start = x.1;
-      stood = x.2;
-      turned = record {
-        head = c.args.head;
-        ticket = c.args.ticket;
-        awaits = c.requires.awaits;
-        took = c.in-Ok.ensures.turned;
+    let took = c.in-Ok.ensures.turned w.0 w.1 in record {
+      of = c.in-Ok.ensures.of;
+      up = took.up;
+      held = took.held;
+      poll = c.requires.poll;
+      at = record {
+        old = c.args.task.now;
+        asked = x.0;
+        start = x.1;
+        stood = x.2;
+        turned = record {
+          head = c.args.head;
+          ticket = c.args.ticket;
+          awaits = c.requires.awaits;
+          took = c.in-Ok.ensures.turned;
+        };
       };
     }
 

@@ -10,7 +10,7 @@ use Rattle.wait_rule.specs.HandedPermits.{OwesNoPermit}
 use Rattle.wait_rule.specs.Known.{Known}
 use Rattle.wait_rule.specs.Queues.{IsTold}
 use Rattle.wait_rule.specs.Says.{IsFree, IsUp, added}
-use Rattle.wait_rule.specs.Stays.{Carries, state_change, unchanged}
+use Rattle.wait_rule.specs.Stays.{Carries, state_change}
 use Rattle.wq_head.specs.LockTurns.{AwaitsLock, TookLock}
 use Rattle.wait_class.specs.Posts.{HasSeenOwn}
 use Rattle.wait_event.specs.PartSteps.{IsAtHead, ParesPart}
@@ -30,13 +30,19 @@ use Rattle.poll_wait.proofs.Leaving.{leave_free, leave_home, leave_low, leave_of
 use Rattle.poll_wait.proofs.Leaving.{off_carried, on_carried, pares_second}
 use Rattle.poll_wait.proofs.Pairing.{done_then, leave_pair, out_stays}
 use Rattle.poll_wait.proofs.Queueing.{may_finish, may_leave}
-use Rattle.poll_wait.proofs.Turning.{done_carried, done_idle}
+use Rattle.poll_wait.proofs.Turning.{done_carried, done_idle, same_carries}
 use Rattle.poll_turns.specs.declared.stages.PollUntil.{PollUntil}
 use Rattle.poll_turns.specs.declared.stages.PollUntil.TheVariants as until
 use Rattle.poll_turns.specs.PollSteps.{GivesHoldBack}
 use Rattle.poll_turns.specs.PollTurns.{AwaitsTakeFirst, AwaitsTakeSecond, EndsPollUntil, HasPolled, HasTakenFirst, IsEnding}
 use Rattle.poll_turns.proofs.Holding.{took_as}
 use Rattle.poll_turns.proofs.Parting.{until_stays}
+
+-- a ticket of this head may be drawn
+pub record MayDraw (k : Known) (h : ℕ) : Type 0 where
+  pub fits : h < HEADS
+  pub free : IsFree k
+  pub up : IsUp k
 
 -- the first entry
 module _ (A : Type 0) (p : Poll) (is : IsPoll p) (start before : Known) (end : PollUntil) (e : IsEnding A p start before end)
@@ -59,15 +65,13 @@ module _ (A : Type 0) (p : Poll) (is : IsPoll p) (start before : Known) (end : P
     first_off none known = taken seen known (finish_off before stored may stores c seen o looks none)
 
     module _ (entry : Entry) (some : o ≡ Some entry) (h : ℕ) (is_head : h ≡ head_of entry.watch) where
-      pub first_fits : h < HEADS
-      first_fits = low_fits h (subst (λ (n : ℕ). n < FIRST_DONE_HEAD) (sym is_head)
-          (finish_low before stored may stores c seen o looks entry some))
-
-      pub first_free : IsFree seen
-      first_free = finish_free before stored may stores c seen o looks entry some
-
-      pub first_up : IsUp seen
-      first_up = looks.carries.awake ∙ (c.awake ∙ e.has.up)
+      pub first_draws : MayDraw seen h
+      first_draws = record {
+        fits = low_fits h (subst (λ (n : ℕ). n < FIRST_DONE_HEAD) (sym is_head)
+            (finish_low before stored may stores c seen o looks entry some));
+        free = finish_free before stored may stores c seen o looks entry some;
+        up = looks.carries.awake ∙ (c.awake ∙ e.has.up);
+      }
 
       pub first_awaits : (now : Known) (t : ℕ) → AwaitsLock seen now h t → AwaitsTakeFirst A p start now end h t
       first_awaits now t waits = record {
@@ -88,8 +92,8 @@ module _ (A : Type 0) (p : Poll) (is : IsPoll p) (start before : Known) (end : P
 module _ (A : Type 0) (p : Poll) (is : IsPoll p) (start old : Known) (end : PollUntil) (h t : ℕ)
     (w : AwaitsTakeFirst A p start old end h t) where
   pub take_fits : h < HEADS
-  take_fits = first_fits A p is start w.before end w.ending w.told w.stored w.stores w.carries w.seen (Some w.entry) w.looks
-      w.entry refl h w.is_head
+  take_fits = (first_draws A p is start w.before end w.ending w.told w.stored w.stores w.carries w.seen (Some w.entry)
+      w.looks w.entry refl h w.is_head).fits
 
   module _ (a : Known) (named : TookLock w.seen a h) where
     took : TookLock w.seen a (head_of w.entry.watch)
@@ -113,25 +117,6 @@ module _ (A : Type 0) (p : Poll) (is : IsPoll p) (start old : Known) (end : Poll
           took.carries took.held b found pares new gives.unlocked gives.carries)
 
 -- it is over
-pub same_carries : (k : Known) → Carries unchanged k k
-same_carries k = record {
-  domain = refl;
-  number = refl;
-  awake = refl;
-  state = refl;
-  head = refl;
-  ticket = refl;
-  hold = refl;
-  at = refl;
-  mark = refl;
-  fewer = λ w σ none is. is;
-  stored = λ x blind away. refl;
-  out = λ x away none. none;
-  stands = λ slot few away e is own. is;
-  keeps = λ d none. refl;
-  owes = λ x o. o;
-}
-
 module _ (A : Type 0) (p : Poll) (is : IsPoll p) (start between : Known) (end : PollUntil)
     (had : HasTakenFirst A p start between end) where
   pub second_may : MayLeave between
@@ -165,15 +150,13 @@ module _ (A : Type 0) (p : Poll) (is : IsPoll p) (start between : Known) (end : 
         (off_carried between seen o second_may told looks none)
 
     module _ (entry : Entry) (some : o ≡ Some entry) (h : ℕ) (is_head : h ≡ head_of entry.watch) where
-      pub second_fits : h < HEADS
-      second_fits = low_fits h (subst (λ (n : ℕ). n < FIRST_DONE_HEAD) (sym is_head)
-          (leave_low between seen o second_may told looks entry some))
-
-      pub second_free : IsFree seen
-      second_free = leave_free between seen o second_may told looks entry some
-
-      pub second_up : IsUp seen
-      second_up = leave_up between seen o second_may told looks entry some
+      pub second_draws : MayDraw seen h
+      second_draws = record {
+        fits = low_fits h (subst (λ (n : ℕ). n < FIRST_DONE_HEAD) (sym is_head)
+            (leave_low between seen o second_may told looks entry some));
+        free = leave_free between seen o second_may told looks entry some;
+        up = leave_up between seen o second_may told looks entry some;
+      }
 
       pub second_awaits : (now : Known) (t : ℕ) → AwaitsLock seen now h t → AwaitsTakeSecond A p start now end h t
       second_awaits now t waits = record {

@@ -7,3 +7,4 @@ pub mod Ending
 pub mod Quitting
 pub mod Sleepers
 pub mod Showing
+pub mod Serving

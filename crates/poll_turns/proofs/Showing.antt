@@ -231,19 +231,11 @@ pub sleeps_by : (s : PollStage) (old new : Known) → SleepsNot old new → Slee
 sleeps_by (stage.Sleep f) old new x = tt
 sleeps_by s old new x = x
 
-pub hold_again : (p : Poll) (start old a b new : Known) (h t : ℕ) → AwaitsLock start old h t → TookLock start a h
-    → SleepsNot a b → GivesHoldBack b new → (s n : PollStage) (head : ℕ) → head ≡ b.at → DidStretch p old new head s (turn.Again n)
-hold_again p start old a b new h t waits took did gives s n head is_head = record {
-  shows = inl (hold_made start old a b new h t waits took did gives);
-  sleeps = sleeps_by s old new (hold_awake start old a b new h t waits took did gives);
-  given = subst (LastGiven old new) (sym is_head) (hold_given start old a b new h t waits took did gives);
-}
-
-pub hold_done : (p : Poll) (start old a b new : Known) (h t : ℕ) → AwaitsLock start old h t → TookLock start a h
-    → SleepsNot a b → GivesHoldBack b new → (s : PollStage) (end : PollUntil) (head : ℕ) → head ≡ b.at
-    → DidStretch p old new head s (turn.Done end)
-hold_done p start old a b new h t waits took did gives s end head is_head = record {
-  shows = tt;
+pub hold_did : (p : Poll) (start old a b new : Known) (h t : ℕ) → AwaitsLock start old h t → TookLock start a h
+    → SleepsNot a b → GivesHoldBack b new → (s : PollStage) (u : PollTurn)
+    → ((k l : Known) → MadeEvent k l → PollShows p k l s u) → (head : ℕ) → head ≡ b.at → DidStretch p old new head s u
+hold_did p start old a b new h t waits took did gives s u shows head is_head = record {
+  shows = shows old new (hold_made start old a b new h t waits took did gives);
   sleeps = sleeps_by s old new (hold_awake start old a b new h t waits took did gives);
   given = subst (LastGiven old new) (sym is_head) (hold_given start old a b new h t waits took did gives);
 }
@@ -261,6 +253,10 @@ hold_waits p old new h t served head x is_head s n found =
 pub quiet_again : (p : Poll) (old new : Known) (s n : PollStage) → Quiet old new → MadeEvent old new
     → DidStretch p old new HEADS s (turn.Again n)
 quiet_again p old new s n q made = record { shows = inl made; sleeps = sleeps_by s old new q.awake; given = q.given }
+
+pub loads_again : (p : Poll) (l : Loads) (old new : Known) → new ≡ loaded p l old → (s n : PollStage)
+    → DidStretch p old new HEADS s (turn.Again n)
+loads_again p l old new is s n = quiet_again p old new s n (loads_quiet p l old new is) (loads_made p l old new is)
 
 pub quiet_done : (p : Poll) (old new : Known) (s : PollStage) (end : PollUntil) → Quiet old new
     → DidStretch p old new HEADS s (turn.Done end)
@@ -331,19 +327,12 @@ drawn_shows p old mid new s r same none (turn.Done end) x = tt
 drawn_quiet : (old mid new : Known) (h : ℕ) → history_of mid ≡ history_of old → LastGiven mid new h → LastGiven old new h
 drawn_quiet old mid new h same g = given_on old mid new h (given_still old mid same) g
 
-pub drawn_first : (p : Poll) (old mid new : Known) (h t : ℕ) (u : PollTurn) → history_of mid ≡ history_of old
-    → DidStretch p mid new h (stage.HoldFirst t) u → DidStretch p old new h stage.QueueFirst u
-drawn_first p old mid new h t u same d = record {
-  shows = drawn_shows p old mid new (stage.HoldFirst t) stage.QueueFirst same (λ n f. f) u d.shows;
-  sleeps = sleeps_not_on old mid new (awake_still old mid same) d.sleeps;
-  given = drawn_quiet old mid new h same d.given;
-}
-
-pub drawn_second : (p : Poll) (old mid new : Known) (h t : ℕ) (u : PollTurn) → history_of mid ≡ history_of old
-    → DidStretch p mid new h (stage.HoldSecond t) u → DidStretch p old new h stage.QueueSecond u
-drawn_second p old mid new h t u same d = record {
-  shows = drawn_shows p old mid new (stage.HoldSecond t) stage.QueueSecond same (λ n f. f) u d.shows;
-  sleeps = sleeps_not_on old mid new (awake_still old mid same) d.sleeps;
+pub drawn_did : (p : Poll) (old mid new : Known) (h : ℕ) (s r : PollStage) (u : PollTurn)
+    → history_of mid ≡ history_of old → ((n : PollStage) → HasFailedSleep mid new s n → ⊥) → SleepsNot mid new
+    → DidStretch p mid new h s u → DidStretch p old new h r u
+drawn_did p old mid new h s r u same none awake d = record {
+  shows = drawn_shows p old mid new s r same none u d.shows;
+  sleeps = sleeps_by r old new (sleeps_not_on old mid new (awake_still old mid same) awake);
   given = drawn_quiet old mid new h same d.given;
 }
 

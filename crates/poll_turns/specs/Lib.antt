@@ -1,4 +1,4 @@
-pub mod PollSteps
 pub mod PollTurns
 pub mod PollShows
+pub mod PollSteps
 pub mod PollSleepers

@@ -1,55 +1,24 @@
 //! The stretches that load both conditions, look for a signal, and sleep.
 
 ghost use Rattle.std.specs.Prelude.{◌≡◌, true};
-ghost use Rattle.wait_rule.specs.Says.{IsFree, IsUp};
-ghost use Rattle.wait_rule.specs.Stays.{Carries, unchanged};
 ghost use Rattle.wait_class.specs.declared.stages.Turn.TheVariants as turn;
-ghost use Rattle.poll_wait.specs.Polls.{IsPoll, loaded, ready_of};
+ghost use Rattle.poll_wait.specs.Polls.{IsPoll};
 ghost use Rattle.poll_turns.specs.declared.stages.PollStage.TheVariants as stage;
 ghost use Rattle.poll_turns.specs.PollTurns.{IsOnTurn, IsPollUnderWay, IsPolling, leaves_at};
 ghost use Rattle.poll_turns.specs.PollShows.{DidStretch};
+ghost use Rattle.poll_turns.specs.PollSteps.{GoesFrom};
 ghost use Rattle.wait_model.specs.declared.layout.TheConstants.{HEADS};
 
 use crate::stages::{PollStage, PollTurn, PollUntil};
-use poll_wait::turns::{Loads, Poll};
-use poll_wait::{PollEnd, Ready};
+use poll_wait::PollEnd;
+use poll_wait::turns::{Loads, Poll, load_both};
 use wait_class::stages::Turn;
 use wait_model::task_words::pending_state;
 use wait_model::tasks::Sleep;
-use wait_rule::queues::cond_load;
 use wait_rule::tasks::load_own;
 use wait_rule::tries::{FailedTries, sleep_try};
 use wait_rule::{Domain, Task};
 use wq_head::Worn;
-
-/// Which condition the loads found set: the first where it is, else the second where that is.
-pub(crate) fn ready(poll: Poll, loads: Loads) -> Option<Ready>
-    ensures { result ≡ ready_of poll loads }
-{
-    if !poll.first.misses(loads.first) {
-        return Some(Ready::First { value: loads.first });
-    }
-    if !poll.second.misses(loads.second) {
-        return Some(Ready::Second {
-            value: loads.second,
-        });
-    }
-    None
-}
-
-/// Loads both conditions, the first one first.
-pub(crate) fn load_both(domain: &Domain, task: &mut Task, poll: Poll) -> Loads
-    requires of { task.old.domain ≡ domain.now }
-    requires up { IsUp task.old }
-    requires free { IsFree task.old }
-    requires poll { IsPoll poll }
-    ensures loaded { task.new ≡ loaded poll result task.old }
-    ensures carries { Carries unchanged task.old task.new }
-{
-    let first = cond_load(domain, task, poll.first);
-    let second = cond_load(domain, task, poll.second);
-    Loads { first, second }
-}
 
 /// The loads before the first turn: it is over where one finds its condition set.
 pub(crate) fn load_first(domain: &Domain, task: &mut Task, poll: Poll) -> PollTurn
@@ -57,12 +26,10 @@ pub(crate) fn load_first(domain: &Domain, task: &mut Task, poll: Poll) -> PollTu
     requires poll { IsPoll poll }
     requires at { IsPollUnderWay poll task.old (turn.Again stage.First) }
     ensures of { task.new.domain ≡ domain.now }
-    ensures came { (b : _) → (start : _) → IsPolling b poll start task.old (turn.Again stage.First)
-        → IsPolling b poll start task.new result }
-    ensures did { DidStretch poll task.old task.new HEADS stage.First result }
+    ensures goes { GoesFrom poll task.old task.new HEADS stage.First result }
 {
     let loads = load_both(domain, task, poll);
-    match ready(poll, loads) {
+    match poll.ready(loads) {
         Some(ready) => Turn::Done(PollUntil::Over(Ok(ready))),
         None => Turn::Again(PollStage::QueueFirst),
     }
@@ -79,12 +46,10 @@ pub(crate) fn load_queued(
     requires poll { IsPoll poll }
     requires at { IsPollUnderWay poll task.old (turn.Again (stage.Load queued)) }
     ensures of { task.new.domain ≡ domain.now }
-    ensures came { (b : _) → (start : _) → IsPolling b poll start task.old (turn.Again (stage.Load queued))
-        → IsPolling b poll start task.new result }
-    ensures did { DidStretch poll task.old task.new HEADS (stage.Load queued) result }
+    ensures goes { GoesFrom poll task.old task.new HEADS (stage.Load queued) result }
 {
     let loads = load_both(domain, task, poll);
-    if let Some(ready) = ready(poll, loads) {
+    if let Some(ready) = poll.ready(loads) {
         return Turn::Again(PollStage::TakeFirst(PollUntil::Over(Ok(ready))));
     }
     match queued {
@@ -110,9 +75,7 @@ pub(crate) fn ask(domain: &Domain, task: &mut Task, poll: Poll, loads: Loads) ->
     requires poll { IsPoll poll }
     requires at { IsPollUnderWay poll task.old (turn.Again (stage.Ask loads)) }
     ensures of { task.new.domain ≡ domain.now }
-    ensures came { (b : _) → (start : _) → IsPolling b poll start task.old (turn.Again (stage.Ask loads))
-        → IsPolling b poll start task.new result }
-    ensures did { DidStretch poll task.old task.new HEADS (stage.Ask loads) result }
+    ensures goes { GoesFrom poll task.old task.new HEADS (stage.Ask loads) result }
 {
     let own = load_own(domain, task);
     if pending_state(poll.state.mask(), own) {
@@ -131,9 +94,7 @@ pub(crate) fn sleep(domain: &Domain, task: &mut Task, poll: Poll, failed: Failed
     requires poll { IsPoll poll }
     requires at { IsPollUnderWay poll task.old (turn.Again (stage.Sleep failed)) }
     ensures of { task.new.domain ≡ domain.now }
-    ensures came { (b : _) → (start : _) → IsPolling b poll start task.old (turn.Again (stage.Sleep failed))
-        → IsPolling b poll start task.new result }
-    ensures did { DidStretch poll task.old task.new HEADS (stage.Sleep failed) result }
+    ensures goes { GoesFrom poll task.old task.new HEADS (stage.Sleep failed) result }
 {
     let _ = poll;
     let mut tries = failed;
@@ -155,7 +116,7 @@ pub(crate) fn load_last(domain: &Domain, task: &mut Task, poll: Poll) -> PollTur
     ensures did { (s : _) → DidStretch poll task.old task.new HEADS s result }
 {
     let loads = load_both(domain, task, poll);
-    match ready(poll, loads) {
+    match poll.ready(loads) {
         Some(ready) => Turn::Again(PollStage::TakeFirst(PollUntil::Over(Ok(ready)))),
         None => {
             let end = PollUntil::Left {

@@ -1,10 +1,10 @@
-//! What is done in a hold of a head: an entry is queued or taken off, and the head given back.
+//! What is done in a hold of a head: the first entry is queued or taken off, and the head given back. `poll_wait` does so
+//! with the second.
 
 ghost use Rattle.std.specs.Prelude.{◌≡◌};
 ghost use Rattle.wait_model.specs.Tasks.{state_mask};
 ghost use Rattle.wait_model.specs.Watches.{head_of, kind_for};
 ghost use Rattle.wait_rule.specs.HandedPermits.{OwesNoPermit};
-ghost use Rattle.wait_rule.specs.Known.{Known};
 ghost use Rattle.wait_rule.specs.PassedLocks.{PassesNone};
 ghost use Rattle.wait_rule.specs.Says.{IsUp, MayStore, told_of};
 ghost use Rattle.wait_class.specs.Posts.{own_of};
@@ -12,21 +12,17 @@ ghost use Rattle.wait_event.specs.PartSteps.{IsAtHead, ParesPart};
 ghost use Rattle.wait_event.specs.Prepares.{IsPart};
 ghost use Rattle.wq_head.specs.Holds.{IsHolding};
 ghost use Rattle.poll_wait.specs.Polls.{IsPoll};
-ghost use Rattle.poll_wait.specs.Seconds.{IsPolled, second_of};
-ghost use Rattle.poll_wait.specs.SecondSteps.{HasSeenSecond, IsSecondAtHead, JoinsHeld, ParesSecond};
 ghost use Rattle.poll_turns.specs.PollSteps.{GivesHoldBack, JoinsFirst};
 
 use poll_wait::turns::Poll;
 use wait_class::queueing::{add_by, is_first, own_entry, wait_form};
 use wait_model::heads::head_of;
 use wait_model::tasks::How;
-use wait_model::watches::{Entry, Watch};
-use wait_model::words::entry_of;
-use wait_rule::queues::{Passing, entry_load};
+use wait_rule::queues::Passing;
 use wait_rule::tasks::set_state;
 use wait_rule::{Domain, Task};
 use wq_head::locks::give_back;
-use wq_head::{Worn, add_front, remove};
+use wq_head::{Worn, remove};
 
 /// Gives the head back, and leaves to the caller to wake the threads that park for it.
 pub(crate) fn pass_on(domain: &Domain, task: &mut Task, passing: &mut Passing)
@@ -89,59 +85,6 @@ pub(crate) fn pare_first(domain: &Domain, task: &mut Task) -> bool
     if own_entry(domain, task).is_some() {
         let me = task.number();
         remove(domain, task, me, 0);
-        return true;
-    }
-    false
-}
-
-/// Loads the own entry of slot 1.
-pub(crate) fn second_entry(domain: &Domain, task: &mut Task) -> Option<Entry>
-    requires of { task.old.domain ≡ domain.now }
-    requires up { IsUp task.old }
-    ensures { HasSeenSecond task.old task.new result }
-{
-    let me = task.number();
-    let word = entry_load(domain, task, me, 1);
-    entry_of(word.0)
-}
-
-/// In a hold of its head: queues the second entry at the front unless it is queued. Worn comes where no place is left
-/// for it.
-pub(crate) fn join_second(domain: &Domain, task: &mut Task, watch: Watch) -> Result<(), Worn>
-    requires of { task.old.domain ≡ domain.now }
-    requires up { IsUp task.old }
-    requires held { IsHolding task.old }
-    requires head { head_of watch ≡ task.old.at }
-    requires polled { IsPolled watch }
-    requires home { IsPart watch (kind_for watch) ((told_of task.old).bits.stored (second_of task.old)) }
-    ensures joins { JoinsHeld watch task.old task.new result }
-    ensures held { IsHolding task.new }
-{
-    if second_entry(domain, task).is_some() {
-        return Ok(());
-    }
-    let bare = watch.bare();
-    match add_front(domain, task, 1, watch.kind(), bare) {
-        Ok(()) => Ok(()),
-        Err(worn) => {
-            second_entry(domain, task);
-            Err(worn)
-        }
-    }
-}
-
-/// In a hold of its head: takes the second entry off where it is queued.
-pub(crate) fn pare_second(domain: &Domain, task: &mut Task) -> bool
-    requires of { task.old.domain ≡ domain.now }
-    requires up { IsUp task.old }
-    requires held { IsHolding task.old }
-    requires home { IsSecondAtHead task.old }
-    ensures pares { ParesSecond task.old task.new result }
-    ensures held { IsHolding task.new }
-{
-    if second_entry(domain, task).is_some() {
-        let me = task.number();
-        remove(domain, task, me, 1);
         return true;
     }
     false

@@ -5,10 +5,10 @@
 mod asking;
 mod entries;
 pub mod laws;
-mod queueing;
 pub mod stages;
 pub mod stretches;
 mod taking;
+mod tickets;
 
 pub use poll_wait::turns::Poll;
 pub use stages::{PollStage, PollTurn, PollUntil};

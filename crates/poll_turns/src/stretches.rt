@@ -13,16 +13,19 @@ ghost use Rattle.poll_wait.specs.Seconds.{IsSecondOut};
 ghost use Rattle.poll_turns.specs.declared.stages.PollUntil.TheVariants as until;
 ghost use Rattle.poll_turns.specs.PollTurns.{EndsPollUntil, IsPollUnderWay, IsPolling};
 ghost use Rattle.poll_turns.specs.PollShows.{DidStretch};
+ghost use Rattle.poll_turns.specs.PollSteps.{GoesFrom};
 
 use crate::asking::{ask, leaves_at, load_first, load_last, load_queued, sleep};
-use crate::queueing::{hold_first, hold_second, queue_first, queue_second};
 use crate::stages::{PollStage, PollTurn, PollUntil};
-use crate::taking::{hold_take_first, hold_take_second, take_first, take_second};
+use crate::taking::{take_first, take_second};
+use crate::tickets::hold;
 use poll_wait::turns::Poll;
 use poll_wait::{PollEnd, Ready};
+use wait_model::heads::head_of;
 use wait_rule::queues::Passing;
 use wait_rule::tasks::awake;
 use wait_rule::{Domain, Task};
+use wq_head::lock_turns::draw_lock;
 
 /// A wait for two conditions that is about to begin, as `poll_two` does: `stretch_poll` goes on with it there, or
 /// `stretch_poll_out`, and `end_poll` or `end_poll_until` has what holds at its end. The task is idle and has neither
@@ -62,22 +65,58 @@ pub fn stretch_poll(
         → IsPolling b poll start task.new result }
     ensures did { DidStretch poll task.old task.new passing.new.head stage result }
 {
+    go_on(domain, task, poll, stage, passing)
+}
+
+/// The stretch of this stage.
+#[inline(always)]
+fn go_on(
+    domain: &Domain,
+    task: &mut Task,
+    poll: Poll,
+    stage: PollStage,
+    passing: &mut Passing,
+) -> PollTurn
+    requires of { task.old.domain ≡ domain.now }
+    requires poll { IsPoll poll }
+    requires passes { PassesNone passing.old }
+    requires at { IsPollUnderWay poll task.old (turn.Again stage) }
+    ensures of { task.new.domain ≡ domain.now }
+    ensures goes { GoesFrom poll task.old task.new passing.new.head stage result }
+{
+    task.told();
     match stage {
         PollStage::First => load_first(domain, task, poll),
-        PollStage::QueueFirst => queue_first(domain, task, poll, passing),
-        PollStage::HoldFirst(ticket) => hold_first(domain, task, poll, ticket, passing),
-        PollStage::QueueSecond => queue_second(domain, task, poll, passing),
-        PollStage::HoldSecond(ticket) => hold_second(domain, task, poll, ticket, passing),
+        PollStage::QueueFirst => {
+            let head = head_of(poll.first);
+            let ticket = draw_lock(domain, task, head);
+            let drawn = PollStage::HoldFirst(ticket);
+            hold(domain, task, poll, drawn, head, ticket, passing)
+        }
+        PollStage::HoldFirst(ticket) => {
+            let head = head_of(poll.first);
+            hold(domain, task, poll, stage, head, ticket, passing)
+        }
+        PollStage::QueueSecond => {
+            let head = head_of(poll.second);
+            let ticket = draw_lock(domain, task, head);
+            let drawn = PollStage::HoldSecond(ticket);
+            hold(domain, task, poll, drawn, head, ticket, passing)
+        }
+        PollStage::HoldSecond(ticket) => {
+            let head = head_of(poll.second);
+            hold(domain, task, poll, stage, head, ticket, passing)
+        }
         PollStage::Load(queued) => load_queued(domain, task, poll, queued),
         PollStage::Ask(loads) => ask(domain, task, poll, loads),
         PollStage::Sleep(failed) => sleep(domain, task, poll, failed),
         PollStage::TakeFirst(end) => take_first(domain, task, poll, end),
-        PollStage::HoldTakeFirst(end, head, ticket) => {
-            hold_take_first(domain, task, poll, end, head, ticket, passing)
+        PollStage::HoldTakeFirst(_, head, ticket) => {
+            hold(domain, task, poll, stage, head, ticket, passing)
         }
         PollStage::TakeSecond(end) => take_second(domain, task, poll, end),
-        PollStage::HoldTakeSecond(end, head, ticket) => {
-            hold_take_second(domain, task, poll, end, head, ticket, passing)
+        PollStage::HoldTakeSecond(_, head, ticket) => {
+            hold(domain, task, poll, stage, head, ticket, passing)
         }
     }
 }

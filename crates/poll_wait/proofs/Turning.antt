@@ -27,7 +27,7 @@ pub record Polling (p : Poll) (start now : Known) : Type 0 where
   pub may : MayTurn p now
   pub carries : PairCarries (λ _. 0) start now
 
-same_carries : (k : Known) → Carries unchanged k k
+pub same_carries : (k : Known) → Carries unchanged k k
 same_carries k = record {
   domain = refl;
   number = refl;

@@ -27,7 +27,8 @@ use wait_rule::{Domain, Task};
 use wq_head::{Worn, add_front, lock, remove, unlock};
 
 /// Loads the own entry of slot 1.
-fn second_entry(domain: &Domain, task: &mut Task) -> Option<Entry>
+#[inline(always)]
+pub fn second_entry(domain: &Domain, task: &mut Task) -> Option<Entry>
     requires of { task.old.domain ≡ domain.now }
     requires up { IsUp task.old }
     ensures { HasSeenSecond task.old task.new result }
@@ -39,7 +40,7 @@ fn second_entry(domain: &Domain, task: &mut Task) -> Option<Entry>
 
 /// In a hold of its head: queues the own entry of slot 1 at the front unless it is queued. Worn comes where no place is
 /// left for it.
-fn join_held(domain: &Domain, task: &mut Task, watch: Watch) -> Result<(), Worn>
+pub fn join_held(domain: &Domain, task: &mut Task, watch: Watch) -> Result<(), Worn>
     requires of { task.old.domain ≡ domain.now }
     requires up { IsUp task.old }
     requires held { IsHolding task.old }
@@ -86,8 +87,8 @@ pub fn join_second<R: Wait>(
     joined
 }
 
-/// In a hold of its head: takes the own entry of slot 1 off where it is queued.
-fn pare_second(domain: &Domain, task: &mut Task) -> bool
+/// In a hold of its head: takes the own entry of slot 1 off where it is queued, and answers whether it was.
+pub fn pare_second(domain: &Domain, task: &mut Task) -> bool
     requires of { task.old.domain ≡ domain.now }
     requires up { IsUp task.old }
     requires held { IsHolding task.old }

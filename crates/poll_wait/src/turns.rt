@@ -70,7 +70,7 @@ pub struct Loads {
 
 impl Poll {
     /// Which condition the loads found set: the first where it is, else the second where that is.
-    pub(crate) fn ready(self, loads: Loads) -> Option<Ready>
+    pub fn ready(self, loads: Loads) -> Option<Ready>
         ensures { result ≡ ready_of self loads }
     {
         if !self.first.misses(loads.first) {
@@ -86,7 +86,7 @@ impl Poll {
 }
 
 /// Loads both conditions, the first one first.
-pub(crate) fn load_both(domain: &Domain, task: &mut Task, poll: Poll) -> Loads
+pub fn load_both(domain: &Domain, task: &mut Task, poll: Poll) -> Loads
     requires of { task.old.domain ≡ domain.now }
     requires up { IsUp task.old }
     requires free { IsFree task.old }

@@ -9,28 +9,28 @@ use Rattle.poll_wait.specs.declared.turns.PollEnd.TheVariants as poll_end
 use Rattle.poll_turns.proofs.Showing.{quiet_again, step_made, step_quiet}
 use Rattle.poll_turns.proofs.asking.ask.Goals as goal
 
-pub returns-then-pending_state-clause-came : goal.returns-then-pending_state-clause-came
-returns-then-pending_state-clause-came c b start x = ask_hit (PollAskedIf b) c.args.poll c.requires.poll start c.args.task.now
-    c.load_own-own.new.task c.args.loads x c.load_own-own.result.0 c.load_own-own.ensures.step
-    c.load_own-own.ensures.carries c.pending_state.result
-    (c.pending_state.ensures ∙ ap (λ (σ : _). pending σ (task_of c.load_own-own.result.0)) c.mask.ensures)
-    c.if-pending_state.true
+pub returns-then-pending_state-clause-goes : goal.returns-then-pending_state-clause-goes
+returns-then-pending_state-clause-goes c = record {
+  came = λ b start x. ask_hit (PollAskedIf b) c.args.poll c.requires.poll start c.args.task.now
+      c.load_own-own.new.task c.args.loads x c.load_own-own.result.0 c.load_own-own.ensures.step
+      c.load_own-own.ensures.carries c.pending_state.result
+      (c.pending_state.ensures ∙ ap (λ (σ : _). pending σ (task_of c.load_own-own.result.0)) c.mask.ensures)
+      c.if-pending_state.true;
+  did = quiet_again c.args.poll c.args.task.now c.load_own-own.new.task (stage.Ask c.args.loads)
+      (stage.TakeFirst (until.Over (Err (poll_end.Signal c.args.loads.first c.args.loads.second))))
+      (step_quiet c.args.task.now c.load_own-own.new.task (step.Look c.load_own-own.result.0) c.load_own-own.ensures.step refl refl)
+      (step_made c.args.task.now c.load_own-own.new.task (step.Look c.load_own-own.result.0) c.load_own-own.ensures.step);
+}
 
-pub returns-clause-came : goal.returns-clause-came
-returns-clause-came c b start x = ask_miss (PollAskedIf b) c.args.poll c.requires.poll start c.args.task.now
-    c.load_own-own.new.task c.args.loads x c.load_own-own.result.0 c.load_own-own.ensures.step
-    c.load_own-own.ensures.carries c.pending_state.result
-    (c.pending_state.ensures ∙ ap (λ (σ : _). pending σ (task_of c.load_own-own.result.0)) c.mask.ensures)
-    c.if-pending_state.false
-
-pub returns-then-pending_state-clause-did : goal.returns-then-pending_state-clause-did
-returns-then-pending_state-clause-did c = quiet_again c.args.poll c.args.task.now c.load_own-own.new.task (stage.Ask c.args.loads)
-    (stage.TakeFirst (until.Over (Err (poll_end.Signal c.args.loads.first c.args.loads.second))))
-    (step_quiet c.args.task.now c.load_own-own.new.task (step.Look c.load_own-own.result.0) c.load_own-own.ensures.step refl refl)
-    (step_made c.args.task.now c.load_own-own.new.task (step.Look c.load_own-own.result.0) c.load_own-own.ensures.step)
-
-pub returns-clause-did : goal.returns-clause-did
-returns-clause-did c = quiet_again c.args.poll c.args.task.now c.load_own-own.new.task (stage.Ask c.args.loads)
-    (stage.Sleep c.none.result)
-    (step_quiet c.args.task.now c.load_own-own.new.task (step.Look c.load_own-own.result.0) c.load_own-own.ensures.step refl refl)
-    (step_made c.args.task.now c.load_own-own.new.task (step.Look c.load_own-own.result.0) c.load_own-own.ensures.step)
+pub returns-clause-goes : goal.returns-clause-goes
+returns-clause-goes c = record {
+  came = λ b start x. ask_miss (PollAskedIf b) c.args.poll c.requires.poll start c.args.task.now
+      c.load_own-own.new.task c.args.loads x c.load_own-own.result.0 c.load_own-own.ensures.step
+      c.load_own-own.ensures.carries c.pending_state.result
+      (c.pending_state.ensures ∙ ap (λ (σ : _). pending σ (task_of c.load_own-own.result.0)) c.mask.ensures)
+      c.if-pending_state.false;
+  did = quiet_again c.args.poll c.args.task.now c.load_own-own.new.task (stage.Ask c.args.loads)
+      (stage.Sleep c.none.result)
+      (step_quiet c.args.task.now c.load_own-own.new.task (step.Look c.load_own-own.result.0) c.load_own-own.ensures.step refl refl)
+      (step_made c.args.task.now c.load_own-own.new.task (step.Look c.load_own-own.result.0) c.load_own-own.ensures.step);
+}

@@ -2,7 +2,7 @@ use Rattle.std.proofs.Common.{Ok, ◌∙◌, sym}
 use Rattle.poll_turns.proofs.Quitting.{quits_left, quits_ready}
 use Rattle.poll_turns.specs.declared.stages.PollStage.TheVariants as stage
 use Rattle.poll_turns.specs.declared.stages.PollUntil.TheVariants as until
-use Rattle.poll_turns.proofs.Showing.{loads_made, loads_quiet, quiet_again}
+use Rattle.poll_turns.proofs.Showing.{loads_again}
 use Rattle.poll_turns.proofs.asking.load_last.Goals as goal
 
 pub load_both-loads-requires-clause-up : goal.load_both-loads-requires-clause-up
@@ -22,13 +22,9 @@ returns-in-None-clause-came c start x = quits_left c.args.poll c.requires.poll s
     c.load_both-loads.ensures.carries (sym c.ready.ensures ∙ c.in-None.is)
 
 pub returns-in-Some-clause-did : goal.returns-in-Some-clause-did
-returns-in-Some-clause-did c s = quiet_again c.args.poll c.args.task.now c.load_both-loads.new.task s
-    (stage.TakeFirst (until.Over (Ok c.in-Some.ready)))
-    (loads_quiet c.args.poll c.load_both-loads.result c.args.task.now c.load_both-loads.new.task c.load_both-loads.ensures.loaded)
-    (loads_made c.args.poll c.load_both-loads.result c.args.task.now c.load_both-loads.new.task c.load_both-loads.ensures.loaded)
+returns-in-Some-clause-did c s = loads_again c.args.poll c.load_both-loads.result c.args.task.now c.load_both-loads.new.task
+    c.load_both-loads.ensures.loaded s (stage.TakeFirst (until.Over (Ok c.in-Some.ready)))
 
 pub returns-in-None-clause-did : goal.returns-in-None-clause-did
-returns-in-None-clause-did c s = quiet_again c.args.poll c.args.task.now c.load_both-loads.new.task s
-    (stage.TakeFirst (until.Left c.load_both-loads.result.first c.load_both-loads.result.second))
-    (loads_quiet c.args.poll c.load_both-loads.result c.args.task.now c.load_both-loads.new.task c.load_both-loads.ensures.loaded)
-    (loads_made c.args.poll c.load_both-loads.result c.args.task.now c.load_both-loads.new.task c.load_both-loads.ensures.loaded)
+returns-in-None-clause-did c s = loads_again c.args.poll c.load_both-loads.result c.args.task.now c.load_both-loads.new.task
+    c.load_both-loads.ensures.loaded s (stage.TakeFirst (until.Left c.load_both-loads.result.first c.load_both-loads.result.second))

@@ -1,4 +1,6 @@
 use Rattle.std.proofs.Common.{◌∙◌, None, Ok, Some, refl, sym}
+use Rattle.poll_wait.specs.declared.turns.Poll.{Poll}
+use Rattle.poll_wait.specs.Polls.{EndsPoll, IsPoll}
 use Rattle.poll_wait.proofs.Sides.{stays_beside}
 use Rattle.poll_wait.proofs.Turning.{done_carried, done_idle, ends_poll, first_turn, loads_carried, loads_idle}
 use Rattle.poll_wait.proofs.Turning.{loads_out, loads_second}
@@ -10,45 +12,26 @@ load_both-loads-requires-clause-poll g c = record { first = c.requires.first; se
 pub load_both-loads-requires-clause-free : goal.load_both-loads-requires-clause-free
 load_both-loads-requires-clause-free g c = c.requires.idle.free
 
-pub returns-in-Some-clause-ends : goal.returns-in-Some-clause-ends
-returns-in-Some-clause-ends g c = ends_poll
-    (record { first = c.args.first; second = c.args.second; state = c.args.state }) c.load_both-loads.result
-    c.args.task.now c.load_both-loads.new.task c.load_both-loads.new.task (Ok c.in-Some.ready) (Some c.in-Some.ready)
-    c.load_both-loads.ensures.loaded (sym c.ready.ensures ∙ c.in-Some.is) (refl, refl)
-
-pub returns-in-Some-clause-up : goal.returns-in-Some-clause-up
-returns-in-Some-clause-up g c = c.load_both-loads.ensures.carries.awake ∙ c.requires.up
-
-pub returns-in-Some-clause-idle : goal.returns-in-Some-clause-idle
-returns-in-Some-clause-idle g c = loads_idle
-    (record { first = c.args.first; second = c.args.second; state = c.args.state })
-    (record { first = c.requires.first; second = c.requires.second }) c.args.task.now c.load_both-loads.new.task
-    c.load_both-loads.ensures.carries c.requires.up c.requires.idle c.requires.out c.requires.out_second
-
-pub returns-in-Some-clause-out : goal.returns-in-Some-clause-out
-returns-in-Some-clause-out g c = loads_out
-    (record { first = c.args.first; second = c.args.second; state = c.args.state })
-    (record { first = c.requires.first; second = c.requires.second }) c.args.task.now c.load_both-loads.new.task
-    c.load_both-loads.ensures.carries c.requires.up c.requires.idle c.requires.out c.requires.out_second
-
-pub returns-in-Some-clause-out_second : goal.returns-in-Some-clause-out_second
-returns-in-Some-clause-out_second g c = loads_second
-    (record { first = c.args.first; second = c.args.second; state = c.args.state })
-    (record { first = c.requires.first; second = c.requires.second }) c.args.task.now c.load_both-loads.new.task
-    c.load_both-loads.ensures.carries c.requires.up c.requires.idle c.requires.out c.requires.out_second
-
-pub returns-in-Some-clause-carries : goal.returns-in-Some-clause-carries
-returns-in-Some-clause-carries g c = loads_carried
-    (record { first = c.args.first; second = c.args.second; state = c.args.state })
-    (record { first = c.requires.first; second = c.requires.second }) c.args.task.now c.load_both-loads.new.task
-    c.load_both-loads.ensures.carries c.requires.up c.requires.idle c.requires.out c.requires.out_second
-
-pub returns-in-Some-clause-beside : goal.returns-in-Some-clause-beside
-returns-in-Some-clause-beside g c = stays_beside
-    (record { first = c.args.first; second = c.args.second; state = c.args.state })
-    (record { first = c.requires.first; second = c.requires.second }) c.args.task.now c.load_both-loads.new.task
-    (Ok c.in-Some.ready) (c.told.ensures.head ∙ c.requires.idle.free.head) c.load_both-loads.ensures.carries.number
-    (returns-in-Some-clause-ends g c)
+pub returns-in-Some : goal.returns-in-Some
+returns-in-Some g c =
+    let p : Poll = record { first = c.args.first; second = c.args.second; state = c.args.state } in
+    let is : IsPoll p = record { first = c.requires.first; second = c.requires.second } in
+    let old = c.args.task.now in
+    let new = c.load_both-loads.new.task in
+    let k = c.load_both-loads.ensures.carries in
+    let q = c.requires in
+    let ends : EndsPoll p old new (Ok c.in-Some.ready) = ends_poll p c.load_both-loads.result old new new
+    (Ok c.in-Some.ready) (Some c.in-Some.ready) c.load_both-loads.ensures.loaded (sym c.ready.ensures ∙ c.in-Some.is)
+    (refl, refl) in
+    record {
+      ends = ends;
+      up = k.awake ∙ q.up;
+      idle = loads_idle p is old new k q.up q.idle q.out q.out_second;
+      out = loads_out p is old new k q.up q.idle q.out q.out_second;
+      out_second = loads_second p is old new k q.up q.idle q.out q.out_second;
+      carries = loads_carried p is old new k q.up q.idle q.out q.out_second;
+      beside = stays_beside p is old new (Ok c.in-Some.ready) (c.told.ensures.head ∙ q.idle.free.head) k.number ends;
+    }
 
 pub poll_on-requires-clause-may : goal.poll_on-requires-clause-may
 poll_on-requires-clause-may g c = first_turn
@@ -59,39 +42,25 @@ poll_on-requires-clause-may g c = first_turn
 pub poll_on-requires-clause-poll : goal.poll_on-requires-clause-poll
 poll_on-requires-clause-poll g c = record { first = c.requires.first; second = c.requires.second }
 
-pub returns-in-None-clause-ends : goal.returns-in-None-clause-ends
-returns-in-None-clause-ends g c = ends_poll
-    (record { first = c.args.first; second = c.args.second; state = c.args.state }) c.load_both-loads.result
-    c.args.task.now c.load_both-loads.new.task c.poll_on.new.task c.poll_on.result None
-    c.load_both-loads.ensures.loaded (sym c.ready.ensures ∙ c.in-None.is) c.poll_on.ensures.goes
-
-pub returns-in-None-clause-up : goal.returns-in-None-clause-up
-returns-in-None-clause-up g c = c.poll_on.ensures.ends.up
-
-pub returns-in-None-clause-idle : goal.returns-in-None-clause-idle
-returns-in-None-clause-idle g c = done_idle
-    (record { first = c.args.first; second = c.args.second; state = c.args.state })
-    (record { first = c.requires.first; second = c.requires.second }) c.args.task.now c.load_both-loads.new.task
-    c.load_both-loads.ensures.carries c.requires.up c.requires.idle c.requires.out c.requires.out_second
-    c.poll_on.new.task c.poll_on.ensures.ends
-
-pub returns-in-None-clause-out : goal.returns-in-None-clause-out
-returns-in-None-clause-out g c = c.poll_on.ensures.ends.out
-
-pub returns-in-None-clause-out_second : goal.returns-in-None-clause-out_second
-returns-in-None-clause-out_second g c = c.poll_on.ensures.ends.out_second
-
-pub returns-in-None-clause-carries : goal.returns-in-None-clause-carries
-returns-in-None-clause-carries g c = done_carried
-    (record { first = c.args.first; second = c.args.second; state = c.args.state })
-    (record { first = c.requires.first; second = c.requires.second }) c.args.task.now c.load_both-loads.new.task
-    c.load_both-loads.ensures.carries c.requires.up c.requires.idle c.requires.out c.requires.out_second
-    c.poll_on.new.task c.poll_on.ensures.ends
-
-pub returns-in-None-clause-beside : goal.returns-in-None-clause-beside
-returns-in-None-clause-beside g c = stays_beside
-    (record { first = c.args.first; second = c.args.second; state = c.args.state })
-    (record { first = c.requires.first; second = c.requires.second }) c.args.task.now c.poll_on.new.task
-    c.poll_on.result (c.told.ensures.head ∙ c.requires.idle.free.head)
-    (c.poll_on.ensures.ends.carries.number ∙ c.load_both-loads.ensures.carries.number)
-    (returns-in-None-clause-ends g c)
+pub returns-in-None : goal.returns-in-None
+returns-in-None g c =
+    let p : Poll = record { first = c.args.first; second = c.args.second; state = c.args.state } in
+    let is : IsPoll p = record { first = c.requires.first; second = c.requires.second } in
+    let old = c.args.task.now in
+    let mid = c.load_both-loads.new.task in
+    let new = c.poll_on.new.task in
+    let k = c.load_both-loads.ensures.carries in
+    let q = c.requires in
+    let done = c.poll_on.ensures.ends in
+    let ends : EndsPoll p old new c.poll_on.result = ends_poll p c.load_both-loads.result old mid new c.poll_on.result None
+    c.load_both-loads.ensures.loaded (sym c.ready.ensures ∙ c.in-None.is) c.poll_on.ensures.goes in
+    record {
+      ends = ends;
+      up = done.up;
+      idle = done_idle p is old mid k q.up q.idle q.out q.out_second new done;
+      out = done.out;
+      out_second = done.out_second;
+      carries = done_carried p is old mid k q.up q.idle q.out q.out_second new done;
+      beside = stays_beside p is old new c.poll_on.result (c.told.ensures.head ∙ q.idle.free.head)
+          (done.carries.number ∙ k.number) ends;
+    }

@@ -28,29 +28,20 @@ unlock-requires-clause-permits g c = joins_low c.args.watch c.args.task.now c.lo
     (held_at c.args.watch c.lock.new.task c.join_held-joined.new.task c.join_held-joined.result
     c.join_held-joined.ensures.joins)
 
-pub returns-clause-ends : goal.returns-clause-ends
-returns-clause-ends g c = join_ends c.args.watch c.args.task.now c.lock.new.task c.join_held-joined.new.task
-    c.unlock.new.task c.requires.may c.told.ensures
-    (lock_as c.args.task.now c.lock.new.task c.head_of.result (head_of c.args.watch) c.head_of.ensures
-    c.lock.ensures.locked)
-    (carried_as c.args.task.now c.lock.new.task c.head_of.result (head_of c.args.watch) c.head_of.ensures
-    c.lock.ensures.carries) c.unlock.ensures.unlocked c.unlock.ensures.carries c.join_held-joined.result
-    c.join_held-joined.ensures.joins
-
-pub returns-clause-may : goal.returns-clause-may
-returns-clause-may g c = join_may c.args.watch c.args.task.now c.lock.new.task c.join_held-joined.new.task
-    c.unlock.new.task c.requires.may c.told.ensures
-    (lock_as c.args.task.now c.lock.new.task c.head_of.result (head_of c.args.watch) c.head_of.ensures
-    c.lock.ensures.locked)
-    (carried_as c.args.task.now c.lock.new.task c.head_of.result (head_of c.args.watch) c.head_of.ensures
-    c.lock.ensures.carries) c.unlock.ensures.unlocked c.unlock.ensures.carries c.join_held-joined.result
-    c.join_held-joined.ensures.joins
-
-pub returns-clause-carries : goal.returns-clause-carries
-returns-clause-carries g c = join_carries c.args.watch c.args.task.now c.lock.new.task c.join_held-joined.new.task
-    c.unlock.new.task c.requires.may c.told.ensures
-    (lock_as c.args.task.now c.lock.new.task c.head_of.result (head_of c.args.watch) c.head_of.ensures
-    c.lock.ensures.locked)
-    (carried_as c.args.task.now c.lock.new.task c.head_of.result (head_of c.args.watch) c.head_of.ensures
-    c.lock.ensures.carries) c.unlock.ensures.unlocked c.unlock.ensures.carries c.join_held-joined.result
-    c.join_held-joined.ensures.joins
+pub returns : goal.returns
+returns g c =
+    let w = c.args.watch in
+    let old = c.args.task.now in
+    let a = c.lock.new.task in
+    let b = c.join_held-joined.new.task in
+    let new = c.unlock.new.task in
+    let l = lock_as old a c.head_of.result (head_of w) c.head_of.ensures c.lock.ensures.locked in
+    let one = carried_as old a c.head_of.result (head_of w) c.head_of.ensures c.lock.ensures.carries in
+    let r = c.join_held-joined.result in
+    let joins = c.join_held-joined.ensures.joins in
+    let u = c.unlock.ensures in
+    record {
+      ends = join_ends w old a b new c.requires.may c.told.ensures l one u.unlocked u.carries r joins;
+      may = join_may w old a b new c.requires.may c.told.ensures l one u.unlocked u.carries r joins;
+      carries = join_carries w old a b new c.requires.may c.told.ensures l one u.unlocked u.carries r joins;
+    }

@@ -29,28 +29,26 @@ unlock-requires-clause-permits g c = leave_owes c.args.task.now c.second_entry.n
     c.head_of.ensures c.lock.ensures.carries) c.pare_second.new.task
     (pares_second c.lock.new.task c.pare_second.new.task c.pare_second.result c.pare_second.ensures.pares).at
 
-pub returns-in-None-clause-left : goal.returns-in-None-clause-left
-returns-in-None-clause-left g c = leave_off c.args.task.now c.second_entry.new.task c.second_entry.result
-    c.requires.may c.told.ensures c.second_entry.ensures c.in-None.is
+pub returns-in-None : goal.returns-in-None
+returns-in-None g c =
+    let s = c.second_entry in record {
+      left = leave_off c.args.task.now s.new.task s.result c.requires.may c.told.ensures s.ensures c.in-None.is;
+      carries = off_carried c.args.task.now s.new.task s.result c.requires.may c.told.ensures s.ensures c.in-None.is;
+    }
 
-pub returns-in-None-clause-carries : goal.returns-in-None-clause-carries
-returns-in-None-clause-carries g c = off_carried c.args.task.now c.second_entry.new.task c.second_entry.result
-    c.requires.may c.told.ensures c.second_entry.ensures c.in-None.is
-
-pub returns-in-Some-clause-left : goal.returns-in-Some-clause-left
-returns-in-Some-clause-left g c = leave_on c.args.task.now c.second_entry.new.task c.second_entry.result
-    c.requires.may c.told.ensures c.second_entry.ensures c.in-Some.entry c.in-Some.is c.lock.new.task
-    (lock_as c.second_entry.new.task c.lock.new.task c.head_of.result (head_of c.in-Some.entry.watch) c.head_of.ensures
-    c.lock.ensures.locked)
-    (carried_as c.second_entry.new.task c.lock.new.task c.head_of.result (head_of c.in-Some.entry.watch)
-    c.head_of.ensures c.lock.ensures.carries) c.lock.ensures.held c.pare_second.new.task c.pare_second.result
-    c.pare_second.ensures.pares c.unlock.new.task c.unlock.ensures.unlocked c.unlock.ensures.carries
-
-pub returns-in-Some-clause-carries : goal.returns-in-Some-clause-carries
-returns-in-Some-clause-carries g c = on_carried c.args.task.now c.second_entry.new.task c.second_entry.result
-    c.requires.may c.told.ensures c.second_entry.ensures c.in-Some.entry c.in-Some.is c.lock.new.task
-    (lock_as c.second_entry.new.task c.lock.new.task c.head_of.result (head_of c.in-Some.entry.watch) c.head_of.ensures
-    c.lock.ensures.locked)
-    (carried_as c.second_entry.new.task c.lock.new.task c.head_of.result (head_of c.in-Some.entry.watch)
-    c.head_of.ensures c.lock.ensures.carries) c.lock.ensures.held c.pare_second.new.task c.pare_second.result
-    c.pare_second.ensures.pares c.unlock.new.task c.unlock.ensures.unlocked c.unlock.ensures.carries
+pub returns-in-Some : goal.returns-in-Some
+returns-in-Some g c =
+    let old = c.args.task.now in
+    let s = c.second_entry in
+    let e = c.in-Some.entry in
+    let a = c.lock.new.task in
+    let b = c.pare_second in
+    let u = c.unlock.ensures in
+    let l = lock_as s.new.task a c.head_of.result (head_of e.watch) c.head_of.ensures c.lock.ensures.locked in
+    let one = carried_as s.new.task a c.head_of.result (head_of e.watch) c.head_of.ensures c.lock.ensures.carries in
+    record {
+      left = leave_on old s.new.task s.result c.requires.may c.told.ensures s.ensures e c.in-Some.is a l one
+          c.lock.ensures.held b.new.task b.result b.ensures.pares c.unlock.new.task u.unlocked u.carries;
+      carries = on_carried old s.new.task s.result c.requires.may c.told.ensures s.ensures e c.in-Some.is a l one
+          c.lock.ensures.held b.new.task b.result b.ensures.pares c.unlock.new.task u.unlocked u.carries;
+    }

@@ -17,7 +17,7 @@ use std::alloc::Global;
 ///
 /// The commands `replay` and `drill` are done as `run_alone` does them. All other words, those of a copy and of a merge
 /// among them, are no command of this program: the status is 2, or 7 where memory ran out before they were known to be
-/// none, with its line on `err` as of `run_alone`. Then the input is as it was, and with status 2 so is `out`.
+/// none, with its line on `err` as of `run_alone`. Then the input is as it was, and so is `out`.
 pub fn run_words<I: Source, O: Sink, E: Sink>(
     alloc: Global,
     words: &[String],
@@ -31,6 +31,7 @@ pub fn run_words<I: Source, O: Sink, E: Sink>(
     ensures no_input { IsFalse (reads_input (without_files (command_of (map string_bytes words.now))))
         → input.new ≡ input.old }
     ensures no_text { IsTrue (is_quiet result) → O.held out.new ≡ O.held out.old }
+    ensures no_output { without_files (command_of (map string_bytes words.now)) ≡ None → out.new ≡ out.old }
 
     // What the status says of the command, and what was written, as of `run_alone`.
     ensures finishes { Finishes (verdict_at (without_files (command_of (map string_bytes words.now))) (I.left input.old))

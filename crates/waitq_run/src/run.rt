@@ -120,7 +120,8 @@ fn run_merge<R: Threads + Wait + Sync, F: Folder, O: Sink, E: Sink, G: Gate + Sy
 /// whatever the status is, and the watchers are dropped.
 ///
 /// For the other commands `run_alone` says what is done, and folder and task are as they were; so are they for words that
-/// are no command, whose status is 2, or 7 where memory ran out, with its line on `err` as of `run_alone`.
+/// are no command, whose status is 2, or 7 where memory ran out, with its line on `err` as of `run_alone`. Then the input
+/// is as it was, and so is `out`.
 pub fn run<
     R: Threads + Wait + Sync,
     F: Folder,
@@ -150,6 +151,7 @@ pub fn run<
     ensures statuses { IsTrue (may_end_with (command_of (map string_bytes words.now)) result) }
     ensures no_input { IsFalse (reads_input (command_of (map string_bytes words.now))) → input.new ≡ input.old }
     ensures no_text { IsTrue (is_quiet result) → O.held out.new ≡ O.held out.old }
+    ensures no_output { command_of (map string_bytes words.now) ≡ None → out.new ≡ out.old }
 
     // What the status says of a command that is neither a copy nor a merge, as of `run_alone`.
     ensures finishes { Finishes (verdict_at (command_of (map string_bytes words.now)) (I.left input.old))

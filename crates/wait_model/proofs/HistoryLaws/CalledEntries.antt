@@ -156,12 +156,6 @@ sets_of_call a x (step.TasFor y p r) v f h =
     rw f.is (sym (same_trans (page p) a.watch f.walk.watch h) ∙ f.watch)
 sets_of_call a x e v f h = absurd (cc)
 
--- a step that shows the walk's bit set makes the hold moot, and is one by which the walk calls
-sees_calls : (a : Aim) (x : ℕ) (e : Step) → sees_set a e ≡ true → calls_entry a x e ≡ true
-sees_calls a x (step.Load l r) h = h
-sees_calls a x (step.TasFor y p r) h = h
-sees_calls a x e h = absurd (cc)
-
 sets_of_sight : (a : Aim) (e : Step) (v : View) → IsForWalk a v.walk → sees_set a e ≡ true → sets_moot e v ≡ true
 unfolding sets_called sets_moot
 sets_of_sight a (step.Load l r) v f h = sets_of_call a 0 (step.Load l r) v f h

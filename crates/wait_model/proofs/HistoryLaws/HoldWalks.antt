@@ -53,30 +53,6 @@ pub walks_for : (a : Aim) (es : List Step) (v : View) → Lacks turns_lock es �
 walks_for a [] v l f = f
 walks_for a (e ∷ es) v l f = walks_for a es (after e v) l.1 (walk_for a e v l.0 f)
 
--- the walk before a step in a hold, and before several
-for_again : (a : Aim) (o : Option Walk) → IsForWalk a (begun_anew o) → IsForWalk a o
-for_again a None f = absurd (none-some f.walk f.is)
-for_again a (Some w) f =
-    let e : record w { from = 0 } ≡ f.walk = (let z : Some (record w { from = 0 }) ≡ Some f.walk = f.is in cc)
-    in
-    record {
-      walk = w;
-      is = refl;
-      watch = subst (λ (u : Walk). same a.watch u.watch ≡ true) (sym e) f.watch;
-      mask = subst (λ (u : Walk). u.mask ≡ mask_of a.mode) (sym e) f.mask;
-    }
-
-for_walk : (a : Aim) (e : Step) (v : View) → turns_lock e ≡ false → IsForWalk a (after e v).walk → IsForWalk a v.walk
-for_walk a (step.Publish c n r) v t f = for_again a v.walk f
-for_walk a (step.Lock h aim w) v t f = absurd (cc)
-for_walk a (step.Unlock h sp) v t f = absurd (cc)
-for_walk a e v t f = f
-
-pub for_walks : (a : Aim) (es : List Step) (v : View) → Lacks turns_lock es → IsForWalk a (after_all v es).walk
-    → IsForWalk a v.walk
-for_walks a [] v l f = f
-for_walks a (e ∷ es) v l f = for_walk a e v l.0 (for_walks a es (after e v) l.1 f)
-
 unlock_mark : (v : View) (o : Option Walk) (sp : Bool) → (after_unlock v o sp).mark ≡ v.mark
 unlock_mark v o sp = unlocked (λ u. u.mark ≡ v.mark) v o sp refl (λ w. refl) (λ w. refl)
 

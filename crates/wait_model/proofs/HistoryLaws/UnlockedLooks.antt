@@ -46,28 +46,3 @@ peeks_hold_below f (suc n) v = peeks_hold_below f n (after (step.Peek n (entry_w
 pub peeks_hold : (f : ℕ → Option Entry) (v : View) → (after_all v (all_peeks f)).hold ≡ v.hold
 unfolding all_peeks
 peeks_hold f v = peeks_hold_below f ENTRIES v
-
-peeks_walk_below : (f : ℕ → Option Entry) (n : ℕ) (v : View) → (after_all v (peeks_below f n)).walk ≡ v.walk
-peeks_walk_below f zero v = refl
-peeks_walk_below f (suc n) v = peeks_walk_below f n (after (step.Peek n (entry_word (f n))) v)
-
-pub peeks_walk : (f : ℕ → Option Entry) (v : View) → (after_all v (all_peeks f)).walk ≡ v.walk
-unfolding all_peeks
-peeks_walk f v = peeks_walk_below f ENTRIES v
-
-peeks_mark_below : (f : ℕ → Option Entry) (n : ℕ) (v : View) → (after_all v (peeks_below f n)).mark ≡ v.mark
-peeks_mark_below f zero v = refl
-peeks_mark_below f (suc n) v = peeks_mark_below f n (after (step.Peek n (entry_word (f n))) v)
-
-pub peeks_mark : (f : ℕ → Option Entry) (v : View) → (after_all v (all_peeks f)).mark ≡ v.mark
-unfolding all_peeks
-peeks_mark f v = peeks_mark_below f ENTRIES v
-
-peeks_keeps_below : (f : ℕ → Option Entry) (n : ℕ) (v : View)
-    → (after_all v (peeks_below f n)).bits.keeps ≡ v.bits.keeps
-peeks_keeps_below f zero v = refl
-peeks_keeps_below f (suc n) v = peeks_keeps_below f n (after (step.Peek n (entry_word (f n))) v)
-
-pub peeks_keeps : (f : ℕ → Option Entry) (v : View) → (after_all v (all_peeks f)).bits.keeps ≡ v.bits.keeps
-unfolding all_peeks
-peeks_keeps f v = peeks_keeps_below f ENTRIES v

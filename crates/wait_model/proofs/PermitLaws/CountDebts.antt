@@ -39,9 +39,6 @@ read_debt found debt = by ((found == 0) || (nat_le ALL_DONE found && nat_le debt
     by true = omega arith
     by false = omega arith
 
-pub read_none : (debt : ℕ) → after_read 0 debt ≡ 0
-read_none debt = refl
-
 pub read_end : (found debt : ℕ) → ALL_DONE ≤ found → debt ≤ 1 → after_read found debt ≡ 0
 read_end found debt large small =
     let l : nat_le ALL_DONE found ≡ true = grind (arith, nat_tests) in

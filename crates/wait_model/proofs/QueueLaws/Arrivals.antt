@@ -48,10 +48,6 @@ module _ (least : ℕ) where
   none_here m ms true h e = absurd (cc)
   none_here m ms false h e = h e
 
-  pub members_none : (q : List Member) → member_from least q ≡ None → members_from least q ≡ []
-  members_none [] e = refl
-  members_none (m ∷ ms) e = none_here m ms (nat_le least (rank m)) (members_none ms) e
-
 -- a queue in which each member has the rank
 all_from : (least : ℕ) (q : List Member) → ((x : Member) → IsIn x q → least ≤ rank x) → members_from least q ≡ q
 all_from least [] h = refl
@@ -87,11 +83,6 @@ module _ (least : ℕ) where
       let f : nat_le (rank x + 1) (rank m) ≡ false = grind (arith, nat_tests) in
       h e ∙ ap (λ (r : List Member). x ∷ r)
       (sym (ap (λ b. cond b (m ∷ members_from (rank x + 1) ms) (members_from (rank x + 1) ms)) f))
-
-  pub members_some : (q : List Member) (x : Member) → IsInOrder q → member_from least q ≡ Some x
-      → members_from least q ≡ x ∷ members_from (rank x + 1) q
-  members_some [] x o e = absurd (cc)
-  members_some (m ∷ ms) x o e = some_here x m ms (nat_le least (rank m)) refl o (members_some ms x o.1) e
 
 -- the members from a rank on are in order
 ordered_here : (least : ℕ) (m : Member) (ms : List Member) (b : Bool) → IsRisingFrom (rank m) ms

@@ -37,15 +37,6 @@ ordered_later stand queue n o = record {
   order = o.order;
 }
 
--- the same members stand
-pub ordered_same : (stand other : ℕ → Option Mark) (queue : ℕ → List Member) (n : ℕ)
-    → ((x : ℕ) → other x ≡ stand x) → IsOrdered stand queue n → IsOrdered other queue n
-ordered_same stand other queue n same o = record {
-  inside = λ x k s. o.inside x k (sym (same x) ∙ s);
-  members = λ h m i. same m.at ∙ o.members h m i;
-  order = o.order;
-}
-
 module _ (stand other : ℕ → Option Mark) (queue : ℕ → List Member) (n x : ℕ) (o : IsOrdered stand queue n)
     (same : (y : ℕ) → y ≢ x → other y ≡ stand y) where
   -- a member is put in

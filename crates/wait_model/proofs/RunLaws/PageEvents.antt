@@ -46,10 +46,6 @@ seated_pages : (c : Watch) (o : Option Entry) → IsHome seated c o → IsHome p
 seated_pages c None h = absurd h
 seated_pages c (Some e) h = h
 
-none_pages : (c : Watch) (o : Option Entry) → IsHome absent c o → IsHome pages c o
-none_pages c None h = tt
-none_pages c (Some e) h = absurd h
-
 seated_there : (c : Watch) (o : Option Entry) → IsHome seated c o → is_some o ≡ true
 seated_there c None h = absurd h
 seated_there c (Some e) h = refl

@@ -149,10 +149,6 @@ pub turning_paging : (q : Progress) → is_paging q ≡ false → is_turning q �
 turning_paging (now.Open call (at.Page p)) h = absurd (cc)
 turning_paging q h = refl
 
-asked_paging : (q : Progress) → is_paging q ≡ false → has_asked q ≡ false
-asked_paging (now.Open call (at.Page p)) h = absurd (cc)
-asked_paging q h = refl
-
 pub any_paging : (call : Call) (p : Point) → is_paging (now.Open calls.Accept p) ≡ is_paging (now.Open call p)
 any_paging call (at.Page p) = refl
 any_paging call p = refl

@@ -2,13 +2,13 @@
 use Rattle.std.proofs.Common.{refl, sym, ◌∙◌, ap, subst, arith, inl, inr, pow-suc, w64}
 use Rattle.std.proofs.lemmas.Bool.{cases_lt}
 use Rattle.std.proofs.lemmas.Bool.Decides.{eqb_tells}
-use Rattle.std.proofs.lemmas.Nat.{one_shl, or_lt, and_le_l, pow_pos, pow_below}
+use Rattle.std.proofs.lemmas.Nat.{one_shl, or_lt, and_le_l, pow_below}
 use Rattle.std.proofs.lemmas.Nat.Bits.{bit_at_or, bit_at_and, bit_at-pow_same, bit_at-pow_other, bit_at-lt}
-use Rattle.std.proofs.lemmas.Nat.Bits.{bit_at_above, bit_at_not, bit_at_cat_low, bit_at_cat_high, shr_and_one, and_pow}
+use Rattle.std.proofs.lemmas.Nat.Bits.{bit_at_above, bit_at_not, bit_at_cat_low, bit_at_cat_high}
 use Rattle.std.proofs.lemmas.Nat.Bits.{same_from_bits_below}
 use Rattle.std.specs.Int as int
 use Rattle.std.specs.Prelude.{ℕ, zero, suc, ◌≡◌, ◌≢◌, ◌<◌, ◌≤◌, ◌⊎◌, ◌+◌, ◌-◌, ◌*◌, ◌/◌, ◌%◌, ◌^◌, Bool, true, false}
-use Rattle.std.specs.Prelude.{not, ◌==◌, if◌then◌else◌, bit_and, bit_or, min, max}
+use Rattle.std.specs.Prelude.{◌==◌, if◌then◌else◌, bit_and, bit_or, min, max}
 use Rattle.wait_model.specs.declared.layout.TheConstants.{WORD_BITS}
 use Rattle.wait_model.specs.declared.watches.Watch.TheVariants as watch
 use Rattle.wait_model.specs.Functions.{put}
@@ -105,32 +105,10 @@ pub same_bits : (v w : ℕ) → v < 2 ^ 64 → w < 2 ^ 64 → ((k : ℕ) → k <
 same_bits v w p q h = same_from_bits_below WORD_BITS v w p q
     (λ k lt. sym (bit_is v k) ∙ ap flag (h k lt) ∙ bit_is w k)
 
-by_two : (d : ℕ) → d < 2 → (d ≡ 0) ⊎ (d ≡ 1)
-by_two zero lt = inl refl
-by_two (suc d) lt = inr (omega (arith, lt))
-
--- a bit that is tested by a mask of its place
-tested : (d p : ℕ) → d < 2 → zero < p → not (d * p == 0) ≡ (d == 1)
-tested d p lt some = elim (by_two d lt) [
-  | inl z ↦ subst (λ (e : ℕ). not (e * p == 0) ≡ (e == 1)) (sym z) (grind arith)
-  | inr o ↦ subst (λ (e : ℕ). not (e * p == 0) ≡ (e == 1)) (sym o) (grind (arith, some))
-]
-
 -- `1 << b`, and the words of `w | 1 << b` and `w & !(1 << b)`
 module _ (w b : ℕ) (within : b < WORD_BITS) where
   mask : 1 * 2 ^ b % 2 ^ 64 ≡ 2 ^ b
   mask = one_shl b WORD_BITS within
-
-  -- `w & 1 << b != 0`
-  pub bit_tested : not (bit_and w (1 * 2 ^ b % 2 ^ 64) == 0) ≡ bit_at w b
-  unfolding bit_at
-  bit_tested = ap (λ (m : ℕ). not (bit_and w m == 0)) mask ∙ ap (λ (m : ℕ). not (m == 0)) (and_pow w b)
-      ∙ tested (int.bit_at w b) (2 ^ b) (bit_at-lt w b) (pow_pos b)
-
-  -- `w >> b & 1 == 1`
-  pub bit_shifted : (bit_and (w / 2 ^ b) 1 == 1) ≡ bit_at w b
-  unfolding bit_at
-  bit_shifted = ap (λ (d : ℕ). d == 1) (shr_and_one w b)
 
   -- setting a bit
   pub set_at : (k : ℕ) → bit_at (bit_or w (1 * 2 ^ b % 2 ^ 64)) k ≡ put (bit_at w) b true k

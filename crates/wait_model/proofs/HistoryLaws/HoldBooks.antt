@@ -12,7 +12,7 @@ use Rattle.wait_model.specs.Views.{all_cleared, look_at}
 use Rattle.wait_model.specs.Fold.{after, after_all, view_of}
 use Rattle.wait_model.specs.Histories.{Lacks, Since, takes_any_lock, turns_lock}
 use Rattle.wait_model.specs.Walks.{WalkHold, tells}
-use Rattle.wait_model.proofs.HistoryLaws.Stretches.{after_append, lacks_left, lacks_right}
+use Rattle.wait_model.proofs.HistoryLaws.Stretches.{after_append, lacks_left, lacks_right, since_behind, since_first}
 use Rattle.wait_model.proofs.StepLaws.PastEntries.{all_below_at}
 use Rattle.wait_model.proofs.StepLaws.UnlockSteps.{unlock_hold}
 use Rattle.wait_model.proofs.HistoryLaws.CalledEntries.{hold_view}
@@ -62,22 +62,8 @@ last_in is (e ∷ es) = by (last_in is es) (is e) refl
   where
     by : Since is is es ⊎ Lacks is es → (b : Bool) → is e ≡ b
         → Since is is (e ∷ es) ⊎ Lacks is (e ∷ es)
-    by (inl s) b h = inl (record {
-      earlier = e ∷ s.earlier;
-      it = s.it;
-      later = s.later;
-      split = ap (λ (t : List Step). e ∷ t) s.split;
-      passes = s.passes;
-      none_since = s.none_since;
-    })
-    by (inr n) true h = inl (record {
-      earlier = [];
-      it = e;
-      later = es;
-      split = refl;
-      passes = h;
-      none_since = n;
-    })
+    by (inl s) b h = inl (since_behind e s)
+    by (inr n) true h = inl (since_first e es h n)
     by (inr n) false h = inr (h, n)
 
 -- who holds a head by the view took its lock by the history, and has not given it back

@@ -17,7 +17,7 @@ use Rattle.wait_model.specs.Views.{all_passed, look_at}
 use Rattle.wait_model.specs.Fold.{after, after_all, after_unlock, begun, begun_anew, paused, view_of}
 use Rattle.wait_model.specs.Histories.{Lacks, Since, UnlocksHeld, is_mark, marks}
 use Rattle.wait_model.specs.Walks.{WalkHold, tells, entry_of_head, shown_by, IsPast, CalledNow, HasPassed, leaves, GoneIn, GoneBy}
-use Rattle.wait_model.proofs.HistoryLaws.Stretches.{lacks_append, lacks_left, append_split}
+use Rattle.wait_model.proofs.HistoryLaws.Stretches.{lacks_append, lacks_left, append_split, since_behind, since_first}
 use Rattle.wait_model.proofs.HistoryLaws.HoldWalks.{IsForWalk, Locked, HasWalk, locked_of, locked_for, locked_held}
 use Rattle.wait_model.proofs.HistoryLaws.HoldWalks.{mark_kept}
 use Rattle.wait_model.proofs.HistoryLaws.HoldLooks.{after_snoc}
@@ -134,26 +134,12 @@ mark_in (e ∷ es) v q m = by (mark_in es (after e v) q m)
   where
     at : (b : Bool) → is_mark e ≡ b → (after e v).mark ≡ Some q → Lacks is_mark es
         → Since (marks q) is_mark (e ∷ es) ⊎ ((v.mark ≡ Some q) × Lacks is_mark (e ∷ es))
-    at true i n l = inl (record {
-      earlier = [];
-      it = e;
-      later = es;
-      split = refl;
-      passes = marks_of e v q i n;
-      none_since = l;
-    })
+    at true i n l = inl (since_first e es (marks_of e v q i n) l)
     at false i n l = inr (sym (mark_kept e v i) ∙ n, (i, l))
 
     by : Since (marks q) is_mark es ⊎ (((after e v).mark ≡ Some q) × Lacks is_mark es)
         → Since (marks q) is_mark (e ∷ es) ⊎ ((v.mark ≡ Some q) × Lacks is_mark (e ∷ es))
-    by (inl s) = inl (record {
-      earlier = e ∷ s.earlier;
-      it = s.it;
-      later = s.later;
-      split = ap (λ (t : List Step). e ∷ t) s.split;
-      passes = s.passes;
-      none_since = s.none_since;
-    })
+    by (inl s) = inl (since_behind e s)
     by (inr r) = at (is_mark e) refl r.0 r.1
 
 mark_told : (es : List Step) (q : ℕ) → (view_of es).mark ≡ Some q → Since (marks q) is_mark es

@@ -39,9 +39,8 @@ use Rattle.wait_model.specs.Watches.{head_of, mask_of, owner, stands_at}
 use Rattle.wait_model.specs.Fold.{holding}
 use Rattle.wait_model.specs.Functions.{put}
 use Rattle.wait_model.specs.Words.{flag}
-use Rattle.wait_model.proofs.Functions.{put_at}
+use Rattle.wait_model.proofs.Functions.{put_at, both_left, both_right}
 use Rattle.wait_model.proofs.PermitLaws.CountDebts.{load_outside, read_debt, stored_debt, taken_most}
-use Rattle.wait_model.proofs.PermitLaws.PermitTurns.{and_left, and_right}
 use Rattle.wait_model.proofs.QueueLaws.MemberStands.{member_is}
 use Rattle.wait_model.proofs.QueueLaws.PlacesApart.{entry_inside}
 use Rattle.wait_model.proofs.QueueLaws.QueueOrder.{IsFirstFrom, first_is}
@@ -123,8 +122,8 @@ module _ (s : State) (n me : ℕ) (call : Call) (d : ℕ) (sound : IsSound s n) 
     -- as many as it selects
     enough_debt : is_enough call j ≡ true → Selects call j w.debt → w.debt ≡ 0
     enough_debt e (inl none) =
-        let some : not (j == 0) ≡ true = and_left (not (j == 0)) (j == count_of call) e in
-        let is_count : (j == count_of call) ≡ true = and_right (not (j == 0)) (j == count_of call) e in
+        let some : not (j == 0) ≡ true = both_left (not (j == 0)) (j == count_of call) e in
+        let is_count : (j == count_of call) ≡ true = both_right (not (j == 0)) (j == count_of call) e in
         absurd (elim (eqb_tells j 0) [
           | inl q ↦ clash (j == 0) q.0 (flipped (j == 0) some)
           | inr q ↦ elim (eqb_tells j (count_of call)) [
@@ -133,7 +132,7 @@ module _ (s : State) (n me : ℕ) (call : Call) (d : ℕ) (sound : IsSound s n) 
           ]
         ])
     enough_debt e (inr k) =
-        let some : not (j == 0) ≡ true = and_left (not (j == 0)) (j == count_of call) e in
+        let some : not (j == 0) ≡ true = both_left (not (j == 0)) (j == count_of call) e in
         elim (eqb_tells j 0) [
           | inl q ↦ absurd (clash (j == 0) q.0 (flipped (j == 0) some))
           | inr q ↦ let l = k.1 in let ne = q.1 in omega (arith, l, ne)

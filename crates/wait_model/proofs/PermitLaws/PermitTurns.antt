@@ -21,7 +21,7 @@ use Rattle.wait_model.specs.Tables.{Table, next}
 use Rattle.wait_model.specs.Views.{View, Hold, Look, no_hold, unseen, off, elsewhere, shown, look_at}
 use Rattle.wait_model.specs.Watches.{head_of, stands_at}
 use Rattle.wait_model.specs.Words.{flag, entry_of}
-use Rattle.wait_model.proofs.Functions.{put_same, put_other}
+use Rattle.wait_model.proofs.Functions.{put_same, put_other, both_left, both_right}
 use Rattle.wait_model.proofs.PermitLaws.OwnTurns.{Turn, flag_small, held_is, in_is, clash, nothing_known, known_is}
 use Rattle.wait_model.proofs.StepLaws.UnlockSteps.{unlock_hold}
 
@@ -67,14 +67,6 @@ look_seen h (Some e) = by (head_of e.watch == h)
     by : (b : Bool) → is_seen (if b then shown e else elsewhere) ≡ true
     by true = refl
     by false = refl
-
-pub and_left : (a b : Bool) → (a && b) ≡ true → a ≡ true
-and_left true b h = refl
-and_left false b h = absurd (cc)
-
-pub and_right : (a b : Bool) → (a && b) ≡ true → b ≡ true
-and_right true b h = h
-and_right false b h = absurd (cc)
 
 module _ (s : Table) (a : ℕ) (d : ℕ) (told : AreViewsTold s) (k : Kept s) (x : IsExact s d) where
   abbrev v : View
@@ -252,7 +244,7 @@ module _ (s : Table) (a : ℕ) (d : ℕ) (told : AreViewsTold s) (k : Kept s) (x
             omega (arith, b, z, f);
         home = λ y mine is_own st was. inr (
             let seen : v.hold.book y ≢ unseen = (elim was [
-              | inl q ↦ not_unseen (v.hold.book y) (and_right (is_in d v) (is_seen (v.hold.book y)) q)
+              | inl q ↦ not_unseen (v.hold.book y) (both_right (is_in d v) (is_seen (v.hold.book y)) q)
               | inr q ↦ subst (λ (j : ℕ). v.hold.book j ≢ unseen) (sym is_own) (on.0 q)
             ]) in
             let shows = seen_shows h (v.hold.book y) (s.entry y) (agrees y) seen st in
@@ -366,8 +358,8 @@ module _ (s : Table) (a : ℕ) (d : ℕ) (told : AreViewsTold s) (k : Kept s) (x
         | inr r ↦
             let c : (nat_le ALL_DONE found && nat_le debt 1) ≡ true =
             sym (ap (λ (t : Bool). t || (nat_le ALL_DONE found && nat_le debt 1)) r.0) ∙ q in
-            let l : nat_le ALL_DONE found ≡ true = and_left (nat_le ALL_DONE found) (nat_le debt 1) c in
-            let m : nat_le debt 1 ≡ true = and_right (nat_le ALL_DONE found) (nat_le debt 1) c in
+            let l : nat_le ALL_DONE found ≡ true = both_left (nat_le ALL_DONE found) (nat_le debt 1) c in
+            let m : nat_le debt 1 ≡ true = both_right (nat_le ALL_DONE found) (nat_le debt 1) c in
             let large : ALL_DONE ≤ found = grind (arith, nat_tests) in
             let little : debt ≤ 1 = grind (arith, nat_tests) in
             absurd (omega (arith, large, little, small, few, b))

@@ -44,6 +44,7 @@ use Rattle.wait_model.specs.Programs.{is_at_end, is_enough, select_next, select_
 use Rattle.wait_model.specs.Programs.{await_event, count_event, page_finish_event, page_event}
 use Rattle.wait_model.specs.declared.points.PagePoint.TheVariants as paging
 use Rattle.wait_model.specs.declared.points.PagePoint.{PagePoint}
+use Rattle.wait_model.proofs.WaitLaws.OutsideStages.{either}
 
 -- the events that move no bookmark
 abbrev pub IsUnmarked : Event → Type 0
@@ -61,13 +62,21 @@ is_away (at.Walk walking.Lock) = true
 is_away (at.Walk p) = false
 is_away _ = true
 
-abbrev pub goes_away : Next → Bool
-goes_away (next.Go p) = is_away p
-goes_away (next.Ends a) = true
+-- a call goes on at such a place, or it ends
+abbrev goes_by : (Point → Bool) → Next → Bool
+goes_by is (next.Go p) = is p
+goes_by is (next.Ends a) = true
 
-pub record IsAway (x : Planned) : Type 0 where
-  pub event : IsUnmarked x.event
-  pub next : goes_away x.next ≡ true
+-- an event of such a kind, and the call goes on at such a place
+pub record Keeps (Fits : Event → Type 0) (is : Point → Bool) (x : Planned) : Type 0 where
+  pub event : Fits x.event
+  pub next : goes_by is x.next ≡ true
+
+abbrev pub goes_away : Next → Bool
+goes_away n = goes_by is_away n
+
+abbrev pub IsAway : Planned → Type 0
+IsAway x = Keeps IsUnmarked is_away x
 
 -- the events that move no bookmark and take no page for a task
 abbrev pub IsPlainEvent : Event → Type 0
@@ -89,12 +98,10 @@ is_plain (at.Page paging.Queue) = false
 is_plain p = is_away p
 
 abbrev pub goes_plain : Next → Bool
-goes_plain (next.Go p) = is_plain p
-goes_plain (next.Ends a) = true
+goes_plain n = goes_by is_plain n
 
-pub record IsPlain (x : Planned) : Type 0 where
-  pub event : IsPlainEvent x.event
-  pub next : goes_plain x.next ≡ true
+abbrev pub IsPlain : Planned → Type 0
+IsPlain x = Keeps IsPlainEvent is_plain x
 
 unmarked : (e : Event) → IsPlainEvent e → IsUnmarked e
 unmarked (event.Mark h) u = u
@@ -107,10 +114,6 @@ stays_away n h = h
 
 plain_away : (x : Planned) → IsPlain x → IsAway x
 plain_away x h = record { event = unmarked x.event h.event; next = stays_away x.next h.next }
-
-away_both : (b : Bool) (x y : Planned) → IsAway x → IsAway y → IsAway (if b then x else y)
-away_both true x y p q = p
-away_both false x y p q = q
 
 signalled_plain : (c : Call) → is_plain (signalled_at c) ≡ true
 signalled_plain (calls.WaitFor d st) = refl
@@ -132,14 +135,9 @@ published_plain : (c : Call) → IsPlainEvent (publishing_event c)
 published_plain (calls.ClearBit w b) = tt
 published_plain c = tt
 
-both : (b : Bool) (x y : Planned) → IsPlain x → IsPlain y → IsPlain (if b then x else y)
-both true x y p q = p
-both false x y p q = q
-
 one_of : (b : Bool) (e : Event) (p q : Point) → IsPlain (go e p) → IsPlain (go e q)
     → IsPlain (go e (if b then p else q))
-one_of true e p q h k = h
-one_of false e p q h k = k
+one_of b e p q h k = either (λ (r : Point). IsPlain (go e r)) b p q h k
 
 module _ (call : Call) (me : ℕ) (seen : Seen) where
   asks : IsPlainEvent (ask call seen)
@@ -152,32 +150,32 @@ module _ (call : Call) (me : ℕ) (seen : Seen) where
   prepare_plain : (p : PreparePoint) → IsPlain (prepare_event call p seen)
   prepare_plain preparing.Look = one_of _ _ (signalled_at call) (at.Prepare preparing.Queue)
       (record { event = tt; next = signalled_plain call }) (record { event = tt; next = refl })
-  prepare_plain preparing.Queue = both (is_some seen.entry) _ _ (record { event = tt; next = refl })
-      (both seen.worn _ _ (record { event = tt; next = worn_plain call }) (record { event = tt; next = refl }))
+  prepare_plain preparing.Queue = either IsPlain (is_some seen.entry) _ _ (record { event = tt; next = refl })
+      (either IsPlain seen.worn _ _ (record { event = tt; next = worn_plain call }) (record { event = tt; next = refl }))
   prepare_plain preparing.Unlock = record { event = tt; next = prepared_plain call }
   prepare_plain p = record { event = tt; next = refl }
 
   leave_plain : (p : LeavePoint) → IsPlain (leave_event me call p seen)
-  leave_plain leaving.Queue = both (is_some seen.entry) _ _ (record { event = tt; next = refl })
+  leave_plain leaving.Queue = either IsPlain (is_some seen.entry) _ _ (record { event = tt; next = refl })
       (record { event = tt; next = refl })
   leave_plain leaving.Unlock = record { event = tt; next = refl }
-  leave_plain leaving.Load = both (call_fails call seen) _ _ (record { event = tt; next = refl })
+  leave_plain leaving.Load = either IsPlain (call_fails call seen) _ _ (record { event = tt; next = refl })
       (record { event = tt; next = refl })
 
   finished_plain : (failed : Bool) (e : Event) → IsPlainEvent e → IsPlain (finished call failed e)
-  finished_plain failed e u = both (failed && is_lock call) _ _ (record { event = u; next = refl })
+  finished_plain failed e u = either IsPlain (failed && is_lock call) _ _ (record { event = u; next = refl })
       (record { event = u; next = refl })
 
   finish_plain : (p : FinishPoint) (failed : Bool) → IsPlain (finish_event me call p failed seen)
-  finish_plain finishing.Look failed = both (is_some seen.entry) _ _ (record { event = tt; next = refl })
+  finish_plain finishing.Look failed = either IsPlain (is_some seen.entry) _ _ (record { event = tt; next = refl })
       (finished_plain failed _ tt)
-  finish_plain finishing.Queue failed = both (is_some seen.entry) _ _ (record { event = tt; next = refl })
+  finish_plain finishing.Queue failed = either IsPlain (is_some seen.entry) _ _ (record { event = tt; next = refl })
       (finished_plain failed _ tt)
   finish_plain finishing.Unlock failed = finished_plain failed _ tt
   finish_plain p failed = record { event = tt; next = refl }
 
   bit_plain : (p : BitPoint) → IsPlain (bit_event call p seen)
-  bit_plain biting.First = both (call_fails call seen) _ _ (record { event = asks; next = refl })
+  bit_plain biting.First = either IsPlain (call_fails call seen) _ _ (record { event = asks; next = refl })
       (record { event = asks; next = refl })
   bit_plain biting.Look = by (pending (state_mask (state_in call)) seen.own)
     where
@@ -195,7 +193,7 @@ module _ (call : Call) (me : ℕ) (seen : Seen) where
 
   add_plain : (p : AddPoint) → IsPlain (add_event call p seen)
   add_plain adding.Lock = record { event = tt; next = refl }
-  add_plain adding.Queue = both seen.worn _ _ (record { event = tt; next = refl }) (record { event = tt; next = refl })
+  add_plain adding.Queue = either IsPlain seen.worn _ _ (record { event = tt; next = refl }) (record { event = tt; next = refl })
   add_plain adding.Unlock = record { event = tt; next = refl }
 
   remove_plain : (p : RemovePoint) → IsPlain (remove_event me p seen)
@@ -212,13 +210,13 @@ module _ (call : Call) (me : ℕ) (seen : Seen) where
   chosen_plain j (Some c) hit = record { event = tt; next = refl }
 
   select_plain : (p : SelectPoint) → IsPlain (select_event call p seen)
-  select_plain (selecting.Next j) = both (is_enough call j) _ _ (record { event = tt; next = refl })
+  select_plain (selecting.Next j) = either IsPlain (is_enough call j) _ _ (record { event = tt; next = refl })
       (chosen_plain j seen.called (meets (mask_of mode.Normal) seen.other.state))
   select_plain p = record { event = tt; next = refl }
 
   ends_plain : (b : Bool) → IsPlain (await_ends call b seen)
   ends_plain true = record { event = tt; next = refl }
-  ends_plain false = both (is_at_end seen.value) _ _ (record { event = tt; next = refl })
+  ends_plain false = either IsPlain (is_at_end seen.value) _ _ (record { event = tt; next = refl })
       (record { event = tt; next = refl })
 
   await_plain_after : (waited zero : Bool) → IsPlain (go (load call seen) (await_after call waited zero))
@@ -228,19 +226,19 @@ module _ (call : Call) (me : ℕ) (seen : Seen) where
 
   await_plain : (p : AwaitPoint) → IsPlain (await_event me call p seen)
   await_plain (awaiting.Load waited) = await_plain_after waited (seen.value == 0)
-  await_plain (awaiting.Off stopped) = both (is_some seen.entry) _ _ (record { event = tt; next = refl })
+  await_plain (awaiting.Off stopped) = either IsPlain (is_some seen.entry) _ _ (record { event = tt; next = refl })
       (ends_plain stopped)
   await_plain (awaiting.Last stopped) = ends_plain stopped
   await_plain p = record { event = tt; next = refl }
 
   count_plain : (p : CountPoint) → IsPlain (count_event call p seen)
-  count_plain counting.Peek = both (seen.value == 0) _ _ (record { event = tt; next = refl })
+  count_plain counting.Peek = either IsPlain (seen.value == 0) _ _ (record { event = tt; next = refl })
       (record { event = tt; next = refl })
   count_plain p = record { event = tt; next = refl }
 
   -- each event of a program outside walks and outside locks of pages
   pub program_plain : (p : Point) → IsPlainPoint p → IsPlain (program me call p seen)
-  program_plain at.First o = both (call_fails call seen) _ _ (record { event = tt; next = refl })
+  program_plain at.First o = either IsPlain (call_fails call seen) _ _ (record { event = tt; next = refl })
       (record { event = tt; next = refl })
   program_plain (at.Prepare p) o = prepare_plain p
   program_plain at.Test o = one_of (call_fails call seen) _ at.Sleep (at.Finish finishing.State false)
@@ -249,8 +247,8 @@ module _ (call : Call) (me : ℕ) (seen : Seen) where
   program_plain (at.Finish p failed) o = finish_plain p failed
   program_plain (at.Bit p) o = bit_plain p
   program_plain (at.Page p) o = absurd o
-  program_plain at.Worn o = both (call_fails call seen) _ _ (record { event = asks; next = refl })
-      (both (is_lock call) _ _ (record { event = asks; next = refl }) (record { event = asks; next = refl }))
+  program_plain at.Worn o = either IsPlain (call_fails call seen) _ _ (record { event = asks; next = refl })
+      (either IsPlain (is_lock call) _ _ (record { event = asks; next = refl }) (record { event = asks; next = refl }))
   program_plain at.Publish o = record { event = published_plain call; next = refl }
   program_plain at.Active o = active_plain seen.members
   program_plain (at.Walk p) o = absurd o
@@ -264,20 +262,20 @@ module _ (call : Call) (me : ℕ) (seen : Seen) where
   program_plain p o = record { event = tt; next = refl }
 
   page_finish_away : (p : FinishPoint) → IsAway (page_finish_event me call p seen)
-  page_finish_away finishing.Look = away_both (is_some seen.entry) _ _ (record { event = tt; next = refl })
+  page_finish_away finishing.Look = either IsAway (is_some seen.entry) _ _ (record { event = tt; next = refl })
       (record { event = tt; next = refl })
-  page_finish_away finishing.Queue = away_both (is_some seen.entry) _ _ (record { event = tt; next = refl })
+  page_finish_away finishing.Queue = either IsAway (is_some seen.entry) _ _ (record { event = tt; next = refl })
       (record { event = tt; next = refl })
   page_finish_away p = record { event = tt; next = refl }
 
   page_away : (p : PagePoint) → IsAway (page_event me call p seen)
-  page_away paging.First = away_both (call_fails call seen) _ _ (record { event = tt; next = refl })
+  page_away paging.First = either IsAway (call_fails call seen) _ _ (record { event = tt; next = refl })
       (record { event = tt; next = refl })
-  page_away paging.Queue = away_both seen.worn _ _ (record { event = tt; next = refl }) (record { event = tt; next = refl })
+  page_away paging.Queue = either IsAway seen.worn _ _ (record { event = tt; next = refl }) (record { event = tt; next = refl })
   page_away (paging.Unlock true) = record { event = tt; next = refl }
   page_away (paging.Unlock false) = record { event = tt; next = refl }
   page_away (paging.Finish p) = page_finish_away p
-  page_away paging.Last = away_both seen.flag _ _ (record { event = tt; next = refl })
+  page_away paging.Last = either IsAway seen.flag _ _ (record { event = tt; next = refl })
       (record { event = tt; next = refl })
   page_away p = record { event = tt; next = refl }
 

@@ -25,6 +25,7 @@ use Rattle.wait_model.specs.declared.watches.Kind.{Kind}
 use Rattle.wait_model.specs.declared.points.WalkPoint.{WalkPoint}
 use Rattle.wait_model.specs.declared.watches.Kind.TheVariants as kind
 use Rattle.wait_model.specs.declared.points.PageStage.TheVariants as staging
+use Rattle.wait_model.proofs.WaitLaws.OutsideStages.{either}
 use Rattle.wait_model.proofs.QueueLaws.OutsideWalks.{IsPlainEvent, goes_plain, IsPlain, program_plain}
 
 -- the events that take no page for a task
@@ -63,19 +64,10 @@ stays_apart n h = refl
 plain_apart : (x : Planned) → IsPlain x → IsApart x
 plain_apart x h = record { event = sober x.event h.event; next = stays_apart x.next h.next }
 
-both : (b : Bool) (x y : Planned) → IsApart x → IsApart y → IsApart (if b then x else y)
-both true x y p q = p
-both false x y p q = q
-
-one_of : (b : Bool) (e : Event) (p q : Point) → IsApart (go e p) → IsApart (go e q)
-    → IsApart (go e (if b then p else q))
-one_of true e p q h k = h
-one_of false e p q h k = k
-
 module _ (call : Call) (me : ℕ) (seen : Seen) where
   -- walks, but for the stages of a page
   onward_apart : (w : Walking) (e : Event) → IsSober e → IsApart (go e (onward w))
-  onward_apart w e u = one_of w.spent e (at.Walk (walking.Spent w)) (at.Walk (walking.Call w))
+  onward_apart w e u = either (λ (p : Point). IsApart (go e p)) w.spent (at.Walk (walking.Spent w)) (at.Walk (walking.Call w))
       (record { event = u; next = refl }) (record { event = u; next = refl })
 
   off_apart : (w : Walking) (c : CalledEntry) (hit : Bool) → IsApart (wake_off_event w c hit)
@@ -106,7 +98,7 @@ module _ (call : Call) (me : ℕ) (seen : Seen) where
 
   walk_apart : (p : WalkPoint) → IsElsewhere (at.Walk p) → IsApart (walk_event (call_aim call) p seen)
   walk_apart walking.Lock o = record { event = tt; next = refl }
-  walk_apart (walking.Call w) o = both seen.breaks _ _ (record { event = tt; next = refl })
+  walk_apart (walking.Call w) o = either IsApart seen.breaks _ _ (record { event = tt; next = refl })
       (next_apart (reached w seen.calls) seen.called (meets (mask_of (mode_of call)) seen.other.state))
   walk_apart (walking.Wake w c) o = onward_apart (past w c (meets (mask_of (mode_of call)) seen.other.state))
       (event.Wake c.who (meets (mask_of (mode_of call)) seen.other.state)) tt

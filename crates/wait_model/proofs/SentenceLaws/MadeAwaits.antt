@@ -14,6 +14,7 @@ use Rattle.wait_model.specs.declared.watches.Watch.TheVariants as watch
 use Rattle.wait_model.specs.declared.watches.Entry.{Entry}
 use Rattle.wait_model.specs.declared.points.Planned.{Planned}
 use Rattle.wait_model.specs.declared.points.Seen.{Seen}
+use Rattle.wait_model.specs.declared.queues.Form.TheVariants as forms
 use Rattle.wait_model.specs.declared.points.Point.{Point}
 use Rattle.wait_model.specs.declared.points.Point.TheVariants as at
 use Rattle.wait_model.specs.declared.points.PreparePoint.TheVariants as preparing
@@ -31,9 +32,9 @@ use Rattle.wait_model.specs.Making.{goes_to, Makes}
 use Rattle.wait_model.specs.Findings.{Noted, none_noted, notes, MayFind}
 use Rattle.wait_model.proofs.SentenceLaws.SentenceAwaits.{await_rest, shown_count}
 use Rattle.wait_model.proofs.SentenceLaws.SentenceAwaits as awaits
-use Rattle.wait_model.proofs.SentenceLaws.MadeFindings.{sees, fair, standing, fresh, same_count, same_standing}
+use Rattle.wait_model.proofs.SentenceLaws.MadeFindings.{sees, fair, fresh, same_count, same_standing}
 use Rattle.wait_model.proofs.SentenceLaws.MadeFindings.{some_entry, looking, sleeping}
-use Rattle.wait_model.proofs.SentenceLaws.MadeEvents.{all_made}
+use Rattle.wait_model.proofs.SentenceLaws.MadeEvents.{all_made, enters_none, made_full, made_queued}
 
 module _ (me d : ℕ) (st : SleepState) where
   abbrev c : Watch
@@ -109,14 +110,13 @@ module _ (me d : ℕ) (st : SleepState) where
   queue_back : (m : Noted) (n : ℕ) (b : Bool) → m.queued ≡ b → (x : Event) (w : List Event) (a : Answer)
       → awaits.looked me d st b n false (x ∷ w) a → Begins m (at.Prepare preparing.Queue) x w a
   queue_back m n true q x w a (false, (false, h)) = (sees m, (fair call m, tt), (h.0, (refl, (n, h.1))))
-  queue_back m n true q x w a (false, (true, h)) = (record (sees m) { worn = true }, (fair call m, tt), (h.0, h.1))
-  queue_back m n true q x w a (true, h) = (
-    record (sees m) { entry = Some some_entry },
-    (standing call m q, tt),
-    (h.0, (q, (n, h.1))),
-  )
+  queue_back m n true q x w a (false, (true, h)) =
+      made_full me call Left m (at.Prepare preparing.Queue) x w a tt (h.0, h.1)
+  queue_back m n true q x w a (true, h) =
+      made_queued me call Left m (at.Prepare preparing.Queue) x w a q tt (h.0, (q, (n, h.1)))
   queue_back m n false q x w a (false, h) = (sees m, (fair call m, tt), (h.0, (refl, (n, h.1))))
-  queue_back m n false q x w a (true, h) = (record (sees m) { worn = true }, (fair call m, tt), (h.0, h.1))
+  queue_back m n false q x w a (true, h) =
+      made_full me call Left m (at.Prepare preparing.Queue) x w a tt (h.0, h.1)
 
   lower_back : (m : Noted) (count : ℕ) (full : Bool) (x : Event) (w : List Event) (a : Answer)
       → (when full then unlocks c otherwise (do stores c (count - 1); unlocks c)) (λ _. ends (number 0)) (x ∷ w) a
@@ -139,11 +139,8 @@ module _ (me d : ℕ) (st : SleepState) where
   off_signal_back : (m : Noted) (b : Bool) → m.queued ≡ b → (x : Event) (w : List Event) (a : Answer)
       → takes_off me b (λ _. awaits.last me d st (by_signal m.queued)) (x ∷ w) a
       → Begins m (at.Await (awaiting.Off true)) x w a
-  off_signal_back m true q x w a (true, h) = (
-    record (sees m) { entry = Some some_entry },
-    (standing call m q, tt),
-    (h.0, (tt, h.1)),
-  )
+  off_signal_back m true q x w a (true, h) =
+      made_queued me call Left m (at.Await (awaiting.Off true)) x w a q tt (h.0, (tt, h.1))
   off_signal_back m true q x w a (false, h) = (sees m, (fair call m, tt), (h.0, h.1))
   off_signal_back m false q x w a h = (sees m, (fair call m, tt), (h.0, h.1))
 
@@ -232,14 +229,8 @@ module _ (me d : ℕ) (st : SleepState) where
   none : (p : Point) (m : Noted) (a : Answer) → Left m p [] a → ⊥
   none (at.Prepare preparing.Lock) m a h = h.0
   none (at.Prepare preparing.Look) m a h = h.1.1.1
-  none (at.Prepare preparing.Queue) m a h = queued m.queued h.1.1
-    where
-      queued : (b : Bool) → awaits.looked me d st b h.1.0 false [] a → ⊥
-      queued true (true, h) = h
-      queued true (false, (true, h)) = h
-      queued true (false, (false, h)) = h
-      queued false (true, h) = h
-      queued false (false, h) = h
+  none (at.Prepare preparing.Queue) m a h = enters_none c st forms.Tail m.queued
+      (λ (s : Bool). awaits.after_add me d st s (awaits.over me d st h.1.0)) a h.1.1
   none (at.Prepare preparing.State) m a h = h.1.1
   none (at.Prepare preparing.Unlock) m a h = h.1.1
   none at.Sleep m a h = h.1.1.1

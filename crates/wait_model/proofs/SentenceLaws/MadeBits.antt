@@ -1,6 +1,6 @@
 -- The programs of waits for a bit make whatever follows their sentences.
 use Rattle.std.proofs.Common.{refl, sym, ap, ◌∙◌, subst}
-use Rattle.std.specs.Prelude.{ℕ, zero, suc, ◌≡◌, Bool, true, false, not, List, [], ◌∷◌, Some, if◌then◌else◌, ◌&&◌}
+use Rattle.std.specs.Prelude.{ℕ, zero, suc, ◌≡◌, Bool, true, false, not, List, [], ◌∷◌, if◌then◌else◌, ◌&&◌}
 use Rattle.wait_model.specs.declared.calls.Call.{Call}
 use Rattle.wait_model.specs.declared.calls.Call.TheVariants as calls
 use Rattle.wait_model.specs.declared.calls.Event.{Event}
@@ -29,8 +29,8 @@ use Rattle.wait_model.specs.Making.{Makes}
 use Rattle.wait_model.specs.Findings.{Noted, none_noted}
 use Rattle.wait_model.proofs.SentenceLaws.SentenceBits as tries
 use Rattle.wait_model.proofs.SentenceLaws.StepEnds.{valued}
-use Rattle.wait_model.proofs.SentenceLaws.MadeFindings.{sees, fair, standing, shown, some_entry, looking, sleeping}
-use Rattle.wait_model.proofs.SentenceLaws.MadeEvents.{Leads, MakesFirst, all_made}
+use Rattle.wait_model.proofs.SentenceLaws.MadeFindings.{sees, fair, shown, looking, sleeping}
+use Rattle.wait_model.proofs.SentenceLaws.MadeEvents.{Leads, MakesFirst, all_made, enters_none, made_full, made_queued}
 
 module _ (me w b : ℕ) (st : SleepState) where
   abbrev waiter : Call
@@ -65,22 +65,15 @@ module _ (me w b : ℕ) (st : SleepState) where
       → enters (watch.Bit w b) st forms.Front k (EntW k n) (x ∷ v) a
       → MakesFirst me waiter LeftW m (at.Prepare preparing.Queue) x v a
   enter_w m n true q x v a (false, (false, h)) = (sees m, (fair waiter m, tt), (h.0, (refl, (n, h.1))))
-  enter_w m n true q x v a (false, (true, h)) = (
-    record (sees m) { worn = true },
-    (fair waiter m, tt),
-    (h.0, (tt, (n, subst (λ (c : Bool). tries.worn me w b st c n v a) (sym q) h.1))),
-  )
-  enter_w m n true q x v a (true, h) = (
-    record (sees m) { entry = Some some_entry },
-    (standing waiter m q, tt),
-    (h.0, (q, (n, h.1))),
-  )
+  enter_w m n true q x v a (false, (true, h)) =
+      made_full me waiter LeftW m (at.Prepare preparing.Queue) x v a tt
+      (h.0, (tt, (n, subst (λ (c : Bool). tries.worn me w b st c n v a) (sym q) h.1)))
+  enter_w m n true q x v a (true, h) =
+      made_queued me waiter LeftW m (at.Prepare preparing.Queue) x v a q tt (h.0, (q, (n, h.1)))
   enter_w m n false q x v a (false, h) = (sees m, (fair waiter m, tt), (h.0, (refl, (n, h.1))))
-  enter_w m n false q x v a (true, h) = (
-    record (sees m) { worn = true },
-    (fair waiter m, tt),
-    (h.0, (tt, (n, subst (λ (c : Bool). tries.worn me w b st c n v a) (sym q) h.1))),
-  )
+  enter_w m n false q x v a (true, h) =
+      made_full me waiter LeftW m (at.Prepare preparing.Queue) x v a tt
+      (h.0, (tt, (n, subst (λ (c : Bool). tries.worn me w b st c n v a) (sym q) h.1)))
 
   locked_w : (m : Noted) (n : ℕ) (x : Event) (v : List Event) (a : Answer)
       → turns n (tries.body me w b st) m.queued ends (x ∷ v) a
@@ -131,11 +124,8 @@ module _ (me w b : ℕ) (st : SleepState) where
   look_back_w : (failed : Bool) (m : Noted) (k : Bool) → m.queued ≡ k → (x : Event) (v : List Event) (a : Answer)
       → finish_rest me waiter k finishing.Look (ends (if failed then minus_4 else number 0)) (x ∷ v) a
       → MakesFirst me waiter LeftW m (at.Finish finishing.Look failed) x v a
-  look_back_w failed m true q x v a (true, h) = (
-    record (sees m) { entry = Some some_entry },
-    (standing waiter m q, tt),
-    (h.0, (q, h.1)),
-  )
+  look_back_w failed m true q x v a (true, h) =
+      made_queued me waiter LeftW m (at.Finish finishing.Look failed) x v a q tt (h.0, (q, h.1))
   look_back_w true m true q x v a (false, h) = (sees m, (fair waiter m, tt), (h.0, h.1))
   look_back_w false m true q x v a (false, h) = (sees m, (fair waiter m, tt), (h.0, h.1))
   look_back_w true m false q x v a h = (sees m, (fair waiter m, tt), (h.0, h.1))
@@ -148,11 +138,8 @@ module _ (me w b : ℕ) (st : SleepState) where
   finish_w finishing.State failed m k x v a h = (sees m, (fair waiter m, tt), (h.0, (tt, h.1)))
   finish_w finishing.Look failed m k x v a h = look_back_w failed m m.queued refl x v a h
   finish_w finishing.Lock failed m k x v a h = (sees m, (fair waiter m, tt), (h.0, (k, h.1)))
-  finish_w finishing.Queue failed m k x v a (true, h) = (
-    record (sees m) { entry = Some some_entry },
-    (standing waiter m k, tt),
-    (h.0, (k, h.1)),
-  )
+  finish_w finishing.Queue failed m k x v a (true, h) =
+      made_queued me waiter LeftW m (at.Finish finishing.Queue failed) x v a k tt (h.0, (k, h.1))
   finish_w finishing.Queue true m k x v a (false, h) = (sees m, (fair waiter m, tt), (h.0, h.1))
   finish_w finishing.Queue false m k x v a (false, h) = (sees m, (fair waiter m, tt), (h.0, h.1))
   finish_w finishing.Unlock true m k x v a h = (sees m, (fair waiter m, tt), (h.0, h.1))
@@ -215,14 +202,8 @@ module _ (me w b : ℕ) (st : SleepState) where
       locked zero h = h
       locked (suc n) h = h
   nothing_w (at.Prepare preparing.Look) m a h = h.0
-  nothing_w (at.Prepare preparing.Queue) m a h = queued m.queued h.1.1
-    where
-      queued : (k : Bool) → enters (watch.Bit w b) st forms.Front k (EntW k h.1.0) [] a → ⊥
-      queued true (true, h) = h
-      queued true (false, (true, h)) = h
-      queued true (false, (false, h)) = h
-      queued false (true, h) = h
-      queued false (false, h) = h
+  nothing_w (at.Prepare preparing.Queue) m a h =
+      enters_none (watch.Bit w b) st forms.Front m.queued (EntW m.queued h.1.0) a h.1.1
   nothing_w (at.Prepare preparing.State) m a h = h.1.1
   nothing_w (at.Prepare preparing.Unlock) m a h = h.1.1
   nothing_w (at.Bit biting.First) m a h = h.1.1
@@ -280,14 +261,13 @@ module _ (me w b : ℕ) (st : SleepState) where
       → enters (watch.Bit w b) st forms.Tail k (EntL n) (x ∷ v) a
       → MakesFirst me locker LeftL m (at.Prepare preparing.Queue) x v a
   enter_l m n true q x v a (false, (false, h)) = (sees m, (fair locker m, tt), (h.0, (refl, (n, h.1))))
-  enter_l m n true q x v a (false, (true, h)) = (record (sees m) { worn = true }, (fair locker m, tt), (h.0, (tt, h.1)))
-  enter_l m n true q x v a (true, h) = (
-    record (sees m) { entry = Some some_entry },
-    (standing locker m q, tt),
-    (h.0, (q, (n, h.1))),
-  )
+  enter_l m n true q x v a (false, (true, h)) =
+      made_full me locker LeftL m (at.Prepare preparing.Queue) x v a tt (h.0, (tt, h.1))
+  enter_l m n true q x v a (true, h) =
+      made_queued me locker LeftL m (at.Prepare preparing.Queue) x v a q tt (h.0, (q, (n, h.1)))
   enter_l m n false q x v a (false, h) = (sees m, (fair locker m, tt), (h.0, (refl, (n, h.1))))
-  enter_l m n false q x v a (true, h) = (record (sees m) { worn = true }, (fair locker m, tt), (h.0, (tt, h.1)))
+  enter_l m n false q x v a (true, h) =
+      made_full me locker LeftL m (at.Prepare preparing.Queue) x v a tt (h.0, (tt, h.1))
 
   locked_l : (m : Noted) (n : ℕ) (x : Event) (v : List Event) (a : Answer)
       → turns n (tries.round me w b st) m.queued ends (x ∷ v) a
@@ -353,33 +333,21 @@ module _ (me w b : ℕ) (st : SleepState) where
       → tries.lock_rest me w b st m (at.Finish p failed) (x ∷ v) a
       → MakesFirst me locker LeftL m (at.Finish p failed) x v a
   finish_l finishing.State true m k x v a h = (sees m, (fair locker m, tt), (h.0, (k, h.1)))
-  finish_l finishing.Look true m k x v a (true, h) = (
-    record (sees m) { entry = Some some_entry },
-    (standing locker m k, tt),
-    (h.0, (k, h.1)),
-  )
+  finish_l finishing.Look true m k x v a (true, h) =
+      made_queued me locker LeftL m (at.Finish finishing.Look true) x v a k tt (h.0, (k, h.1))
   finish_l finishing.Look true m k x v a (false, h) = (sees m, (fair locker m, tt), (h.0, (tt, h.1)))
   finish_l finishing.Lock true m k x v a h = (sees m, (fair locker m, tt), (h.0, (k, h.1)))
-  finish_l finishing.Queue true m k x v a (true, h) = (
-    record (sees m) { entry = Some some_entry },
-    (standing locker m k, tt),
-    (h.0, (k, h.1)),
-  )
+  finish_l finishing.Queue true m k x v a (true, h) =
+      made_queued me locker LeftL m (at.Finish finishing.Queue true) x v a k tt (h.0, (k, h.1))
   finish_l finishing.Queue true m k x v a (false, h) = (sees m, (fair locker m, tt), (h.0, (tt, h.1)))
   finish_l finishing.Unlock true m k x v a h = (sees m, (fair locker m, tt), (h.0, (tt, h.1)))
   finish_l finishing.State false m k x v a h = (sees m, (fair locker m, tt), (h.0, (k, h.1)))
-  finish_l finishing.Look false m k x v a (true, h) = (
-    record (sees m) { entry = Some some_entry },
-    (standing locker m k, tt),
-    (h.0, (k, h.1)),
-  )
+  finish_l finishing.Look false m k x v a (true, h) =
+      made_queued me locker LeftL m (at.Finish finishing.Look false) x v a k tt (h.0, (k, h.1))
   finish_l finishing.Look false m k x v a (false, h) = (sees m, (fair locker m, tt), (h.0, h.1))
   finish_l finishing.Lock false m k x v a h = (sees m, (fair locker m, tt), (h.0, (k, h.1)))
-  finish_l finishing.Queue false m k x v a (true, h) = (
-    record (sees m) { entry = Some some_entry },
-    (standing locker m k, tt),
-    (h.0, (k, h.1)),
-  )
+  finish_l finishing.Queue false m k x v a (true, h) =
+      made_queued me locker LeftL m (at.Finish finishing.Queue false) x v a k tt (h.0, (k, h.1))
   finish_l finishing.Queue false m k x v a (false, h) = (sees m, (fair locker m, tt), (h.0, h.1))
   finish_l finishing.Unlock false m k x v a h = (sees m, (fair locker m, tt), (h.0, h.1))
 
@@ -443,14 +411,8 @@ module _ (me w b : ℕ) (st : SleepState) where
       locked zero h = h
       locked (suc n) h = h
   nothing_l (at.Prepare preparing.Look) m a h = h.0
-  nothing_l (at.Prepare preparing.Queue) m a h = queued m.queued h.1.1
-    where
-      queued : (k : Bool) → enters (watch.Bit w b) st forms.Tail k (EntL h.1.0) [] a → ⊥
-      queued true (true, h) = h
-      queued true (false, (true, h)) = h
-      queued true (false, (false, h)) = h
-      queued false (true, h) = h
-      queued false (false, h) = h
+  nothing_l (at.Prepare preparing.Queue) m a h =
+      enters_none (watch.Bit w b) st forms.Tail m.queued (EntL h.1.0) a h.1.1
   nothing_l (at.Prepare preparing.State) m a h = h.1.1
   nothing_l (at.Prepare preparing.Unlock) m a h = h.1.1
   nothing_l (at.Bit biting.First) m a h = h.1.1

@@ -32,6 +32,7 @@ use Rattle.wait_model.specs.Findings.{Noted, none_noted, notes}
 use Rattle.wait_model.proofs.SentenceLaws.SentenceWalks.{walk_rest}
 use Rattle.wait_model.proofs.SentenceLaws.StepEnds.{valued}
 use Rattle.wait_model.proofs.SentenceLaws.ShortCalls.{short_made}
+use Rattle.wait_model.proofs.SentenceLaws.SentenceWaits.{loop_of}
 use Rattle.wait_model.proofs.SentenceLaws.MadeWaits.{loop_made}
 use Rattle.wait_model.proofs.SentenceLaws.MadeFindings.{sees, fair, shown, some_entry, sleeping}
 use Rattle.wait_model.proofs.SentenceLaws.MadeAwaits.{wait_for_made}
@@ -262,38 +263,11 @@ bit_made me i b (x ∷ w) a (false, h) =
 
 pub sentences_are_made : SentencesAreMade
 sentences_are_made me (calls.Wait c how) w a h = loop_made me (calls.Wait c how)
-    (record {
-      prepared = refl;
-      slept = refl;
-      signalled = refl;
-      bit = refl;
-      lock = refl;
-      waits = refl;
-      plain = refl;
-      worn = refl;
-    }) w none_noted at.First a (tt, h)
+    (loop_of refl refl refl refl refl refl refl refl) w none_noted at.First a (tt, h)
 sentences_are_made me (calls.SimpleWait c st) w a h = loop_made me (calls.SimpleWait c st)
-    (record {
-      prepared = refl;
-      slept = refl;
-      signalled = refl;
-      bit = refl;
-      lock = refl;
-      waits = refl;
-      plain = refl;
-      worn = refl;
-    }) w none_noted at.First a (tt, h)
+    (loop_of refl refl refl refl refl refl refl refl) w none_noted at.First a (tt, h)
 sentences_are_made me (calls.WaitVar v old st) w a h = loop_made me (calls.WaitVar v old st)
-    (record {
-      prepared = refl;
-      slept = refl;
-      signalled = refl;
-      bit = refl;
-      lock = refl;
-      waits = refl;
-      plain = refl;
-      worn = refl;
-    }) w none_noted at.First a (tt, h)
+    (loop_of refl refl refl refl refl refl refl refl) w none_noted at.First a (tt, h)
 sentences_are_made me (calls.Wake c i n) w a h = all_made me (calls.Wake c i n) (Walking_left me c n i)
     (walking_none me c n i)
     (walking_back me c n i) w none_noted (at.Walk walking.Lock) a h

@@ -1,11 +1,14 @@
 -- A program that makes each first event of what is left makes all that is left.
 use Rattle.std.proofs.Common.{refl, sym, subst}
-use Rattle.std.specs.Prelude.{ℕ, ◌≡◌, Bool, true, false, List, [], ◌∷◌}
+use Rattle.std.specs.Prelude.{ℕ, ◌≡◌, Bool, true, false, List, [], ◌∷◌, Some}
 use Rattle.wait_model.specs.declared.calls.Call.{Call}
 use Rattle.wait_model.specs.declared.calls.Event.{Event}
 use Rattle.wait_model.specs.declared.calls.Answer.{Answer}
 use Rattle.wait_model.specs.declared.tasks.TaskRecord.{TaskRecord}
+use Rattle.wait_model.specs.declared.tasks.SleepState.{SleepState}
 use Rattle.wait_model.specs.declared.queues.CalledEntry.{CalledEntry}
+use Rattle.wait_model.specs.declared.queues.Form.{Form}
+use Rattle.wait_model.specs.declared.watches.Watch.{Watch}
 use Rattle.wait_model.specs.declared.watches.Kind.TheVariants as kind
 use Rattle.wait_model.specs.declared.watches.Mode.{Mode}
 use Rattle.wait_model.specs.declared.watches.Mode.TheVariants as mode
@@ -17,8 +20,9 @@ use Rattle.wait_model.specs.Watches.{mask_of}
 use Rattle.wait_model.specs.Programs.{program}
 use Rattle.wait_model.specs.Phrases.{Rest}
 use Rattle.wait_model.specs.Making.{goes_to, Makes}
-use Rattle.wait_model.specs.Findings.{Noted, notes, MayFind}
-use Rattle.wait_model.proofs.SentenceLaws.MadeFindings.{carried}
+use Rattle.wait_model.specs.SentenceSteps.{enters}
+use Rattle.wait_model.specs.Findings.{Noted, notes, MayComeTo, MayFind}
+use Rattle.wait_model.proofs.SentenceLaws.MadeFindings.{carried, sees, fair, standing, some_entry}
 
 -- an event leads on by a planned one
 abbrev pub Leads : (Noted → Point → Rest) → Noted → Event → Planned → Rest
@@ -44,6 +48,31 @@ module _ (me : ℕ) (call : Call) (R : Noted → Point → Rest)
             (λ q v b. Makes me call (notes m (program me call p seen).event) q w b)
             (program me call p seen).next w a (λ q. all_made w (notes m (program me call p seen).event) q a) y.1),
       )
+
+-- the event at a point for which the own entry is found queued, and for which no place is left
+module _ (me : ℕ) (call : Call) (R : Noted → Point → Rest) (m : Noted) (p : Point) (x : Event) (w : List Event)
+    (a : Answer) where
+  abbrev queued : Seen
+  queued = record (sees m) { entry = Some some_entry }
+
+  abbrev full : Seen
+  full = record (sees m) { worn = true }
+
+  pub made_queued : m.queued ≡ true → MayComeTo call p queued → Leads R m x (program me call p queued) w a
+      → MakesFirst me call R m p x w a
+  made_queued q may y = (queued, (standing call m q, may), y)
+
+  pub made_full : MayComeTo call p full → Leads R m x (program me call p full) w a → MakesFirst me call R m p x w a
+  made_full may y = (full, (fair call m, may), y)
+
+-- something is left where an entry is to be queued
+pub enters_none : (c : Watch) (st : SleepState) (form : Form) (b : Bool) (R : Bool → Rest) (a : Answer)
+    → enters c st form b R [] a → ⊥
+enters_none c st form true R a (true, h) = h
+enters_none c st form true R a (false, (true, h)) = h
+enters_none c st form true R a (false, (false, h)) = h
+enters_none c st form false R a (true, h) = h
+enters_none c st form false R a (false, h) = h
 
 -- a task that a wake meets, or does not
 pub rousing : (i : Mode) (hit : Bool) → (t : TaskRecord) × (meets (mask_of i) t.state ≡ hit)

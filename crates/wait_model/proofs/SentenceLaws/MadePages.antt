@@ -1,6 +1,6 @@
 -- The program of a wait for a page makes whatever follows its sentence.
 use Rattle.std.proofs.Common.{refl, sym, ap, ◌∙◌, subst}
-use Rattle.std.specs.Prelude.{ℕ, zero, suc, ◌≡◌, Bool, true, false, not, List, [], ◌∷◌, Some, if◌then◌else◌}
+use Rattle.std.specs.Prelude.{ℕ, zero, suc, ◌≡◌, Bool, true, false, not, List, [], ◌∷◌, if◌then◌else◌}
 use Rattle.wait_model.specs.declared.calls.Call.{Call}
 use Rattle.wait_model.specs.declared.calls.Call.TheVariants as calls
 use Rattle.wait_model.specs.declared.calls.Event.{Event}
@@ -24,8 +24,8 @@ use Rattle.wait_model.specs.Making.{Makes}
 use Rattle.wait_model.specs.Findings.{Noted, none_noted}
 use Rattle.wait_model.proofs.SentenceLaws.SentencePages as tries
 use Rattle.wait_model.proofs.SentenceLaws.StepEnds.{valued}
-use Rattle.wait_model.proofs.SentenceLaws.MadeFindings.{sees, fair, standing, shown, some_entry, looking, sleeping}
-use Rattle.wait_model.proofs.SentenceLaws.MadeEvents.{Leads, MakesFirst, all_made}
+use Rattle.wait_model.proofs.SentenceLaws.MadeFindings.{sees, fair, shown, looking, sleeping}
+use Rattle.wait_model.proofs.SentenceLaws.MadeEvents.{Leads, MakesFirst, all_made, made_full, made_queued}
 
 module _ (me p : ℕ) (st : SleepState) where
   abbrev locker : Call
@@ -105,18 +105,12 @@ module _ (me p : ℕ) (st : SleepState) where
       → tries.point_rest me p st (paging.Finish q) (x ∷ v) a
       → MakesFirst me locker Left m (at.Page (paging.Finish q)) x v a
   finish_back finishing.State m k x v a h = (sees m, (fair locker m, tt), (h.0, (k, h.1)))
-  finish_back finishing.Look m k x v a (true, h) = (
-    record (sees m) { entry = Some some_entry },
-    (standing locker m k, tt),
-    (h.0, (k, h.1)),
-  )
+  finish_back finishing.Look m k x v a (true, h) =
+      made_queued me locker Left m (at.Page (paging.Finish finishing.Look)) x v a k tt (h.0, (k, h.1))
   finish_back finishing.Look m k x v a (false, h) = (sees m, (fair locker m, tt), (h.0, (tt, h.1)))
   finish_back finishing.Lock m k x v a h = (sees m, (fair locker m, tt), (h.0, (k, h.1)))
-  finish_back finishing.Queue m k x v a (true, h) = (
-    record (sees m) { entry = Some some_entry },
-    (standing locker m k, tt),
-    (h.0, (k, h.1)),
-  )
+  finish_back finishing.Queue m k x v a (true, h) =
+      made_queued me locker Left m (at.Page (paging.Finish finishing.Queue)) x v a k tt (h.0, (k, h.1))
   finish_back finishing.Queue m k x v a (false, h) = (sees m, (fair locker m, tt), (h.0, (tt, h.1)))
   finish_back finishing.Unlock m k x v a h = (sees m, (fair locker m, tt), (h.0, (tt, h.1)))
 
@@ -127,7 +121,8 @@ module _ (me p : ℕ) (st : SleepState) where
 
   queue_back : (m : Noted) (x : Event) (v : List Event) (a : Answer) → tries.puts me p st (x ∷ v) a
       → MakesFirst me locker Left m (at.Page paging.Queue) x v a
-  queue_back m x v a (true, h) = (record (sees m) { worn = true }, (fair locker m, tt), (h.0, (tt, h.1)))
+  queue_back m x v a (true, h) =
+      made_full me locker Left m (at.Page paging.Queue) x v a tt (h.0, (tt, h.1))
   queue_back m x v a (false, h) = (sees m, (fair locker m, tt), (h.0, (refl, h.1)))
 
   point_back : (q : PagePoint) (m : Noted) (x : Event) (v : List Event) (a : Answer) → Left m (at.Page q) (x ∷ v) a

@@ -18,7 +18,7 @@ use Rattle.wait_model.specs.declared.points.FinishPoint.{FinishPoint}
 use Rattle.wait_model.specs.declared.points.FinishPoint.TheVariants as finishing
 use Rattle.wait_model.specs.Tasks.{looks_in}
 use Rattle.wait_model.specs.Watches.{misses, number_of}
-use Rattle.wait_model.specs.Points.{is_lock, call_watch, call_head, state_in}
+use Rattle.wait_model.specs.Points.{form_of, is_lock, call_watch, call_head, state_in}
 use Rattle.wait_model.specs.Programs.{worn_next, exchange, program, go, ends_with, zero_answer, signalled, signalled_at}
 use Rattle.wait_model.specs.Phrases.{Rest, gives, finds, when◌then◌otherwise◌, turns, repeat, ends}
 use Rattle.wait_model.specs.SentenceSteps.{is_ready, is_signalled, is_worn, minus_4, unlocks, number}
@@ -26,7 +26,7 @@ use Rattle.wait_model.specs.Making.{goes_to, Makes}
 use Rattle.wait_model.proofs.SentenceLaws.MadeFindings.{sees, fair, standing, shown, some_entry, looking, sleeping}
 use Rattle.wait_model.specs.Findings.{Noted, notes, MayFind}
 use Rattle.wait_model.proofs.SentenceLaws.SentenceWaits.{IsLoop, finish_rest, loop_rest}
-use Rattle.wait_model.proofs.SentenceLaws.MadeEvents.{Leads, all_made}
+use Rattle.wait_model.proofs.SentenceLaws.MadeEvents.{Leads, all_made, enters_none, made_full, made_queued}
 use Rattle.wait_model.proofs.SentenceLaws.SentenceWaits as loops
 
 module _ (me : ℕ) (call : Call) (k : IsLoop call) where
@@ -118,22 +118,13 @@ module _ (me : ℕ) (call : Call) (k : IsLoop call) where
   queue_back : (m : Noted) (n : ℕ) (b : Bool) → m.queued ≡ b → (x : Event) (w : List Event) (a : Answer)
       → loops.looked_at me call b n false (x ∷ w) a → Begins m (at.Prepare preparing.Queue) x w a
   queue_back m n true q x w a (false, (false, h)) = (sees m, (fair call m, tt), (h.0, (refl, (n, h.1))))
-  queue_back m n true q x w a (false, (true, h)) = (
-    record (sees m) { worn = true },
-    (fair call m, tt),
-    (h.0, worn_out m n true q w a h.1),
-  )
-  queue_back m n true q x w a (true, h) = (
-    record (sees m) { entry = Some some_entry },
-    (standing call m q, tt),
-    (h.0, (q, (n, h.1))),
-  )
+  queue_back m n true q x w a (false, (true, h)) =
+      made_full me call Left m (at.Prepare preparing.Queue) x w a tt (h.0, worn_out m n true q w a h.1)
+  queue_back m n true q x w a (true, h) =
+      made_queued me call Left m (at.Prepare preparing.Queue) x w a q tt (h.0, (q, (n, h.1)))
   queue_back m n false q x w a (false, h) = (sees m, (fair call m, tt), (h.0, (refl, (n, h.1))))
-  queue_back m n false q x w a (true, h) = (
-    record (sees m) { worn = true },
-    (fair call m, tt),
-    (h.0, worn_out m n false q w a h.1),
-  )
+  queue_back m n false q x w a (true, h) =
+      made_full me call Left m (at.Prepare preparing.Queue) x w a tt (h.0, worn_out m n false q w a h.1)
 
   worn_back : (m : Noted) (n value : ℕ) (l miss : Bool) → l ≡ false → (w : List Event) (a : Answer)
       → loops.tested me call m.queued n is_worn (not miss) w a
@@ -180,11 +171,8 @@ module _ (me : ℕ) (call : Call) (k : IsLoop call) where
   look_back : (m : Noted) (b : Bool) → m.queued ≡ b → (x : Event) (w : List Event) (a : Answer)
       → finish_rest me call b finishing.Look (ends (number 0)) (x ∷ w) a
       → Begins m (at.Finish finishing.Look false) x w a
-  look_back m true q x w a (true, h) = (
-    record (sees m) { entry = Some some_entry },
-    (standing call m q, tt),
-    (h.0, ((refl, q), h.1)),
-  )
+  look_back m true q x w a (true, h) =
+      made_queued me call Left m (at.Finish finishing.Look false) x w a q tt (h.0, ((refl, q), h.1))
   look_back m true q x w a (false, h) = (sees m, (fair call m, tt), (h.0, h.1))
   look_back m false q x w a h = (sees m, (fair call m, tt), (h.0, h.1))
 
@@ -264,14 +252,8 @@ module _ (me : ℕ) (call : Call) (k : IsLoop call) where
       locked zero h = h
       locked (suc n) h = h
   nothing_left (at.Prepare preparing.Look) m a h = h.1.1.1
-  nothing_left (at.Prepare preparing.Queue) m a h = queued m.queued h.1.1
-    where
-      queued : (b : Bool) → loops.looked_at me call b h.1.0 false [] a → ⊥
-      queued true (true, h) = h
-      queued true (false, (true, h)) = h
-      queued true (false, (false, h)) = h
-      queued false (true, h) = h
-      queued false (false, h) = h
+  nothing_left (at.Prepare preparing.Queue) m a h = enters_none (call_watch call) (state_in call) (form_of call)
+      m.queued (loops.entered me call m.queued h.1.0) a h.1.1
   nothing_left (at.Prepare preparing.State) m a h = h.1.1
   nothing_left (at.Prepare preparing.Unlock) m a h = h.1.1
   nothing_left at.Test m a h = h.1.1.1

@@ -37,7 +37,7 @@ use Rattle.wait_model.specs.SentenceWalks.{wakes, wakes_one, walks}
 use Rattle.wait_model.specs.Findings.{Noted, none_noted}
 use Rattle.wait_model.proofs.SentenceLaws.SentenceRests.{Knows, Says, anything}
 use Rattle.wait_model.proofs.SentenceLaws.ShortCalls.{short_rest, short_said}
-use Rattle.wait_model.proofs.SentenceLaws.SentenceWaits.{loop_rest, loop_said}
+use Rattle.wait_model.proofs.SentenceLaws.SentenceWaits.{loop_of, loop_rest, loop_said}
 use Rattle.wait_model.proofs.SentenceLaws.SentenceAwaits.{await_rest, await_said}
 use Rattle.wait_model.proofs.SentenceLaws.SentenceCounts.{select_rest, select_said, count_rest, count_said}
 use Rattle.wait_model.proofs.SentenceLaws.SentenceWalks.{walk_rest, walk_said}
@@ -162,38 +162,11 @@ module _ (me : ℕ) (m : Noted) where
   pub says : (call : Call) (p : Point) (seen : Seen) → Knows call p m seen
       → Says (rest_of me call) m (program me call p seen) (rest_of me call m p)
   says (calls.Wait c how) p seen k w a h = loop_said me (calls.Wait c how)
-      (record {
-        prepared = refl;
-        slept = refl;
-        signalled = refl;
-        bit = refl;
-        lock = refl;
-        waits = refl;
-        plain = refl;
-        worn = refl;
-      }) m p seen k w a h
+      (loop_of refl refl refl refl refl refl refl refl) m p seen k w a h
   says (calls.SimpleWait c st) p seen k w a h = loop_said me (calls.SimpleWait c st)
-      (record {
-        prepared = refl;
-        slept = refl;
-        signalled = refl;
-        bit = refl;
-        lock = refl;
-        waits = refl;
-        plain = refl;
-        worn = refl;
-      }) m p seen k w a h
+      (loop_of refl refl refl refl refl refl refl refl) m p seen k w a h
   says (calls.WaitVar v old st) p seen k w a h = loop_said me (calls.WaitVar v old st)
-      (record {
-        prepared = refl;
-        slept = refl;
-        signalled = refl;
-        bit = refl;
-        lock = refl;
-        waits = refl;
-        plain = refl;
-        worn = refl;
-      }) m p seen k w a h
+      (loop_of refl refl refl refl refl refl refl refl) m p seen k w a h
   says (calls.WaitFor d st) p seen k w a h = await_said me d st m p seen k w a h
   says (calls.WaitBit w b st) p seen k v a h = wait_said me w b st m p seen k v a h
   says (calls.LockBit w b st) p seen k v a h = lock_said me w b st m p seen k v a h

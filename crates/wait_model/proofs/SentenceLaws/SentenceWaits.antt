@@ -46,6 +46,12 @@ pub record IsLoop (call : Call) : Type 0 where
   pub plain : is_done (call_watch call) ≡ false
   pub worn : worn_next call ≡ next.Go at.Worn
 
+pub loop_of : {call : Call} → prepared_at call ≡ at.Test → slept_at call ≡ at.Prepare preparing.Lock
+    → signalled_at call ≡ at.Leave leaving.Queue → is_bit_wait call ≡ false → is_lock call ≡ false
+    → is_waiting call ≡ true → is_done (call_watch call) ≡ false → worn_next call ≡ next.Go at.Worn → IsLoop call
+loop_of p s g b l h d n =
+    record { prepared = p; slept = s; signalled = g; bit = b; lock = l; waits = h; plain = d; worn = n }
+
 -- FINISH at each of its points, for a call that takes no bit
 abbrev pub finish_rest : ℕ → Call → Bool → FinishPoint → Rest → Rest
 finish_rest me call b finishing.State R = finishes me (call_watch call) b (λ _. R)

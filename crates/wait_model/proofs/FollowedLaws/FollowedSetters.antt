@@ -182,8 +182,8 @@ module _ (me : ℕ) (on : Watch) where
         others_watched : a ≢ me → IsWatched s → IsWatched (happens s (ran.Made a e found))
         others_watched ne w = record {
           zero = λ t o z. w.zero t o (old_zero t z);
-          waits = λ y g i σ z. carried g.place (by y g i σ (old_waits y g i σ z));
-          flags = λ y g i z. carried_flag g.place (w.flags y g i (old_flags y g i z));
+          waits = λ y g i σ z. carried (λ k q. IsAhead k q on g.place) (by y g i σ (old_waits y g i σ z));
+          flags = λ y g i z. carried (λ k q. IsFlagAhead k q on g.place) (w.flags y g i (old_flags y g i z));
         }
           where
             back : me ≢ a
@@ -195,19 +195,10 @@ module _ (me : ℕ) (on : Watch) where
             mark_same : (steps s.table a es).mark me ≡ s.table.mark me
             mark_same = marks_other s a (given_by (s.progress a)) e me back
 
-            carried : (place : ℕ) → IsAhead (s.table.mark me) (s.progress me) on place
-                → IsAhead ((steps s.table a es).mark me) (put s.progress a (progress_after s a (s.progress a)) me)
-                on place
-            carried place h = subst (λ (q : Progress). IsAhead ((steps s.table a es).mark me) q on place)
-                (sym progress_same)
-                (subst (λ (k : Option Mark). IsAhead k (s.progress me) on place) (sym mark_same) h)
-
-            carried_flag : (place : ℕ) → IsFlagAhead (s.table.mark me) (s.progress me) on place
-                → IsFlagAhead ((steps s.table a es).mark me) (put s.progress a (progress_after s a (s.progress a)) me)
-                on place
-            carried_flag place h = subst (λ (q : Progress). IsFlagAhead ((steps s.table a es).mark me) q on place)
-                (sym progress_same)
-                (subst (λ (k : Option Mark). IsFlagAhead k (s.progress me) on place) (sym mark_same) h)
+            carried : (P : Option Mark → Progress → Type 0) → P (s.table.mark me) (s.progress me)
+                → P ((steps s.table a es).mark me) (put s.progress a (progress_after s a (s.progress a)) me)
+            carried P h = subst (P ((steps s.table a es).mark me)) (sym progress_same)
+                (subst (λ (k : Option Mark). P k (s.progress me)) (sym mark_same) h)
 
             by : (y : ℕ) (g : Entry) (i σ : ℕ) → Before es s.table a y g on i σ
                 → IsAhead (s.table.mark me) (s.progress me) on g.place

@@ -393,6 +393,28 @@ flag_seen es x h = by (seen_in (flagged x) (λ e v. flags x e) renews (flagged_b
     by (inl s) = s
     by (inr q) = absurd (both_ways false refl q.0)
 
+-- a step of the hold with no publish behind it
+abbrev unpublished : {test : Step → Bool} (inside : List Step) (it : Step) (later : List Step) → test it ≡ true
+    → Lacks renews later → Since test is_publish (inside ++ it ∷ later)
+unpublished inside it later p l = record {
+  earlier = inside;
+  it = it;
+  later = later;
+  split = refl;
+  passes = p;
+  none_since = lacks_more renews is_publish publish_of later l;
+}
+
+-- what the hold called before a step, and then by it
+now_called : (es : List Step) (x : ℕ) (e : Entry) (σ : ℕ) (w : Walk) → (view_of es).walk ≡ Some w
+    → concerns w e.watch σ ≡ true → (earlier : List Step) (it : Step) (later : List Step)
+    → es ≡ earlier ++ it ∷ later → turns_lock it ≡ false → Lacks renews later → (k : Locked earlier)
+    → CalledBy (is_woken e.kind) (is_page e.kind) (k.inside ++ it ∷ later) k.aim x → CalledNow es x e σ
+now_called es x e σ w is con earlier it later split t l k c =
+    let more : Locked es = further es earlier it later split t (lacks_more renews turns_lock turns_of later l) k in
+    let a = aims es e.watch σ w more is con in
+    record { hold = hold_for es e.watch σ more a.0 a.1; called = c }
+
 -- the walk has called the entry in this hold
 pub called_now : (es : List Step) (x : ℕ) (e : Entry) (σ : ℕ) (w : Walk) → Locked es
     → (view_of es).walk ≡ Some w → concerns w e.watch σ ≡ true → (k j : Bool) → is_woken e.kind ≡ k
@@ -404,23 +426,10 @@ called_now es x e σ w l is con false true kind pg g =
   where
     found : (s : Seen sets_moot renews blank es) → (k : Locked s.earlier) → turns_lock s.it ≡ false
         → CalledNow es x e σ
-    found s k t =
-        let more : Locked es = further es s.earlier s.it s.later s.split t
-        (lacks_more renews turns_lock turns_of s.later s.none_since) k in
-        let a = aims es e.watch σ w more is con in
-        record {
-          hold = hold_for es e.watch σ more a.0 a.1;
-          called = subst (λ (b : Bool). CalledBy b (is_page e.kind) (k.inside ++ s.it ∷ s.later) k.aim x) (sym kind)
-              (subst (λ (b : Bool). CalledBy false b (k.inside ++ s.it ∷ s.later) k.aim x) (sym pg)
-              (record {
-                earlier = k.inside;
-                it = s.it;
-                later = s.later;
-                split = refl;
-                passes = sight_of k.aim s.it (view_of s.earlier) (locked_for s.earlier k) s.sets;
-                none_since = lacks_more renews is_publish publish_of s.later s.none_since;
-              }));
-        }
+    found s k t = now_called es x e σ w is con s.earlier s.it s.later s.split t s.none_since k
+        (subst (λ (b : Bool). CalledBy b (is_page e.kind) (k.inside ++ s.it ∷ s.later) k.aim x) (sym kind)
+        (subst (λ (b : Bool). CalledBy false b (k.inside ++ s.it ∷ s.later) k.aim x) (sym pg)
+        (unpublished k.inside s.it s.later (sight_of k.aim s.it (view_of s.earlier) (locked_for s.earlier k) s.sets) s.none_since)))
 
     by : Seen sets_moot renews blank es ⊎ ((moot blank ≡ true) × Lacks renews es) → CalledNow es x e σ
     by (inl s) =
@@ -434,23 +443,10 @@ called_now es x e σ w l is con false false kind pg g =
   where
     found : (s : Seen (sets_called x) renews blank es) → (k : Locked s.earlier) → turns_lock s.it ≡ false
         → CalledNow es x e σ
-    found s k t =
-        let more : Locked es = further es s.earlier s.it s.later s.split t
-        (lacks_more renews turns_lock turns_of s.later s.none_since) k in
-        let a = aims es e.watch σ w more is con in
-        record {
-          hold = hold_for es e.watch σ more a.0 a.1;
-          called = subst (λ (b : Bool). CalledBy b (is_page e.kind) (k.inside ++ s.it ∷ s.later) k.aim x) (sym kind)
-              (subst (λ (b : Bool). CalledBy false b (k.inside ++ s.it ∷ s.later) k.aim x) (sym pg)
-              (record {
-                earlier = k.inside;
-                it = s.it;
-                later = s.later;
-                split = refl;
-                passes = call_of k.aim x s.it (view_of s.earlier) (locked_for s.earlier k) s.sets;
-                none_since = lacks_more renews is_publish publish_of s.later s.none_since;
-              }));
-        }
+    found s k t = now_called es x e σ w is con s.earlier s.it s.later s.split t s.none_since k
+        (subst (λ (b : Bool). CalledBy b (is_page e.kind) (k.inside ++ s.it ∷ s.later) k.aim x) (sym kind)
+        (subst (λ (b : Bool). CalledBy false b (k.inside ++ s.it ∷ s.later) k.aim x) (sym pg)
+        (unpublished k.inside s.it s.later (call_of k.aim x s.it (view_of s.earlier) (locked_for s.earlier k) s.sets) s.none_since)))
 
     by : Seen (sets_called x) renews blank es ⊎ ((called x blank ≡ true) × Lacks renews es)
         → CalledNow es x e σ
@@ -474,31 +470,12 @@ called_now es x e σ w l is con true j kind pg g =
         ) in
         let j : Locked f.earlier = locked_front s.earlier k f.earlier f.it f.later f.split quiet.0 quiet.1 in
         let m : Locked s.earlier = further s.earlier f.earlier f.it f.later f.split quiet.0 quiet.1 j in
-        let more : Locked es = further es s.earlier s.it s.later s.split t
-        (lacks_more renews turns_lock turns_of s.later s.none_since) m in
-        let a = aims es e.watch σ w more is con in
-        record {
-          hold = hold_for es e.watch σ more a.0 a.1;
-          called = subst (λ (b : Bool). CalledBy b (is_page e.kind) (m.inside ++ s.it ∷ s.later) m.aim x) (sym kind)
-              (record {
-                wake = record {
-                  earlier = m.inside;
-                  it = s.it;
-                  later = s.later;
-                  split = refl;
-                  passes = wake_of m.aim x s.it (view_of s.earlier) (locked_for s.earlier m) s.sets;
-                  none_since = lacks_more renews is_publish publish_of s.later s.none_since;
-                };
-                flag = record {
-                  earlier = j.inside;
-                  it = f.it;
-                  later = f.later;
-                  split = refl;
-                  passes = f.sets;
-                  none_since = lacks_more renews is_publish publish_of f.later f.none_since;
-                };
-              });
-        }
+        now_called es x e σ w is con s.earlier s.it s.later s.split t s.none_since m
+        (subst (λ (b : Bool). CalledBy b (is_page e.kind) (m.inside ++ s.it ∷ s.later) m.aim x) (sym kind) (record {
+          wake = unpublished m.inside s.it s.later
+              (wake_of m.aim x s.it (view_of s.earlier) (locked_for s.earlier m) s.sets) s.none_since;
+          flag = unpublished j.inside f.it f.later f.sets f.none_since;
+        }))
 
     by : Seen (sets_rung x) renews blank es ⊎ ((rung x blank ≡ true) × Lacks renews es) → CalledNow es x e σ
     by (inl s) =

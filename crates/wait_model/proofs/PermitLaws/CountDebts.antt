@@ -111,10 +111,11 @@ set_apart d x v w c n r h = by (is_publishing c r n)
 one_is : (d : ℕ) → (d == d) ≡ true
 one_is d = grind arith
 
-pub load_about : (d x : ℕ) (v : View) (w : Dealt) (c : Watch) (r : ℕ) → c ≡ watch.Done d → is_in d v ≡ true
-    → deals d x v w (step.Load c r) ≡ record { left = w.left; debt = after_read r w.debt; count = Some r }
-load_about d x v w c r is inside = subst (λ (e : Watch). deals d x v w (step.Load e r)
-    ≡ record { left = w.left; debt = after_read r w.debt; count = Some r }) (sym is)
+load_here : (d x : ℕ) (v : View) (w : Dealt) (c : Watch) (r : ℕ) (inside : Bool) → c ≡ watch.Done d
+    → is_in d v ≡ inside → deals d x v w (step.Load c r)
+    ≡ record { left = w.left; debt = after_read r w.debt; count = if inside then Some r else w.count }
+load_here d x v w c r inside is at = subst (λ (e : Watch). deals d x v w (step.Load e r)
+    ≡ record { left = w.left; debt = after_read r w.debt; count = if inside then Some r else w.count }) (sym is)
     (ap (λ (b : Bool). record {
       left = w.left;
       debt = if b then after_read r w.debt else w.debt;
@@ -124,22 +125,15 @@ load_about d x v w c r is inside = subst (λ (e : Watch). deals d x v w (step.Lo
       left = w.left;
       debt = after_read r w.debt;
       count = if b then Some r else w.count;
-    }) inside)
+    }) at)
+
+pub load_about : (d x : ℕ) (v : View) (w : Dealt) (c : Watch) (r : ℕ) → c ≡ watch.Done d → is_in d v ≡ true
+    → deals d x v w (step.Load c r) ≡ record { left = w.left; debt = after_read r w.debt; count = Some r }
+load_about d x v w c r is inside = load_here d x v w c r true is inside
 
 pub load_outside : (d x : ℕ) (v : View) (w : Dealt) (c : Watch) (r : ℕ) → c ≡ watch.Done d → is_in d v ≡ false
     → deals d x v w (step.Load c r) ≡ record { left = w.left; debt = after_read r w.debt; count = w.count }
-load_outside d x v w c r is outside = subst (λ (e : Watch). deals d x v w (step.Load e r)
-    ≡ record { left = w.left; debt = after_read r w.debt; count = w.count }) (sym is)
-    (ap (λ (b : Bool). record {
-      left = w.left;
-      debt = if b then after_read r w.debt else w.debt;
-      count = if b && is_in d v then Some r else w.count;
-    }) (one_is d)
-    ∙ ap (λ (b : Bool). record {
-      left = w.left;
-      debt = after_read r w.debt;
-      count = if b then Some r else w.count;
-    }) outside)
+load_outside d x v w c r is outside = load_here d x v w c r false is outside
 
 pub set_about : (d x : ℕ) (v : View) (w : Dealt) (c : Watch) (n r : ℕ) → c ≡ watch.Done d
     → deals d x v w (set_step c n r) ≡ record { left = w.left; debt = after_store n r w.debt; count = Some n }

@@ -2,7 +2,7 @@
 use Rattle.std.proofs.lemmas.Bool.{both_ways}
 use Rattle.std.proofs.lemmas.Option.{none-some, same_Some}
 use Rattle.std.proofs.Common.{refl, sym, ◌∙◌, ap, subst, inl, inr}
-use Rattle.std.specs.Prelude.{ℕ, ◌≡◌, ◌≢◌, Option, Some, None, Bool, true, false, ◌⊎◌, if◌then◌else◌, nat_lt, is_some}
+use Rattle.std.specs.Prelude.{ℕ, ◌≡◌, ◌≢◌, Option, Some, None, Bool, true, false, ◌⊎◌, if◌then◌else◌, is_some}
 use Rattle.std.specs.Prelude.{cond, not, ◌+◌}
 use Rattle.wait_model.specs.declared.calls.Call.{Call}
 use Rattle.wait_model.specs.declared.calls.Event.{Event}
@@ -19,7 +19,7 @@ use Rattle.wait_model.specs.Reached.{IsFitted, CountedBy}
 use Rattle.wait_model.specs.Runs.{State, own, is_open, happens, Continues, event_steps, is_publishing, entry_for}
 use Rattle.wait_model.specs.Runs.{progress_at, given_by, progress_after, planned, seen_by}
 use Rattle.wait_model.proofs.Functions.{put_at, put_case, put_same}
-use Rattle.wait_model.specs.declared.layout.TheConstants.{FIRST_SIMPLE}
+use Rattle.wait_model.proofs.Sameness.{each_kind}
 use Rattle.wait_model.specs.declared.queues.Form.{Form}
 use Rattle.wait_model.specs.declared.queues.Walking.{Walking}
 use Rattle.wait_model.specs.declared.queues.CalledEntry.{CalledEntry}
@@ -322,14 +322,7 @@ module _ (s : State) (n me : ℕ) (g : Given) (e : Event) (np : Progress)
 
 -- an entry that a call queues outside locks of pages is none of a page
 pub kind_plain : (c : Watch) → is_page (kind_for c) ≡ false
-kind_plain (watch.Plain c) = by (nat_lt c FIRST_SIMPLE)
-  where
-    by : (b : Bool) → is_page (if b then kind.Autoremove else kind.Simple) ≡ false
-    by true = refl
-    by false = refl
-kind_plain (watch.Done d) = refl
-kind_plain (watch.Bit w b) = refl
-kind_plain (watch.Var v o) = refl
+kind_plain c = each_kind (λ k. is_page k ≡ false) refl refl refl refl c
 
 pub standing_plain : (j : Kind) → IsStandingKind j → is_page j ≡ false
 standing_plain kind.Page s = absurd (cc)
@@ -543,6 +536,19 @@ module _ (s : State) (n me : ℕ) (e : Event) (found : ℕ)
       cleared q = subst (λ (i : Event). (steps s.table me (event_steps s me g i)).taken (own me) ≡ None)
           (sym (c ∙ q)) (put_same s.table.taken (own me) None)
 
+  -- an event that takes no page and no entry, and leaves the task handing one as before
+  handing : (call : Call) (p : Point) → s.progress me ≡ now.Open call p → (c : e ≡ (planned s me call p).event)
+      → (steps s.table me (event_steps s me g (planned s me call p).event)).taken ≡ s.table.taken
+      → (steps s.table me (event_steps s me g (planned s me call p).event)).entry ≡ s.table.entry
+      → HandsAt s.table.taken me (progress_at call (planned s me call p).next)
+      → handed_by (progress_at call (planned s me call p).next) ≡ handed_by (now.Open call p) → Goal
+  handing call p is c taken entry here hands = same_handed s n me g e np h pl k changes
+      (ap (λ (i : Event). (steps s.table me (event_steps s me g i)).taken) c ∙ taken)
+      (λ v t st. subst (λ (f : ℕ → Option Entry). f (own v) ≡ Some t)
+      (ap (λ (i : Event). (steps s.table me (event_steps s me g i)).entry) c ∙ entry) st)
+      (subst (HandsAt s.table.taken me) (sym (goes call p is c)) here)
+      (λ v t st i. ap handed_by (goes call p is c) ∙ (hands ∙ (sym (ap handed_by is) ∙ i)))
+
   walk_case_of : (call : Call) (st : PageStage) (w : Walking) (d : CalledEntry)
       → s.progress me ≡ now.Open call (at.Walk (walking.Page st w d))
       → e ≡ (planned s me call (at.Walk (walking.Page st w d))).event → Goal
@@ -591,22 +597,10 @@ module _ (s : State) (n me : ℕ) (e : Event) (found : ℕ)
           (taken_is ∙ ap (λ (i : Bool). cond i (put s.table.taken (own d.who) (Some p)) s.table.taken)
           (clear_is false q))
           entry_is
-  walk_case_of call staging.Hand w d is c = same_handed s n me g e np h pl k changes
-      (ap (λ (i : Event). (steps s.table me (event_steps s me g i)).taken) c)
-      (λ v t st. subst (λ (f : ℕ → Option Entry). f (own v) ≡ Some t)
-      (ap (λ (i : Event). (steps s.table me (event_steps s me g i)).entry) c) st)
-      (subst (HandsAt s.table.taken me) (sym (goes call (at.Walk (walking.Page staging.Hand w d)) is c))
-      (here_first call (at.Walk (walking.Page staging.Hand w d)) is c))
-      (λ v t st i. ap handed_by (goes call (at.Walk (walking.Page staging.Hand w d)) is c)
-      ∙ (sym (ap handed_by is) ∙ i))
-  walk_case_of call staging.Wake w d is c = same_handed s n me g e np h pl k changes
-      (ap (λ (i : Event). (steps s.table me (event_steps s me g i)).taken) c)
-      (λ v t st. subst (λ (f : ℕ → Option Entry). f (own v) ≡ Some t)
-      (ap (λ (i : Event). (steps s.table me (event_steps s me g i)).entry) c) st)
-      (subst (HandsAt s.table.taken me) (sym (goes call (at.Walk (walking.Page staging.Wake w d)) is c))
-      (here_first call (at.Walk (walking.Page staging.Wake w d)) is c))
-      (λ v t st i. ap handed_by (goes call (at.Walk (walking.Page staging.Wake w d)) is c)
-      ∙ (sym (ap handed_by is) ∙ i))
+  walk_case_of call staging.Hand w d is c = handing call (at.Walk (walking.Page staging.Hand w d)) is c refl refl
+      (here_first call (at.Walk (walking.Page staging.Hand w d)) is c) refl
+  walk_case_of call staging.Wake w d is c = handing call (at.Walk (walking.Page staging.Wake w d)) is c refl refl
+      (here_first call (at.Walk (walking.Page staging.Wake w d)) is c) refl
   walk_case_of call staging.Off w d is c = same_handed s n me g e np h pl k changes
       (ap (λ (i : Event). (steps s.table me (event_steps s me g i)).taken) c)
       (λ v t st. (left v t st).1)

@@ -139,20 +139,28 @@ not_var (watch.Plain c) h = refl
 not_var (watch.Done d) h = refl
 not_var (watch.Bit w b) h = refl
 
-pub bit_kind : (c : Watch) → Suited c kind.Bit → is_bit c ≡ true
-bit_kind (watch.Bit w b) s = refl
-bit_kind (watch.Var v o) s = absurd (let z : kind.Bit ≡ kind.Var = s.2 in cc)
-bit_kind (watch.Done d) s = absurd (let z : kind.Bit ≡ kind.Simple = s.1 in cc)
-bit_kind (watch.Plain c) s = absurd (elim s.1 [
-  | inl a ↦ let z : kind.Bit ≡ kind.Default = a in cc
+abbrev of_bits : Kind → Bool
+of_bits kind.Bit = true
+of_bits kind.Page = true
+of_bits _ = false
+
+bit_suited : (c : Watch) (k : Kind) → Suited c k → of_bits k ≡ true → is_bit c ≡ true
+bit_suited (watch.Bit w b) k s i = refl
+bit_suited (watch.Var v o) k s i = absurd (both_ways false refl (sym (ap of_bits s.2) ∙ i))
+bit_suited (watch.Done d) k s i = absurd (both_ways false refl (sym (ap of_bits s.1) ∙ i))
+bit_suited (watch.Plain c) k s i = absurd (elim s.1 [
+  | inl a ↦ both_ways false refl (sym (ap of_bits a) ∙ i)
   | inr a ↦ elim a [
-    | inl b ↦ let z : kind.Bit ≡ kind.Autoremove = b in cc
+    | inl b ↦ both_ways false refl (sym (ap of_bits b) ∙ i)
     | inr b ↦ elim b [
-      | inl d ↦ let z : kind.Bit ≡ kind.Woken = d in cc
-      | inr d ↦ let z : kind.Bit ≡ kind.Simple = d in cc
+      | inl d ↦ both_ways false refl (sym (ap of_bits d) ∙ i)
+      | inr d ↦ both_ways false refl (sym (ap of_bits d) ∙ i)
     ]
   ]
 ])
+
+pub bit_kind : (c : Watch) → Suited c kind.Bit → is_bit c ≡ true
+bit_kind c s = bit_suited c kind.Bit s refl
 
 -- an entry of a page is one of the page
 page_watch : (c : Watch) → Suited c kind.Page → c ≡ page (word_of c)
@@ -160,18 +168,7 @@ page_watch (watch.Bit w b) s = elim s.2 [
   | inl e ↦ absurd (cc)
   | inr e ↦ ap (λ (k : ℕ). watch.Bit w k) e.1
 ]
-page_watch (watch.Var v o) s = absurd (let z : kind.Page ≡ kind.Var = s.2 in cc)
-page_watch (watch.Done d) s = absurd (let z : kind.Page ≡ kind.Simple = s.1 in cc)
-page_watch (watch.Plain c) s = absurd (elim s.1 [
-  | inl a ↦ let z : kind.Page ≡ kind.Default = a in cc
-  | inr a ↦ elim a [
-    | inl b ↦ let z : kind.Page ≡ kind.Autoremove = b in cc
-    | inr b ↦ elim b [
-      | inl d ↦ let z : kind.Page ≡ kind.Woken = d in cc
-      | inr d ↦ let z : kind.Page ≡ kind.Simple = d in cc
-    ]
-  ]
-])
+page_watch c s = absurd (let z : is_bit c ≡ true = bit_suited c kind.Page s refl in cc)
 
 -- a walk's watch that calls such an entry is the page
 walk_page : (c d : Watch) → c ≡ page (word_of c) → same c d ≡ true → d ≡ page (word_of d)

@@ -73,14 +73,17 @@ module _ (me p : ℕ) (st : SleepState) where
   abbrev pub worn_out : Rest
   worn_out = tries p 0 (λ clear. ends (if clear then number 0 else answer.Worn))
 
-  abbrev pub entered : Bool → Rest
-  entered s = (when not s
+  abbrev pub after_put : Bool → Phrase Answer
+  after_put s = when not s
       then (do unlocks on; clear ← tries p 0; gives (if clear then number 0 else answer.Worn))
       otherwise do
         clear ← tries p 0
         when clear
             then (do makes (event.Unqueue me); unlocks on; gives (number 0))
-            otherwise (do unlocks on; awaits_page me on st)) ends
+            otherwise (do unlocks on; awaits_page me on st)
+
+  abbrev pub entered : Bool → Rest
+  entered s = after_put s ends
 
   abbrev pub puts : Rest
   puts = puts_in on forms.Tail entered
@@ -91,13 +94,7 @@ module _ (me p : ℕ) (st : SleepState) where
     makes event.Unflag
     locks on
     entered ← puts_in on forms.Tail
-    when not entered
-        then (do unlocks on; clear ← tries p 0; gives (if clear then number 0 else answer.Worn))
-        otherwise do
-          clear ← tries p 0
-          when clear
-              then (do makes (event.Unqueue me); unlocks on; gives (number 0))
-              otherwise (do unlocks on; awaits_page me on st)) ends
+    after_put entered) ends
 
   abbrev pub stored : ℕ → Rest
   stored n = turns n round tt (λ _. finishes me on true (λ _. last))

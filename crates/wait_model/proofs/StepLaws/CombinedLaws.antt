@@ -12,7 +12,7 @@ use Rattle.wait_model.specs.Tables.{Table, met, next}
 use Rattle.wait_model.specs.Laws.{Waits, Covered, Spent, Tried, Excused, NoLostWake, Others}
 use Rattle.wait_model.specs.Functions.{put}
 use Rattle.wait_model.proofs.StepLaws.OwnSteps.{TriedMoves}
-use Rattle.wait_model.proofs.StepLaws.UntouchedParts.{Ended, Carried, Outcome, Moves, own_view}
+use Rattle.wait_model.proofs.StepLaws.UntouchedParts.{Ended, Carried, Free, Outcome, Moves, own_view}
 use Rattle.wait_model.proofs.Sameness.{same_head, same_bit, same_bit_is, bit_not_counted}
 use Rattle.wait_model.proofs.StepLaws.OtherViews.{apart}
 use Rattle.wait_model.proofs.Functions.{put_case, put_at}
@@ -66,6 +66,17 @@ not_ended s a ev b h w e k al is sa ne t =
     let aim : head_of w.watch ≡ h = (k.views b).hold.aimed h w al is in
     apart s a b f.0 h k (λ q. ne (sym q)) f.1 al (sym aim ∙ (sym (same_head e.watch w.watch sa) ∙ f.2))
 
+-- a task that comes to cover the entry by the step holds no head, so it is another than one that does
+now_covered : (s : Table) (a : ℕ) (ev : Step) (x : ℕ) (e : Entry) (σ b h : ℕ) → is_bit e.watch ≡ true
+    → (s.view b).hold.head ≡ Some h → IsTrue (covers (after ev (s.view a)) x e σ) × Free s a ev e
+    → Others (next s a ev) b x e σ
+now_covered s a ev x e σ b h bite ho f = (
+  a,
+  (λ ab. absurd (let hn : (s.view a).hold.head ≡ None = f.1 bite
+      in let hs : (s.view a).hold.head ≡ Some h = subst (λ (i : ℕ). (s.view i).hold.head ≡ Some h) (sym ab) ho in cc)),
+  own_view s a (after ev (s.view a)) (λ v. IsTrue (covers v x e σ)) f.0,
+)
+
 -- the walker's own hold after the step is the one from before
 abbrev pub HoldFrom : View → Step → Type 0
 HoldFrom v ev = (h : ℕ) (w : Walk) → (after ev v).hold.head ≡ Some h → (after ev v).walk ≡ Some w
@@ -100,15 +111,8 @@ selected_from s a ev k k2 moves tried holds pick b h w x e on m σ hold walk bit
               (sym gw) sa)) o)
           | inr t ↦ inr (tried e.watch (bit_met z bite) t)
         ]
-    from_old c cb g ho wa gw pi (inr (inl f)) =
-        inl (
-          a,
-          (λ ab. absurd (let hn : (s.view a).hold.head ≡ None = f.1 bite
-              in let hs : (s.view a).hold.head ≡ Some h = subst (λ (i : ℕ). (s.view i).hold.head ≡ Some h) (cb
-              ∙ sym ab) ho in cc)),
-          own_view s a (after ev (s.view a)) (λ v. IsTrue (covers v x e σ))
-              f.0,
-        )
+    from_old c cb g ho wa gw pi (inr (inl f)) = inl (now_covered s a ev x e σ b h bite
+        (subst (λ (i : ℕ). (s.view i).hold.head ≡ Some h) cb ho) f)
     from_old c cb g ho wa gw pi (inr (inr f)) =
         absurd (let off : is_bit e.watch ≡ false = f.0 in let is : is_bit e.watch ≡ true = bite in cc)
 
@@ -164,15 +168,8 @@ roused_from s a ev k k2 moves holds rouse gots b u h w x e on m σ hold walk bit
               (subst (λ (i : ℕ). (s.view i).walk ≡ Some g) cb wa) (subst (λ (i : Watch). same e.watch i ≡ true)
               (sym gw) sa)) o)
         ]
-    from_old c cb g ho wa gw ro (inr (inl f)) =
-        inr (
-          a,
-          (λ ab. absurd (let hn : (s.view a).hold.head ≡ None = f.1 bite
-              in let hs : (s.view a).hold.head ≡ Some h = subst (λ (i : ℕ). (s.view i).hold.head ≡ Some h) (cb
-              ∙ sym ab) ho in cc)),
-          own_view s a (after ev (s.view a)) (λ v. IsTrue (covers v x e σ))
-              f.0,
-        )
+    from_old c cb g ho wa gw ro (inr (inl f)) = inr (now_covered s a ev x e σ b h bite
+        (subst (λ (i : ℕ). (s.view i).hold.head ≡ Some h) cb ho) f)
     from_old c cb g ho wa gw ro (inr (inr f)) =
         absurd (let off : is_bit e.watch ≡ false = f.0 in let is : is_bit e.watch ≡ true = bite in cc)
 

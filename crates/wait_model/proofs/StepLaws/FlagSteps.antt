@@ -1,14 +1,13 @@
 -- The law of no lost flag, step by step, but for publish and unlock.
 use Rattle.std.proofs.Common.{refl, sym, ◌∙◌, ap, subst, arith, inl, inr}
 use Rattle.std.specs.Prelude.{ℕ, ◌≡◌, ◌≢◌, ◌-◌, ◌^◌, ◌<◌, ◌⊎◌, Option, Some, None, Bool, true, false, not, ◌&&◌, IsTrue}
-use Rattle.wait_model.specs.declared.layout.TheConstants.{ENTRIES}
 use Rattle.wait_model.specs.declared.watches.Watch.{Watch}
 use Rattle.wait_model.specs.declared.watches.Entry.{Entry}
 use Rattle.wait_model.specs.declared.watches.Aim.{Aim}
 use Rattle.wait_model.specs.declared.steps.Step.{Step}
 use Rattle.wait_model.specs.Facts.{Facts}
-use Rattle.wait_model.specs.Views.{View, ahead, warns, all_cleared}
-use Rattle.wait_model.specs.Fold.{peeks, after}
+use Rattle.wait_model.specs.Views.{View, ahead, warns}
+use Rattle.wait_model.specs.Fold.{after}
 use Rattle.wait_model.specs.Watches.{head_of, failing, owner, page}
 use Rattle.wait_model.specs.Tables.{Words, Table, met, next}
 use Rattle.wait_model.specs.Words.{flag, entry_of}
@@ -16,11 +15,10 @@ use Rattle.wait_model.specs.Laws.{Unheard, NoLostFlag}
 use Rattle.wait_model.specs.Functions.{put}
 use Rattle.wait_model.specs.Rows.{Reads, Lowers}
 use Rattle.wait_model.proofs.StepLaws.WakeSteps.{ahead_begun}
-use Rattle.wait_model.proofs.StepLaws.LoadSteps.{peek_clears}
+use Rattle.wait_model.proofs.StepLaws.LoadSteps.{owes_peeked}
 use Rattle.wait_model.proofs.StepLaws.UntouchedParts.{back_view, flag_framed, at_view}
 use Rattle.wait_model.proofs.Sameness.{consume_sets_none, failing_unmet}
 use Rattle.wait_model.proofs.Functions.{put_case, put_at, bool_or}
-use Rattle.wait_model.proofs.StepLaws.PastEntries.{all_cleared_not}
 use Rattle.wait_model.specs.declared.steps.Step.TheVariants as step
 
 pub back_unheard : (s : Table) (a : ℕ) (ev : Step) (x : ℕ) (e : Entry) (on : Watch) (m : ℕ)
@@ -118,29 +116,12 @@ load_flags s a l r law al x e on m z = elim (bool_or (failing l r on)) [
       (λ _ q. q)
 ]
 
-warns_peeked : (s : Table) (a y w x : ℕ) (e : Entry) (σ : ℕ) → x < ENTRIES → entry_of w ≡ s.entry y
-    → s.entry x ≡ Some e → IsTrue (warns (s.view a) x e σ)
-    → IsTrue (warns (after (step.Peek y w) (s.view a)) x e σ)
-warns_peeked s a y w x e σ lt al st h =
-    let cl : (s.view a).duty.cleared e.watch x ≡ false = grind arith in
-    let still : peeks (s.view a).duty.cleared y (entry_of w) e.watch x ≡ false =
-    peek_clears s a y (entry_of w) x e al st cl in
-    let owing : all_cleared (peeks (s.view a).duty.cleared y (entry_of w) e.watch) ≡ false =
-    all_cleared_not (peeks (s.view a).duty.cleared y (entry_of w) e.watch) x lt still in
-    by ((s.view a).duty.owes e.watch σ) ((s.view a).duty.cleared e.watch x)
-    (peeks (s.view a).duty.cleared y (entry_of w) e.watch x)
-    (all_cleared (peeks (s.view a).duty.cleared y (entry_of w) e.watch))
-    (ahead (s.view a).walk ((s.view a).hold.flagged x) e.watch σ e.place) still owing h
-  where
-    by : (ow cl cl2 all ah : Bool) → cl2 ≡ false → all ≡ false → (ow && (not cl && ah)) ≡ true
-        → ((ow && not all) && (not cl2 && ah)) ≡ true
-    by ow cl cl2 all ah p q h = grind arith
-
 pub peek_flags : (s : Table) (a y w : ℕ) → Facts s → NoLostFlag s → entry_of w ≡ s.entry y
     → NoLostFlag (next s a (step.Peek y w))
 peek_flags s a y w k law al x e on m z =
     flag_framed s a (step.Peek y w) x e on m law (back_unheard s a (step.Peek y w) x e on m (λ q. q) (λ q. q)
-    (λ q. q) (λ q. q) z) (λ q. q) (λ σ. warns_peeked s a y w x e σ (k.named x e z.stands) al z.stands)
+    (λ q. q) (λ q. q) z) (λ q. q) (λ σ. owes_peeked s a y w x e σ
+    (ahead (s.view a).walk ((s.view a).hold.flagged x) e.watch σ e.place) (k.named x e z.stands) al z.stands)
 
 -- an entry with no failed load since it was queued, or since its flag was cleared
 pub low_put : (f : ℕ → Watch → Option ℕ) (y x : ℕ) (on : Watch) (m : ℕ) → put f y (λ _. None) x on ≡ Some m

@@ -79,10 +79,13 @@ peek_clears s a y (Some d) x e al st cl = elim (bool_or (x == y)) [
   | inr q ↦ grind arith
 ]
 
-covers_peeked : (s : Table) (a y w x : ℕ) (e : Entry) (σ : ℕ) → x < ENTRIES → entry_of w ≡ s.entry y
-    → s.entry x ≡ Some e → IsTrue (covers (s.view a) x e σ)
-    → IsTrue (covers (after (step.Peek y w) (s.view a)) x e σ)
-covers_peeked s a y w x e σ lt al st h =
+-- nor is a wake over for it that is owed, where the entry is ahead
+pub owes_peeked : (s : Table) (a y w x : ℕ) (e : Entry) (σ : ℕ) (on : Bool) → x < ENTRIES → entry_of w ≡ s.entry y
+    → s.entry x ≡ Some e
+    → ((s.view a).duty.owes e.watch σ && (not ((s.view a).duty.cleared e.watch x) && on)) ≡ true
+    → (((s.view a).duty.owes e.watch σ && not (all_cleared (peeks (s.view a).duty.cleared y (entry_of w) e.watch)))
+    && (not (peeks (s.view a).duty.cleared y (entry_of w) e.watch x) && on)) ≡ true
+owes_peeked s a y w x e σ on lt al st h =
     let cl : (s.view a).duty.cleared e.watch x ≡ false = grind arith in
     let still : peeks (s.view a).duty.cleared y (entry_of w) e.watch x ≡ false =
     peek_clears s a y (entry_of w) x e al st cl in
@@ -90,8 +93,7 @@ covers_peeked s a y w x e σ lt al st h =
     all_cleared_not (peeks (s.view a).duty.cleared y (entry_of w) e.watch) x lt still in
     by ((s.view a).duty.owes e.watch σ) ((s.view a).duty.cleared e.watch x)
     (peeks (s.view a).duty.cleared y (entry_of w) e.watch x)
-    (all_cleared (peeks (s.view a).duty.cleared y (entry_of w) e.watch)) (is_simple e.kind
-    || ahead (s.view a).walk (gone (s.view a) x e) e.watch σ e.place) still owing h
+    (all_cleared (peeks (s.view a).duty.cleared y (entry_of w) e.watch)) on still owing h
   where
     by : (ow cl cl2 all ah : Bool) → cl2 ≡ false → all ≡ false → (ow && (not cl && ah)) ≡ true
         → ((ow && not all) && (not cl2 && ah)) ≡ true
@@ -100,4 +102,5 @@ covers_peeked s a y w x e σ lt al st h =
 pub peek_moves : (s : Table) (a y w : ℕ) → Facts s → entry_of w ≡ s.entry y → Moves s a (step.Peek y w)
 peek_moves s a y w k al x e on m σ z = framed s a (step.Peek y w) x e on m σ
     (back_waits s a (step.Peek y w) x e on m σ (λ q. q) (λ q. q) (λ _ q. q) (λ q. q) z) (λ q. q)
-    (covers_peeked s a y w x e σ (k.named x e z.stands) al z.stands)
+    (owes_peeked s a y w x e σ (is_simple e.kind || ahead (s.view a).walk (gone (s.view a) x e) e.watch σ e.place)
+    (k.named x e z.stands) al z.stands)

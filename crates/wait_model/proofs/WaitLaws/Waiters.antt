@@ -135,23 +135,24 @@ woken_not hearing.Sleep g = cc
 woken_not hearing.Run g = cc
 woken_not hearing.Clear g = cc
 
-bit_not : (p : BitPoint) → stage (at.Bit p) ≡ inside → ⊥
-bit_not biting.Try g = cc
-bit_not biting.First g = cc
-bit_not biting.Load g = cc
-bit_not biting.Sleep g = cc
-bit_not biting.Look g = cc
-bit_not (biting.Again hit) g = cc
-bit_not biting.Last g = cc
+-- neither the hold in which a wait stores its state nor a sleep on a flag
+abbrev IsApart : Stage → Type 0
+IsApart inside = ⊥
+IsApart napping = ⊥
+IsApart _ = Unit {0}
 
-await_not : (p : AwaitPoint) → stage (at.Await p) ≡ inside → ⊥
-await_not (awaiting.Lock true) g = cc
-await_not (awaiting.Lock false) g = cc
-await_not (awaiting.Load waited) g = cc
-await_not (awaiting.Run stopped) g = cc
-await_not (awaiting.Off stopped) g = cc
-await_not (awaiting.Last stopped) g = cc
-await_not awaiting.Unlock g = cc
+bit_apart : (p : BitPoint) → IsApart (stage (at.Bit p))
+bit_apart biting.Try = tt
+bit_apart biting.First = tt
+bit_apart biting.Load = tt
+bit_apart biting.Sleep = tt
+bit_apart biting.Look = tt
+bit_apart (biting.Again hit) = tt
+bit_apart biting.Last = tt
+
+await_apart : (p : AwaitPoint) → IsApart (stage (at.Await p))
+await_apart (awaiting.Lock true) = tt
+await_apart p = tt
 
 page_not : (p : PagePoint) → stage (at.Page p) ≡ inside → ⊥
 page_not paging.First g = cc
@@ -165,8 +166,8 @@ inside_held (now.Open call (at.Prepare preparing.State)) it g h = ap (λ n. Some
 inside_held (now.Open call (at.Prepare preparing.Unlock)) it g h = ap (λ n. Some n)
     (sym (head_of_bare (call_watch call)) ∙ ap head_of (sym h.0))
 inside_held (now.Open call (at.Woken p)) it g h = absurd (woken_not p g)
-inside_held (now.Open call (at.Bit p)) it g h = absurd (bit_not p g)
-inside_held (now.Open call (at.Await p)) it g h = absurd (await_not p g)
+inside_held (now.Open call (at.Bit p)) it g h = absurd (subst IsApart g (bit_apart p))
+inside_held (now.Open call (at.Await p)) it g h = absurd (subst IsApart g (await_apart p))
 inside_held (now.Open call (at.Page p)) it g h = absurd (page_not p g)
 inside_held q it g h = absurd (cc)
 
@@ -448,32 +449,14 @@ prepare_naps preparing.Queue g = cc
 prepare_naps preparing.State g = cc
 prepare_naps preparing.Unlock g = cc
 
-bit_naps : (p : BitPoint) → stage (at.Bit p) ≡ napping → ⊥
-bit_naps biting.Try g = cc
-bit_naps biting.First g = cc
-bit_naps biting.Load g = cc
-bit_naps biting.Sleep g = cc
-bit_naps biting.Look g = cc
-bit_naps (biting.Again hit) g = cc
-bit_naps biting.Last g = cc
-
-await_naps : (p : AwaitPoint) → stage (at.Await p) ≡ napping → ⊥
-await_naps (awaiting.Lock true) g = cc
-await_naps (awaiting.Lock false) g = cc
-await_naps (awaiting.Load waited) g = cc
-await_naps (awaiting.Run stopped) g = cc
-await_naps (awaiting.Off stopped) g = cc
-await_naps (awaiting.Last stopped) g = cc
-await_naps awaiting.Unlock g = cc
-
 -- the task is in a call other than a wait for a flag, and no point of it is one of such a wait
 module _ (call : Call) (other : IsListening call → ⊥) where
   not_napping : (p : Point) → FitsStage (now.Open call p) → stage p ≡ napping → ⊥
   not_napping (at.Woken p) f g = other f
   not_napping (at.Page p) f g = other f
   not_napping (at.Prepare p) f g = prepare_naps p g
-  not_napping (at.Bit p) f g = bit_naps p g
-  not_napping (at.Await p) f g = await_naps p g
+  not_napping (at.Bit p) f g = subst IsApart g (bit_apart p)
+  not_napping (at.Await p) f g = subst IsApart g (await_apart p)
   not_napping p f g = cc
 
   bit_home : (p : BitPoint) (e : Entry) → stage (at.Bit p) ≡ dozing → HomeAt (now.Open call (at.Bit p)) (Some e)

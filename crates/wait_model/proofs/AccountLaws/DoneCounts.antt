@@ -82,39 +82,36 @@ counts_stay_balanced n s a e d lt al is k = by (effect s a e d al is)
     grown : (count : ℕ → ℕ → ℕ) → total_stored n count (next s a e) d ≡ total_stored n count s d + of_store count d e
     grown count = total_grown n a (of_store count d) s.history e lt
 
+    -- the sums with what the step adds to each
+    balanced : (raise grant lower throw now : ℕ) → of_store raises_by_one d e ≡ raise → of_store grants d e ≡ grant
+        → of_store lowers_by_one d e ≡ lower → of_store throws d e ≡ throw → (next s a e).words.dones d ≡ now
+        → raise + grant + s.words.dones d ≡ lower + throw + now
+        → total_stored n raises_by_one (next s a e) d + total_stored n grants (next s a e) d
+        ≡ total_stored n lowers_by_one (next s a e) d + total_stored n throws (next s a e) d
+        + (next s a e).words.dones d
+    balanced raise grant lower throw now p q r t z one =
+        let b = k.balance in
+        let g = grown raises_by_one in
+        let h = grown grants in
+        let i = grown lowers_by_one in
+        let j = grown throws in
+        omega (arith, b, g, h, i, j, p, q, r, t, z, one)
+
     by : Untouched s a e d ⊎ Stored s a e d → IsBalanced n (next s a e) d
     by (inl u) = record {
       range = let r = k.range in let q = u.same in omega (arith, q, r);
-      balance =
-          let b = k.balance in
-          let g = grown raises_by_one in
-          let h = grown grants in
-          let i = grown lowers_by_one in
-          let j = grown throws in
-          let p = u.counts raises_by_one in
-          let q = u.counts grants in
-          let r = u.counts lowers_by_one in
-          let t = u.counts throws in
-          let z = u.same in
-          omega (arith, b, g, h, i, j, p, q, r, t, z);
+      balance = balanced 0 0 0 0 (s.words.dones d) (u.counts raises_by_one) (u.counts grants) (u.counts lowers_by_one)
+          (u.counts throws) u.same (omega arith);
     }
     by (inr u) = record {
       range = let r = u.is_stored.0 in let q = u.now in omega (arith, q, r);
-      balance =
-          let b = k.balance in
-          let g = grown raises_by_one in
-          let h = grown grants in
-          let i = grown lowers_by_one in
-          let j = grown throws in
-          let p = u.counts raises_by_one in
-          let q = u.counts grants in
-          let r = u.counts lowers_by_one in
-          let t = u.counts throws in
-          let z = u.now in
-          let f = u.is_found in
+      balance = balanced (raises_by_one u.value u.found) (grants u.value u.found) (lowers_by_one u.value u.found)
+          (throws u.value u.found) u.value (u.counts raises_by_one) (u.counts grants) (u.counts lowers_by_one)
+          (u.counts throws) u.now
+          (let f = u.is_found in
           let small = k.range in
           let one = one_store u.value u.found (omega (arith, f, small)) u.is_stored in
-          omega (arith, b, g, h, i, j, p, q, r, t, z, f, one);
+          omega (arith, f, one));
     }
 
 pub counts_start_balanced : CountsStartBalanced

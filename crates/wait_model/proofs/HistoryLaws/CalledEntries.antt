@@ -168,30 +168,29 @@ unfolding sets_rung
 sets_of_wake a x (step.Wake who mask w) v f h g = rw f.is (rw (f.mask, g) (grind (arith, h)))
 sets_of_wake a x e v f h g = absurd (cc)
 
+-- a reading that a call of the hold sets stands at its end
+set_in : (a : Aim) (r : View → Bool) (set : Step → View → Bool) → IsSetBy r set renews → (test : Step → Bool)
+    (inside : List Step) (v : View) → Lacks turns_lock inside → IsForWalk a v.walk → Since test is_publish inside
+    → ((e : Step) (u : View) → IsForWalk a u.walk → test e ≡ true → set e u ≡ true) → r (after_all v inside) ≡ true
+set_in a r set by test inside v l f c sets =
+    subst (λ (t : List Step). r (after_all v t) ≡ true) (sym c.split)
+    (set_at r set renews by c.earlier c.it c.later v
+    (sets c.it (after_all v c.earlier)
+    (walks_for a c.earlier v (lacks_left turns_lock c.earlier (c.it ∷ c.later) all) f) c.passes)
+    (lacks_both turns_lock is_publish renews renews_of c.later
+    (lacks_right turns_lock c.earlier (c.it ∷ c.later) all).1 c.none_since))
+  where
+    all : Lacks turns_lock (c.earlier ++ c.it ∷ c.later)
+    all = subst (Lacks turns_lock) c.split l
+
 called_at : (k j : Bool) (inside : List Step) (a : Aim) (x : ℕ) (e : Entry) (v : View) → is_woken e.kind ≡ k
     → is_page e.kind ≡ j → Lacks turns_lock inside → IsForWalk a v.walk → CalledBy k j inside a x
     → gone (after_all v inside) x e ≡ true
 unfolding called rung flagged moot
 called_at false true inside a x e v is pg l f c =
-    rw (is, pg) (subst (λ (t : List Step). moot (after_all v t) ≡ true) (sym c.split)
-    (set_at moot sets_moot renews moot_by c.earlier c.it c.later v
-    (sets_of_sight a c.it (after_all v c.earlier)
-    (walks_for a c.earlier v (lacks_left turns_lock c.earlier (c.it ∷ c.later) all) f) c.passes)
-    (lacks_both turns_lock is_publish renews renews_of c.later
-    (lacks_right turns_lock c.earlier (c.it ∷ c.later) all).1 c.none_since)))
-  where
-    all : Lacks turns_lock (c.earlier ++ c.it ∷ c.later)
-    all = subst (Lacks turns_lock) c.split l
+    rw (is, pg) (set_in a moot sets_moot moot_by (sees_set a) inside v l f c (sets_of_sight a))
 called_at false false inside a x e v is pg l f c =
-    rw (is, pg) (subst (λ (t : List Step). called x (after_all v t) ≡ true) (sym c.split)
-    (set_at (called x) (sets_called x) renews (called_by x) c.earlier c.it c.later v
-    (sets_of_call a x c.it (after_all v c.earlier)
-    (walks_for a c.earlier v (lacks_left turns_lock c.earlier (c.it ∷ c.later) all) f) c.passes)
-    (lacks_both turns_lock is_publish renews renews_of c.later
-    (lacks_right turns_lock c.earlier (c.it ∷ c.later) all).1 c.none_since)))
-  where
-    all : Lacks turns_lock (c.earlier ++ c.it ∷ c.later)
-    all = subst (Lacks turns_lock) c.split l
+    rw (is, pg) (set_in a (called x) (sets_called x) (called_by x) (calls_entry a x) inside v l f c (sets_of_call a x))
 called_at true j inside a x e v is pg l f c =
     rw is (subst (λ (t : List Step). rung x (after_all v t) ≡ true) (sym w.split)
     (set_at (rung x) (sets_rung x) renews (rung_by x) w.earlier w.it w.later v

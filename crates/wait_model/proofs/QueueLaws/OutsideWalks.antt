@@ -115,21 +115,11 @@ stays_away n h = h
 plain_away : (x : Planned) → IsPlain x → IsAway x
 plain_away x h = record { event = unmarked x.event h.event; next = stays_away x.next h.next }
 
-signalled_plain : (c : Call) → is_plain (signalled_at c) ≡ true
-signalled_plain (calls.WaitFor d st) = refl
-signalled_plain c = refl
-
-prepared_plain : (c : Call) → is_plain (prepared_at c) ≡ true
-prepared_plain (calls.WaitFor d st) = refl
-prepared_plain c = refl
-
-worn_plain : (c : Call) → goes_plain (worn_next c) ≡ true
-worn_plain (calls.WaitFor d st) = refl
-worn_plain c = refl
-
-slept_plain : (c : Call) → is_plain (slept_at c) ≡ true
-slept_plain (calls.WaitFor d st) = refl
-slept_plain c = refl
+-- where a call goes on from a signal, from its preparing, from a head with no place and from its sleep
+goes_on_plain : (c : Call) → (is_plain (signalled_at c) ≡ true) × (is_plain (prepared_at c) ≡ true)
+    × (goes_plain (worn_next c) ≡ true) × (is_plain (slept_at c) ≡ true)
+goes_on_plain (calls.WaitFor d st) = (refl, refl, refl, refl)
+goes_on_plain c = (refl, refl, refl, refl)
 
 published_plain : (c : Call) → IsPlainEvent (publishing_event c)
 published_plain (calls.ClearBit w b) = tt
@@ -149,10 +139,10 @@ module _ (call : Call) (me : ℕ) (seen : Seen) where
 
   prepare_plain : (p : PreparePoint) → IsPlain (prepare_event call p seen)
   prepare_plain preparing.Look = one_of _ _ (signalled_at call) (at.Prepare preparing.Queue)
-      (record { event = tt; next = signalled_plain call }) (record { event = tt; next = refl })
+      (record { event = tt; next = (goes_on_plain call).0 }) (record { event = tt; next = refl })
   prepare_plain preparing.Queue = either IsPlain (is_some seen.entry) _ _ (record { event = tt; next = refl })
-      (either IsPlain seen.worn _ _ (record { event = tt; next = worn_plain call }) (record { event = tt; next = refl }))
-  prepare_plain preparing.Unlock = record { event = tt; next = prepared_plain call }
+      (either IsPlain seen.worn _ _ (record { event = tt; next = (goes_on_plain call).2 }) (record { event = tt; next = refl }))
+  prepare_plain preparing.Unlock = record { event = tt; next = (goes_on_plain call).1 }
   prepare_plain p = record { event = tt; next = refl }
 
   leave_plain : (p : LeavePoint) → IsPlain (leave_event me call p seen)
@@ -255,7 +245,7 @@ module _ (call : Call) (me : ℕ) (seen : Seen) where
   program_plain (at.Add p) o = add_plain p
   program_plain (at.Remove p) o = remove_plain p
   program_plain (at.Woken p) o = woken_plain p
-  program_plain at.Sleep o = record { event = tt; next = slept_plain call }
+  program_plain at.Sleep o = record { event = tt; next = (goes_on_plain call).3 }
   program_plain (at.Select p) o = select_plain p
   program_plain (at.Await p) o = await_plain p
   program_plain (at.Count p) o = count_plain p

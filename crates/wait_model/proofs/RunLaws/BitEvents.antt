@@ -20,7 +20,7 @@ use Rattle.wait_model.specs.Tasks.{pending, state_mask, looks_in}
 use Rattle.wait_model.specs.Watches.{is_bit, word_of, bit_of, misses}
 use Rattle.wait_model.specs.Words.{bit_at, flag}
 use Rattle.wait_model.proofs.WordLaws.CondWords.{var_store}
-use Rattle.wait_model.proofs.RunLaws.FineEvents.{Fine, Leads, outside, still_fine, store_fine, tas_fine, clear_fine}
+use Rattle.wait_model.proofs.RunLaws.FineEvents.{Fine, Leads, outside, still_fine, store_fine, tas_fine, clear_fine, leads_by}
 use Rattle.wait_model.proofs.RunLaws.FineEvents.{active_fine}
 use Rattle.wait_model.proofs.RunLaws.WaitEvents.{off_waits, off_free, own_read, to, head_small, loads, load_small}
 use Rattle.wait_model.specs.declared.calls.Call.TheVariants as calls
@@ -96,21 +96,11 @@ module _ (s : State) (n me : ℕ) (call : Call) (sound : IsSound s n) (mine : me
   first_fine true k pl = ask_fine (is_lock call) (at.Bit biting.First) (next.Go (at.Prepare preparing.Lock)) pl k
       k.fitted (to s n me call sound mine (at.Bit biting.First) (at.Prepare preparing.Lock) k refl tt
       (no_await call k.fitted))
-      (record {
-        same = refl;
-        home = off_waits (call_watch call) (s.table.entry (own me)) pl.home;
-        calm =
-            refl;
-        taken = refl;
-      })
+      (leads_by s n me call sound mine refl (off_waits (call_watch call) (s.table.entry (own me)) pl.home)
+      refl refl)
   first_fine false k pl = ask_fine (is_lock call) (at.Bit biting.First) (next.Ends zero_answer) pl k k.fitted tt
-      (record {
-        same = refl;
-        home = off_free (call_watch call) (watch.Plain 0) (s.table.entry (own me)) pl.home;
-        calm =
-            refl;
-        taken = refl;
-      })
+      (leads_by s n me call sound mine refl (off_free (call_watch call) (watch.Plain 0) (s.table.entry (own me)) pl.home)
+      refl refl)
 
   -- after preparing
   test_fine : (b : Bool) → IsCallSound n call (at.Bit biting.Load) → P (at.Bit biting.Load)
@@ -172,13 +162,8 @@ module _ (s : State) (n me : ℕ) (call : Call) (sound : IsSound s n) (mine : me
       (pending (state_mask (state_in call)) (s.table.task me) && is_lock call) k pl
   bit_fine (biting.Again failed) k pl = again_fine failed (misses (call_watch call) found && not failed) k pl
   bit_fine biting.Last k pl = take_fine (at.Bit biting.Last) (next.Ends _) pl k (waits_bit call k.fitted) tt
-      (record {
-        same = refl;
-        home = off_free (call_watch call) (watch.Plain 0) (s.table.entry (own me)) pl.home;
-        calm =
-            refl;
-        taken = refl;
-      })
+      (leads_by s n me call sound mine refl (off_free (call_watch call) (watch.Plain 0) (s.table.entry (own me)) pl.home)
+      refl refl)
 
   -- the look for members, and the walk where there are some
   pub members_fine : (b : Bool) → IsCallSound n call at.Active → P at.Active → F at.Active (active_event call b)

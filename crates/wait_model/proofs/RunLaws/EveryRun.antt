@@ -202,31 +202,21 @@ start_home call None h q k = tt
 start_home call (Some e) h q k = h
 
 -- a call begins outside a hold
-start_held : (call : Call) → held_at (now.Open call (program_start call)) ≡ None
-start_held calls.Remove = refl
-start_held call = refl
-
-start_calm : (call : Call) → is_preparing (now.Open call (program_start call)) ≡ false
-start_calm calls.Remove = refl
-start_calm call = refl
-
-start_takes : (call : Call) → taken_off (program_start call) ≡ None
-start_takes calls.Remove = refl
-start_takes call = refl
-
-start_flags : (call : Call) → flagged (program_start call) ≡ None
-start_flags calls.Remove = refl
-start_flags call = refl
+start_free : (call : Call) → (held_at (now.Open call (program_start call)) ≡ None)
+    × (is_preparing (now.Open call (program_start call)) ≡ false) × (taken_off (program_start call) ≡ None)
+    × (flagged (program_start call) ≡ None)
+start_free calls.Remove = (refl, refl, refl, refl)
+start_free call = (refl, refl, refl, refl)
 
 begun_placed : (entry : ℕ → Option Entry) (v : View) (me : ℕ) (call : Call) (p : Progress) → is_open p ≡ false
     → is_queued_twice call (entry (own me)) ≡ false → lacks_entry call (entry (own me)) ≡ false
     → IsPlaced entry v me p → IsPlaced entry v me (now.Open call (program_start call))
 begun_placed entry v me call p closed twice lacks pl = record {
-  head = pl.head ∙ no_hold_at p closed ∙ sym (start_held call);
+  head = pl.head ∙ no_hold_at p closed ∙ sym (start_free call).0;
   home = start_home call (entry (own me)) (idle_home p (entry (own me)) closed pl.home) twice lacks;
-  off_book = λ pr z. absurd (both_ways true (sym pr ∙ start_calm call) refl);
-  taken = λ who t. absurd (none-some who (sym (start_takes call) ∙ t));
-  flagged = λ c t. absurd (none-some c (sym (start_flags call) ∙ t));
+  off_book = λ pr z. absurd (both_ways true (sym pr ∙ (start_free call).1) refl);
+  taken = λ who t. absurd (none-some who (sym (start_free call).2 ∙ t));
+  flagged = λ c t. absurd (none-some c (sym (start_free call).3 ∙ t));
 }
   where
     no_hold_at : (q : Progress) → is_open q ≡ false → held_at q ≡ None

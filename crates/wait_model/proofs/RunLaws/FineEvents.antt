@@ -148,6 +148,10 @@ module _ (s : State) (n me : ℕ) (call : Call) (sound : IsSound s n) (mine : me
     pub calm : is_preparing q ≡ false
     pub taken : stands_between q ≡ false
 
+  pub leads_by : {p : Point} {q : Progress} → held_at (now.Open call p) ≡ held_at q → HomeAt q (s.table.entry (own me))
+      → is_preparing q ≡ false → stands_between q ≡ false → Leads p q
+  leads_by same home calm taken = record { same = same; home = home; calm = calm; taken = taken }
+
   nobody : (q : Progress) (entry : ℕ → Option Entry) → stands_between q ≡ false → (who : ℕ)
       → taken_by q ≡ Some who → IsTaken entry who (held_at q)
   nobody (now.Open c (at.Walk (walking.Unqueue w u))) entry none who t = absurd (cc)
@@ -178,21 +182,29 @@ module _ (s : State) (n me : ℕ) (call : Call) (sound : IsSound s n) (mine : me
       flagged = unflagged q s.table.entry l.taken;
     }
 
-    pub still_fine : (x : Planned) → IsStill x.event → Allows s me x.event → Joins (given_at call p) x.event
+    -- an event that changes no entry
+    still_placed : (x : Planned) → IsStill x.event → Allows s me x.event → Joins (given_at call p) x.event
         → AllAllowed s.table me (event_steps s me (given_at call p) x.event)
-        → IsSoundCall (n + 1) (progress_at call x.next) → Leads p (progress_at call x.next)
+        → IsSoundCall (n + 1) (progress_at call x.next)
+        → IsPlaced s.table.entry (after_all (s.table.view me) (event_steps s me (given_at call p) x.event)) me
+        (progress_at call x.next)
         → Fine (given_at call p) x
-    still_fine x still allows joins made next_call leads = record {
+    still_placed x still allows joins made next_call placed = record {
       allows = allows;
       joins = joins;
       changes = still_changes s me (given_at call p) x.event still;
       next_call = next_call;
       made = λ _. made;
       placed = placed_same s.table.entry _ _ me (progress_at call x.next)
-          (still_entry s me (given_at call p) x.event still)
-          (led (progress_at call x.next) leads _
-          (still_head s me (given_at call p) x.event (s.table.view me) still));
+          (still_entry s me (given_at call p) x.event still) placed;
     }
+
+    pub still_fine : (x : Planned) → IsStill x.event → Allows s me x.event → Joins (given_at call p) x.event
+        → AllAllowed s.table me (event_steps s me (given_at call p) x.event)
+        → IsSoundCall (n + 1) (progress_at call x.next) → Leads p (progress_at call x.next)
+        → Fine (given_at call p) x
+    still_fine x still allows joins made next_call leads = still_placed x still allows joins made next_call
+        (led (progress_at call x.next) leads _ (still_head s me (given_at call p) x.event (s.table.view me) still))
 
     -- a store of the call's condition
     pub store_fine : (v : ℕ) (x : Next) → IsThere (call_watch call) → is_bit (call_watch call) ≡ false
@@ -286,23 +298,15 @@ module _ (s : State) (n me : ℕ) (call : Call) (sound : IsSound s n) (mine : me
         → AllAllowed s.table me (event_steps s me (given_at call p) x.event)
         → IsSoundCall (n + 1) (progress_at call x.next) → LeadsOn (progress_at call x.next)
         → Fine (given_at call p) x
-    still_on x still allows joins made next_call l = record {
-      allows = allows;
-      joins = joins;
-      changes = still_changes s me (given_at call p) x.event still;
-      next_call = next_call;
-      made = λ _. made;
-      placed = placed_same s.table.entry _ _ me (progress_at call x.next)
-          (still_entry s me (given_at call p) x.event still) (record {
-            head = still_head s me (given_at call p) x.event (s.table.view me) still ∙ pl.head ∙ l.same;
-            home = l.home;
-            off_book = λ pr none. ap (λ (b : ℕ → Look). b (own me))
-                (still_book s me (given_at call p) x.event (s.table.view me) still)
-                ∙ pl.off_book l.prepared none;
-            taken = nobody (progress_at call x.next) s.table.entry l.taken;
-            flagged = unflagged (progress_at call x.next) s.table.entry l.taken;
-          });
-    }
+    still_on x still allows joins made next_call l = still_placed x still allows joins made next_call (record {
+      head = still_head s me (given_at call p) x.event (s.table.view me) still ∙ pl.head ∙ l.same;
+      home = l.home;
+      off_book = λ pr none. ap (λ (b : ℕ → Look). b (own me))
+          (still_book s me (given_at call p) x.event (s.table.view me) still)
+          ∙ pl.off_book l.prepared none;
+      taken = nobody (progress_at call x.next) s.table.entry l.taken;
+      flagged = unflagged (progress_at call x.next) s.table.entry l.taken;
+    })
 
     -- a lock, and where it leads
     module _ (h : ℕ) (out : holds p ≡ false) where

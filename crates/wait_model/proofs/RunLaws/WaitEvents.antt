@@ -39,7 +39,7 @@ use Rattle.wait_model.specs.Functions.{put}
 use Rattle.wait_model.proofs.WordLaws.DecodedWords.{task_read, head_plain, done_read_back, owner_own}
 use Rattle.wait_model.proofs.WordLaws.CondWords.{head_of_bare, head_below, number_below, head_counted, reads_value}
 use Rattle.wait_model.proofs.WordLaws.CondWords.{waits_suited}
-use Rattle.wait_model.proofs.RunLaws.FineEvents.{Fine, Leads, goes, inside, outside, still_fine, still_on, lock_fine}
+use Rattle.wait_model.proofs.RunLaws.FineEvents.{Fine, Leads, goes, inside, outside, still_fine, still_on, lock_fine, leads_by}
 use Rattle.wait_model.proofs.RunLaws.FineEvents.{unlock_fine, queue_fine, unqueue_fine, none_there, one_there, read}
 use Rattle.wait_model.proofs.RunLaws.FineEvents.{unflag_fine}
 use Rattle.wait_model.proofs.RunLaws.OthersEvents.{IsGone}
@@ -226,22 +226,12 @@ module _ (s : State) (n me : ℕ) (call : Call) (sound : IsSound s n) (mine : me
   first_fine true k pl = still_fine s n me call sound mine at.First pl _ tt (load_small at.First k) tt
       (loads at.First k, tt)
       (to at.First (at.Prepare preparing.Lock) k refl tt k.fitted)
-      (record {
-        same = refl;
-        home = off_waits (call_watch call) (s.table.entry (own me)) pl.home;
-        calm =
-            refl;
-        taken = refl;
-      })
+      (leads_by s n me call sound mine refl (off_waits (call_watch call) (s.table.entry (own me)) pl.home)
+      refl refl)
   first_fine false k pl = still_fine s n me call sound mine at.First pl _ tt (load_small at.First k) tt
       (loads at.First k, tt) tt
-      (record {
-        same = refl;
-        home = off_free (call_watch call) (watch.Plain 0) (s.table.entry (own me)) pl.home;
-        calm =
-            refl;
-        taken = refl;
-      })
+      (leads_by s n me call sound mine refl (off_free (call_watch call) (watch.Plain 0) (s.table.entry (own me)) pl.home)
+      refl refl)
 
   -- preparing
   prepare_lock_fine : (b : Bool) → IsCallSound n call (at.Prepare preparing.Lock)
@@ -348,24 +338,14 @@ module _ (s : State) (n me : ℕ) (call : Call) (sound : IsSound s n) (mine : me
       (at.Finish finishing.State false))
   leave_load true k pl = still_fine s n me call sound mine (at.Leave leaving.Load) pl _ tt
       (load_small (at.Leave leaving.Load) k) tt
-      (loads (at.Leave leaving.Load) k, tt) tt (record {
-        same = refl;
-        home = off_free (call_watch call) (watch.Plain 0)
-            (s.table.entry (own me)) pl.home;
-        calm = refl;
-        taken = refl;
-      })
+      (loads (at.Leave leaving.Load) k, tt) tt (leads_by s n me call sound mine refl (off_free (call_watch call) (watch.Plain 0) (s.table.entry (own me)) pl.home)
+      refl refl)
   leave_load false k pl = still_fine s n me call sound mine (at.Leave leaving.Load) pl _ tt
       (load_small (at.Leave leaving.Load) k) tt
       (loads (at.Leave leaving.Load) k, tt) (to (at.Leave leaving.Load) (at.Finish finishing.State false) k refl
       tt (λ f. absurd (cc)))
-      (record {
-        same = refl;
-        home = off_waits (call_watch call) (s.table.entry (own me)) pl.home;
-        calm =
-            refl;
-        taken = refl;
-      })
+      (leads_by s n me call sound mine refl (off_waits (call_watch call) (s.table.entry (own me)) pl.home)
+      refl refl)
 
   pub leave_fine : (p : LeavePoint) → IsCallSound n call (at.Leave p) → P (at.Leave p)
       → F (at.Leave p) (planned s me call (at.Leave p))

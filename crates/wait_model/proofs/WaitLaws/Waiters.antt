@@ -130,10 +130,7 @@ turn_of s n me e found sound al (now.Open call p) is pl c =
 
 woken_not : (p : WokenPoint) → stage (at.Woken p) ≡ inside → ⊥
 woken_not hearing.State g = cc
-woken_not hearing.Flag g = cc
-woken_not hearing.Sleep g = cc
-woken_not hearing.Run g = cc
-woken_not hearing.Clear g = cc
+woken_not p g = cc
 
 -- neither the hold in which a wait stores its state nor a sleep on a flag
 abbrev IsApart : Stage → Type 0
@@ -143,12 +140,7 @@ IsApart _ = Unit {0}
 
 bit_apart : (p : BitPoint) → IsApart (stage (at.Bit p))
 bit_apart biting.Try = tt
-bit_apart biting.First = tt
-bit_apart biting.Load = tt
-bit_apart biting.Sleep = tt
-bit_apart biting.Look = tt
-bit_apart (biting.Again hit) = tt
-bit_apart biting.Last = tt
+bit_apart p = tt
 
 await_apart : (p : AwaitPoint) → IsApart (stage (at.Await p))
 await_apart (awaiting.Lock true) = tt
@@ -444,10 +436,7 @@ down_stage napping t o es x call a n d = absurd (n refl)
 
 prepare_naps : (p : PreparePoint) → stage (at.Prepare p) ≡ napping → ⊥
 prepare_naps preparing.Lock g = cc
-prepare_naps preparing.Look g = cc
-prepare_naps preparing.Queue g = cc
-prepare_naps preparing.State g = cc
-prepare_naps preparing.Unlock g = cc
+prepare_naps p g = cc
 
 -- the task is in a call other than a wait for a flag, and no point of it is one of such a wait
 module _ (call : Call) (other : IsListening call → ⊥) where

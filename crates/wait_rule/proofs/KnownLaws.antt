@@ -15,6 +15,7 @@ pub mod SetterSteps
 pub mod Setters
 pub mod SettersFound
 pub mod AfterSteps
+pub mod StepCalls
 pub mod SleepLooks
 pub mod Transitions
 pub mod StayingParts

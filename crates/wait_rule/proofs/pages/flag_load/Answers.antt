@@ -6,11 +6,10 @@ use Rattle.wait_rule.specs.declared.journal.Item.TheVariants as item
 use Rattle.wait_rule.specs.Known.{Known, known}
 use Rattle.wait_rule.specs.Queues.{index}
 use Rattle.wait_rule.specs.PageCalls.{ShowsGiven, ShowsNoFlag}
-use Rattle.wait_rule.specs.Plays.{seat_with}
 use Rattle.wait_rule.proofs.TableSteps.MemberMoves.{index_at, own_index}
 use Rattle.wait_rule.proofs.TableSteps.PageMoves.{flag_word_moves}
-use Rattle.wait_rule.proofs.KnownLaws.AfterSteps.{known_after}
 use Rattle.wait_rule.proofs.KnownLaws.CarriedFlags.{flag_carried}
+use Rattle.wait_rule.proofs.KnownLaws.StepCalls.{may_step, known_by}
 use Rattle.wait_rule.proofs.pages.flag_load.Goals as goal
 
 pub load-requires : goal.load-requires
@@ -18,14 +17,11 @@ load-requires c =
     let t = c.task.inside in
     let i = c.task.invariant in
     let small = i.5 in
-    let size = c.domain.invariant in
     let slot = c.requires.slot in
-    let at = c.flag_at-at.ensures in (
-      ap (λ (k : Known). k.domain) c.task.view_is ∙ (c.requires.of ∙ sym c.domain.view_is),
-      omega arith,
-      flag_word_moves _ t.seat.id t.seat.me i.1 (index t.number c.args.slot) _ (omega arith) at
-          (own_index t.number c.args.slot slot ∙ sym i.2),
-    )
+    let at = c.flag_at-at.ensures in
+    may_step c.task.view_is c.requires.of c.domain.view_is c.domain.invariant (omega arith)
+    (flag_word_moves _ _ _ c.task.invariant.1 (index t.number c.args.slot) _ (omega arith) at
+    (own_index t.number c.args.slot slot ∙ sym i.2))
 
 pub returns-clause-step : goal.returns-clause-step
 returns-clause-step c =
@@ -33,10 +29,7 @@ returns-clause-step c =
     let spot = index_at FLAG_AT c.flag_at-at.result t.number c.args.slot c.flag_at-at.ensures
     ∙ ap (λ (u : ℕ). index u c.args.slot) (sym c.task.invariant.2 ∙ ap (λ (k : Known). k.view.number) c.task.view_is)
     in
-    known_after t.seat.table_id c.load.new.seat.table_id t.seat.me c.load.new.seat.me c.args.task.now
-    (item.Made (step.Flag (index c.args.task.now.view.number c.args.slot) c.load.result)) c.load.ensures.0
-    (c.load.ensures.2.0 ∙ ap (λ (k : ℕ). seat_with t.seat.me (item.Made (step.Flag k c.load.result))) spot)
-    c.task.view_is
+    known_by c.load.ensures.0 c.load.ensures.2.0 (λ j. item.Made (step.Flag (spot j) c.load.result)) c.task.view_is
 
 pub returns-clause-word : goal.returns-clause-word
 returns-clause-word c = c.load.ensures.2.1.0
@@ -68,7 +61,4 @@ returns-clause-carries c =
     ∙ ap (λ (u : ℕ). index u c.args.slot) (sym c.task.invariant.2 ∙ ap (λ (k : Known). k.view.number) c.task.view_is)
     in
     flag_carried c.args.task.now _ (index c.args.task.now.view.number c.args.slot) c.load.result
-    (known_after t.seat.table_id c.load.new.seat.table_id t.seat.me c.load.new.seat.me c.args.task.now
-    (item.Made (step.Flag (index c.args.task.now.view.number c.args.slot) c.load.result)) c.load.ensures.0
-    (c.load.ensures.2.0 ∙ ap (λ (k : ℕ). seat_with t.seat.me (item.Made (step.Flag k c.load.result))) spot)
-    c.task.view_is)
+    (known_by c.load.ensures.0 c.load.ensures.2.0 (λ j. item.Made (step.Flag (spot j) c.load.result)) c.task.view_is)

@@ -11,38 +11,33 @@ use Rattle.wait_rule.specs.Queues.{IsIdle}
 use Rattle.wait_rule.specs.Pipes.{end_of, word_counts}
 use Rattle.wait_rule.specs.PipePlays.{var_end}
 use Rattle.wait_rule.specs.PipeSays.{IsOpen, IsSoundEnd, end_at}
-use Rattle.wait_rule.specs.Plays.{seat_with}
 use Rattle.wait_rule.proofs.TableSteps.PipeMoves.{end_moves}
-use Rattle.wait_rule.proofs.KnownLaws.AfterSteps.{known_after}
 use Rattle.wait_rule.proofs.KnownLaws.CarriedTasks.{published_carried}
 use Rattle.wait_rule.proofs.KnownLaws.PipeFlows.{publish_is}
 use Rattle.wait_rule.proofs.KnownLaws.FoundPipes.{becomes_as, publish_becomes}
+use Rattle.wait_rule.proofs.KnownLaws.StepCalls.{may_step, known_by}
 use Rattle.wait_rule.proofs.pipes.advance.Goals as goal
 
 pub store-requires : goal.store-requires
 store-requires c =
     let t = c.task.inside in
-    let i = c.task.invariant in
-    let size = c.domain.invariant in
     let pipe = c.requires.pipe in
     let end = c.requires.end in
     let at = c.cond_at-at.ensures ∙ ap position_of (var_at (PIPE_ENDS * c.args.pipe + c.args.end) (omega arith)) in
     let idle : IsIdle (known t.seat.table_id t.seat.me.0 t.head) = subst IsIdle (sym c.task.view_is) c.requires.idle in
     let still = subst (λ (k : Known). IsOpen (end_at (PIPE_ENDS * c.args.pipe + c.args.end) k)) (sym c.task.view_is)
-    c.requires.still in (
-      ap (λ (k : Known). k.domain) c.task.view_is ∙ (c.requires.of ∙ sym c.domain.view_is),
-      omega arith,
-      end_moves _ t.seat.id t.seat.me i.1 _ (PIPE_ENDS * c.args.pipe + c.args.end) (2 * c.from.result)
-          (length (end_of (PIPE_ENDS * c.args.pipe + c.args.end) t.seat.me.0.items).cells) false (omega arith)
-          idle.free.head still.mine
-          (let n : c.args.count
-          ≡ length (end_of (PIPE_ENDS * c.args.pipe + c.args.end) t.seat.me.0.items).cells % word_counts =
-          c.requires.count
-          ∙ ap (λ (k : Known). length (end_at (PIPE_ENDS * c.args.pipe + c.args.end) k).cells % word_counts)
-          (sym c.task.view_is) in omega (arith, c.from.ensures))
-          (λ sound. (sound.count, omega arith))
-          (λ shut. absurd (true≢false (sym shut ∙ still.unshut))) at,
-    )
+    c.requires.still in
+    may_step c.task.view_is c.requires.of c.domain.view_is c.domain.invariant (omega arith)
+    (end_moves _ _ _ c.task.invariant.1 _ (PIPE_ENDS * c.args.pipe + c.args.end) (2 * c.from.result)
+    (length (end_of (PIPE_ENDS * c.args.pipe + c.args.end) t.seat.me.0.items).cells) false (omega arith)
+    idle.free.head still.mine
+    (let n : c.args.count
+    ≡ length (end_of (PIPE_ENDS * c.args.pipe + c.args.end) t.seat.me.0.items).cells % word_counts =
+    c.requires.count
+    ∙ ap (λ (k : Known). length (end_at (PIPE_ENDS * c.args.pipe + c.args.end) k).cells % word_counts)
+    (sym c.task.view_is) in omega (arith, c.from.ensures))
+    (λ sound. (sound.count, omega arith))
+    (λ shut. absurd (true≢false (sym shut ∙ still.unshut))) at)
 
 pub returns-clause-step : goal.returns-clause-step
 returns-clause-step c =
@@ -52,11 +47,7 @@ returns-clause-step c =
     let at = c.cond_at-at.ensures ∙ ap position_of (var_at (PIPE_ENDS * c.args.pipe + c.args.end) (omega arith)) in
     let there : var_end c.cond_at-at.result ≡ PIPE_ENDS * c.args.pipe + c.args.end = omega arith in (
       e.2.0,
-      known_after c.task.inside.seat.table_id c.store.new.seat.table_id c.task.inside.seat.me c.store.new.seat.me
-          c.args.task.now (item.Made (step.Publish (watch.Var (PIPE_ENDS * c.args.pipe + c.args.end) 0)
-          (2 * c.args.count) e.2.0)) e.0
-          (e.2.1.0 ∙ (λ i. seat_with c.task.inside.seat.me (item.Made (step.Publish (watch.Var (there i) 0)
-          (2 * c.from.ensures i) e.2.0)))) c.task.view_is,
+      known_by e.0 e.2.1.0 (λ i. item.Made (step.Publish (watch.Var (there i) 0) (2 * c.from.ensures i) e.2.0)) c.task.view_is,
     )
 
 pub returns-clause-becomes : goal.returns-clause-becomes

@@ -1,4 +1,4 @@
-use Rattle.std.proofs.Common.{◌∙◌, ap, sym, subst, arith}
+use Rattle.std.proofs.Common.{◌∙◌, ap, subst, arith}
 use Rattle.std.specs.Prelude.{ℕ, ◌≡◌, ◌+◌, ◌*◌}
 use Rattle.wait_model.specs.declared.layout.TheConstants.{PIPE_ENDS}
 use Rattle.wait_model.specs.Locations.{position_of}
@@ -8,27 +8,21 @@ use Rattle.wait_rule.specs.Pipes.{end_of, end_word}
 use Rattle.wait_rule.specs.PipePlays.{var_end}
 use Rattle.wait_rule.specs.PipeSays.{IsSoundEnd, end_at}
 use Rattle.wait_rule.proofs.TableSteps.PipeMoves.{own_moves}
-use Rattle.wait_rule.proofs.KnownLaws.AfterSteps.{known_same}
+use Rattle.wait_rule.proofs.KnownLaws.StepCalls.{may_step, known_same}
 use Rattle.wait_rule.proofs.pipes.own_load.Goals as goal
 
 pub load-requires : goal.load-requires
 load-requires c =
-    let t = c.task.inside in
-    let i = c.task.invariant in
-    let size = c.domain.invariant in
     let pipe = c.requires.pipe in
     let end = c.requires.end in
-    let at = c.cond_at-at.ensures ∙ ap position_of (var_at (PIPE_ENDS * c.args.pipe + c.args.end) (omega arith)) in (
-      ap (λ (k : Known). k.domain) c.task.view_is ∙ (c.requires.of ∙ sym c.domain.view_is),
-      omega arith,
-      own_moves _ t.seat.id t.seat.me i.1 _ (PIPE_ENDS * c.args.pipe + c.args.end) (omega arith)
-          (ap (λ (k : Known). (end_at (PIPE_ENDS * c.args.pipe + c.args.end) k).mine) c.task.view_is ∙ c.requires.mine)
-          at,
-    )
+    let at = c.cond_at-at.ensures ∙ ap position_of (var_at (PIPE_ENDS * c.args.pipe + c.args.end) (omega arith)) in
+    may_step c.task.view_is c.requires.of c.domain.view_is c.domain.invariant (omega arith)
+    (own_moves _ _ _ c.task.invariant.1 _ (PIPE_ENDS * c.args.pipe + c.args.end) (omega arith)
+    (ap (λ (k : Known). (end_at (PIPE_ENDS * c.args.pipe + c.args.end) k).mine) c.task.view_is ∙ c.requires.mine)
+    at)
 
 pub returns-clause-same : goal.returns-clause-same
-returns-clause-same c = known_same c.task.inside.seat.table_id c.load.new.seat.table_id c.task.inside.seat.me
-    c.load.new.seat.me c.args.task.now c.load.ensures.0 c.load.ensures.2.0 c.task.view_is
+returns-clause-same c = known_same c.load.ensures.0 c.load.ensures.2.0 c.task.view_is
 
 pub returns-clause-word : goal.returns-clause-word
 returns-clause-word c =

@@ -1,9 +1,9 @@
 -- What the proofs of functions that make one step of the table share: that they may make it, what their task knows after
 -- it, and what stays of the task.
 use Rattle.std.proofs.Common.{refl, sym, ◌∙◌, ap, subst, eqb-true}
-use Rattle.std.specs.Prelude.{ℕ, ◌≡◌, ◌<◌, Bool, true, false, cond, eqb, [], ◌∷◌, MatchBool}
+use Rattle.std.specs.Prelude.{ℕ, ◌≡◌, ◌+◌, ◌-◌, ◌*◌, ◌<◌, Bool, true, false, cond, eqb, [], ◌∷◌, MatchBool}
 use Rattle.atomic_table.specs.Seated.{TableId}
-use Rattle.wait_model.specs.declared.layout.TheConstants.{WORDS}
+use Rattle.wait_model.specs.declared.layout.TheConstants.{SLOTS, WORDS}
 use Rattle.wait_model.specs.declared.watches.Watch.{Watch}
 use Rattle.wait_model.specs.declared.steps.Step.{Step}
 use Rattle.wait_model.specs.Fold.{after}
@@ -14,9 +14,11 @@ use Rattle.wait_rule.specs.Items.{first_book, learn_step}
 use Rattle.wait_rule.specs.Journals.{pushed}
 use Rattle.wait_rule.specs.Known.{Known, known}
 use Rattle.wait_rule.specs.Plays.{Sat, seat_with, seat_tried}
+use Rattle.wait_rule.specs.Queues.{index}
 use Rattle.wait_rule.specs.Says.{StaysSettled, added, told_of}
 use Rattle.wait_rule.specs.Stays.{Carries, StaysOwing}
 use Rattle.wait_rule.proofs.TableSteps.ItemLists.{book_append}
+use Rattle.wait_rule.proofs.TableSteps.MemberMoves.{index_at}
 use Rattle.wait_rule.proofs.KnownLaws.CarriedTasks.{moving, step_carried}
 use Rattle.wait_rule.proofs.KnownLaws.Debts.{begins_none}
 use Rattle.wait_rule.proofs.KnownLaws.SettledTasks.{owes_after, settled_after, stays_settled}
@@ -43,6 +45,18 @@ known_by {h = h} {d = d} {e = e} {m = m} {n = n} {y = y} same is names view_is =
       at = h;
     } in
     now ∙ (more ∙ ap (λ (j : Known). added j y) view_is)
+
+-- what the table tells of the task as it was, of a thing that has another name there
+pub known_tells : {A : Type 0} {d : TableId} {v : Journal} {h : ℕ} {k : Known} {x y : A} (P : Known → A → Type 0)
+    → x ≡ y → known d v h ≡ k → P (known d v h) x → P k y
+known_tells {d = d} {v = v} {h = h} {y = y} P names view_is told =
+    subst (λ (k : Known). P k y) view_is (subst (P (known d v h)) names told)
+
+-- the index of an own entry, by its word or its flag word
+pub own_index_at : {d : TableId} {v : Journal} {h : ℕ} {k : Known} (first at number slot : ℕ)
+    → at ≡ first + (SLOTS * number + slot) → v.number ≡ number → known d v h ≡ k → at - first ≡ index k.view.number slot
+own_index_at first at number slot is mine view_is = index_at first at number slot is
+    ∙ ap (λ (u : ℕ). index u slot) (sym mine ∙ ap (λ (k : Known). k.view.number) view_is)
 
 pub known_same : {h : ℕ} {d e : TableId} {m n : Sat} {k : Known} → e ≡ d → n ≡ m → known d m.0 h ≡ k
     → known e n.0 h ≡ k

@@ -11,12 +11,9 @@ use Rattle.wait_rule.proofs.KnownLaws.StepCalls.{may_step, known_by}
 use Rattle.wait_rule.proofs.members.member_load.Goals as goal
 
 pub load-requires : goal.load-requires
-load-requires c =
-    let head = c.requires.head in
-    let word = c.requires.word in
-    let at = c.member_at-at.ensures in
-    may_step c.task.view_is c.requires.of c.domain.view_is c.domain.invariant (omega arith)
-    (scan_moves _ _ _ c.task.invariant.1 c.args.head c.args.i _ head word at
+load-requires c = may_step c.task.view_is c.requires.of c.domain.view_is c.domain.invariant
+    (omega (arith, c.requires.head, c.requires.word, c.member_at-at.ensures))
+    (scan_moves _ _ _ c.task.invariant.1 c.args.head c.args.i _ c.requires.head c.requires.word c.member_at-at.ensures
     (ap (λ (k : Known). k.book.head) c.task.view_is ∙ c.requires.out))
 
 pub returns-clause-step : goal.returns-clause-step

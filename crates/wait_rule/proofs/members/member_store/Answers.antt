@@ -8,34 +8,28 @@ use Rattle.wait_rule.proofs.members.member_store.Goals as goal
 
 pub fetch_or-requires : goal.fetch_or-requires
 fetch_or-requires c =
-    let head = c.requires.head in
-    let index = c.requires.index in
-    let at = c.member_at-at.ensures in
     let may = subst (λ (k : Known). MayStoreMember k c.args.head c.args.index c.args.on) (sym c.task.view_is)
     c.requires.may in
-    may_step c.task.view_is c.requires.of c.domain.view_is c.domain.invariant (omega arith)
-    (bit_moves _ _ _ c.task.invariant.1 c.args.head c.args.index _ 0 _ head index at may.held may.named
-    (may.is ∙ c.if-on.true))
+    may_step c.task.view_is c.requires.of c.domain.view_is c.domain.invariant
+    (omega (arith, c.requires.head, c.requires.index, c.member_at-at.ensures))
+    (bit_moves _ _ _ c.task.invariant.1 c.args.head c.args.index _ 0 _ c.requires.head c.requires.index
+    c.member_at-at.ensures may.held may.named (may.is ∙ c.if-on.true))
 
 pub fetch_and-requires : goal.fetch_and-requires
 fetch_and-requires c =
-    let head = c.requires.head in
-    let index = c.requires.index in
-    let at = c.member_at-at.ensures in
     let may = subst (λ (k : Known). MayStoreMember k c.args.head c.args.index c.args.on) (sym c.task.view_is)
     c.requires.may in
-    may_step c.task.view_is c.requires.of c.domain.view_is c.domain.invariant (omega arith)
-    (bit_moves _ _ _ c.task.invariant.1 c.args.head c.args.index _ 0 _ head index at may.held may.named
-    (may.is ∙ c.if-on.false))
+    may_step c.task.view_is c.requires.of c.domain.view_is c.domain.invariant
+    (omega (arith, c.requires.head, c.requires.index, c.member_at-at.ensures))
+    (bit_moves _ _ _ c.task.invariant.1 c.args.head c.args.index _ 0 _ c.requires.head c.requires.index
+    c.member_at-at.ensures may.held may.named (may.is ∙ c.if-on.false))
 
-pub returns-then-on-clause-step : goal.returns-then-on-clause-step
-returns-then-on-clause-step c = known_by c.fetch_or.ensures.0 c.fetch_or.ensures.2 refl c.task.view_is
+pub returns-then-on : goal.returns-then-on
+returns-then-on c =
+    let now = known_by c.fetch_or.ensures.0 c.fetch_or.ensures.2 refl c.task.view_is in
+    record { step = now; carries = member_carried c.args.task.now _ now }
 
-pub returns-else-on-clause-step : goal.returns-else-on-clause-step
-returns-else-on-clause-step c = known_by c.fetch_and.ensures.0 c.fetch_and.ensures.2 refl c.task.view_is
-
-pub returns-then-on-clause-carries : goal.returns-then-on-clause-carries
-returns-then-on-clause-carries c = member_carried c.args.task.now _ (returns-then-on-clause-step c)
-
-pub returns-else-on-clause-carries : goal.returns-else-on-clause-carries
-returns-else-on-clause-carries c = member_carried c.args.task.now _ (returns-else-on-clause-step c)
+pub returns-else-on : goal.returns-else-on
+returns-else-on c =
+    let now = known_by c.fetch_and.ensures.0 c.fetch_and.ensures.2 refl c.task.view_is in
+    record { step = now; carries = member_carried c.args.task.now _ now }

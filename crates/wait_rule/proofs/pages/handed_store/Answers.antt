@@ -12,18 +12,14 @@ use Rattle.wait_rule.proofs.KnownLaws.StepCalls.{may_step, known_by}
 use Rattle.wait_rule.proofs.pages.handed_store.Goals as goal
 
 pub store-requires : goal.store-requires
-store-requires c =
-    let who = c.ranges.who in
-    let slot = c.requires.slot in
-    let at = c.flag_at-at.ensures in
-    may_step c.task.view_is c.requires.of c.domain.view_is c.domain.invariant (omega arith)
-    (tell_moves _ _ _ c.task.invariant.1 (index c.args.who c.args.slot) _ (omega arith) at
+store-requires c = may_step c.task.view_is c.requires.of c.domain.view_is c.domain.invariant
+    (omega (arith, c.ranges.who, c.requires.slot, c.flag_at-at.ensures))
+    (tell_moves _ _ _ c.task.invariant.1 (index c.args.who c.args.slot) _ (omega (arith, c.ranges.who, c.requires.slot))
+    c.flag_at-at.ensures
     (subst (λ (k : Known). HasTaken k c.args.who c.args.slot) (sym c.task.view_is) c.requires.taken))
 
-pub returns-clause-step : goal.returns-clause-step
-returns-clause-step c =
-    let e = c.store.ensures in
-    known_by e.0 e.2 (λ j. item.Made (step.Handed (index_at FLAG_AT c.flag_at-at.result c.args.who c.args.slot c.flag_at-at.ensures j))) c.task.view_is
-
-pub returns-clause-carries : goal.returns-clause-carries
-returns-clause-carries c = told_carried_on c.args.task.now _ (index c.args.who c.args.slot) (returns-clause-step c)
+pub returns : goal.returns
+returns c =
+    let spot = index_at FLAG_AT c.flag_at-at.result c.args.who c.args.slot c.flag_at-at.ensures in
+    let now = known_by c.store.ensures.0 c.store.ensures.2 (λ j. item.Made (step.Handed (spot j))) c.task.view_is in
+    record { step = now; carries = told_carried_on c.args.task.now _ _ now }

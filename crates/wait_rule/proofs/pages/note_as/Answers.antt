@@ -8,9 +8,9 @@ use Rattle.wait_rule.specs.Known.{Known, known}
 use Rattle.wait_rule.specs.Queues.{index}
 use Rattle.wait_rule.specs.PageCalls.{QueuesNoPage}
 use Rattle.wait_rule.specs.Says.{asks_for}
-use Rattle.wait_rule.proofs.TableSteps.MemberMoves.{index_at, own_index}
+use Rattle.wait_rule.proofs.TableSteps.MemberMoves.{own_index}
 use Rattle.wait_rule.proofs.TableSteps.PageMoves.{note_moves}
-use Rattle.wait_rule.proofs.KnownLaws.StepCalls.{may_step, known_by}
+use Rattle.wait_rule.proofs.KnownLaws.StepCalls.{own_index_at, may_step, known_by}
 use Rattle.wait_rule.proofs.pages.note_as.Goals as goal
 
 pub store-requires : goal.store-requires
@@ -37,8 +37,7 @@ store-requires g c =
 
 pub returns : goal.returns
 returns g c =
-    let t = c.task.inside in
-    let spot = index_at FLAG_AT c.flag_at-at.result t.number c.args.slot c.flag_at-at.ensures
-    ∙ ap (λ (u : ℕ). index u c.args.slot) (sym c.task.invariant.2 ∙ ap (λ (k : Known). k.view.number) c.task.view_is)
-    in
-    known_by c.store.ensures.0 c.store.ensures.2 (λ j. item.Made (step.Unflag (spot j) (Some (sym c.requires.page j)))) c.task.view_is
+    let spot = own_index_at FLAG_AT c.flag_at-at.result c.task.inside.number c.args.slot c.flag_at-at.ensures
+    c.task.invariant.2 c.task.view_is in
+    known_by c.store.ensures.0 c.store.ensures.2
+    (λ j. item.Made (step.Unflag (spot j) (Some (sym c.requires.page j)))) c.task.view_is

@@ -10,12 +10,10 @@ use Rattle.wait_rule.proofs.KnownLaws.StepCalls.{may_step, known_by}
 use Rattle.wait_rule.proofs.pipes.claim.Goals as goal
 
 pub swap-requires : goal.swap-requires
-swap-requires c =
-    let pipe = c.requires.pipe in
-    let end = c.requires.end in
-    let at = c.claim_at-at.ensures in
-    may_step c.task.view_is c.requires.of c.domain.view_is c.domain.invariant (omega arith)
-    (claim_moves _ _ _ c.task.invariant.1 _ (PIPE_ENDS * c.args.pipe + c.args.end) (omega arith) at)
+swap-requires c = may_step c.task.view_is c.requires.of c.domain.view_is c.domain.invariant
+    (omega (arith, c.requires.pipe, c.requires.end, c.claim_at-at.ensures))
+    (claim_moves _ _ _ c.task.invariant.1 _ (PIPE_ENDS * c.args.pipe + c.args.end)
+    (omega (arith, c.requires.pipe, c.requires.end)) c.claim_at-at.ensures)
 
 pub returns-clause-step : goal.returns-clause-step
 returns-clause-step c =

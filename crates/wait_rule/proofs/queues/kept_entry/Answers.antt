@@ -9,12 +9,10 @@ use Rattle.wait_rule.proofs.KnownLaws.StepCalls.{may_step}
 use Rattle.wait_rule.proofs.queues.kept_entry.Goals as goal
 
 pub load-requires : goal.load-requires
-load-requires c =
-    let t = c.task.inside in
-    let slot = c.requires.slot in
-    let at = c.entry_at-at.ensures in
-    may_step c.task.view_is c.requires.of c.domain.view_is c.domain.invariant (omega arith)
-    (kept_moves _ _ _ c.task.invariant.1 (index t.number c.args.slot) _ (omega arith) at)
+load-requires c = may_step c.task.view_is c.requires.of c.domain.view_is c.domain.invariant
+    (omega (arith, c.requires.slot, c.entry_at-at.ensures))
+    (kept_moves _ _ _ c.task.invariant.1 (index c.task.inside.number c.args.slot) _
+    (omega (arith, c.task.invariant.5, c.requires.slot)) c.entry_at-at.ensures)
 
 pub returns-clause-tells : goal.returns-clause-tells
 returns-clause-tells c e stored own =

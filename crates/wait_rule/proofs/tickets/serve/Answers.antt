@@ -6,12 +6,9 @@ use Rattle.wait_rule.proofs.KnownLaws.StepCalls.{may_step, known_by}
 use Rattle.wait_rule.proofs.tickets.serve.Goals as goal
 
 pub fetch_add-requires : goal.fetch_add-requires
-fetch_add-requires c =
-    let t = c.task.inside in
-    let small = c.task.invariant.7 in
-    let at = c.serving_at-at.ensures in
-    may_step c.task.view_is c.requires.of c.domain.view_is c.domain.invariant (omega arith)
-    (serve_moves _ _ _ c.task.invariant.1 t.head _ small at
+fetch_add-requires c = may_step c.task.view_is c.requires.of c.domain.view_is c.domain.invariant
+    (omega (arith, c.task.invariant.7, c.serving_at-at.ensures))
+    (serve_moves _ _ _ c.task.invariant.1 c.task.inside.head _ c.task.invariant.7 c.serving_at-at.ensures
     (subst HasGiven (sym c.task.view_is) c.requires.given))
 
 pub returns-clause-served : goal.returns-clause-served

@@ -1,7 +1,8 @@
 -- The law of pipes, and what stays of a task that claims an end or passes a cell.
 use Rattle.std.proofs.Common.{◌∙◌, ap, sym, refl, subst, add-zero, arith}
-use Rattle.std.specs.Prelude.{ℕ, ◌≡◌, ◌==◌, ◌/◌, ◌%◌, ◌<◌, ◌&&◌, not, if◌then◌else◌, Bool, true, false, List, [], ◌∷◌}
-use Rattle.wait_model.specs.declared.layout.TheConstants.{PIPES, PIPE_ENDS, TASKS}
+use Rattle.std.specs.Prelude.{ℕ, ◌≡◌, ◌==◌, ◌+◌, ◌/◌, ◌%◌, ◌<◌, ◌≤◌, ◌&&◌, not, if◌then◌else◌, Bool, true, false}
+use Rattle.std.specs.Prelude.{List, [], ◌∷◌}
+use Rattle.wait_model.specs.declared.layout.TheConstants.{PIPES, PIPE_CELLS, PIPE_ENDS, TASKS}
 use Rattle.wait_model.specs.declared.watches.Watch.TheVariants as watch
 use Rattle.wait_model.specs.declared.steps.Step.TheVariants as step
 use Rattle.wait_model.specs.Locations as place
@@ -16,7 +17,7 @@ use Rattle.wait_rule.specs.declared.journal.Item.TheVariants as item
 use Rattle.wait_rule.specs.Journals.{has_of}
 use Rattle.wait_rule.specs.Known.{Known}
 use Rattle.wait_rule.specs.Pipes.{Delivers, End, IsPipe, after_end_publish, end_act, end_item, end_of, if_mine, no_end}
-use Rattle.wait_rule.specs.Pipes.{read_end, was_refused, write_end}
+use Rattle.wait_rule.specs.Pipes.{advanced, end_word, read_end, was_refused, write_end}
 use Rattle.wait_rule.specs.PipeSays.{EndBecomes, end_at}
 use Rattle.wait_rule.specs.PipeLaws.{RuleDelivers, RuleRefuses, JoinedDeliver, JoinedRefuse}
 use Rattle.wait_rule.specs.Says.{Debts, Excuse, IsOutBut, OwesBut, added, told_of}
@@ -27,7 +28,7 @@ use Rattle.wait_rule.proofs.KnownLaws.AfterSteps.{told_added}
 use Rattle.wait_rule.proofs.KnownLaws.Debts.{added_debts, close_debts, got_debts, item_begins_none, refused_debts}
 use Rattle.wait_rule.proofs.KnownLaws.LookCounts.{looked_none}
 use Rattle.wait_rule.proofs.KnownLaws.CarriedTasks.{published_carried}
-use Rattle.wait_rule.proofs.KnownLaws.PipeFlows.{delivers}
+use Rattle.wait_rule.proofs.KnownLaws.PipeFlows.{delivers, publish_is}
 use Rattle.wait_rule.proofs.KnownLaws.PipeEnds.{by_side, own_w, own_r}
 use Rattle.wait_rule.proofs.KnownLaws.PipeItems.{end_append}
 use Rattle.wait_rule.proofs.KnownLaws.PipeWords.{test_on, test_off}
@@ -213,5 +214,11 @@ publish_becomes old new k o n r mine is = record {
     x : Item
     x = item.Made (step.Publish (watch.Var k o) n r)
 
-pub becomes_as : (k : ℕ) (old new : Known) (e f : End) → e ≡ f → EndBecomes k old new e → EndBecomes k old new f
-becomes_as k old new e f same b = record { own = b.own ∙ same; others = b.others }
+-- that passes on the first m cells, and closes the end or not
+pub advance_becomes : (old new : Known) (k n r m : ℕ) (b : Bool) → (end_at k old).mine ≡ true
+    → new ≡ added old (item.Made (step.Publish (watch.Var k 0) n r)) → n ≡ end_word m b → (end_at k old).count ≤ m
+    → m ≤ (end_at k old).count + PIPE_CELLS → ((end_at k old).shut ≡ true → b ≡ true)
+    → EndBecomes k old new (advanced m b (end_at k old))
+advance_becomes old new k n r m b mine now is low high still =
+    let p = publish_becomes old new k 0 n r mine now in
+    record { own = p.own ∙ publish_is (end_at k old) m b n is low high still; others = p.others }

@@ -1,18 +1,22 @@
 -- What the proofs of functions that make one step of the table share: that they may make it, what their task knows after
 -- it, and what stays of the task.
-use Rattle.std.proofs.Common.{refl, sym, ◌∙◌, ap, subst, eqb-true}
+use Rattle.std.proofs.Common.{refl, sym, ◌∙◌, ap, subst, eqb-true, arith}
 use Rattle.std.specs.Prelude.{ℕ, ◌≡◌, ◌+◌, ◌-◌, ◌*◌, ◌<◌, Bool, true, false, cond, eqb, [], ◌∷◌, MatchBool}
 use Rattle.atomic_table.specs.Seated.{TableId}
-use Rattle.wait_model.specs.declared.layout.TheConstants.{SLOTS, WORDS}
+use Rattle.wait_model.specs.declared.layout.TheConstants.{CLAIMS, FIRST_VARIABLE, SLOTS, WORDS}
 use Rattle.wait_model.specs.declared.watches.Watch.{Watch}
 use Rattle.wait_model.specs.declared.steps.Step.{Step}
 use Rattle.wait_model.specs.Fold.{after}
+use Rattle.wait_model.specs.Locations as place
+use Rattle.wait_model.specs.Locations.{cond_at, position_of}
+use Rattle.wait_model.proofs.WordLaws.CondWords.{var_at}
 use Rattle.wait_rule.specs.declared.journal.Item.{Item}
 use Rattle.wait_rule.specs.declared.journal.Item.TheVariants as item
 use Rattle.wait_rule.specs.declared.journal.Journal.{Journal}
 use Rattle.wait_rule.specs.Items.{first_book, learn_step}
 use Rattle.wait_rule.specs.Journals.{pushed}
 use Rattle.wait_rule.specs.Known.{Known, known}
+use Rattle.wait_rule.specs.PipePlays.{var_end}
 use Rattle.wait_rule.specs.Plays.{Sat, seat_with, seat_tried}
 use Rattle.wait_rule.specs.Queues.{index}
 use Rattle.wait_rule.specs.Says.{StaysSettled, added, told_of}
@@ -57,6 +61,13 @@ pub own_index_at : {d : TableId} {v : Journal} {h : ℕ} {k : Known} (first at n
     → at ≡ first + (SLOTS * number + slot) → v.number ≡ number → known d v h ≡ k → at - first ≡ index k.view.number slot
 own_index_at first at number slot is mine view_is = index_at first at number slot is
     ∙ ap (λ (u : ℕ). index u slot) (sym mine ∙ ap (λ (k : Known). k.view.number) view_is)
+
+-- the place of the word of an end of a pipe, and the end that the table names by it
+pub end_spot : (k at : ℕ) → k < CLAIMS → at ≡ position_of (cond_at (FIRST_VARIABLE + k))
+    → (at ≡ position_of (place.Var k)) × (var_end at ≡ k)
+end_spot k at few is =
+    let there = is ∙ ap position_of (var_at k (omega (arith, few))) in
+    (there, omega (arith, few, there))
 
 pub known_same : {h : ℕ} {d e : TableId} {m n : Sat} {k : Known} → e ≡ d → n ≡ m → known d m.0 h ≡ k
     → known e n.0 h ≡ k

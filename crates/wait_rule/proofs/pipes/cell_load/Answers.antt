@@ -26,25 +26,17 @@ load-requires c =
     (ap (λ (n : ℕ). PIPE_CELLS * p + n) place
     ∙ ap (λ (k : Known). cell_of p (length (reading p k).cells)) (sym c.task.view_is)) at)
 
-pub returns-clause-step : goal.returns-clause-step
-returns-clause-step c =
+pub returns : goal.returns
+returns c =
     let e = c.load.ensures in
-    let low = c.requires.place in
-    let there : cell_pipe c.cell_at-at.result ≡ c.args.pipe = (let at = c.cell_at-at.ensures in omega arith) in
-    known_by e.0 e.2.0 (λ j. item.Piped (read_end (there j)) act.Cell c.load.result) c.task.view_is
-
-pub returns-clause-becomes : goal.returns-clause-becomes
-returns-clause-becomes c = piped_becomes c.args.task.now _ (read_end c.args.pipe) act.Cell c.load.result
-    (returns-clause-step c)
-
-pub returns-clause-told : goal.returns-clause-told
-returns-clause-told c = piped_told c.args.task.now _ (read_end c.args.pipe) act.Cell c.load.result
-    (returns-clause-step c)
-
-pub returns-clause-carries : goal.returns-clause-carries
-returns-clause-carries c = piped_carried c.args.task.now _ (read_end c.args.pipe) act.Cell c.load.result
-    (returns-clause-step c) refl
-
-pub returns-clause-looked : goal.returns-clause-looked
-returns-clause-looked c = piped_looked c.args.task.now _ (read_end c.args.pipe) act.Cell c.load.result
-    (returns-clause-step c)
+    let there : cell_pipe c.cell_at-at.result ≡ c.args.pipe =
+    omega (arith, c.requires.place, c.cell_at-at.ensures) in
+    let now = known_by e.0 e.2.0 (λ j. item.Piped (read_end (there j)) act.Cell c.load.result) c.task.view_is in
+    record {
+      step = now;
+      becomes = piped_becomes c.args.task.now _ (read_end c.args.pipe) act.Cell c.load.result now;
+      cell = e.2.1;
+      told = piped_told c.args.task.now _ (read_end c.args.pipe) act.Cell c.load.result now;
+      carries = piped_carried c.args.task.now _ (read_end c.args.pipe) act.Cell c.load.result now refl;
+      looked = piped_looked c.args.task.now _ (read_end c.args.pipe) act.Cell c.load.result now;
+    }

@@ -15,34 +15,16 @@ swap-requires c = may_step c.task.view_is c.requires.of c.domain.view_is c.domai
     (claim_moves _ _ _ c.task.invariant.1 _ (PIPE_ENDS * c.args.pipe + c.args.end)
     (omega (arith, c.requires.pipe, c.requires.end)) c.claim_at-at.ensures)
 
-pub returns-clause-step : goal.returns-clause-step
-returns-clause-step c =
-    let e = c.swap.ensures in
-    let there : claim_end c.claim_at-at.result ≡ PIPE_ENDS * c.args.pipe + c.args.end =
-    (let at = c.claim_at-at.ensures in omega arith) in (
-      c.swap.result,
-      (
-        known_by e.0 e.2 (λ j. item.Piped (there j) act.Claim c.swap.result) c.task.view_is,
-        refl,
-      ),
-    )
-
-pub returns-clause-becomes : goal.returns-clause-becomes
-unfolding returns-clause-step
-returns-clause-becomes c = piped_becomes c.args.task.now _ (PIPE_ENDS * c.args.pipe + c.args.end) act.Claim
-    c.swap.result (returns-clause-step c).1.0
-
-pub returns-clause-told : goal.returns-clause-told
-unfolding returns-clause-step
-returns-clause-told c = piped_told c.args.task.now _ (PIPE_ENDS * c.args.pipe + c.args.end) act.Claim
-    c.swap.result (returns-clause-step c).1.0
-
-pub returns-clause-carries : goal.returns-clause-carries
-unfolding returns-clause-step
-returns-clause-carries c = claim_carried c.args.task.now _ (PIPE_ENDS * c.args.pipe + c.args.end) c.swap.result _
-    (returns-clause-step c).1.0 (returns-clause-step c).1.1
-
-pub returns-clause-looked : goal.returns-clause-looked
-unfolding returns-clause-step
-returns-clause-looked c = piped_looked c.args.task.now _ (PIPE_ENDS * c.args.pipe + c.args.end) act.Claim
-    c.swap.result (returns-clause-step c).1.0
+pub returns : goal.returns
+returns c =
+    let k = PIPE_ENDS * c.args.pipe + c.args.end in
+    let found = c.swap.result in
+    let there : claim_end c.claim_at-at.result ≡ k = omega (arith, c.claim_at-at.ensures) in
+    let now = known_by c.swap.ensures.0 c.swap.ensures.2 (λ j. item.Piped (there j) act.Claim found) c.task.view_is in
+    record {
+      step = (found, (now, refl));
+      becomes = piped_becomes c.args.task.now _ k act.Claim found now;
+      told = piped_told c.args.task.now _ k act.Claim found now;
+      carries = claim_carried c.args.task.now _ k found _ now refl;
+      looked = piped_looked c.args.task.now _ k act.Claim found now;
+    }

@@ -19,6 +19,7 @@ pub mod StepCalls
 pub mod SleepLooks
 pub mod Transitions
 pub mod StayingParts
+pub mod StayingBeside
 pub mod MemberLooks
 pub mod LookCounts
 pub mod Debts

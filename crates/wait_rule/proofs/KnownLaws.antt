@@ -15,9 +15,11 @@ pub mod SetterSteps
 pub mod Setters
 pub mod SettersFound
 pub mod AfterSteps
+pub mod StepCalls
 pub mod SleepLooks
 pub mod Transitions
 pub mod StayingParts
+pub mod StayingBeside
 pub mod MemberLooks
 pub mod LookCounts
 pub mod Debts

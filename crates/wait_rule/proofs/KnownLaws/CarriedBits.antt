@@ -12,10 +12,11 @@ use Rattle.wait_model.proofs.Sameness.{same_refl}
 use Rattle.wait_rule.specs.declared.journal.Item.TheVariants as item
 use Rattle.wait_rule.specs.Known.{Known}
 use Rattle.wait_rule.specs.Says.{Excuse, IsOutBut, OwesBut, added, told_of}
-use Rattle.wait_rule.specs.Queues.{index}
 use Rattle.wait_rule.specs.Stays.{with_bit, with_bits, with_wakes}
 use Rattle.wait_rule.specs.Bits.{ClearsBit, SetsBit, StaysBeside, taken_bits}
 use Rattle.wait_rule.proofs.KnownLaws.AfterSteps.{told_added}
+use Rattle.wait_rule.proofs.KnownLaws.CarriedTasks.{kept_still}
+use Rattle.wait_rule.proofs.KnownLaws.StayingBeside.{stays_beside}
 use Rattle.wait_rule.proofs.KnownLaws.Debts.{entries_debts, publish_debts, step_debts}
 
 or_false : (k t : Bool) → t ≡ false → (k || t) ≡ k
@@ -25,10 +26,6 @@ or_false false t is = is
 or_true : (k t : Bool) → t ≡ true → (k || t) ≡ true
 or_true true t is = refl
 or_true false t is = is
-
-and_true : (k s : Bool) → s ≡ false → (k && not s) ≡ k
-and_true true s is = ap not is
-and_true false s is = refl
 
 and_false : (k s : Bool) → s ≡ true → (k && not s) ≡ false
 and_false true s is = ap not is
@@ -60,20 +57,8 @@ module _ (old new : Known) (w b r : ℕ) (is : new ≡ added old (item.Made (ste
   set_told = ap told_of is ∙ told_added old (item.Made (step.Consume c 1 r))
 
   set_stays : StaysBeside (taken_bits c clear) old new
-  set_stays = record {
-    domain = ap (λ (k : Known). k.domain) is;
-    number = ap (λ (k : Known). k.view.number) is;
-    awake = ap (λ (k : Known). k.book.awake) is;
-    state = ap (λ (k : Known). k.book.state) is;
-    head = ap (λ (k : Known). k.book.head) is;
-    ticket = ap (λ (k : Known). k.book.ticket) is;
-    hold = ap (λ (v : Told). v.hold.head) set_told;
-    mark = ap (λ (v : Told). v.mark) set_told;
-    out = λ x none. ap (λ (v : Told). v.bits.stored x) set_told ∙ none;
-    stands = λ slot few e at own. ap (λ (v : Told). v.bits.stored (index old.view.number slot)) set_told ∙ at;
-    keeps = λ d other. ap (λ (v : Told). v.bits.keeps d) set_told
-        ∙ or_false ((told_of old).bits.keeps d) (clear && same d c) other;
-  }
+  set_stays = stays_beside (taken_bits c clear) old new (item.Made (step.Consume c 1 r)) is refl refl refl refl
+      (λ d. or_false ((told_of old).bits.keeps d) (clear && same d c))
 
   set_owes : (x : Excuse) → OwesBut x old → OwesBut (with_bits (taken_bits c clear) x) new
   unfolding with_bits
@@ -109,20 +94,8 @@ module _ (old new : Known) (w b r : ℕ) (is : new ≡ added old (item.Made (ste
   clear_told = ap told_of is ∙ told_added old (item.Made (step.Publish d0 0 r))
 
   clear_stays : StaysBeside (λ d. same d d0) old new
-  clear_stays = record {
-    domain = ap (λ (k : Known). k.domain) is;
-    number = ap (λ (k : Known). k.view.number) is;
-    awake = ap (λ (k : Known). k.book.awake) is;
-    state = ap (λ (k : Known). k.book.state) is;
-    head = ap (λ (k : Known). k.book.head) is;
-    ticket = ap (λ (k : Known). k.book.ticket) is;
-    hold = ap (λ (v : Told). v.hold.head) clear_told;
-    mark = ap (λ (v : Told). v.mark) clear_told;
-    out = λ x none. ap (λ (v : Told). v.bits.stored x) clear_told ∙ none;
-    stands = λ slot few e at own. ap (λ (v : Told). v.bits.stored (index old.view.number slot)) clear_told ∙ at;
-    keeps = λ d other. ap (λ (v : Told). v.bits.keeps d) clear_told
-        ∙ and_true ((told_of old).bits.keeps d) (same d d0) other;
-  }
+  clear_stays = stays_beside (λ d. same d d0) old new (item.Made (step.Publish d0 0 r)) is refl refl refl refl
+      (λ d. kept_still ((told_of old).bits.keeps d) (same d d0))
 
   clear_owes : (x : Excuse) → OwesBut (with_bit d0 x) old → OwesBut (with_wakes d0 mode.Normal x) new
   unfolding with_bits with_wakes

@@ -28,6 +28,7 @@ use Rattle.wait_model.specs.Fold.{after, view_of}
 use Rattle.wait_rule.proofs.KnownLaws.AfterSteps.{told_added}
 use Rattle.wait_rule.proofs.KnownLaws.AskedPages.{asked_added}
 use Rattle.wait_rule.proofs.KnownLaws.Debts.{LeavesNone, added_debts, end_added, item_begins_none, leaves_added, list_debts, wakes_told}
+use Rattle.wait_rule.proofs.KnownLaws.StayingBeside.{stays_beside}
 use Rattle.wait_rule.proofs.KnownLaws.SettledTasks.{owes_told, unlock_mark}
 
 -- One item more that begins no debt, over which the bookmark and all that is told of bits stay, by what it changes of the
@@ -234,20 +235,8 @@ module _ (old new : Known) (x p : ℕ) (is : new ≡ added old (item.Made (step.
 
   pub page_is_noted : NotesPage old new p
   page_is_noted = record {
-    stays = record {
-      domain = ap (λ (k : Known). k.domain) is;
-      number = ap (λ (k : Known). k.view.number) is;
-      awake = ap (λ (k : Known). k.book.awake) is;
-      state = ap (λ (k : Known). k.book.state) is;
-      head = ap (λ (k : Known). k.book.head) is;
-      ticket = ap (λ (k : Known). k.book.ticket) is;
-      hold = ap (λ (v : Told). v.hold.head) note_told;
-      mark = ap (λ (v : Told). v.mark) note_told;
-      out = λ i none. ap (λ (v : Told). v.bits.stored i) note_told ∙ none;
-      stands = λ slot few e at own. ap (λ (v : Told). v.bits.stored (index old.view.number slot)) note_told ∙ at;
-      keeps = λ d other. ap (λ (v : Told). v.bits.keeps d) note_told
-          ∙ or_false ((told_of old).bits.keeps d) (same d (page p)) other;
-    };
+    stays = stays_beside (λ d. same d (page p)) old new (item.Made (step.Unflag x (Some p))) is refl refl refl refl
+        (λ d. or_false ((told_of old).bits.keeps d) (same d (page p)));
     duty = ap (λ (v : Told). v.duty) note_told;
     owes = note_owes;
   }

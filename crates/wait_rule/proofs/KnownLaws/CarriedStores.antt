@@ -13,7 +13,7 @@ use Rattle.wait_model.specs.Views.{Duty, View as Told, is_trying_for}
 use Rattle.wait_model.specs.Watches.{head_of, is_bit, is_page, same}
 use Rattle.wait_model.proofs.Functions.{put_at, put_other, put_same}
 use Rattle.wait_rule.specs.declared.journal.Item.TheVariants as item
-use Rattle.wait_rule.specs.Items.{Book, Difference, at_entry, at_mark, learn_step, with_difference}
+use Rattle.wait_rule.specs.Items.{Book, Difference, nothing, at_entry, at_mark, learn_step, with_difference}
 use Rattle.wait_rule.specs.Known.{Known}
 use Rattle.wait_rule.specs.Queues.{index, marked}
 use Rattle.wait_rule.specs.Says.{Debts, Obligation, Excuse, IsOutBut, OwesBut, added, asks_for, end_unclosed, excuses, has_duty, is_excused, page_asked, stored_with, told_of, wake_of}
@@ -31,12 +31,10 @@ use Rattle.wait_rule.proofs.KnownLaws.StayingParts.{owes_also, owes_out}
 
 -- what such a store leaves of the book
 record Beside (old new : Known) : Type 0 where
+  pub differs : Difference
   pub domain : new.domain ≡ old.domain
   pub number : new.view.number ≡ old.view.number
-  pub awake : new.book.awake ≡ old.book.awake
-  pub state : new.book.state ≡ old.book.state
-  pub head : new.book.head ≡ old.book.head
-  pub ticket : new.book.ticket ≡ old.book.ticket
+  pub book : new.book ≡ with_difference differs old.book
   pub at : new.at ≡ old.at
 
 and_none : (b : Bool) → (b && false) ≡ false
@@ -80,29 +78,22 @@ module _ (old : Known) (i : ℕ) (e : Entry) where
 step_beside : (old new : Known) (e : Step) (d : Difference) → learn_step e old.book ≡ with_difference d old.book
     → new ≡ added old (item.Made e) → Beside old new
 step_beside old new e d learns is = record {
+  differs = d;
   domain = ap (λ (k : Known). k.domain) is;
   number = ap (λ (k : Known). k.view.number) is;
-  awake = ap (λ (k : Known). k.book.awake) is ∙ ap (λ (b : Book). b.awake) learns;
-  state = ap (λ (k : Known). k.book.state) is ∙ ap (λ (b : Book). b.state) learns;
-  head = ap (λ (k : Known). k.book.head) is ∙ ap (λ (b : Book). b.head) learns;
-  ticket = ap (λ (k : Known). k.book.ticket) is ∙ ap (λ (b : Book). b.ticket) learns;
+  book = ap (λ (k : Known). k.book) is ∙ learns;
   at = ap (λ (k : Known). k.at) is;
 }
 
 stored_beside : (old new : Known) (e : Step) (d : Difference) → learn_step e old.book ≡ with_difference d old.book
     → new ≡ stored_with old e → Beside old new
 stored_beside old new e d learns is = subst (Beside old) (sym is) (record {
-  domain = b.domain;
-  number = b.number;
-  awake = b.awake;
-  state = b.state;
-  head = b.head;
-  ticket = b.ticket;
-  at = b.at;
+  differs = nothing;
+  domain = refl;
+  number = refl;
+  book = ap (with_difference nothing) learns;
+  at = refl;
 })
-  where
-    b : Beside old (added old (item.Made e))
-    b = step_beside old (added old (item.Made e)) e d learns refl
 
 -- by a task that knows of its words and debts what it knows with that step made
 over : (old new : Known) → Beside old new → (v : Told) → told_of new ≡ v → v.hold.head ≡ (told_of old).hold.head
@@ -111,10 +102,10 @@ over : (old new : Known) → Beside old new → (v : Told) → told_of new ≡ v
 over old new b v told hold duty keeps tries = record {
   domain = b.domain;
   number = b.number;
-  awake = b.awake;
-  state = b.state;
-  head = b.head;
-  ticket = b.ticket;
+  awake = ap (λ (k : Book). k.awake) b.book;
+  state = ap (λ (k : Book). k.state) b.book;
+  head = ap (λ (k : Book). k.head) b.book;
+  ticket = ap (λ (k : Book). k.ticket) b.book;
   hold = ap (λ (w : Told). w.hold.head) told ∙ hold;
   at = b.at;
   duty = ap (λ (w : Told). w.duty) told ∙ duty;

@@ -28,6 +28,7 @@ use Rattle.wait_rule.specs.Stays.{unchanged, only_looks, publish_change, head_st
 use Rattle.wait_rule.proofs.KnownLaws.AfterSteps.{told_added}
 use Rattle.wait_rule.proofs.TableSteps.ItemLists.{steps_append}
 use Rattle.wait_rule.proofs.KnownLaws.SettledTasks.{owes_after, owes_looks, owes_told}
+use Rattle.wait_rule.proofs.KnownLaws.StayingBeside.{beside_carried}
 use Rattle.wait_rule.proofs.KnownLaws.StayingParts.{stays_bits, stays_same, stays_owing, look_stays, look_out, owes_out}
 
 -- whoever is excused of more wakes owes no more
@@ -264,7 +265,7 @@ kept_less false k s is = refl
 kept_less true false s is = refl
 kept_less true true s is = absurd (cc)
 
-kept_still : (k s : Bool) → s ≡ false → (k && not s) ≡ k
+pub kept_still : (k s : Bool) → s ≡ false → (k && not s) ≡ k
 kept_still true s is = ap not is
 kept_still false s is = refl
 
@@ -285,28 +286,10 @@ published_owes c n r x old new is o =
 
 pub published_carried : (old new : Known) (c : Watch) (n r : ℕ) → new ≡ added old (item.Made (step.Publish c n r))
     → Carries (publish_change c) old new
-published_carried old new c n r is = record {
-  domain = ap (λ (k : Known). k.domain) is;
-  number = ap (λ (k : Known). k.view.number) is;
-  awake = ap (λ (k : Known). k.book.awake) is;
-  state = ap (λ (k : Known). k.book.state) is;
-  head = ap (λ (k : Known). k.book.head) is;
-  ticket = ap (λ (k : Known). k.book.ticket) is;
-  hold = ap (λ (v : Told). v.hold.head) told;
-  at = ap (λ (k : Known). k.at) is;
-  mark = ap (λ (v : Told). v.mark) told;
-  fewer = λ w σ other none. ap (λ (v : Told). v.duty.owes w σ) told
-      ∙ (ap (λ (b : Bool). b || (told_of old).duty.owes w σ) other ∙ none);
-  stored = λ x _ _. ap (λ (v : Told). v.bits.stored x) told;
-  out = λ x _ none. ap (λ (v : Told). v.bits.stored x) told ∙ none;
-  stands = λ slot few _ e at own. ap (λ (v : Told). v.bits.stored (index old.view.number slot)) told ∙ at;
-  keeps = λ d other. ap (λ (v : Told). v.bits.keeps d) told
-      ∙ kept_still ((told_of old).bits.keeps d) (same d c) other;
-  owes = λ x. published_owes c n r x old new is;
-}
-  where
-    told : told_of new ≡ after (step.Publish c n r) (told_of old)
-    told = ap told_of is ∙ told_added old (item.Made (step.Publish c n r))
+published_carried old new c n r is = beside_carried (λ d. same d c) old new (item.Made (step.Publish c n r)) is refl refl
+    refl refl (λ d. kept_still ((told_of old).bits.keeps d) (same d c)) (λ x. x) (with_wakes c mode.Normal)
+    (λ w σ other none. ap (λ (b : Bool). b || (told_of old).duty.owes w σ) other ∙ none)
+    (λ x. published_owes c n r x old new is)
 
 -- a load of a member word without the lock: wakes that are owed may end
 pub scan_carried : (old new : Known) (h i w : ℕ) → new ≡ added old (item.Made (step.Scan h i w))

@@ -1,12 +1,14 @@
 -- The law of pipes, and what stays of a task that claims an end or passes a cell.
 use Rattle.std.proofs.Common.{◌∙◌, ap, sym, refl, subst, add-zero, arith}
-use Rattle.std.specs.Prelude.{ℕ, ◌≡◌, ◌==◌, ◌/◌, ◌%◌, ◌<◌, ◌&&◌, not, if◌then◌else◌, Bool, true, false, List, [], ◌∷◌}
-use Rattle.wait_model.specs.declared.layout.TheConstants.{PIPES, PIPE_ENDS, TASKS}
+use Rattle.std.specs.Prelude.{ℕ, ◌≡◌, ◌==◌, ◌+◌, ◌/◌, ◌%◌, ◌<◌, ◌≤◌, ◌&&◌, ◌||◌, not, if◌then◌else◌, Bool, true, false}
+use Rattle.std.specs.Prelude.{List, [], ◌∷◌}
+use Rattle.wait_model.specs.declared.layout.TheConstants.{PIPES, PIPE_CELLS, PIPE_ENDS, TASKS}
 use Rattle.wait_model.specs.declared.watches.Watch.TheVariants as watch
 use Rattle.wait_model.specs.declared.steps.Step.TheVariants as step
 use Rattle.wait_model.specs.Locations as place
 use Rattle.wait_model.specs.declared.watches.Watch.{Watch}
 use Rattle.wait_model.specs.declared.watches.Mode.TheVariants as mode
+use Rattle.wait_model.specs.Watches.{same}
 use Rattle.wait_model.specs.Views.{View as Told, is_trying_for}
 use Rattle.wait_model.proofs.Functions.{put_same}
 use Rattle.wait_rule.specs.declared.journal.EndAct.{EndAct}
@@ -16,18 +18,18 @@ use Rattle.wait_rule.specs.declared.journal.Item.TheVariants as item
 use Rattle.wait_rule.specs.Journals.{has_of}
 use Rattle.wait_rule.specs.Known.{Known}
 use Rattle.wait_rule.specs.Pipes.{Delivers, End, IsPipe, after_end_publish, end_act, end_item, end_of, if_mine, no_end}
-use Rattle.wait_rule.specs.Pipes.{read_end, was_refused, write_end}
+use Rattle.wait_rule.specs.Pipes.{advanced, end_word, read_end, was_refused, write_end}
 use Rattle.wait_rule.specs.PipeSays.{EndBecomes, end_at}
 use Rattle.wait_rule.specs.PipeLaws.{RuleDelivers, RuleRefuses, JoinedDeliver, JoinedRefuse}
 use Rattle.wait_rule.specs.Says.{Debts, Excuse, IsOutBut, OwesBut, added, told_of}
-use Rattle.wait_rule.specs.Queues.{index}
 use Rattle.wait_rule.specs.Stays.{Carries, claim_change, close_change, unchanged, with_end, with_wakes}
 use Rattle.wait_rule.specs.LookCounts.{Looked, looks_made}
 use Rattle.wait_rule.proofs.KnownLaws.AfterSteps.{told_added}
 use Rattle.wait_rule.proofs.KnownLaws.Debts.{added_debts, close_debts, got_debts, item_begins_none, refused_debts}
 use Rattle.wait_rule.proofs.KnownLaws.LookCounts.{looked_none}
-use Rattle.wait_rule.proofs.KnownLaws.CarriedTasks.{published_carried}
-use Rattle.wait_rule.proofs.KnownLaws.PipeFlows.{delivers}
+use Rattle.wait_rule.proofs.KnownLaws.CarriedTasks.{kept_still, published_carried}
+use Rattle.wait_rule.proofs.KnownLaws.StayingBeside.{beside_carried}
+use Rattle.wait_rule.proofs.KnownLaws.PipeFlows.{delivers, publish_is}
 use Rattle.wait_rule.proofs.KnownLaws.PipeEnds.{by_side, own_w, own_r}
 use Rattle.wait_rule.proofs.KnownLaws.PipeItems.{end_append}
 use Rattle.wait_rule.proofs.KnownLaws.PipeWords.{test_on, test_off}
@@ -116,23 +118,8 @@ module _ (old new : Known) (k : ℕ) (d : EndAct) (w : ℕ) (is : new ≡ added 
 
   piped_carries : (to : Excuse → Excuse) → ((x : Excuse) → OwesBut x old → OwesBut (to x) new)
       → Carries (record unchanged { to = to }) old new
-  piped_carries to owes = record {
-    domain = ap (λ (k : Known). k.domain) is;
-    number = ap (λ (k : Known). k.view.number) is;
-    awake = ap (λ (k : Known). k.book.awake) is;
-    state = ap (λ (k : Known). k.book.state) is;
-    head = ap (λ (k : Known). k.book.head) is;
-    ticket = ap (λ (k : Known). k.book.ticket) is;
-    hold = ap (λ (v : Told). v.hold.head) piped_told;
-    at = ap (λ (k : Known). k.at) is;
-    mark = ap (λ (v : Told). v.mark) piped_told;
-    fewer = λ c σ _ none. ap (λ (v : Told). v.duty.owes c σ) piped_told ∙ none;
-    stored = λ x _ _. ap (λ (v : Told). v.bits.stored x) piped_told;
-    out = λ x _ none. ap (λ (v : Told). v.bits.stored x) piped_told ∙ none;
-    stands = λ slot few _ e there own. ap (λ (v : Told). v.bits.stored (index old.view.number slot)) piped_told ∙ there;
-    keeps = λ c _. ap (λ (v : Told). v.bits.keeps c) piped_told;
-    owes = owes;
-  }
+  piped_carries to owes = beside_carried (λ _. false) old new (item.Piped k d w) is refl refl refl refl (λ _ _. refl)
+      (λ x. x) to (λ _ _ _ none. none) owes
 
   pub piped_carried : item_begins_none (item.Piped k d w) ≡ true → Carries unchanged old new
   piped_carried quiet = piped_carries (λ x. x) (λ x o. piped_owes x x refl refl
@@ -166,25 +153,12 @@ claim_carried old new k w false is found = piped_carries old new k act.Claim w i
 pub closed_carried : (old new : Known) (k n r : ℕ) → (n % 2 == 1) ≡ true
     → new ≡ added old (item.Made (step.Publish (watch.Var k 0) n r)) → Carries (close_change k) old new
 unfolding with_wakes with_end
-closed_carried old new k n r odd is =
-    let p = published_carried old new (watch.Var k 0) n r is in
-    record {
-      domain = p.domain;
-      number = p.number;
-      awake = p.awake;
-      state = p.state;
-      head = p.head;
-      ticket = p.ticket;
-      hold = p.hold;
-      at = p.at;
-      mark = p.mark;
-      fewer = p.fewer;
-      stored = p.stored;
-      out = p.out;
-      stands = p.stands;
-      keeps = p.keeps;
-      owes = λ x o. closes x o (p.owes (with_end k x) o);
-    }
+closed_carried old new k n r odd is = beside_carried (λ d. same d (watch.Var k 0)) old new
+    (item.Made (step.Publish (watch.Var k 0) n r)) is refl refl refl refl
+    (λ d. kept_still ((told_of old).bits.keeps d) (same d (watch.Var k 0))) (with_end k)
+    (with_wakes (watch.Var k 0) mode.Normal)
+    (λ w σ other none. ap (λ (b : Bool). b || (told_of old).duty.owes w σ) other ∙ none)
+    (λ x o. closes x o ((published_carried old new (watch.Var k 0) n r is).owes (with_end k x) o))
   where
     closes : (x : Excuse) → OwesBut (with_end k x) old → OwesBut (with_wakes (watch.Var k 0) mode.Normal (with_end k x)) new
         → OwesBut (with_wakes (watch.Var k 0) mode.Normal x) new
@@ -213,5 +187,11 @@ publish_becomes old new k o n r mine is = record {
     x : Item
     x = item.Made (step.Publish (watch.Var k o) n r)
 
-pub becomes_as : (k : ℕ) (old new : Known) (e f : End) → e ≡ f → EndBecomes k old new e → EndBecomes k old new f
-becomes_as k old new e f same b = record { own = b.own ∙ same; others = b.others }
+-- that passes on the first m cells, and closes the end or not
+pub advance_becomes : (old new : Known) (k n r m : ℕ) (b : Bool) → (end_at k old).mine ≡ true
+    → new ≡ added old (item.Made (step.Publish (watch.Var k 0) n r)) → n ≡ end_word m b → (end_at k old).count ≤ m
+    → m ≤ (end_at k old).count + PIPE_CELLS → ((end_at k old).shut ≡ true → b ≡ true)
+    → EndBecomes k old new (advanced m b (end_at k old))
+advance_becomes old new k n r m b mine now is low high still =
+    let p = publish_becomes old new k 0 n r mine now in
+    record { own = p.own ∙ publish_is (end_at k old) m b n is low high still; others = p.others }

@@ -1,7 +1,6 @@
-use Rattle.std.proofs.Common.{◌∙◌, ap, sym, subst, arith}
+use Rattle.std.proofs.Common.{◌∙◌, sym, subst, arith}
 use Rattle.wait_model.specs.declared.layout.TheConstants.{FIRST_BIT_WORD}
 use Rattle.std.specs.Prelude.{◌+◌}
-use Rattle.wait_model.specs.declared.watches.Watch.{Watch}
 use Rattle.wait_model.specs.declared.watches.Watch.TheVariants as watch
 use Rattle.wait_model.specs.declared.steps.Step.TheVariants as step
 use Rattle.wait_model.proofs.WordLaws.CondWords.{cond_position}
@@ -9,37 +8,25 @@ use Rattle.wait_rule.specs.declared.journal.Item.TheVariants as item
 use Rattle.wait_rule.specs.Bits.{KeepsBitOf}
 use Rattle.wait_rule.specs.Known.{Known, known}
 use Rattle.wait_rule.specs.Queues.{IsIdle}
-use Rattle.wait_rule.specs.Plays.{seat_with}
 use Rattle.wait_rule.proofs.TableSteps.BitWordMoves.{bit_clear_moves}
-use Rattle.wait_rule.proofs.KnownLaws.AfterSteps.{known_after}
+use Rattle.wait_rule.proofs.KnownLaws.StepCalls.{may_step, known_by}
 use Rattle.wait_rule.proofs.bits.clear_as.Goals as goal
 
 pub fetch_and-requires : goal.fetch_and-requires
 fetch_and-requires g c =
     let t = c.task.inside in
-    let i = c.task.invariant in
-    let size = c.domain.invariant in
     let few = c.requires.word in
     let at = c.cond_at-at.ensures ∙ cond_position (FIRST_BIT_WORD + c.args.word) (omega arith) in
     let idle : IsIdle (known t.seat.table_id t.seat.me.0 t.head) =
-    subst IsIdle (sym c.task.view_is) c.requires.idle in (
-      ap (λ (k : Known). k.domain) c.task.view_is ∙ (c.requires.of ∙ sym c.domain.view_is),
-      omega arith,
-      bit_clear_moves _ t.seat.id t.seat.me i.1 c.args.word c.args.bit _ _ c.requires.watch c.requires.word
-          c.requires.bit (omega arith) t.seat.table_id t.head idle.free.head idle.running
-          (subst (λ (k : Known). KeepsBitOf k (watch.Bit c.args.word c.args.bit)) (sym c.task.view_is)
-          c.requires.keeps),
-    )
+    subst IsIdle (sym c.task.view_is) c.requires.idle in
+    may_step c.task.view_is c.requires.of c.domain.view_is c.domain.invariant (omega arith)
+    (bit_clear_moves _ _ _ c.task.invariant.1 c.args.word c.args.bit _ _ c.requires.watch c.requires.word
+    c.requires.bit (omega arith) t.seat.table_id t.head idle.free.head idle.running
+    (subst (λ (k : Known). KeepsBitOf k (watch.Bit c.args.word c.args.bit)) (sym c.task.view_is)
+    c.requires.keeps))
 
 pub returns : goal.returns
 returns g c = (
   c.fetch_and.result,
-  known_after c.task.inside.seat.table_id c.fetch_and.new.seat.table_id c.task.inside.seat.me
-      c.fetch_and.new.seat.me
-      c.args.task.now (item.Made (step.Publish (watch.Bit c.args.word c.args.bit) 0 c.fetch_and.result))
-      c.fetch_and.ensures.0
-      (c.fetch_and.ensures.2
-      ∙ ap (λ (k : Watch). seat_with c.task.inside.seat.me (item.Made (step.Publish k 0 c.fetch_and.result)))
-      (sym c.requires.watch))
-      c.task.view_is,
+  known_by c.fetch_and.ensures.0 c.fetch_and.ensures.2 (λ j. item.Made (step.Publish (sym c.requires.watch j) 0 c.fetch_and.result)) c.task.view_is,
 )

@@ -1,4 +1,4 @@
-use Rattle.std.proofs.Common.{◌∙◌, ap, sym, subst, arith}
+use Rattle.std.proofs.Common.{◌∙◌, sym, subst, arith}
 use Rattle.std.specs.Prelude.{ℕ, ◌≡◌, ◌+◌, ◌≤◌}
 use Rattle.wait_model.specs.declared.layout.TheConstants.{FIRST_DONE, ALL_DONE}
 use Rattle.wait_model.specs.declared.steps.Step.TheVariants as step
@@ -9,24 +9,18 @@ use Rattle.wait_rule.specs.CountPlays.{cell_of_place}
 use Rattle.wait_rule.specs.Counts.{FindsCount}
 use Rattle.wait_rule.specs.Known.{Known, known}
 use Rattle.wait_rule.specs.Queues.{IsAgreedHold}
-use Rattle.wait_rule.specs.Plays.{seat_with}
 use Rattle.wait_rule.proofs.TableSteps.CountMoves.{count_load_moves}
-use Rattle.wait_rule.proofs.KnownLaws.AfterSteps.{known_after}
 use Rattle.wait_rule.proofs.KnownLaws.CarriedTasks.{loaded_carried}
+use Rattle.wait_rule.proofs.KnownLaws.StepCalls.{may_step, known_by}
 use Rattle.wait_rule.proofs.counts.done_load.Goals as goal
 
 pub load-requires : goal.load-requires
 load-requires c =
-    let t = c.task.inside in
-    let i = c.task.invariant in
-    let size = c.domain.invariant in
     let few = c.requires.cell in
-    let at = c.cond_at-at.ensures ∙ cond_position (FIRST_DONE + c.args.cell) (omega arith) in (
-      ap (λ (k : Known). k.domain) c.task.view_is ∙ (c.requires.of ∙ sym c.domain.view_is),
-      omega arith,
-      count_load_moves _ t.seat.id t.seat.me i.1 c.args.cell _ c.requires.cell (omega arith)
-          (subst IsAgreedHold (sym c.task.view_is) c.requires.agreed),
-    )
+    let at = c.cond_at-at.ensures ∙ cond_position (FIRST_DONE + c.args.cell) (omega arith) in
+    may_step c.task.view_is c.requires.of c.domain.view_is c.domain.invariant (omega arith)
+    (count_load_moves _ _ _ c.task.invariant.1 c.args.cell _ c.requires.cell (omega arith)
+    (subst IsAgreedHold (sym c.task.view_is) c.requires.agreed))
 
 pub overflow_cast-result : goal.overflow_cast-result
 overflow_cast-result c =
@@ -38,11 +32,7 @@ returns-clause-step c =
     let few = c.requires.cell in
     let at = c.cond_at-at.ensures ∙ cond_position (FIRST_DONE + c.args.cell) (omega arith) in
     let there : cell_of_place c.cond_at-at.result ≡ c.args.cell = omega arith in
-    known_after c.task.inside.seat.table_id c.load.new.seat.table_id c.task.inside.seat.me c.load.new.seat.me
-    c.args.task.now (item.Made (step.Load (watch.Done c.args.cell) c.load.result)) c.load.ensures.0
-    (c.load.ensures.2.0
-    ∙ ap (λ (k : ℕ). seat_with c.task.inside.seat.me (item.Made (step.Load (watch.Done k) c.load.result))) there)
-    c.task.view_is
+    known_by c.load.ensures.0 c.load.ensures.2.0 (λ j. item.Made (step.Load (watch.Done (there j)) c.load.result)) c.task.view_is
 
 pub returns-clause-finds : goal.returns-clause-finds
 returns-clause-finds c =

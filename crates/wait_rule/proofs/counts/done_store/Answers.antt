@@ -1,4 +1,4 @@
-use Rattle.std.proofs.Common.{◌∙◌, ap, sym, subst, arith}
+use Rattle.std.proofs.Common.{◌∙◌, sym, subst, arith}
 use Rattle.std.specs.Prelude.{ℕ, ◌≡◌, ◌+◌}
 use Rattle.wait_model.specs.declared.layout.TheConstants.{FIRST_DONE}
 use Rattle.wait_model.specs.declared.watches.Watch.TheVariants as watch
@@ -8,38 +8,28 @@ use Rattle.wait_rule.specs.declared.journal.Item.TheVariants as item
 use Rattle.wait_rule.specs.CountPlays.{cell_of_place}
 use Rattle.wait_rule.specs.Counts.{FindsCount, MayStoreCount}
 use Rattle.wait_rule.specs.Known.{Known, known}
-use Rattle.wait_rule.specs.Plays.{seat_with}
 use Rattle.wait_rule.proofs.TableSteps.CountMoves.{count_store_moves}
-use Rattle.wait_rule.proofs.KnownLaws.AfterSteps.{known_after}
 use Rattle.wait_rule.proofs.KnownLaws.CarriedCounts.{count_publishes, count_consumes}
+use Rattle.wait_rule.proofs.KnownLaws.StepCalls.{may_step, known_by}
 use Rattle.wait_rule.proofs.counts.done_store.Goals as goal
 
 pub store-requires : goal.store-requires
 store-requires c =
     let t = c.task.inside in
-    let i = c.task.invariant in
-    let size = c.domain.invariant in
     let few = c.requires.cell in
-    let at = c.cond_at-at.ensures ∙ cond_position (FIRST_DONE + c.args.cell) (omega arith) in (
-      ap (λ (k : Known). k.domain) c.task.view_is ∙ (c.requires.of ∙ sym c.domain.view_is),
-      omega arith,
-      count_store_moves _ t.seat.id t.seat.me i.1 c.args.cell _ c.requires.cell (omega arith) t.seat.table_id
-          c.from.result t.head
-          (subst (λ (k : Known). MayStoreCount k c.args.cell c.from.result) (sym c.task.view_is)
-          (subst (MayStoreCount c.args.task.now c.args.cell) (sym c.from.ensures) c.requires.may)),
-    )
+    let at = c.cond_at-at.ensures ∙ cond_position (FIRST_DONE + c.args.cell) (omega arith) in
+    may_step c.task.view_is c.requires.of c.domain.view_is c.domain.invariant (omega arith)
+    (count_store_moves _ _ _ c.task.invariant.1 c.args.cell _ c.requires.cell (omega arith) t.seat.table_id
+    c.from.result t.head
+    (subst (λ (k : Known). MayStoreCount k c.args.cell c.from.result) (sym c.task.view_is)
+    (subst (MayStoreCount c.args.task.now c.args.cell) (sym c.from.ensures) c.requires.may)))
 
 pub returns : goal.returns
 returns c =
     let few = c.requires.cell in
     let at = c.cond_at-at.ensures ∙ cond_position (FIRST_DONE + c.args.cell) (omega arith) in
     let there : cell_of_place c.cond_at-at.result ≡ c.args.cell = omega arith in
-    let is = known_after c.task.inside.seat.table_id c.store.new.seat.table_id c.task.inside.seat.me
-    c.store.new.seat.me c.args.task.now (item.Made (set_step (watch.Done c.args.cell) c.args.done c.store.ensures.2.0))
-    c.store.ensures.0
-    (c.store.ensures.2.2 ∙ (λ j. seat_with c.task.inside.seat.me
-    (item.Made (set_step (watch.Done (there j)) (c.from.ensures j) c.store.ensures.2.0))))
-    c.task.view_is in
+    let is = known_by c.store.ensures.0 c.store.ensures.2.2 (λ j. item.Made (set_step (watch.Done (there j)) (c.from.ensures j) c.store.ensures.2.0)) c.task.view_is in
     record {
       found = c.store.ensures.2.0;
       finds = subst (λ (k : Known). FindsCount k c.args.cell c.store.ensures.2.0) c.task.view_is

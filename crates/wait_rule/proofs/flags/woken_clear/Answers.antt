@@ -1,4 +1,4 @@
-use Rattle.std.proofs.Common.{◌∙◌, ap, sym, subst, arith}
+use Rattle.std.proofs.Common.{◌∙◌, sym, subst, arith}
 use Rattle.std.specs.Prelude.{ℕ, ◌≡◌, ◌⊎◌, Some, None}
 use Rattle.wait_model.specs.declared.layout.TheConstants.{FLAG_AT}
 use Rattle.wait_model.specs.declared.watches.Entry.{Entry}
@@ -9,54 +9,31 @@ use Rattle.wait_rule.specs.Asked.{nothing_asked}
 use Rattle.wait_rule.specs.Known.{Known, known}
 use Rattle.wait_rule.specs.Queues.{index, MayClearFlag}
 use Rattle.wait_rule.specs.Says.{asks_for, told_of}
-use Rattle.wait_rule.specs.Plays.{seat_with}
-use Rattle.wait_rule.proofs.TableSteps.MemberMoves.{index_at, own_index}
+use Rattle.wait_rule.proofs.TableSteps.MemberMoves.{own_index}
 use Rattle.wait_rule.proofs.TableSteps.FlagMoves.{unflag_moves}
-use Rattle.wait_rule.proofs.KnownLaws.AfterSteps.{known_after}
 use Rattle.wait_rule.proofs.KnownLaws.CarriedFlags.{unflag_carried}
+use Rattle.wait_rule.proofs.KnownLaws.StepCalls.{own_index_at, may_step, known_by}
 use Rattle.wait_rule.proofs.flags.woken_clear.Goals as goal
 
 pub store-requires : goal.store-requires
 store-requires c =
     let t = c.task.inside in
     let i = c.task.invariant in
-    let small = i.5 in
-    let size = c.domain.invariant in
-    let slot = c.requires.slot in
-    let at = c.flag_at-at.ensures in
     let may : MayClearFlag (known t.seat.table_id t.seat.me.0 t.head) c.args.slot =
-    subst (λ (k : Known). MayClearFlag k c.args.slot) (sym c.task.view_is) c.requires.may in (
-      ap (λ (k : Known). k.domain) c.task.view_is ∙ (c.requires.of ∙ sym c.domain.view_is),
-      omega arith,
-      unflag_moves _ t.seat.id t.seat.me i.1 (index t.number c.args.slot) _ (omega arith) at
-          (own_index t.number c.args.slot slot ∙ sym i.2) c.flag_word_of-word.result t.seat.table_id
-          c.flag_word_of-word.ensures
-          (subst (λ (u : ℕ). (asks_for (known t.seat.table_id t.seat.me.0 t.head) ≡ nothing_asked) ⊎ ((e : Entry)
-          × ((told_of (known t.seat.table_id t.seat.me.0 t.head)).bits.stored (index u c.args.slot) ≡ Some e)
-          × (e.kind ≡ kind.Woken))) i.2 may),
-    )
+    subst (λ (k : Known). MayClearFlag k c.args.slot) (sym c.task.view_is) c.requires.may in
+    may_step c.task.view_is c.requires.of c.domain.view_is c.domain.invariant
+    (omega (arith, i.5, c.requires.slot, c.flag_at-at.ensures))
+    (unflag_moves _ _ _ i.1 (index t.number c.args.slot) _ (omega (arith, i.5, c.requires.slot)) c.flag_at-at.ensures
+    (own_index t.number c.args.slot c.requires.slot ∙ sym i.2) c.flag_word_of-word.result t.seat.table_id
+    c.flag_word_of-word.ensures
+    (subst (λ (u : ℕ). (asks_for (known t.seat.table_id t.seat.me.0 t.head) ≡ nothing_asked) ⊎ ((e : Entry)
+    × ((told_of (known t.seat.table_id t.seat.me.0 t.head)).bits.stored (index u c.args.slot) ≡ Some e)
+    × (e.kind ≡ kind.Woken))) i.2 may))
 
-pub returns-clause-step : goal.returns-clause-step
-returns-clause-step c =
-    let t = c.task.inside in
-    let spot = index_at FLAG_AT c.flag_at-at.result t.number c.args.slot c.flag_at-at.ensures
-    ∙ ap (λ (u : ℕ). index u c.args.slot) (sym c.task.invariant.2 ∙ ap (λ (k : Known). k.view.number) c.task.view_is)
+pub returns : goal.returns
+returns c =
+    let spot = own_index_at FLAG_AT c.flag_at-at.result c.task.inside.number c.args.slot c.flag_at-at.ensures
+    c.task.invariant.2 c.task.view_is in
+    let now = known_by c.store.ensures.0 c.store.ensures.2 (λ j. item.Made (step.Unflag (spot j) None)) c.task.view_is
     in
-    known_after t.seat.table_id c.store.new.seat.table_id t.seat.me c.store.new.seat.me c.args.task.now
-    (item.Made (step.Unflag (index c.args.task.now.view.number c.args.slot) None))
-    c.store.ensures.0
-    (c.store.ensures.2
-    ∙ ap (λ (k : ℕ). seat_with t.seat.me (item.Made (step.Unflag k None))) spot)
-    c.task.view_is
-
-pub returns-clause-carries : goal.returns-clause-carries
-returns-clause-carries c =
-    let t = c.task.inside in
-    let spot = index_at FLAG_AT c.flag_at-at.result t.number c.args.slot c.flag_at-at.ensures
-    ∙ ap (λ (u : ℕ). index u c.args.slot) (sym c.task.invariant.2 ∙ ap (λ (k : Known). k.view.number) c.task.view_is)
-    in
-    unflag_carried c.args.task.now _ (index c.args.task.now.view.number c.args.slot)
-    (known_after t.seat.table_id c.store.new.seat.table_id t.seat.me c.store.new.seat.me c.args.task.now
-    (item.Made (step.Unflag (index c.args.task.now.view.number c.args.slot) None)) c.store.ensures.0
-    (c.store.ensures.2 ∙ ap (λ (k : ℕ). seat_with t.seat.me (item.Made (step.Unflag k None))) spot)
-    c.task.view_is)
+    record { step = now; carries = unflag_carried c.args.task.now _ _ now }

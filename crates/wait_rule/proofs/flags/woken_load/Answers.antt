@@ -1,55 +1,30 @@
-use Rattle.std.proofs.Common.{◌∙◌, ap, sym, arith}
-use Rattle.std.specs.Prelude.{ℕ}
+use Rattle.std.proofs.Common.{◌∙◌, sym, arith}
 use Rattle.wait_model.specs.declared.layout.TheConstants.{FLAG_AT}
 use Rattle.wait_model.specs.declared.steps.Step.TheVariants as step
 use Rattle.wait_rule.specs.declared.journal.Item.TheVariants as item
-use Rattle.wait_rule.specs.Known.{Known}
 use Rattle.wait_rule.specs.Queues.{index}
-use Rattle.wait_rule.specs.Plays.{seat_with}
-use Rattle.wait_rule.proofs.TableSteps.MemberMoves.{index_at, own_index}
+use Rattle.wait_rule.proofs.TableSteps.MemberMoves.{own_index}
 use Rattle.wait_rule.proofs.TableSteps.FlagMoves.{flag_load_moves}
-use Rattle.wait_rule.proofs.KnownLaws.AfterSteps.{known_after}
 use Rattle.wait_rule.proofs.KnownLaws.CarriedFlags.{flag_carried}
+use Rattle.wait_rule.proofs.KnownLaws.StepCalls.{own_index_at, may_step, known_by}
 use Rattle.wait_rule.proofs.flags.woken_load.Goals as goal
 
 pub load-word-requires : goal.load-word-requires
 load-word-requires c =
     let t = c.task.inside in
     let i = c.task.invariant in
-    let small = i.5 in
-    let size = c.domain.invariant in
-    let slot = c.requires.slot in
-    let at = c.flag_at-at.ensures in (
-      ap (λ (k : Known). k.domain) c.task.view_is ∙ (c.requires.of ∙ sym c.domain.view_is),
-      omega arith,
-      flag_load_moves _ t.seat.id t.seat.me i.1 (index t.number c.args.slot) _ (omega arith) at
-          (own_index t.number c.args.slot slot ∙ sym i.2),
-    )
+    may_step c.task.view_is c.requires.of c.domain.view_is c.domain.invariant
+    (omega (arith, i.5, c.requires.slot, c.flag_at-at.ensures))
+    (flag_load_moves _ _ _ i.1 (index t.number c.args.slot) _ (omega (arith, i.5, c.requires.slot)) c.flag_at-at.ensures
+    (own_index t.number c.args.slot c.requires.slot ∙ sym i.2))
 
-pub returns-clause-step : goal.returns-clause-step
-returns-clause-step c =
-    let t = c.task.inside in
-    let spot = index_at FLAG_AT c.flag_at-at.result t.number c.args.slot c.flag_at-at.ensures
-    ∙ ap (λ (u : ℕ). index u c.args.slot) (sym c.task.invariant.2 ∙ ap (λ (k : Known). k.view.number) c.task.view_is)
-    in (
-      c.load-word.result,
-      known_after t.seat.table_id c.load-word.new.seat.table_id t.seat.me c.load-word.new.seat.me c.args.task.now
-          (item.Made (step.Flag (index c.args.task.now.view.number c.args.slot) c.load-word.result))
-          c.load-word.ensures.0
-          (c.load-word.ensures.2
-          ∙ ap (λ (k : ℕ). seat_with t.seat.me (item.Made (step.Flag k c.load-word.result))) spot)
-          c.task.view_is,
-      c.flag_of.ensures,
-    )
-
-pub returns-clause-carries : goal.returns-clause-carries
-returns-clause-carries c =
-    let t = c.task.inside in
-    let spot = index_at FLAG_AT c.flag_at-at.result t.number c.args.slot c.flag_at-at.ensures
-    ∙ ap (λ (u : ℕ). index u c.args.slot) (sym c.task.invariant.2 ∙ ap (λ (k : Known). k.view.number) c.task.view_is)
-    in
-    flag_carried c.args.task.now _ (index c.args.task.now.view.number c.args.slot) c.load-word.result
-    (known_after t.seat.table_id c.load-word.new.seat.table_id t.seat.me c.load-word.new.seat.me c.args.task.now
-    (item.Made (step.Flag (index c.args.task.now.view.number c.args.slot) c.load-word.result)) c.load-word.ensures.0
-    (c.load-word.ensures.2 ∙ ap (λ (k : ℕ). seat_with t.seat.me (item.Made (step.Flag k c.load-word.result))) spot)
-    c.task.view_is)
+pub returns : goal.returns
+returns c =
+    let word = c.load-word in
+    let spot = own_index_at FLAG_AT c.flag_at-at.result c.task.inside.number c.args.slot c.flag_at-at.ensures
+    c.task.invariant.2 c.task.view_is in
+    let now = known_by word.ensures.0 word.ensures.2 (λ j. item.Made (step.Flag (spot j) word.result)) c.task.view_is in
+    record {
+      step = (word.result, now, c.flag_of.ensures);
+      carries = flag_carried c.args.task.now _ _ word.result now;
+    }

@@ -1,4 +1,4 @@
-use Rattle.std.proofs.Common.{◌∙◌, ap, sym, subst, arith}
+use Rattle.std.proofs.Common.{sym, subst, arith}
 use Rattle.std.specs.Prelude.{ℕ, ◌≡◌, ◌-◌, ◌/◌, ◌%◌}
 use Rattle.wait_model.specs.declared.layout.TheConstants.{MEMBER_WORDS, MEMBER_AT}
 use Rattle.wait_rule.specs.Known.{Known, known}
@@ -7,22 +7,19 @@ use Rattle.wait_rule.specs.Queues.{IsLocked, IsAgreed}
 use Rattle.wait_rule.specs.MemberLooks.{SawWord}
 use Rattle.wait_rule.proofs.TableSteps.LookedBits.{see_moves}
 use Rattle.wait_rule.proofs.KnownLaws.LookCounts.{word_looked}
+use Rattle.wait_rule.proofs.KnownLaws.StepCalls.{may_step}
 use Rattle.wait_rule.proofs.members.held_member_load.Goals as goal
 
 pub load-requires : goal.load-requires
 load-requires c =
     let t = c.task.inside in
-    let i = c.task.invariant in
-    let size = c.domain.invariant in
-    let head = i.7 in
+    let head = c.task.invariant.7 in
     let word = c.requires.word in
-    let at = c.member_at-at.ensures in (
-      ap (λ (k : Known). k.domain) c.task.view_is ∙ (c.requires.of ∙ sym c.domain.view_is),
-      omega arith,
-      see_moves _ t.seat.id t.seat.me i.1 t.head c.args.i _ head word at
-          (subst IsLocked (sym c.task.view_is) c.requires.held)
-          (subst IsAgreed (sym c.task.view_is) c.requires.agreed),
-    )
+    let at = c.member_at-at.ensures in
+    may_step c.task.view_is c.requires.of c.domain.view_is c.domain.invariant (omega arith)
+    (see_moves _ _ _ c.task.invariant.1 t.head c.args.i _ head word at
+    (subst IsLocked (sym c.task.view_is) c.requires.held)
+    (subst IsAgreed (sym c.task.view_is) c.requires.agreed))
 
 pub returns-clause-saw : goal.returns-clause-saw
 returns-clause-saw c =

@@ -1,29 +1,20 @@
-use Rattle.std.proofs.Common.{◌∙◌, refl, ap, sym, arith}
+use Rattle.std.proofs.Common.{◌∙◌, refl, ap, arith}
 use Rattle.std.specs.Prelude.{◌≡◌, ◌-◌, ◌/◌, ◌%◌}
 use Rattle.wait_model.specs.declared.layout.TheConstants.{MEMBER_WORDS, MEMBER_AT}
 use Rattle.wait_model.specs.declared.steps.Step.TheVariants as step
 use Rattle.wait_rule.specs.declared.journal.Item.TheVariants as item
 use Rattle.wait_rule.specs.Known.{Known}
-use Rattle.wait_rule.specs.Plays.{seat_with}
 use Rattle.wait_rule.proofs.TableSteps.ScanMoves.{scan_moves}
-use Rattle.wait_rule.proofs.KnownLaws.AfterSteps.{known_after}
 use Rattle.wait_rule.proofs.KnownLaws.LookCounts.{looked_one}
 use Rattle.wait_rule.proofs.KnownLaws.CarriedTasks.{scan_carried}
+use Rattle.wait_rule.proofs.KnownLaws.StepCalls.{may_step, known_by}
 use Rattle.wait_rule.proofs.members.member_load.Goals as goal
 
 pub load-requires : goal.load-requires
-load-requires c =
-    let t = c.task.inside in
-    let i = c.task.invariant in
-    let size = c.domain.invariant in
-    let head = c.requires.head in
-    let word = c.requires.word in
-    let at = c.member_at-at.ensures in (
-      ap (λ (k : Known). k.domain) c.task.view_is ∙ (c.requires.of ∙ sym c.domain.view_is),
-      omega arith,
-      scan_moves _ t.seat.id t.seat.me i.1 c.args.head c.args.i _ head word at
-          (ap (λ (k : Known). k.book.head) c.task.view_is ∙ c.requires.out),
-    )
+load-requires c = may_step c.task.view_is c.requires.of c.domain.view_is c.domain.invariant
+    (omega (arith, c.requires.head, c.requires.word, c.member_at-at.ensures))
+    (scan_moves _ _ _ c.task.invariant.1 c.args.head c.args.i _ c.requires.head c.requires.word c.member_at-at.ensures
+    (ap (λ (k : Known). k.book.head) c.task.view_is ∙ c.requires.out))
 
 pub returns-clause-step : goal.returns-clause-step
 returns-clause-step c =
@@ -32,10 +23,7 @@ returns-clause-step c =
     let at = c.member_at-at.ensures in
     let head_is : (c.member_at-at.result - MEMBER_AT) / MEMBER_WORDS ≡ c.args.head = omega arith in
     let word_is : (c.member_at-at.result - MEMBER_AT) % MEMBER_WORDS ≡ c.args.i = omega arith in
-    known_after c.task.inside.seat.table_id c.load.new.seat.table_id c.task.inside.seat.me c.load.new.seat.me
-    c.args.task.now (item.Made (step.Scan c.args.head c.args.i c.load.result)) e.0
-    (e.2 ∙ (λ j. seat_with c.task.inside.seat.me (item.Made (step.Scan (head_is j) (word_is j) c.load.result))))
-    c.task.view_is
+    known_by e.0 e.2 (λ j. item.Made (step.Scan (head_is j) (word_is j) c.load.result)) c.task.view_is
 
 pub returns-clause-looks : goal.returns-clause-looks
 returns-clause-looks c = looked_one c.args.task.now _ (item.Made (step.Scan c.args.head c.args.i c.load.result))

@@ -8,10 +8,9 @@ use Rattle.wait_rule.specs.Known.{Known, known}
 use Rattle.wait_rule.specs.Queues.{index}
 use Rattle.wait_rule.specs.PageCalls.{QueuesNoPage}
 use Rattle.wait_rule.specs.Says.{asks_for}
-use Rattle.wait_rule.specs.Plays.{seat_with}
-use Rattle.wait_rule.proofs.TableSteps.MemberMoves.{index_at, own_index}
+use Rattle.wait_rule.proofs.TableSteps.MemberMoves.{own_index}
 use Rattle.wait_rule.proofs.TableSteps.PageMoves.{note_moves}
-use Rattle.wait_rule.proofs.KnownLaws.AfterSteps.{known_after}
+use Rattle.wait_rule.proofs.KnownLaws.StepCalls.{own_index_at, may_step, known_by}
 use Rattle.wait_rule.proofs.pages.note_as.Goals as goal
 
 pub store-requires : goal.store-requires
@@ -19,7 +18,6 @@ store-requires g c =
     let t = c.task.inside in
     let i = c.task.invariant in
     let small = i.5 in
-    let size = c.domain.invariant in
     let slot = c.requires.slot in
     let at = c.flag_at-at.ensures in
     let same : t.seat.me.0.number ≡ t.number = i.2 in
@@ -31,23 +29,15 @@ store-requires g c =
     (subst (λ (x : ℕ). was_given_at x (asks_for c.args.task.now) ≡ Some c.args.word) spot c.requires.given) in
     let off : QueuesNoPage (known t.seat.table_id t.seat.me.0 t.head) (index t.number c.args.slot) =
     subst (λ (k : Known). QueuesNoPage k (index t.number c.args.slot)) (sym c.task.view_is)
-    (subst (QueuesNoPage c.args.task.now) spot c.requires.off) in (
-      ap (λ (k : Known). k.domain) c.task.view_is ∙ (c.requires.of ∙ sym c.domain.view_is),
-      omega arith,
-      note_moves _ t.seat.id t.seat.me i.1 (index t.number c.args.slot) _ (omega arith) at
-          (own_index t.number c.args.slot slot ∙ sym i.2) c.args.word _ c.flag_word_of-none.result t.seat.table_id
-          c.requires.page c.flag_word_of-none.ensures given off,
-    )
+    (subst (QueuesNoPage c.args.task.now) spot c.requires.off) in
+    may_step c.task.view_is c.requires.of c.domain.view_is c.domain.invariant (omega arith)
+    (note_moves _ _ _ c.task.invariant.1 (index t.number c.args.slot) _ (omega arith) at
+    (own_index t.number c.args.slot slot ∙ sym i.2) c.args.word _ c.flag_word_of-none.result t.seat.table_id
+    c.requires.page c.flag_word_of-none.ensures given off)
 
 pub returns : goal.returns
 returns g c =
-    let t = c.task.inside in
-    let spot = index_at FLAG_AT c.flag_at-at.result t.number c.args.slot c.flag_at-at.ensures
-    ∙ ap (λ (u : ℕ). index u c.args.slot) (sym c.task.invariant.2 ∙ ap (λ (k : Known). k.view.number) c.task.view_is)
-    in
-    known_after t.seat.table_id c.store.new.seat.table_id t.seat.me c.store.new.seat.me c.args.task.now
-    (item.Made (step.Unflag (index c.args.task.now.view.number c.args.slot) (Some c.args.word)))
-    c.store.ensures.0
-    (c.store.ensures.2
-    ∙ (λ j. seat_with t.seat.me (item.Made (step.Unflag (spot j) (Some (sym c.requires.page j))))))
-    c.task.view_is
+    let spot = own_index_at FLAG_AT c.flag_at-at.result c.task.inside.number c.args.slot c.flag_at-at.ensures
+    c.task.invariant.2 c.task.view_is in
+    known_by c.store.ensures.0 c.store.ensures.2
+    (λ j. item.Made (step.Unflag (spot j) (Some (sym c.requires.page j)))) c.task.view_is

@@ -7,53 +7,36 @@ use Rattle.wait_rule.specs.Known.{Known}
 use Rattle.wait_rule.specs.Pipes.{cell_of, read_end}
 use Rattle.wait_rule.specs.PipePlays.{cell_pipe}
 use Rattle.wait_rule.specs.PipeSays.{reading}
-use Rattle.wait_rule.specs.Plays.{seat_with}
 use Rattle.wait_rule.proofs.TableSteps.PipeMoves.{get_moves}
-use Rattle.wait_rule.proofs.KnownLaws.AfterSteps.{known_after}
 use Rattle.wait_rule.proofs.KnownLaws.FoundPipes.{piped_told, piped_carried, piped_looked, piped_becomes}
+use Rattle.wait_rule.proofs.KnownLaws.StepCalls.{may_step, known_by}
 use Rattle.wait_rule.proofs.pipes.cell_load.Goals as goal
 
 pub load-requires : goal.load-requires
 load-requires c =
-    let t = c.task.inside in
-    let i = c.task.invariant in
-    let size = c.domain.invariant in
     let pipe = c.requires.pipe in
     let p = c.args.pipe in
     let place = c.requires.place in
     let mine = ap (λ (k : Known). (reading p k).mine) c.task.view_is ∙ c.requires.still.mine in
-    let at = c.cell_at-at.ensures in (
-      ap (λ (k : Known). k.domain) c.task.view_is ∙ (c.requires.of ∙ sym c.domain.view_is),
-      omega arith,
-      get_moves _ t.seat.id t.seat.me i.1 _ p (PIPE_CELLS * p + c.args.at) pipe mine
-          (subst (λ (k : Known). length (reading p k).cells < (reading p k).seen) (sym c.task.view_is)
-          c.requires.there)
-          (ap (λ (n : ℕ). PIPE_CELLS * p + n) place
-          ∙ ap (λ (k : Known). cell_of p (length (reading p k).cells)) (sym c.task.view_is)) at,
-    )
+    let at = c.cell_at-at.ensures in
+    may_step c.task.view_is c.requires.of c.domain.view_is c.domain.invariant (omega arith)
+    (get_moves _ _ _ c.task.invariant.1 _ p (PIPE_CELLS * p + c.args.at) pipe mine
+    (subst (λ (k : Known). length (reading p k).cells < (reading p k).seen) (sym c.task.view_is)
+    c.requires.there)
+    (ap (λ (n : ℕ). PIPE_CELLS * p + n) place
+    ∙ ap (λ (k : Known). cell_of p (length (reading p k).cells)) (sym c.task.view_is)) at)
 
-pub returns-clause-step : goal.returns-clause-step
-returns-clause-step c =
+pub returns : goal.returns
+returns c =
     let e = c.load.ensures in
-    let low = c.requires.place in
-    let there : cell_pipe c.cell_at-at.result ≡ c.args.pipe = (let at = c.cell_at-at.ensures in omega arith) in
-    known_after c.task.inside.seat.table_id c.load.new.seat.table_id c.task.inside.seat.me c.load.new.seat.me
-    c.args.task.now (item.Piped (read_end c.args.pipe) act.Cell c.load.result) e.0
-    (e.2.0 ∙ ap (λ (k : ℕ). seat_with c.task.inside.seat.me (item.Piped (read_end k) act.Cell c.load.result)) there)
-    c.task.view_is
-
-pub returns-clause-becomes : goal.returns-clause-becomes
-returns-clause-becomes c = piped_becomes c.args.task.now _ (read_end c.args.pipe) act.Cell c.load.result
-    (returns-clause-step c)
-
-pub returns-clause-told : goal.returns-clause-told
-returns-clause-told c = piped_told c.args.task.now _ (read_end c.args.pipe) act.Cell c.load.result
-    (returns-clause-step c)
-
-pub returns-clause-carries : goal.returns-clause-carries
-returns-clause-carries c = piped_carried c.args.task.now _ (read_end c.args.pipe) act.Cell c.load.result
-    (returns-clause-step c) refl
-
-pub returns-clause-looked : goal.returns-clause-looked
-returns-clause-looked c = piped_looked c.args.task.now _ (read_end c.args.pipe) act.Cell c.load.result
-    (returns-clause-step c)
+    let there : cell_pipe c.cell_at-at.result ≡ c.args.pipe =
+    omega (arith, c.requires.place, c.cell_at-at.ensures) in
+    let now = known_by e.0 e.2.0 (λ j. item.Piped (read_end (there j)) act.Cell c.load.result) c.task.view_is in
+    record {
+      step = now;
+      becomes = piped_becomes c.args.task.now _ (read_end c.args.pipe) act.Cell c.load.result now;
+      cell = e.2.1;
+      told = piped_told c.args.task.now _ (read_end c.args.pipe) act.Cell c.load.result now;
+      carries = piped_carried c.args.task.now _ (read_end c.args.pipe) act.Cell c.load.result now refl;
+      looked = piped_looked c.args.task.now _ (read_end c.args.pipe) act.Cell c.load.result now;
+    }

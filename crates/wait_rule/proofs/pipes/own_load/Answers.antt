@@ -1,53 +1,31 @@
-use Rattle.std.proofs.Common.{◌∙◌, ap, sym, subst, arith}
-use Rattle.std.specs.Prelude.{ℕ, ◌≡◌, ◌+◌, ◌*◌}
-use Rattle.wait_model.specs.declared.layout.TheConstants.{PIPE_ENDS}
-use Rattle.wait_model.specs.Locations.{position_of}
-use Rattle.wait_model.proofs.WordLaws.CondWords.{var_at}
+use Rattle.std.proofs.Common.{◌∙◌, ap, arith}
+use Rattle.std.specs.Prelude.{ℕ, ◌≡◌, ◌+◌, ◌*◌, ◌<◌}
+use Rattle.wait_model.specs.declared.layout.TheConstants.{CLAIMS, PIPE_ENDS}
 use Rattle.wait_rule.specs.Known.{Known}
-use Rattle.wait_rule.specs.Pipes.{end_of, end_word}
-use Rattle.wait_rule.specs.PipePlays.{var_end}
+use Rattle.wait_rule.specs.Pipes.{end_word}
 use Rattle.wait_rule.specs.PipeSays.{IsSoundEnd, end_at}
 use Rattle.wait_rule.proofs.TableSteps.PipeMoves.{own_moves}
-use Rattle.wait_rule.proofs.KnownLaws.AfterSteps.{known_same}
+use Rattle.wait_rule.proofs.KnownLaws.StepCalls.{end_spot, known_tells, may_step, known_same}
 use Rattle.wait_rule.proofs.pipes.own_load.Goals as goal
 
 pub load-requires : goal.load-requires
 load-requires c =
-    let t = c.task.inside in
-    let i = c.task.invariant in
-    let size = c.domain.invariant in
-    let pipe = c.requires.pipe in
-    let end = c.requires.end in
-    let at = c.cond_at-at.ensures ∙ ap position_of (var_at (PIPE_ENDS * c.args.pipe + c.args.end) (omega arith)) in (
-      ap (λ (k : Known). k.domain) c.task.view_is ∙ (c.requires.of ∙ sym c.domain.view_is),
-      omega arith,
-      own_moves _ t.seat.id t.seat.me i.1 _ (PIPE_ENDS * c.args.pipe + c.args.end) (omega arith)
-          (ap (λ (k : Known). (end_at (PIPE_ENDS * c.args.pipe + c.args.end) k).mine) c.task.view_is ∙ c.requires.mine)
-          at,
-    )
+    let k = PIPE_ENDS * c.args.pipe + c.args.end in
+    let few : k < CLAIMS = omega (arith, c.requires.pipe, c.requires.end) in
+    let at = (end_spot k c.cond_at-at.result few c.cond_at-at.ensures).0 in
+    may_step c.task.view_is c.requires.of c.domain.view_is c.domain.invariant (omega (arith, few, at))
+    (own_moves _ _ _ c.task.invariant.1 _ k few
+    (ap (λ (j : Known). (end_at k j).mine) c.task.view_is ∙ c.requires.mine) at)
 
-pub returns-clause-same : goal.returns-clause-same
-returns-clause-same c = known_same c.task.inside.seat.table_id c.load.new.seat.table_id c.task.inside.seat.me
-    c.load.new.seat.me c.args.task.now c.load.ensures.0 c.load.ensures.2.0 c.task.view_is
-
-pub returns-clause-word : goal.returns-clause-word
-returns-clause-word c =
-    let pipe = c.requires.pipe in
-    let end = c.requires.end in
-    let at = c.cond_at-at.ensures ∙ ap position_of (var_at (PIPE_ENDS * c.args.pipe + c.args.end) (omega arith)) in
-    let there : var_end c.cond_at-at.result ≡ PIPE_ENDS * c.args.pipe + c.args.end = omega arith in
-    c.load.ensures.2.1.0
-    ∙ (ap (λ (k : ℕ). end_word (end_of k c.task.inside.seat.me.0.items).count
-    (end_of k c.task.inside.seat.me.0.items).shut) there
-    ∙ ap (λ (k : Known). end_word (end_at (PIPE_ENDS * c.args.pipe + c.args.end) k).count
-    (end_at (PIPE_ENDS * c.args.pipe + c.args.end) k).shut) c.task.view_is)
-
-pub returns-clause-sound : goal.returns-clause-sound
-returns-clause-sound c =
-    let pipe = c.requires.pipe in
-    let end = c.requires.end in
-    let at = c.cond_at-at.ensures ∙ ap position_of (var_at (PIPE_ENDS * c.args.pipe + c.args.end) (omega arith)) in
-    let there : var_end c.cond_at-at.result ≡ PIPE_ENDS * c.args.pipe + c.args.end = omega arith in
-    subst (λ (k : Known). IsSoundEnd (PIPE_ENDS * c.args.pipe + c.args.end)
-    (end_at (PIPE_ENDS * c.args.pipe + c.args.end) k)) c.task.view_is
-    (subst (λ (k : ℕ). IsSoundEnd k (end_of k c.task.inside.seat.me.0.items)) there c.load.ensures.2.1.1)
+pub returns : goal.returns
+returns c =
+    let k = PIPE_ENDS * c.args.pipe + c.args.end in
+    let e = c.load.ensures in
+    let spot = (end_spot k c.cond_at-at.result (omega (arith, c.requires.pipe, c.requires.end))
+    c.cond_at-at.ensures).1 in
+    record {
+      same = known_same e.0 e.2.0 c.task.view_is;
+      word = known_tells (λ (j : Known) (i : ℕ). c.load.result ≡ end_word (end_at i j).count (end_at i j).shut) spot
+          c.task.view_is e.2.1.0;
+      sound = known_tells (λ (j : Known) (i : ℕ). IsSoundEnd i (end_at i j)) spot c.task.view_is e.2.1.1;
+    }

@@ -1,86 +1,43 @@
 use Rattle.std.proofs.Common.{◌∙◌, ap, sym, refl, subst, arith, true≢false}
-use Rattle.std.specs.Prelude.{ℕ, ◌≡◌, ◌==◌, ◌%◌, ◌+◌, ◌*◌, true}
-use Rattle.wait_model.specs.declared.layout.TheConstants.{PIPE_ENDS}
+use Rattle.std.specs.Prelude.{ℕ, ◌==◌, ◌%◌, ◌+◌, ◌*◌, ◌<◌, true}
+use Rattle.wait_model.specs.declared.layout.TheConstants.{CLAIMS, PIPE_ENDS}
 use Rattle.wait_model.specs.declared.watches.Watch.TheVariants as watch
 use Rattle.wait_model.specs.declared.steps.Step.TheVariants as step
-use Rattle.wait_model.specs.Locations.{position_of}
-use Rattle.wait_model.proofs.WordLaws.CondWords.{var_at}
 use Rattle.wait_rule.specs.declared.journal.Item.TheVariants as item
-use Rattle.wait_rule.specs.Known.{Known, known}
+use Rattle.wait_rule.specs.Known.{Known}
 use Rattle.wait_rule.specs.Queues.{IsIdle}
 use Rattle.wait_rule.specs.Pipes.{end_of, end_word}
-use Rattle.wait_rule.specs.PipePlays.{var_end}
-use Rattle.wait_rule.specs.PipeSays.{IsOpen, IsSoundEnd, end_at}
-use Rattle.wait_rule.specs.Plays.{seat_with}
+use Rattle.wait_rule.specs.PipeSays.{IsOpen, end_at}
 use Rattle.wait_rule.proofs.TableSteps.PipeMoves.{end_moves}
-use Rattle.wait_rule.proofs.KnownLaws.AfterSteps.{known_after}
 use Rattle.wait_rule.proofs.KnownLaws.PipeWords.{odd_is}
-use Rattle.wait_rule.proofs.KnownLaws.PipeFlows.{publish_is}
-use Rattle.wait_rule.proofs.KnownLaws.FoundPipes.{becomes_as, closed_carried, publish_becomes}
+use Rattle.wait_rule.proofs.KnownLaws.FoundPipes.{advance_becomes, closed_carried}
+use Rattle.wait_rule.proofs.KnownLaws.StepCalls.{end_spot, may_step, known_by}
 use Rattle.wait_rule.proofs.pipes.shut.Goals as goal
 
 pub store-requires : goal.store-requires
 store-requires c =
-    let t = c.task.inside in
-    let i = c.task.invariant in
-    let size = c.domain.invariant in
-    let pipe = c.requires.pipe in
-    let end = c.requires.end in
-    let at = c.cond_at-at.ensures ∙ ap position_of (var_at (PIPE_ENDS * c.args.pipe + c.args.end) (omega arith)) in
-    let idle : IsIdle (known t.seat.table_id t.seat.me.0 t.head) = subst IsIdle (sym c.task.view_is) c.requires.idle in
-    let still = subst (λ (k : Known). IsOpen (end_at (PIPE_ENDS * c.args.pipe + c.args.end) k)) (sym c.task.view_is)
-    c.requires.still in (
-      ap (λ (k : Known). k.domain) c.task.view_is ∙ (c.requires.of ∙ sym c.domain.view_is),
-      omega arith,
-      end_moves _ t.seat.id t.seat.me i.1 _ (PIPE_ENDS * c.args.pipe + c.args.end) c.args.word
-          (end_of (PIPE_ENDS * c.args.pipe + c.args.end) t.seat.me.0.items).count true (omega arith)
-          idle.free.head still.mine
-          (c.requires.word
-          ∙ ap (λ (k : Known). end_word (end_at (PIPE_ENDS * c.args.pipe + c.args.end) k).count true)
-          (sym c.task.view_is))
-          (λ sound. (omega arith, sound.count))
-          (λ shut. absurd (true≢false (sym shut ∙ still.unshut))) at,
-    )
+    let k = PIPE_ENDS * c.args.pipe + c.args.end in
+    let few : k < CLAIMS = omega (arith, c.requires.pipe, c.requires.end) in
+    let at = (end_spot k c.cond_at-at.result few c.cond_at-at.ensures).0 in
+    let still = subst (λ (j : Known). IsOpen (end_at k j)) (sym c.task.view_is) c.requires.still in
+    may_step c.task.view_is c.requires.of c.domain.view_is c.domain.invariant (omega (arith, few, at))
+    (end_moves _ _ _ c.task.invariant.1 _ k c.args.word (end_of k c.task.inside.seat.me.0.items).count true few
+    (subst IsIdle (sym c.task.view_is) c.requires.idle).free.head still.mine
+    (c.requires.word ∙ ap (λ (j : Known). end_word (end_at k j).count true) (sym c.task.view_is))
+    (λ sound. (omega arith, sound.count)) (λ shut. absurd (true≢false (sym shut ∙ still.unshut))) at)
 
-pub returns-clause-step : goal.returns-clause-step
-returns-clause-step c =
+pub returns : goal.returns
+returns c =
+    let k = PIPE_ENDS * c.args.pipe + c.args.end in
     let e = c.store.ensures in
-    let pipe = c.requires.pipe in
-    let end = c.requires.end in
-    let at = c.cond_at-at.ensures ∙ ap position_of (var_at (PIPE_ENDS * c.args.pipe + c.args.end) (omega arith)) in
-    let there : var_end c.cond_at-at.result ≡ PIPE_ENDS * c.args.pipe + c.args.end = omega arith in (
-      e.2.0,
-      known_after c.task.inside.seat.table_id c.store.new.seat.table_id c.task.inside.seat.me c.store.new.seat.me
-          c.args.task.now (item.Made (step.Publish (watch.Var (PIPE_ENDS * c.args.pipe + c.args.end) 0)
-          c.args.word e.2.0)) e.0
-          (e.2.1.0 ∙ ap (λ (k : ℕ). seat_with c.task.inside.seat.me (item.Made (step.Publish (watch.Var k 0)
-          c.args.word e.2.0))) there) c.task.view_is,
-    )
-
-pub returns-clause-becomes : goal.returns-clause-becomes
-unfolding returns-clause-step
-returns-clause-becomes c =
-    let e = c.store.ensures in
-    let pipe = c.requires.pipe in
-    let end = c.requires.end in
-    let at = c.cond_at-at.ensures ∙ ap position_of (var_at (PIPE_ENDS * c.args.pipe + c.args.end) (omega arith)) in
-    let there : var_end c.cond_at-at.result ≡ PIPE_ENDS * c.args.pipe + c.args.end = omega arith in
-    let sound : IsSoundEnd (PIPE_ENDS * c.args.pipe + c.args.end)
-    (end_at (PIPE_ENDS * c.args.pipe + c.args.end) c.args.task.now) =
-    subst (λ (k : Known). IsSoundEnd (PIPE_ENDS * c.args.pipe + c.args.end)
-    (end_at (PIPE_ENDS * c.args.pipe + c.args.end) k)) c.task.view_is
-    (subst (λ (k : ℕ). IsSoundEnd k (end_of k c.task.inside.seat.me.0.items)) there e.2.1.1) in
-    let low = sound.count in
-    let high = sound.room in
-    becomes_as (PIPE_ENDS * c.args.pipe + c.args.end) c.args.task.now _ _ _
-    (publish_is (end_at (PIPE_ENDS * c.args.pipe + c.args.end) c.args.task.now)
-    (end_at (PIPE_ENDS * c.args.pipe + c.args.end) c.args.task.now).count true c.args.word c.requires.word
-    (omega arith) (omega arith) (λ shut. refl))
-    (publish_becomes c.args.task.now _ (PIPE_ENDS * c.args.pipe + c.args.end) 0 c.args.word e.2.0
-    c.requires.still.mine (returns-clause-step c).1)
-
-pub returns-clause-carries : goal.returns-clause-carries
-unfolding returns-clause-step
-returns-clause-carries c = closed_carried c.args.task.now _ (PIPE_ENDS * c.args.pipe + c.args.end) c.args.word
-    (returns-clause-step c).0 (ap (λ (n : ℕ). n % 2 == 1) c.requires.word
-    ∙ odd_is (end_at (PIPE_ENDS * c.args.pipe + c.args.end) c.args.task.now).count true) (returns-clause-step c).1
+    let spot = (end_spot k c.cond_at-at.result (omega (arith, c.requires.pipe, c.requires.end))
+    c.cond_at-at.ensures).1 in
+    let now = known_by e.0 e.2.1.0 (λ j. item.Made (step.Publish (watch.Var (spot j) 0) c.args.word e.2.0))
+    c.task.view_is in
+    record {
+      step = (e.2.0, now);
+      becomes = advance_becomes c.args.task.now _ k c.args.word e.2.0 _ true c.requires.still.mine now c.requires.word
+          (omega arith) (omega arith) (λ shut. refl);
+      carries = closed_carried c.args.task.now _ k c.args.word e.2.0
+          (ap (λ (n : ℕ). n % 2 == 1) c.requires.word ∙ odd_is (end_at k c.args.task.now).count true) now;
+    }

@@ -1,23 +1,18 @@
-use Rattle.std.proofs.Common.{refl, ◌∙◌, ap, sym, subst, arith}
+use Rattle.std.proofs.Common.{refl, sym, subst, arith}
 use Rattle.std.specs.Prelude.{ℕ, ◌≡◌, Some}
 use Rattle.wait_model.specs.declared.layout.TheConstants.{ENTRY_AT}
 use Rattle.wait_rule.specs.Known.{Known, known}
 use Rattle.wait_rule.specs.Queues.{index, KnewEntry}
 use Rattle.wait_rule.specs.Says.{told_of}
 use Rattle.wait_rule.proofs.TableSteps.MemberMoves.{index_at, kept_moves}
+use Rattle.wait_rule.proofs.KnownLaws.StepCalls.{may_step}
 use Rattle.wait_rule.proofs.queues.kept_entry.Goals as goal
 
 pub load-requires : goal.load-requires
-load-requires c =
-    let t = c.task.inside in
-    let i = c.task.invariant in
-    let size = c.domain.invariant in
-    let slot = c.requires.slot in
-    let at = c.entry_at-at.ensures in (
-      ap (λ (k : Known). k.domain) c.task.view_is ∙ (c.requires.of ∙ sym c.domain.view_is),
-      omega arith,
-      kept_moves _ t.seat.id t.seat.me i.1 (index t.number c.args.slot) _ (omega arith) at,
-    )
+load-requires c = may_step c.task.view_is c.requires.of c.domain.view_is c.domain.invariant
+    (omega (arith, c.requires.slot, c.entry_at-at.ensures))
+    (kept_moves _ _ _ c.task.invariant.1 (index c.task.inside.number c.args.slot) _
+    (omega (arith, c.task.invariant.5, c.requires.slot)) c.entry_at-at.ensures)
 
 pub returns-clause-tells : goal.returns-clause-tells
 returns-clause-tells c e stored own =

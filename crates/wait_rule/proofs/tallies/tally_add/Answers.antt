@@ -1,36 +1,27 @@
-use Rattle.std.proofs.Common.{◌∙◌, ap, sym, subst, arith}
+use Rattle.std.proofs.Common.{ap, subst, arith}
 use Rattle.std.specs.Prelude.{ℕ, ◌≡◌, ◌-◌}
 use Rattle.wait_model.specs.declared.layout.TheConstants.{TALLY_AT}
 use Rattle.wait_rule.specs.declared.journal.Item.TheVariants as item
 use Rattle.wait_rule.specs.declared.journal.Journal.{Journal}
 use Rattle.wait_rule.specs.Known.{Known}
-use Rattle.wait_rule.specs.Plays.{seat_with}
 use Rattle.wait_rule.specs.Says.{FindsTally}
 use Rattle.wait_rule.proofs.TableSteps.TallyMoves.{tally_moves}
-use Rattle.wait_rule.proofs.KnownLaws.AfterSteps.{known_after}
 use Rattle.wait_rule.proofs.KnownLaws.FoundTallies.{tally_told, tally_carried, tally_looked}
+use Rattle.wait_rule.proofs.KnownLaws.StepCalls.{may_step, known_by}
 use Rattle.wait_rule.proofs.tallies.tally_add.Goals as goal
 
 pub fetch_add-requires : goal.fetch_add-requires
 fetch_add-requires c =
-    let t = c.task.inside in
-    let i = c.task.invariant in
-    let size = c.domain.invariant in
     let page = c.requires.page in
-    let at = c.tally_at-at.ensures in (
-      ap (λ (k : Known). k.domain) c.task.view_is ∙ (c.requires.of ∙ sym c.domain.view_is),
-      omega arith,
-      tally_moves _ t.seat.id t.seat.me i.1 c.args.page c.args.amount _ page at,
-    )
+    let at = c.tally_at-at.ensures in
+    may_step c.task.view_is c.requires.of c.domain.view_is c.domain.invariant (omega arith)
+    (tally_moves _ _ _ c.task.invariant.1 c.args.page c.args.amount _ page at)
 
 pub returns-clause-step : goal.returns-clause-step
 returns-clause-step c =
     let e = c.fetch_add.ensures in
     let there : c.tally_at-at.result - TALLY_AT ≡ c.args.page = (let at = c.tally_at-at.ensures in omega arith) in
-    known_after c.task.inside.seat.table_id c.fetch_add.new.seat.table_id c.task.inside.seat.me c.fetch_add.new.seat.me
-    c.args.task.now (item.Tally c.args.page c.args.amount c.fetch_add.result) e.0
-    (e.2.0 ∙ (λ j. seat_with c.task.inside.seat.me (item.Tally (there j) c.args.amount c.fetch_add.result)))
-    c.task.view_is
+    known_by e.0 e.2.0 (λ j. item.Tally (there j) c.args.amount c.fetch_add.result) c.task.view_is
 
 pub returns-clause-finds : goal.returns-clause-finds
 returns-clause-finds c =

@@ -1,36 +1,28 @@
-use Rattle.std.proofs.Common.{◌∙◌, ap, sym, subst, arith}
+use Rattle.std.proofs.Common.{ap, subst, arith}
 use Rattle.std.specs.Prelude.{ℕ, ◌≡◌, ◌-◌}
 use Rattle.wait_model.specs.declared.layout.TheConstants.{SERVING_AT}
 use Rattle.wait_rule.specs.declared.journal.Item.TheVariants as item
 use Rattle.wait_rule.specs.Known.{Known}
 use Rattle.wait_rule.specs.declared.journal.Journal.{Journal}
 use Rattle.wait_rule.specs.Says.{ServesUnlocks}
-use Rattle.wait_rule.specs.Plays.{seat_with}
 use Rattle.wait_rule.proofs.TableSteps.TicketMoves.{serving_moves}
-use Rattle.wait_rule.proofs.KnownLaws.AfterSteps.{known_after}
 use Rattle.wait_rule.proofs.KnownLaws.CarriedSteps.{serving_carried}
+use Rattle.wait_rule.proofs.KnownLaws.StepCalls.{may_step, known_by}
 use Rattle.wait_rule.proofs.tickets.serving_load.Goals as goal
 
 pub load-requires : goal.load-requires
 load-requires c =
-    let t = c.task.inside in
-    let i = c.task.invariant in
-    let size = c.domain.invariant in
     let head = c.requires.head in
-    let at = c.serving_at-at.ensures in (
-      ap (λ (k : Known). k.domain) c.task.view_is ∙ (c.requires.of ∙ sym c.domain.view_is),
-      omega arith,
-      serving_moves _ t.seat.id t.seat.me i.1 c.args.head _ head at,
-    )
+    let at = c.serving_at-at.ensures in
+    may_step c.task.view_is c.requires.of c.domain.view_is c.domain.invariant (omega arith)
+    (serving_moves _ _ _ c.task.invariant.1 c.args.head _ head at)
 
 pub returns-clause-step : goal.returns-clause-step
 returns-clause-step c =
     let e = c.load.ensures in
     let there : c.serving_at-at.result - SERVING_AT ≡ c.args.head =
     (let at = c.serving_at-at.ensures in omega arith) in
-    known_after c.task.inside.seat.table_id c.load.new.seat.table_id c.task.inside.seat.me c.load.new.seat.me
-    c.args.task.now (item.Serving c.args.head c.load.result) e.0
-    (e.2.0 ∙ (λ j. seat_with c.task.inside.seat.me (item.Serving (there j) c.load.result))) c.task.view_is
+    known_by e.0 e.2.0 (λ j. item.Serving (there j) c.load.result) c.task.view_is
 
 pub returns-clause-counts : goal.returns-clause-counts
 returns-clause-counts c =

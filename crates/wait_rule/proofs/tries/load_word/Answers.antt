@@ -1,16 +1,9 @@
-use Rattle.std.proofs.Common.{◌∙◌, ap, sym, arith}
-use Rattle.wait_rule.specs.Known.{Known}
+use Rattle.std.proofs.Common.{arith}
 use Rattle.wait_rule.proofs.TableSteps.TaskMoves.{peek_moves}
+use Rattle.wait_rule.proofs.KnownLaws.StepCalls.{may_step}
 use Rattle.wait_rule.proofs.tries.load_word.Goals as goal
 
 pub load-requires : goal.load-requires
-load-requires c =
-    let t = c.task.inside in
-    let i = c.task.invariant in
-    let small = i.5 in
-    let size = c.domain.invariant in
-    let who = c.ranges.who in (
-      ap (λ (k : Known). k.domain) c.task.view_is ∙ (c.requires.of ∙ sym c.domain.view_is),
-      omega arith,
-      peek_moves _ t.seat.id t.seat.me i.1 c.args.who _ (omega arith) c.task_at-at.ensures,
-    )
+load-requires c = may_step c.task.view_is c.requires.of c.domain.view_is c.domain.invariant
+    (omega (arith, c.ranges.who, c.task_at-at.ensures))
+    (peek_moves _ _ _ c.task.invariant.1 c.args.who _ (omega (arith, c.ranges.who)) c.task_at-at.ensures)

@@ -1,5 +1,6 @@
 -- The places of adds by a whole book, and the entries that stand there.
 use Rattle.std.proofs.Common.{◌∙◌, ap, sym, refl, subst, inl, inr, eq-eqb, arith}
+use Rattle.std.proofs.lemmas.Bool.{and_right}
 use Rattle.std.proofs.lemmas.Bool.Decides.{nat_tests}
 use Rattle.std.specs.Prelude.{ℕ, ◌≡◌, ◌+◌, ◌-◌, ◌*◌, ◌%◌, ◌<◌, ◌≤◌, ◌⊎◌, ◌&&◌, ◌||◌, ◌==◌, not}
 use Rattle.std.specs.Prelude.{Bool, true, false, nat_lt, if◌then◌else◌, Option, Some, None, length}
@@ -246,10 +247,6 @@ first_index n slot first few = (omega (arith, first), omega (arith, first, few))
 abbrev pub TriesNo : Entry → Type 0
 TriesNo e = ((c : Watch) → is_trying_for (Some e) c ≡ false) × (not (is_page e.kind) ≡ true)
 
-no_and : (b : Bool) → (b && false) ≡ false
-no_and true = refl
-no_and false = refl
-
 pub plain_tries : (w : Watch) (k : Kind) (exclusive priority : Bool) (place : ℕ) → IsForPlain w k
     → TriesNo (record { watch = w; place = place; exclusive = exclusive; priority = priority; kind = k })
 plain_tries w k exclusive priority place is = (
@@ -259,7 +256,7 @@ plain_tries w k exclusive priority place is = (
     exclusive = exclusive;
     priority = priority;
     kind = k;
-  })) c ≡ false) (sym is.1) (no_and exclusive),
+  })) c ≡ false) (sym is.1) (and_right exclusive false refl),
   full_unpaged k is.3,
 )
 

@@ -1,5 +1,6 @@
 -- The entries of adds for bits and variables.
 use Rattle.std.proofs.Common.{◌∙◌, ap, sym, refl, subst, inl, inr, eq-eqb, eqb-true, arith}
+use Rattle.std.proofs.lemmas.Bool.{and_right}
 use Rattle.std.specs.Prelude.{ℕ, ◌≡◌, ◌≢◌, ◌<◌, ◌&&◌, ◌||◌, ◌==◌, not, Bool, true, false}
 use Rattle.std.specs.Prelude.{Option, Some}
 use Rattle.wait_model.specs.declared.layout.TheConstants.{BIT_WORDS}
@@ -117,10 +118,6 @@ module _ (old new : Known) (slot : ℕ) (made : ℕ → Entry) (at : (p : ℕ) �
       apart y other false is = is
 
 -- an entry for a page that the task stores: it owes to ask for it no more
-and_none : (b : Bool) → (b && false) ≡ false
-and_none true = refl
-and_none false = refl
-
 module _ (seen new : Known) (x w p : ℕ)
     (is : new ≡ stored_with seen (step.Queue x (tail_entry true (page w) kind.Page p))) where
   abbrev e : Entry
@@ -142,7 +139,7 @@ module _ (seen new : Known) (x w p : ℕ)
 
       by : (o : Obligation) → (has_duty new o && not (excuses (with_page (with_entry x f)) o)) ≡ false
       by (wake_of c σ) = ap (λ (v : Told). v.duty.owes c σ && not (is_excused f c σ)) told ∙ d.none (wake_of c σ)
-      by page_asked = and_none (is_asking (asks_for new))
+      by page_asked = and_right (is_asking (asks_for new)) false refl
       by (end_unclosed k) = ap (λ (b : Bool). b && not (f.ends k)) (ap (has_end k) is
           ∙ (end_added (added seen (item.Made (step.Queue x e))) item.Member k
           ∙ end_added seen (item.Made (step.Queue x e)) k)) ∙ d.none (end_unclosed k)
@@ -150,7 +147,7 @@ module _ (seen new : Known) (x w p : ℕ)
   tries_by : TriesNone (told_of seen) → TriesNone (told_of new)
   tries_by none y c = ap (λ (v : Told). is_trying_for (v.bits.stored y) c) told
       ∙ put_at (λ (s : Option Entry). is_trying_for s c ≡ false) (told_of seen).bits.stored x (Some e) y
-      (λ _. and_none (same c (page w))) (λ _. none y c)
+      (λ _. and_right (same c (page w)) false refl) (λ _. none y c)
 
   page_owing : (f : Excuse) → OwesBut f seen → OwesBut (with_page (with_entry x f)) new
   unfolding with_page with_entry

@@ -1,11 +1,16 @@
 -- The places of adds by a whole book, and the entries that stand there.
 use Rattle.std.proofs.Common.{◌∙◌, ap, sym, refl, subst, inl, inr, eq-eqb, arith}
+use Rattle.std.proofs.lemmas.Bool.{and_right}
 use Rattle.std.proofs.lemmas.Bool.Decides.{nat_tests}
 use Rattle.std.specs.Prelude.{ℕ, ◌≡◌, ◌+◌, ◌-◌, ◌*◌, ◌%◌, ◌<◌, ◌≤◌, ◌⊎◌, ◌&&◌, ◌||◌, ◌==◌, not}
 use Rattle.std.specs.Prelude.{Bool, true, false, nat_lt, if◌then◌else◌, Option, Some, None, length}
+use Rattle.std.specs.Prelude.{IfErr, IfOk, Result, Ok, Err}
+use Rattle.std.proofs.lemmas.Result.{IfOk-weaker}
 use Rattle.wait_model.specs.declared.layout.TheConstants.{SLOTS, ENTRIES, MEMBERS, MEMBER_WORDS, PLAIN_CONDITIONS}
 use Rattle.wait_model.specs.declared.layout.TheConstants.{PLACES, MIDDLE, FIRST_PLACE, FIRST_PRIORITY, PRIORITY_TASKS}
 use Rattle.wait_model.specs.declared.layout.TheConstants.{FIRST_DONE_HEAD}
+use Rattle.wait_model.specs.declared.queues.Form.{Form}
+use Rattle.wait_model.specs.declared.queues.Form.TheVariants as forms
 use Rattle.wait_model.specs.declared.watches.Watch.{Watch}
 use Rattle.wait_model.specs.declared.watches.Kind.{Kind}
 use Rattle.wait_model.specs.declared.watches.Kind.TheVariants as kind
@@ -13,7 +18,7 @@ use Rattle.wait_model.specs.declared.watches.Entry.{Entry}
 use Rattle.wait_model.specs.declared.steps.Step.TheVariants as step
 use Rattle.wait_model.specs.Words.{entry_of}
 use Rattle.wait_model.specs.Watches.{is_simple, is_page, head_of}
-use Rattle.wait_model.specs.Queues.{even_below, even_above}
+use Rattle.wait_model.specs.Queues.{even_below, even_above, is_priority}
 use Rattle.wait_model.specs.Places.{front_for, tail_for, priority_for}
 use Rattle.wait_model.specs.Views.{View as Told, off, look_at, is_trying_for}
 use Rattle.wait_model.specs.Fold.{after}
@@ -40,8 +45,9 @@ use Rattle.wq_head.specs.Holds.{IsHolding}
 use Rattle.wq_head.specs.Members.{AreStanding}
 use Rattle.wq_head.proofs.FirstAndLast.{below_or}
 use Rattle.wq_head.specs.Looks.{Looks, IsLow, AreLow, AreSeen, IsBetween, IsFirst, IsLast, place_of_shown}
-use Rattle.wq_head.specs.Adds.{IsForPlain, IsFullKind, HasAdded, HasAddedForCell, HasQueued, HasRemoved}
-use Rattle.wq_head.specs.Adds.{tail_entry, priority_entry}
+use Rattle.wq_head.specs.Adds.{IsForPlain, IsFullKind, IsFormPlace, IsWornBy}
+use Rattle.wq_head.specs.Adds.{HasAdded, HasAddedForCell, HasPut, HasQueued, HasRemoved, tail_entry, priority_entry}
+use Rattle.wq_head.specs.declared.adds.Worn.{Worn}
 use Rattle.wq_head.proofs.OneMoreLook.{saw_told, saw_looks, whole_of, looks_on, holding_on}
 use Rattle.wait_rule.specs.Says.{stored_with}
 use Rattle.wait_rule.proofs.KnownLaws.MemberBits.{told_stored}
@@ -61,7 +67,7 @@ stands_in k count low high s b = record {
   below = b.below;
 }
 
-lowest_of : (k : Known) (low high : ℕ) (f : Option ShownMember) → IsFirst (place_by k) MEMBERS low high f
+pub lowest_of : (k : Known) (low high : ℕ) (f : Option ShownMember) → IsFirst (place_by k) MEMBERS low high f
     → IsLowest k MEMBERS low high (place_of_shown f)
 lowest_of k low high None is = λ p h. is (record { place = p; member = h.member }) (stand_of k MEMBERS low high p h)
 lowest_of k low high (Some s) is = (
@@ -69,7 +75,7 @@ lowest_of k low high (Some s) is = (
   λ p h. is.1 (record { place = p; member = h.member }) (stand_of k MEMBERS low high p h),
 )
 
-highest_of : (k : Known) (low high : ℕ) (f : Option ShownMember) → IsLast (place_by k) MEMBERS low high f
+pub highest_of : (k : Known) (low high : ℕ) (f : Option ShownMember) → IsLast (place_by k) MEMBERS low high f
     → IsHighest k MEMBERS low high (place_of_shown f)
 highest_of k low high None is = λ p h. is (record { place = p; member = h.member }) (stand_of k MEMBERS low high p h)
 highest_of k low high (Some s) is = (
@@ -241,10 +247,6 @@ first_index n slot first few = (omega (arith, first), omega (arith, first, few))
 abbrev pub TriesNo : Entry → Type 0
 TriesNo e = ((c : Watch) → is_trying_for (Some e) c ≡ false) × (not (is_page e.kind) ≡ true)
 
-no_and : (b : Bool) → (b && false) ≡ false
-no_and true = refl
-no_and false = refl
-
 pub plain_tries : (w : Watch) (k : Kind) (exclusive priority : Bool) (place : ℕ) → IsForPlain w k
     → TriesNo (record { watch = w; place = place; exclusive = exclusive; priority = priority; kind = k })
 plain_tries w k exclusive priority place is = (
@@ -254,7 +256,7 @@ plain_tries w k exclusive priority place is = (
     exclusive = exclusive;
     priority = priority;
     kind = k;
-  })) c ≡ false) (sym is.1) (no_and exclusive),
+  })) c ≡ false) (sym is.1) (and_right exclusive false refl),
   full_unpaged k is.3,
 )
 
@@ -339,37 +341,24 @@ worn_at IsEnd place_for first starts (Some q) l w same is none at =
     subst (λ (p : ℕ). IsEnd (Some p) × (place_for (Some p) ≡ None)) (sym (at q same))
     (is, ap place_for (sym same) ∙ none)
 
--- and where one is left, the entry has it
-placed_at : (place_for : Option ℕ → Option ℕ) (o l r : Option ℕ) (p q : ℕ) → l ≡ o → r ≡ place_for l → r ≡ Some p
-    → q ≡ p → place_for o ≡ Some q
-placed_at place_for o l r p q same gives left is = ap place_for (sym same) ∙ (sym gives ∙ (left ∙ ap Some (sym is)))
+-- and where one is left, it is the place of an add
+module _ (IsEnd : Option ℕ → Type 0) (place_for : Option ℕ → Option ℕ) (o l r : Option ℕ) (end : IsEnd o) (same : l ≡ o)
+    (gives : r ≡ place_for l) (found : Result ℕ Worn) where
+  pub spot_found : IfOk found (λ p. r ≡ Some p) → IfOk found (λ p. (e : Option ℕ) × IsEnd e × (place_for e ≡ Some p))
+  spot_found left = IfOk-weaker found (λ p. r ≡ Some p) (λ p. (e : Option ℕ) × IsEnd e × (place_for e ≡ Some p))
+      (λ p at. (o, end, ap place_for (sym same) ∙ (sym gives ∙ at))) left
 
--- so at the front, and at the tail
-pub front_placed : (k : Known) (o : Option ShownMember) (l r : Option ℕ) (p q : ℕ)
-    → IsFirst (place_by k) MEMBERS MIDDLE PLACES o → l ≡ place_of_shown o → r ≡ front_for l → r ≡ Some p → q ≡ p
-    → IsFrontPlace k q
-front_placed k o l r p q is same gives left made =
-    (place_of_shown o, lowest_of k MIDDLE PLACES o is, placed_at front_for (place_of_shown o) l r p q same gives left made)
-
-pub front_worn : (k : Known) (o : Option ShownMember) (l r : Option ℕ) (w : ℕ)
-    → IsFirst (place_by k) MEMBERS MIDDLE PLACES o
-    → l ≡ place_of_shown o → r ≡ front_for l → r ≡ None → ((p : ℕ) → l ≡ Some p → w ≡ p)
-    → IsLowest k MEMBERS MIDDLE PLACES (Some w) × (front_for (Some w) ≡ None)
-front_worn k o l r w is same gives none at = worn_at (IsLowest k MEMBERS MIDDLE PLACES) front_for FIRST_PLACE refl
-    (place_of_shown o) l w same (lowest_of k MIDDLE PLACES o is) (sym gives ∙ none) at
-
-pub tail_placed : (k : Known) (o : Option ShownMember) (l r : Option ℕ) (p q : ℕ)
-    → IsLast (place_by k) MEMBERS MIDDLE PLACES o → l ≡ place_of_shown o → r ≡ tail_for l → r ≡ Some p → q ≡ p
-    → IsTailPlace k q
-tail_placed k o l r p q is same gives left made =
-    (place_of_shown o, highest_of k MIDDLE PLACES o is, placed_at tail_for (place_of_shown o) l r p q same gives left made)
-
-pub tail_worn : (k : Known) (o : Option ShownMember) (l r : Option ℕ) (w : ℕ)
-    → IsLast (place_by k) MEMBERS MIDDLE PLACES o
-    → l ≡ place_of_shown o → r ≡ tail_for l → r ≡ None → ((p : ℕ) → l ≡ Some p → w ≡ p)
-    → IsHighest k MEMBERS MIDDLE PLACES (Some w) × (tail_for (Some w) ≡ None)
-tail_worn k o l r w is same gives none at = worn_at (IsHighest k MEMBERS MIDDLE PLACES) tail_for FIRST_PLACE refl
-    (place_of_shown o) l w same (highest_of k MIDDLE PLACES o is) (sym gives ∙ none) at
+  pub spot_worn : (first : ℕ) → place_for None ≡ Some first → (old new : Known) (h : ℕ) → h ≡ old.at → Looks old new
+      → IsWholeBook new → AreLow new MEMBERS → IfErr found (λ w. r ≡ None) → IfErr found (λ w. w.head ≡ h)
+      → IfErr found (λ w. (p : ℕ) → l ≡ Some p → w.place ≡ p) → IfErr found (λ w. IsWornBy IsEnd place_for old new w)
+  spot_worn first starts old new h at looks whole low = by found
+    where
+      by : (f : Result ℕ Worn) → IfErr f (λ w. r ≡ None) → IfErr f (λ w. w.head ≡ h)
+          → IfErr f (λ w. (p : ℕ) → l ≡ Some p → w.place ≡ p) → IfErr f (λ w. IsWornBy IsEnd place_for old new w)
+      by (Ok p) none head place = tt
+      by (Err w) none head place =
+          let worn = worn_at IsEnd place_for first starts o l w.place same end (sym gives ∙ none) place in
+          (looks, whole, head ∙ at, worn.0, worn.1, low)
 
 -- and with priority, by the entries alone: no bookmark stands below the place before the middle, and no entry there
 module _ (k : Known) (stands : AreStanding k MEMBERS) where
@@ -398,24 +387,11 @@ module _ (k : Known) (stands : AreStanding k MEMBERS) where
         below = let low = h.below in omega (arith, even, low);
       }
 
-  prior_of : (f : Option ShownMember) → IsLast (place_by k) MEMBERS 0 (MIDDLE - 1) f
+  pub prior_of : (f : Option ShownMember) → IsLast (place_by k) MEMBERS 0 (MIDDLE - 1) f
       → IsHighest k ENTRIES 0 MIDDLE (place_of_shown f)
   prior_of None is = λ p h. is (record { place = p; member = h.member }) (member_in p h)
   prior_of (Some s) is =
       (entry_in s is.0, λ p h. is.1 (record { place = p; member = h.member }) (member_in p h))
-
-  pub priority_placed : (o : Option ShownMember) (l r : Option ℕ) (p q : ℕ)
-      → IsLast (place_by k) MEMBERS 0 (MIDDLE - 1) o → l ≡ place_of_shown o → r ≡ priority_for l → r ≡ Some p → q ≡ p
-      → IsPriorityPlace k q
-  priority_placed o l r p q is same gives left made =
-      (place_of_shown o, prior_of o is, placed_at priority_for (place_of_shown o) l r p q same gives left made)
-
-  pub priority_worn : (o : Option ShownMember) (l r : Option ℕ) (w : ℕ)
-      → IsLast (place_by k) MEMBERS 0 (MIDDLE - 1) o
-      → l ≡ place_of_shown o → r ≡ priority_for l → r ≡ None → ((p : ℕ) → l ≡ Some p → w ≡ p)
-      → IsHighest k ENTRIES 0 MIDDLE (Some w) × (priority_for (Some w) ≡ None)
-  priority_worn o l r w is same gives none at = worn_at (IsHighest k ENTRIES 0 MIDDLE) priority_for FIRST_PRIORITY refl
-      (place_of_shown o) l w same (prior_of o is) (sym gives ∙ none) at
 
   -- where there is a last one, it stands below the middle
   pub priority_low : (o : Option ShownMember) (l : Option ℕ) (p : ℕ) → IsLast (place_by k) MEMBERS 0 (MIDDLE - 1) o
@@ -602,62 +578,78 @@ module _ (old new : Known) (who slot : ℕ) (is : new ≡ stored_with old (step.
     carries = remove_carried;
   }
 
+-- an add of a form has the place that the entry's word says
+pub form_placed : (f : Form) (k : Known) (p : ℕ) → IsFormPlace f k p → IsPlaceFor k (is_priority f) p
+form_placed forms.Front k p is = inl is
+form_placed forms.Tail k p is = inr is
+form_placed forms.Priority k p is = is
+
+pub form_queued : (f : Form) (mid new : Known) (slot : ℕ) (e : Entry) (q : HasQueued mid new slot e)
+    → IsFormPlace f mid e.place → IsFormPlace f q.seen e.place
+form_queued forms.Front mid new slot e q is = q.front is
+form_queued forms.Tail mid new slot e q is = q.tail is
+form_queued forms.Priority mid new slot e q is = q.priority is
+
 -- the whole add
-module _ (IsPlace : Known → ℕ → Type 0) (old mid new : Known) (slot p : ℕ) (made : ℕ → Entry)
-    (at : (made p).place ≡ p) (plain : TriesNo (made p)) (e : Entry) (first : Looks old mid) (is : e ≡ made p)
-    (q : HasQueued mid new slot e) where
+module _ (form : Form) (old new : Known) (slot : ℕ) (made : ℕ → Entry) (at : (p : ℕ) → (made p).place ≡ p)
+    (h : HasPut form old new slot made) where
   abbrev x : ℕ
   x = index old.view.number slot
 
-  add_looks : Looks old q.seen
-  add_looks = looks_on old mid q.seen first q.looks
+  abbrev e : Entry
+  e = made h.place
 
-  add_is : new ≡ stored_with q.seen (step.Queue x (made p))
-  add_is = q.is ∙ (λ i. stored_with q.seen (step.Queue (index ((first.is i).view.number) slot) (is i)))
+  pub put_looks : Looks old h.put.seen
+  put_looks = looks_on old h.mid h.put.seen h.looks h.put.looks
 
-  pub added_at : head_of (made p).watch < FIRST_DONE_HEAD → AreLow mid MEMBERS → AreSeen mid MEMBERS
-      → LooksAtMost (MEMBER_WORDS + length (shown_queue mid)) old mid → IsPlace q.seen e.place
-      → HasAdded IsPlace old new slot made
-  added_at low_head low seen counts place = record {
-    place = p;
-    seen = q.seen;
-    looks = add_looks;
-    whole = q.whole;
-    low = q.low low;
-    is_off = subst (λ (n : ℕ). (told_of q.seen).hold.book (index n slot) ≡ off)
-        (ap (λ (j : Known). j.view.number) first.is) q.is_off;
-    sort = subst (IsPlace q.seen) (ap (λ (f : Entry). f.place) is ∙ at) place;
-    is = add_is;
-    queued = queue_memberd q.seen new x (made p) add_is;
-    stays = stays_on (only x) old q.seen new (stays_but (only x) old q.seen add_looks.stays)
-        (queue_stays q.seen new x (made p) add_is plain low_head);
-    counts = counted_add old mid q.seen new x (made p) q.looks seen counts q.one add_is;
-    carries = low_carried q.seen new x (made p) add_is old plain low_head (looks_carried old q.seen add_looks);
+  pub put_is : new ≡ stored_with h.put.seen (step.Queue x e)
+  put_is = h.put.is ∙ (λ i. stored_with h.put.seen (step.Queue (index ((h.looks.is i).view.number) slot) (h.by i)))
+
+  pub put_off : (told_of h.put.seen).hold.book x ≡ off
+  put_off = subst (λ (n : ℕ). (told_of h.put.seen).hold.book (index n slot) ≡ off)
+      (ap (λ (j : Known). j.view.number) h.looks.is) h.put.is_off
+
+  pub put_sort : IsFormPlace form h.put.seen h.place
+  put_sort = subst (IsFormPlace form h.put.seen) (ap (λ (f : Entry). f.place) h.by ∙ at h.place) h.sort
+
+  pub put_counts : LooksAtMost (MEMBER_WORDS + length (shown_queue h.put.seen) + 1) old new
+  put_counts = counted_add old h.mid h.put.seen new x e h.put.looks h.seen h.counts h.put.one put_is
+
+  pub added_at : TriesNo e → head_of e.watch < FIRST_DONE_HEAD → HasAdded (IsFormPlace form) old new slot made
+  added_at plain low_head = record {
+    place = h.place;
+    seen = h.put.seen;
+    looks = put_looks;
+    whole = h.put.whole;
+    low = h.put.low h.low;
+    is_off = put_off;
+    sort = put_sort;
+    is = put_is;
+    queued = queue_memberd h.put.seen new x e put_is;
+    stays = stays_on (only x) old h.put.seen new (stays_but (only x) old h.put.seen put_looks.stays)
+        (queue_stays h.put.seen new x e put_is plain low_head);
+    counts = put_counts;
+    carries = low_carried h.put.seen new x e put_is old plain low_head (looks_carried old h.put.seen put_looks);
   }
 
 -- the whole add of an entry for a completion
-module _ (old mid new : Known) (slot p : ℕ) (made : ℕ → Entry) (at : (made p).place ≡ p) (plain : TriesNo (made p))
-    (e : Entry) (first : Looks old mid) (is : e ≡ made p) (q : HasQueued mid new slot e) where
-  pub added_for_cell : AreLow mid MEMBERS → AreSeen mid MEMBERS
-      → LooksAtMost (MEMBER_WORDS + length (shown_queue mid)) old mid → IsTailPlace q.seen e.place
-      → HasAddedForCell old new slot made
-  added_for_cell low seen counts place =
-      let looks = add_looks IsTailPlace old mid new slot p made at plain e first is q in
-      let now = add_is IsTailPlace old mid new slot p made at plain e first is q in
-      let own = index old.view.number slot in record {
-        place = p;
-        seen = q.seen;
-        looks = looks;
-        whole = q.whole;
-        low = q.low low;
-        is_off = subst (λ (n : ℕ). (told_of q.seen).hold.book (index n slot) ≡ off)
-            (ap (λ (j : Known). j.view.number) first.is) q.is_off;
-        sort = subst (IsTailPlace q.seen) (ap (λ (f : Entry). f.place) is ∙ at) place;
-        is = now;
-        queued = queue_memberd q.seen new own (made p) now;
-        counts = counted_add old mid q.seen new own (made p) q.looks seen counts q.one now;
-        carries = cell_carried q.seen new own (made p) now old plain (looks_carried old q.seen looks);
-      }
+module _ (old new : Known) (slot : ℕ) (made : ℕ → Entry) (at : (p : ℕ) → (made p).place ≡ p)
+    (h : HasPut forms.Tail old new slot made) where
+  pub added_for_cell : TriesNo (made h.place) → HasAddedForCell old new slot made
+  added_for_cell plain = let is = put_is forms.Tail old new slot made at h in record {
+    place = h.place;
+    seen = h.put.seen;
+    looks = put_looks forms.Tail old new slot made at h;
+    whole = h.put.whole;
+    low = h.put.low h.low;
+    is_off = put_off forms.Tail old new slot made at h;
+    sort = put_sort forms.Tail old new slot made at h;
+    is = is;
+    queued = queue_memberd h.put.seen new (index old.view.number slot) (made h.place) is;
+    counts = put_counts forms.Tail old new slot made at h;
+    carries = cell_carried h.put.seen new (index old.view.number slot) (made h.place) is old plain
+        (looks_carried old h.put.seen (put_looks forms.Tail old new slot made at h));
+  }
 
 queued_holds : (seen new : Known) (x : ℕ) (e : Entry) → IsHolding seen → new ≡ stored_with seen (step.Queue x e)
     → IsHolding new

@@ -1,5 +1,6 @@
 -- What a task asks for, over looks and over other steps that begin no debt.
 use Rattle.std.proofs.Common.{◌∙◌, ap, sym, refl, subst}
+use Rattle.std.proofs.lemmas.Bool.{and_right}
 use Rattle.std.specs.Prelude.{ℕ, Option, ◌≡◌, ◌&&◌, not, Bool, true, false}
 use Rattle.wait_model.specs.declared.watches.Aim.{Aim}
 use Rattle.wait_model.specs.declared.watches.Entry.{Entry}
@@ -27,17 +28,13 @@ all_but_page = record {
   left = true;
 }
 
-none_and : (b : Bool) → (b && false) ≡ false
-none_and true = refl
-none_and false = refl
-
 unasked_debts : (k : Known) → asks_for k ≡ nothing_asked → Debts all_but_page k
 unasked_debts k none = record { none = by; off = λ q. absurd (cc); shows = λ q. absurd (cc) }
   where
     by : (o : Obligation) → (has_duty k o && not (excuses all_but_page o)) ≡ false
-    by (wake_of c σ) = none_and ((told_of k).duty.owes c σ)
+    by (wake_of c σ) = and_right ((told_of k).duty.owes c σ) false refl
     by page_asked = ap (λ (q : Asked). is_asking q && true) none
-    by (end_unclosed e) = none_and (has_end e k)
+    by (end_unclosed e) = and_right (has_end e k) false refl
 
 is_none : (a : Bool) → (a && true) ≡ false → a ≡ false
 is_none true is = is

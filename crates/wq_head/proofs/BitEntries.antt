@@ -1,6 +1,7 @@
 -- The function of an entry for a bit, and the load that it begins with.
 use Rattle.std.proofs.Common.{◌∙◌, ap, sym, refl, subst, inl, inr, arith}
-use Rattle.std.specs.Prelude.{ℕ, ◌+◌, ◌≡◌, ◌<◌, ◌≤◌, ◌⊎◌, ◌&&◌, ◌||◌, Bool, true, false, if◌then◌else◌, Option, Some}
+use Rattle.std.proofs.lemmas.Bool.{and_from, or_left}
+use Rattle.std.specs.Prelude.{ℕ, ◌+◌, ◌≡◌, ◌<◌, ◌≤◌, ◌⊎◌, ◌||◌, Bool, true, false, if◌then◌else◌, Option, Some}
 use Rattle.std.specs.Prelude.{None, [], ◌∷◌}
 use Rattle.wait_model.specs.declared.layout.TheConstants.{ENTRIES}
 use Rattle.wait_model.specs.declared.watches.Entry.{Entry}
@@ -38,10 +39,6 @@ use Rattle.wq_head.proofs.PastMembers.{passed_more}
 use Rattle.wq_head.proofs.QuietSteps.{load_quiet, load_stays, quiet_marks, quiet_keeps, quiet_walking}
 use Rattle.wq_head.proofs.ShownMembers.{whole_same, standing_same, places_same}
 
-or_left : (a b : Bool) → a ≡ true → (a || b) ≡ true
-or_left true b is = refl
-or_left false b is = absurd (cc)
-
 or_in : (a b c : Bool) → (a || b) ≡ true → (a || (b || c)) ≡ true
 or_in true b c is = refl
 or_in false true c is = refl
@@ -51,10 +48,6 @@ or_right : (a b c : Bool) → c ≡ true → (a || (b || c)) ≡ true
 or_right true b c is = refl
 or_right false true c is = refl
 or_right false false c is = is
-
-and_both : (a b : Bool) → a ≡ true → b ≡ true → (a && b) ≡ true
-and_both true b one two = two
-and_both false b one two = absurd (cc)
 
 -- entries of kind Bit and of kind Page are for a bit
 pub bit_here : (a : Aim) (k : Known) (v : ShownEntry) (w : Walking) → IsNextEntry a k w v → v.entry.kind ≡ kind.Bit
@@ -108,7 +101,7 @@ module _ (a : Aim) (k : Known) (v : ShownEntry) (full : IsFull a.watch) (w : Wal
   found_set set =
       let held : IsHeld a k (rest_of a w) = n.calling.walking.held in
       ap (λ (t : Option Walk). finds_bit_set t a.watch r) held.under.under
-      ∙ and_both (is_bit held.walk.watch) (failing a.watch r held.walk.watch)
+      ∙ and_from (is_bit held.walk.watch) (failing a.watch r held.walk.watch)
       (sym (under_one a k (rest_of a w) held).bit ∙ tested_bit)
       ((under_one a k (rest_of a w) held).fails tested_bit r ∙ set)
 

@@ -69,6 +69,15 @@ from_ahead p q ahead = grind (arith, nat_tests)
 ahead_from : (p q r : ℕ) → p ≤ q → q ≤ r → nat_le p r ≡ true
 ahead_from p q r low later = grind (arith, nat_tests)
 
+-- whose entries these are
+pub first_owner : (who : ℕ) → owner (2 * who) ≡ who
+unfolding owner
+first_owner who = omega arith
+
+pub second_owner : (who : ℕ) → owner (2 * who + 1) ≡ who
+unfolding owner
+second_owner who = omega arith
+
 -- the call of the entry at hand
 module _ (a : Aim) (k : Known) (v : ShownEntry) (w : Walking) (n : IsNextEntry a k w v) where
   abbrev pub rest_now : Aim
@@ -264,14 +273,6 @@ module _ (a : Aim) (k : Known) (v : ShownEntry) (w : Walking) (n : IsNextEntry a
       by (yes low) = inl (omega (arith, mine, low))
       by (no high) = inr (omega (arith, mine, high))
 
-  first_owner : owner (2 * who) ≡ who
-  unfolding owner
-  first_owner = omega arith
-
-  second_owner : owner (2 * who + 1) ≡ who
-  unfolding owner
-  second_owner = omega arith
-
   pub callee_is : callee view notes a.watch who ≡ Some v.member
   callee_is = elim owner_of [
     | inl first ↦
@@ -280,7 +281,7 @@ module _ (a : Aim) (k : Known) (v : ShownEntry) (w : Walking) (n : IsNextEntry a
         (sooner_of (2 * who + 1) (2 * who)) (2 * who)) due
         ∙ (first_alone (is_due view notes a.watch (2 * who + 1)) (sooner_of (2 * who + 1) (2 * who)) (2 * who)
         (λ d. ap (sooner_of (2 * who + 1)) (sym first) ∙ (sooner_here (2 * who + 1)
-        (let low = n.counts in omega (arith, first, low)) (λ same. omega (arith, first, same)) (second_owner ∙ mine)
+        (let low = n.counts in omega (arith, first, low)) (λ same. omega (arith, first, same)) (second_owner who ∙ mine)
         d).1)
         ∙ ap (λ (x : ℕ). Some x) (sym first))
     | inr second ↦
@@ -289,7 +290,7 @@ module _ (a : Aim) (k : Known) (v : ShownEntry) (w : Walking) (n : IsNextEntry a
         (sooner_of (2 * who + 1) (2 * who)) (2 * who)) due
         ∙ (second_alone (is_due view notes a.watch (2 * who)) (sooner_of (2 * who + 1) (2 * who)) (2 * who)
         (λ d. ap (λ (x : ℕ). sooner_of x (2 * who)) (sym second) ∙ (sooner_here (2 * who)
-        (let low = n.counts in omega (arith, second, low)) (λ same. omega (arith, second, same)) (first_owner ∙ mine)
+        (let low = n.counts in omega (arith, second, low)) (λ same. omega (arith, second, same)) (first_owner who ∙ mine)
         d).0)
         ∙ ap (λ (x : ℕ). Some x) (sym second))
   ]

@@ -19,7 +19,7 @@ use Rattle.wait_model.specs.Views.{View as Told, Walk, Look, off, shown, gone, p
 use Rattle.wait_model.specs.Fold.{after, met_task, is_off, picks}
 use Rattle.wait_model.specs.Programs.{past, reached}
 use Rattle.wait_model.specs.Rows.{MaySpend}
-use Rattle.wait_model.proofs.Functions.{put_at}
+use Rattle.wait_model.proofs.Functions.{both_left, put_at}
 use Rattle.wait_rule.specs.declared.journal.Item.TheVariants as item
 use Rattle.wait_rule.specs.Known.{Known}
 use Rattle.wait_rule.specs.Says.{told_of, noted, stored_with}
@@ -45,32 +45,24 @@ use Rattle.wq_head.proofs.QuietSteps.{off_marks, off_keeps, off_walking, off_sta
 use Rattle.wq_head.proofs.ShownMembers.{whole_off, standing_off, places_off, off_entry}
 
 -- the kinds of entries that are taken off so
-pub off_auto : (kd : Kind) → kd ≡ kind.Autoremove → TakesOff kd
-off_auto kd is = record {
-  default = λ d. absurd (cc);
-  woken = λ d. absurd (cc);
-  rings = ap is_woken is;
-  simple = ap is_simple is;
-  unpaged = ap is_page is;
+takes_by : (kd : Kind) → (kd ≡ kind.Default → ⊥) → (kd ≡ kind.Woken → ⊥) → is_woken kd ≡ false → is_simple kd ≡ false
+    → is_page kd ≡ false → TakesOff kd
+takes_by kd default woken rings simple unpaged = record {
+  default = default;
+  woken = woken;
+  rings = rings;
+  simple = simple;
+  unpaged = unpaged;
 }
+
+pub off_auto : (kd : Kind) → kd ≡ kind.Autoremove → TakesOff kd
+off_auto kd is = takes_by kd (λ d. absurd (cc)) (λ d. absurd (cc)) (ap is_woken is) (ap is_simple is) (ap is_page is)
 
 pub off_var : (kd : Kind) → kd ≡ kind.Var → TakesOff kd
-off_var kd is = record {
-  default = λ d. absurd (cc);
-  woken = λ d. absurd (cc);
-  rings = ap is_woken is;
-  simple = ap is_simple is;
-  unpaged = ap is_page is;
-}
+off_var kd is = takes_by kd (λ d. absurd (cc)) (λ d. absurd (cc)) (ap is_woken is) (ap is_simple is) (ap is_page is)
 
 pub off_bit : (kd : Kind) → kd ≡ kind.Bit → TakesOff kd
-off_bit kd is = record {
-  default = λ d. absurd (cc);
-  woken = λ d. absurd (cc);
-  rings = ap is_woken is;
-  simple = ap is_simple is;
-  unpaged = ap is_page is;
-}
+off_bit kd is = takes_by kd (λ d. absurd (cc)) (λ d. absurd (cc)) (ap is_woken is) (ap is_simple is) (ap is_page is)
 
 -- such an entry is none that its task alone takes off
 not_own : (e d : Entry) → TakesOff e.kind → Some e ≡ Some d → IsOwnKind d.kind → ⊥
@@ -103,10 +95,6 @@ off_passes a k x walk place p = subst (λ (u : Told). (y : ℕ) → y < ENTRIES
               ((told_of k).hold.book y) y (λ q s. s) (λ f g. g) done)
           | inr c ↦ inr c
         ])
-
-and_left : (a b : Bool) → (a && b) ≡ true → a ≡ true
-and_left true b is = refl
-and_left false b is = absurd (cc)
 
 four : (a b c d : Bool) → a ≡ true → b ≡ true → c ≡ true → d ≡ true → (a && (b && (c && d))) ≡ true
 four true true true d one two three last = last
@@ -258,7 +246,7 @@ module _ (a : Aim) (k : Known) (v : ShownEntry) (full : IsFull a.watch) (w : Wal
     off_spends is = by (counted a.watch) refl
       where
         exclusive : v.entry.exclusive ≡ true
-        exclusive = and_left v.entry.exclusive (w.left == 1) is
+        exclusive = both_left v.entry.exclusive (w.left == 1) is
 
         held : IsHeld a gone_off (rest_of a (past w (entry_called v) true))
         held = calling_off.walking.held

@@ -1,5 +1,6 @@
 -- Full heads: which watches one wake calls together, and which kinds of entries stand there.
 use Rattle.std.proofs.Common.{◌∙◌, ap, sym, refl, inl, inr, eq-eqb, eqb-true, arith}
+use Rattle.std.proofs.lemmas.Bool.{and_from}
 use Rattle.std.specs.Prelude.{ℕ, ◌+◌, ◌*◌, ◌≡◌, ◌≢◌, ◌<◌, ◌⊎◌, ◌&&◌, ◌==◌, not, Bool, true, false}
 use Rattle.wait_model.specs.declared.layout.TheConstants.{BIT_WORDS, WORD_BITS, HASHED_HEADS, FIRST_SIMPLE_HEAD}
 use Rattle.wait_model.specs.declared.watches.Watch.{Watch}
@@ -9,6 +10,7 @@ use Rattle.wait_model.specs.declared.watches.Kind.{Kind}
 use Rattle.wait_model.specs.declared.watches.Kind.TheVariants as kind
 use Rattle.wait_model.specs.Watches.{same, head_of, hashed, misses, failing, is_bit, counted, is_simple, page}
 use Rattle.wait_model.specs.Words.{bit_at, Suited}
+use Rattle.wait_model.proofs.Functions.{both_left, both_right}
 use Rattle.wait_rule.specs.Members.{IsStanding, IsKindFor}
 use Rattle.wq_head.specs.Walks.{IsFull}
 
@@ -24,23 +26,11 @@ head_small (watch.Done d) full = absurd full
 head_small (watch.Bit w b) full = let low = hashed_low (w * WORD_BITS + b) in omega (arith, low)
 head_small (watch.Var v o) full = let low = hashed_low (BIT_WORDS + v) in omega (arith, low)
 
-both_left : (a b : Bool) → (a && b) ≡ true → a ≡ true
-both_left true b is = refl
-both_left false b is = absurd (cc)
-
-both_right : (a b : Bool) → (a && b) ≡ true → b ≡ true
-both_right true b is = is
-both_right false b is = absurd (cc)
-
-both : (a b : Bool) → a ≡ true → b ≡ true → (a && b) ≡ true
-both true b one two = two
-both false b one two = absurd (cc)
-
 -- a wake for a watch calls the entries of it
 pub same_self : (c : Watch) → same c c ≡ true
 same_self (watch.Plain c) = eq-eqb c c refl
 same_self (watch.Done d) = eq-eqb d d refl
-same_self (watch.Bit w b) = both (w == w) (b == b) (eq-eqb w w refl) (eq-eqb b b refl)
+same_self (watch.Bit w b) = and_from (w == w) (b == b) (eq-eqb w w refl) (eq-eqb b b refl)
 same_self (watch.Var v o) = eq-eqb v v refl
 
 -- two watches that one wake calls
@@ -50,20 +40,13 @@ pub record IsOne (c d : Watch) : Type 0 where
   pub counts : counted c ≡ counted d
   pub fails : is_bit c ≡ true → (r : ℕ) → failing c r d ≡ misses c r
 
-one_plain : (c d : ℕ) → c ≡ d → IsOne (watch.Plain c) (watch.Plain d)
-one_plain c d is = record {
-  likes = λ e. ap (λ (x : ℕ). same e (watch.Plain x)) is;
-  bit = refl;
-  counts = refl;
-  fails = λ is. absurd (cc);
-}
-
-one_done : (c d : ℕ) → c ≡ d → IsOne (watch.Done c) (watch.Done d)
-one_done c d is = record {
-  likes = λ e. ap (λ (x : ℕ). same e (watch.Done x)) is;
-  bit = refl;
-  counts = refl;
-  fails = λ is. absurd (cc);
+-- a watch that is no bit is one with itself
+one_same : (c d : Watch) → c ≡ d → is_bit c ≡ false → IsOne c d
+one_same c d is other = record {
+  likes = λ e. ap (same e) is;
+  bit = ap is_bit is;
+  counts = ap counted is;
+  fails = λ bit. absurd (let clash : true ≡ false = sym bit ∙ other in cc);
 }
 
 one_bit : (w b v a : ℕ) → (w == v) ≡ true → (b == a) ≡ true → IsOne (watch.Bit w b) (watch.Bit v a)
@@ -86,12 +69,14 @@ one_var v o u p is = record { likes = by; bit = refl; counts = refl; fails = λ 
     by (watch.Var x q) = ap (λ (y : ℕ). x == y) is
 
 pub one_of : (c d : Watch) → same c d ≡ true → IsOne c d
-one_of (watch.Plain c) (watch.Plain d) is = one_plain c d (eqb-true c d is)
+one_of (watch.Plain c) (watch.Plain d) is =
+    one_same (watch.Plain c) (watch.Plain d) (ap watch.Plain (eqb-true c d is)) refl
 one_of (watch.Plain c) (watch.Done d) is = absurd (cc)
 one_of (watch.Plain c) (watch.Bit v a) is = absurd (cc)
 one_of (watch.Plain c) (watch.Var u p) is = absurd (cc)
 one_of (watch.Done c) (watch.Plain d) is = absurd (cc)
-one_of (watch.Done c) (watch.Done d) is = one_done c d (eqb-true c d is)
+one_of (watch.Done c) (watch.Done d) is =
+    one_same (watch.Done c) (watch.Done d) (ap watch.Done (eqb-true c d is)) refl
 one_of (watch.Done c) (watch.Bit v a) is = absurd (cc)
 one_of (watch.Done c) (watch.Var u p) is = absurd (cc)
 one_of (watch.Bit w b) (watch.Plain d) is = absurd (cc)

@@ -1,6 +1,7 @@
 -- The function of an entry for a page that was free: the task is told and woken, and the entry taken off.
 use Rattle.std.proofs.Common.{◌∙◌, ap, sym, refl, subst, inl, inr, eqb-true, eq-eqb, arith}
-use Rattle.std.specs.Prelude.{ℕ, ◌+◌, ◌*◌, ◌≡◌, ◌≢◌, ◌<◌, ◌⊎◌, ◌&&◌, ◌||◌, ◌==◌, not, Bool, true, false}
+use Rattle.std.proofs.lemmas.Bool.{and_from, and_left, or_left, or_right}
+use Rattle.std.specs.Prelude.{ℕ, ◌+◌, ◌*◌, ◌≡◌, ◌≢◌, ◌<◌, ◌&&◌, ◌||◌, ◌==◌, not, Bool, true, false}
 use Rattle.std.specs.Prelude.{if◌then◌else◌, Option, Some, None, [], ◌∷◌}
 use Rattle.wait_model.specs.declared.layout.TheConstants.{SLOTS, ENTRIES, MEMBERS}
 use Rattle.wait_model.specs.declared.watches.Watch.{Watch}
@@ -33,7 +34,7 @@ use Rattle.wait_rule.specs.Shown.{look_entry, shown_entry}
 use Rattle.wait_rule.specs.Stays.{Stays, no_entries}
 use Rattle.wait_rule.specs.Transitions.{walk_program, Goes}
 use Rattle.wait_rule.proofs.KnownLaws.AfterSteps.{told_added, noted_added}
-use Rattle.wait_rule.proofs.KnownLaws.Debts.{step_debts, stored_debts}
+use Rattle.wait_rule.proofs.KnownLaws.Debts.{step_debts}
 use Rattle.wait_rule.proofs.KnownLaws.MemberBits.{told_stored, noted_stored}
 use Rattle.wait_rule.proofs.KnownLaws.Transitions.{goes_on}
 use Rattle.wq_head.specs.declared.functions.ShownEntry.{ShownEntry}
@@ -43,27 +44,17 @@ use Rattle.wq_head.specs.Walking.{HandsPage, HasCalled, IsCalling, IsHeld, IsNex
 use Rattle.wq_head.specs.Walking.{entry_called, rest_of, next_in_walk, with_left}
 use Rattle.wq_head.proofs.BitEntries.{tested_places}
 use Rattle.wq_head.proofs.CountedCalls.{call_called, call_left, call_notes, call_used, even_index, one_slot, rest_now}
-use Rattle.wq_head.proofs.CountedCalls.{shows_entry, walk_is}
+use Rattle.wq_head.proofs.CountedCalls.{first_owner, second_owner, shows_entry, walk_is}
 use Rattle.wq_head.proofs.EntryFunctions.{keeps_on, under_one}
 use Rattle.wq_head.proofs.EntryWakes.{load_transition, page_goes}
 use Rattle.wq_head.proofs.PageEntries.{clear_is, for_page, looked, looked_keeps, looked_next, noted_tried, page_bit}
 use Rattle.wq_head.proofs.PageEntries.{told_tried, tried, tries}
 use Rattle.wq_head.proofs.PageTransitions.{at_stage, hand_goes, hand_transition, leave_goes, leave_transition}
 use Rattle.wq_head.proofs.PageTransitions.{rouse_goes, rouse_transition, try_goes, try_transition}
+use Rattle.wait_rule.proofs.KnownLaws.StayingParts.{stays_bits, stays_on}
 use Rattle.wq_head.proofs.PassedBits.{passes_all}
+use Rattle.wq_head.proofs.QuietSteps.{off_stays}
 use Rattle.wq_head.proofs.ShownMembers.{off_entry, places_off, standing_off, whole_off}
-
-or_left : (b m : Bool) → b ≡ true → (b || m) ≡ true
-or_left true m is = refl
-or_left false m is = absurd (cc)
-
-or_right : (b m : Bool) → m ≡ true → (b || m) ≡ true
-or_right true m is = refl
-or_right false m is = is
-
-and_both : (b c : Bool) → b ≡ true → c ≡ true → (b && c) ≡ true
-and_both true c one two = two
-and_both false c one two = absurd (cc)
 
 used_still : (u s m : Bool) → s ≡ false → (u || (s && m)) ≡ u
 used_still true s m none = refl
@@ -81,10 +72,6 @@ was_called true true true is = refl
 was_called true true false is = absurd (cc)
 was_called true false t is = refl
 was_called false c t is = refl
-
-no_look : (b c : Bool) → b ≡ false → (b && c) ≡ false
-no_look true c is = absurd (cc)
-no_look false c is = refl
 
 -- a walk with what is left of its count is for the same watch
 left_watch : (a b : Aim) (m l : ℕ) (e z : Bool) → (if e then (if z then None else Some (record {
@@ -187,24 +174,16 @@ module _ (a : Aim) (k : Known) (v : ShownEntry) (full : IsFull a.watch) (w : Wal
       by true here = was_called (is_for_look a.watch ((told_of informed).hold.book y))
           (is_ahead (noted informed).from ((told_of informed).hold.book y)) ((noted informed).called y)
           (ap (noted informed).called (eqb-true y x here) ∙ called_it)
-      by false there = no_look (is_for_look a.watch ((told_of informed).hold.book y)) _
+      by false there = and_left (is_for_look a.watch ((told_of informed).hold.book y)) _
           (no_other y (λ at_x. let z : true ≡ false = sym (eq_self y x at_x) ∙ there in absurd (cc)) mine)
         where
           eq_self : (m o : ℕ) → m ≡ o → (m == o) ≡ true
           eq_self m o same_one = eq-eqb m o same_one
 
-  first_owner : owner (2 * who) ≡ who
-  unfolding owner
-  first_owner = omega arith
-
-  second_owner : owner (2 * who + 1) ≡ who
-  unfolding owner
-  second_owner = omega arith
-
   callee_none : callee (told_of informed) (noted informed) a.watch who ≡ None
   callee_none = none_first (is_due (told_of informed) (noted informed) a.watch (2 * who))
       (is_due (told_of informed) (noted informed) a.watch (2 * who + 1)) _ (2 * who)
-      (not_due (2 * who) first_owner) (not_due (2 * who + 1) second_owner)
+      (not_due (2 * who) (first_owner who)) (not_due (2 * who + 1) (second_owner who))
 
   calls_none : (o : Option Aim) → ((b : Aim) → o ≡ Some b → b.watch ≡ a.watch)
       → notes_after_wake o who mask (met_task mask found) (told_of informed) (noted informed) ≡ noted informed
@@ -272,7 +251,7 @@ module _ (a : Aim) (k : Known) (v : ShownEntry) (full : IsFull a.watch) (w : Wal
   handed_picked : (told_of handed).hold.picked ≡ true
   handed_picked = ap (λ (u : Told). u.hold.picked) told_handed
       ∙ or_left _ _ (or_right (told_of k).hold.picked _
-      (and_both (is_for_page (told_of k).walk (word_of a.watch)) (was_clear (page (word_of a.watch)) t)
+      (and_from (is_for_page (told_of k).walk (word_of a.watch)) (was_clear (page (word_of a.watch)) t)
       (for_page a k v w n is) (clear_is a k v w n is t clear)))
 
   -- an own entry for a page is none that its task alone takes off
@@ -285,29 +264,13 @@ module _ (a : Aim) (k : Known) (v : ShownEntry) (full : IsFull a.watch) (w : Wal
       elim own [ inl default ↦ absurd (cc) | inr woken ↦ absurd (cc) ]
 
   handed_stays : Stays no_entries k handed
-  handed_stays = record {
-    domain = refl;
-    number = refl;
-    state = refl;
-    awake = refl;
-    still = λ y out. subst (λ (u : Told). (u.bits.stored y ≡ (told_of k).bits.stored y) ⊎ (u.bits.stored y ≡ None))
-        (sym told_handed)
-        (put_at (λ (s : Option Entry). (s ≡ (told_of k).bits.stored y) ⊎ (s ≡ None)) (told_of k).bits.stored x None y
-        (λ _. inr refl) (λ _. inl refl));
-    stands = λ slot few out e there own. ap (λ (u : Told). u.bits.stored (index k.view.number slot)) told_handed
-        ∙ put_at (λ (s : Option Entry). s ≡ Some e) (told_of k).bits.stored x None (index k.view.number slot)
-        (λ same_one. absurd (loose slot few (sym same_one) e (ap (told_of k).bits.stored (sym same_one) ∙ there) own))
-        (λ _. there);
-    keeps = λ c. ap (λ (u : Told). u.bits.keeps c) told_handed;
-    tries_none = λ none y c. ap (λ (u : Told). is_trying_for (u.bits.stored y) c) told_handed
-        ∙ put_at (λ (s : Option Entry). is_trying_for s c ≡ false) (told_of k).bits.stored x None y (λ _. refl)
-        (λ _. none y c);
-    tries = λ none c out. ap (λ (u : Told). u.bits.pending c) told_handed ∙ out;
-    debts = λ f d. stored_debts woke handed (step.Unqueue x) refl refl f
-        (step_debts informed woke (step.Wake who mask found) refl refl f
-        (step_debts free informed (step.Handed x) refl refl f
-        (step_debts k free (tries a k v full w n is t) refl refl f d)));
-  }
+  handed_stays = stays_on no_entries k woke handed
+      (stays_bits k woke refl refl refl refl (ap (λ (u : Told). u.bits) told_woke) (λ f d.
+      step_debts informed woke (step.Wake who mask found) refl refl f
+      (step_debts free informed (step.Handed x) refl refl f
+      (step_debts k free (tries a k v full w n is t) refl refl f d))))
+      (off_stays woke x (λ slot few at_x e stored own. loose slot few at_x e
+      (sym (ap (λ (u : Told). u.bits.stored x) told_woke) ∙ stored) own))
 
   pub handed_keeps : StaysInWalk a k handed
   handed_keeps = record {

@@ -1,23 +1,24 @@
 -- The entries of adds for bits and variables.
 use Rattle.std.proofs.Common.{◌∙◌, ap, sym, refl, subst, inl, inr, eq-eqb, eqb-true, arith}
-use Rattle.std.specs.Prelude.{ℕ, ◌+◌, ◌≡◌, ◌≢◌, ◌<◌, ◌&&◌, ◌||◌, ◌==◌, not, Bool, true, false}
-use Rattle.std.specs.Prelude.{Option, Some, length}
-use Rattle.wait_model.specs.declared.layout.TheConstants.{BIT_WORDS, MEMBERS, MEMBER_WORDS}
+use Rattle.std.proofs.lemmas.Bool.{and_right}
+use Rattle.std.specs.Prelude.{ℕ, ◌≡◌, ◌≢◌, ◌<◌, ◌&&◌, ◌||◌, ◌==◌, not, Bool, true, false}
+use Rattle.std.specs.Prelude.{Option, Some}
+use Rattle.wait_model.specs.declared.layout.TheConstants.{BIT_WORDS}
+use Rattle.wait_model.specs.declared.queues.Form.TheVariants as forms
 use Rattle.wait_model.specs.declared.watches.Watch.{Watch}
 use Rattle.wait_model.specs.declared.watches.Kind.{Kind}
 use Rattle.wait_model.specs.declared.watches.Kind.TheVariants as kind
 use Rattle.wait_model.specs.declared.watches.Entry.{Entry}
 use Rattle.wait_model.specs.declared.steps.Step.TheVariants as step
 use Rattle.wait_model.specs.Watches.{is_page, page, same}
-use Rattle.wait_model.specs.Views.{View as Told, off, is_trying_for}
+use Rattle.wait_model.specs.Views.{View as Told, is_trying_for}
 use Rattle.wait_model.specs.Fold.{after}
 use Rattle.wait_model.proofs.Functions.{put_at}
 use Rattle.wait_rule.specs.declared.journal.Item.TheVariants as item
 use Rattle.wait_rule.specs.Asked.{is_asking, waits_for}
 use Rattle.wait_rule.specs.Known.{Known}
-use Rattle.wait_rule.specs.LookCounts.{LooksAtMost}
 use Rattle.wait_rule.specs.Members.{IsStanding}
-use Rattle.wait_rule.specs.Queues.{IsTailPlace, index}
+use Rattle.wait_rule.specs.Queues.{index}
 use Rattle.wait_rule.specs.Says.{Debts, Obligation, Excuse, IsOutBut, OwesBut, TriesNone, added, asks_for, end_unclosed}
 use Rattle.wait_rule.specs.Says.{excuses, has_duty, has_end, is_excused, page_asked, stored_with, told_of, wake_of}
 use Rattle.wait_rule.specs.Stays.{Carries, only_looks, with_entry, with_page}
@@ -25,14 +26,10 @@ use Rattle.wait_rule.proofs.KnownLaws.AskedPages.{asked_added}
 use Rattle.wait_rule.proofs.KnownLaws.Debts.{LeavesNone, end_added, leaves_of, leaves_stored}
 use Rattle.wait_rule.proofs.KnownLaws.StayingParts.{owes_also}
 use Rattle.wq_head.proofs.CarriedHolds.{looks_carried}
-use Rattle.wait_rule.specs.Shown.{shown_queue}
-use Rattle.wq_head.specs.Adds.{IsFor, IsForBit, IsForVar, HasAddedForBit, HasAddedForPage, HasQueued, front_entry}
+use Rattle.wq_head.specs.Adds.{IsFor, IsForBit, IsForVar, HasAddedForBit, HasAddedForPage, HasPut, front_entry}
 use Rattle.wq_head.specs.Adds.{page_change, tail_entry}
-use Rattle.wq_head.specs.Looks.{Looks, AreLow, AreSeen}
-use Rattle.wq_head.proofs.AddedEntries.{IsAfter, TriesNo, full_unpaged, no_paged, plain_stands, queue_memberd}
-use Rattle.wq_head.proofs.AddedEntries.{queue_other, queue_told}
-use Rattle.wq_head.proofs.CountedLooks.{counted_add}
-use Rattle.wq_head.proofs.OneMoreLook.{looks_on}
+use Rattle.wq_head.proofs.AddedEntries.{IsAfter, TriesNo, full_unpaged, no_paged, plain_stands, put_counts, put_is}
+use Rattle.wq_head.proofs.AddedEntries.{put_looks, put_off, put_sort, queue_memberd, queue_other, queue_told}
 use Rattle.wq_head.proofs.PermitHeads.{page_low}
 
 bit_unpaged : (k : Kind) → k ≡ kind.Bit → is_page k ≡ true → ⊥
@@ -96,33 +93,24 @@ front_tries w k p is = (λ c. refl, unpaged is)
     unpaged (inr (inr var)) = ap (λ (q : Kind). not (is_page q)) var.0
 
 -- the whole add of an exclusive entry for a bit
-module _ (old mid new : Known) (slot p : ℕ) (made : ℕ → Entry) (at : (made p).place ≡ p) (e : Entry)
-    (first : Looks old mid) (is : e ≡ made p) (q : HasQueued mid new slot e) where
+module _ (old new : Known) (slot : ℕ) (made : ℕ → Entry) (at : (p : ℕ) → (made p).place ≡ p)
+    (h : HasPut forms.Tail old new slot made) where
   abbrev x : ℕ
   x = index old.view.number slot
 
-  add_looks : Looks old q.seen
-  add_looks = looks_on old mid q.seen first q.looks
-
-  add_is : new ≡ stored_with q.seen (step.Queue x (made p))
-  add_is = q.is ∙ (λ i. stored_with q.seen (step.Queue (index ((first.is i).view.number) slot) (is i)))
-
-  pub added_for_bit : AreLow mid MEMBERS → AreSeen mid MEMBERS
-      → LooksAtMost (MEMBER_WORDS + length (shown_queue mid)) old mid → IsTailPlace q.seen e.place
-      → HasAddedForBit old new slot made
-  added_for_bit low seen counts place = record {
-    place = p;
-    seen = q.seen;
-    looks = add_looks;
-    whole = q.whole;
-    low = q.low low;
-    is_off = subst (λ (n : ℕ). (told_of q.seen).hold.book (index n slot) ≡ off)
-        (ap (λ (j : Known). j.view.number) first.is) q.is_off;
-    sort = subst (IsTailPlace q.seen) (ap (λ (f : Entry). f.place) is ∙ at) place;
-    is = add_is;
-    queued = queue_memberd q.seen new x (made p) add_is;
-    others = λ y other. queue_other q.seen new x (made p) add_is y (apart y other (y == x) refl);
-    counts = counted_add old mid q.seen new x (made p) q.looks seen counts q.one add_is;
+  pub added_for_bit : HasAddedForBit old new slot made
+  added_for_bit = let is = put_is forms.Tail old new slot made at h in record {
+    place = h.place;
+    seen = h.put.seen;
+    looks = put_looks forms.Tail old new slot made at h;
+    whole = h.put.whole;
+    low = h.put.low h.low;
+    is_off = put_off forms.Tail old new slot made at h;
+    sort = put_sort forms.Tail old new slot made at h;
+    is = is;
+    queued = queue_memberd h.put.seen new x (made h.place) is;
+    others = λ y other. queue_other h.put.seen new x (made h.place) is y (apart y other (y == x) refl);
+    counts = put_counts forms.Tail old new slot made at h;
   }
     where
       apart : (y : ℕ) → y ≢ x → (b : Bool) → (y == x) ≡ b → (y == x) ≡ false
@@ -130,10 +118,6 @@ module _ (old mid new : Known) (slot p : ℕ) (made : ℕ → Entry) (at : (made
       apart y other false is = is
 
 -- an entry for a page that the task stores: it owes to ask for it no more
-and_none : (b : Bool) → (b && false) ≡ false
-and_none true = refl
-and_none false = refl
-
 module _ (seen new : Known) (x w p : ℕ)
     (is : new ≡ stored_with seen (step.Queue x (tail_entry true (page w) kind.Page p))) where
   abbrev e : Entry
@@ -155,7 +139,7 @@ module _ (seen new : Known) (x w p : ℕ)
 
       by : (o : Obligation) → (has_duty new o && not (excuses (with_page (with_entry x f)) o)) ≡ false
       by (wake_of c σ) = ap (λ (v : Told). v.duty.owes c σ && not (is_excused f c σ)) told ∙ d.none (wake_of c σ)
-      by page_asked = and_none (is_asking (asks_for new))
+      by page_asked = and_right (is_asking (asks_for new)) false refl
       by (end_unclosed k) = ap (λ (b : Bool). b && not (f.ends k)) (ap (has_end k) is
           ∙ (end_added (added seen (item.Made (step.Queue x e))) item.Member k
           ∙ end_added seen (item.Made (step.Queue x e)) k)) ∙ d.none (end_unclosed k)
@@ -163,7 +147,7 @@ module _ (seen new : Known) (x w p : ℕ)
   tries_by : TriesNone (told_of seen) → TriesNone (told_of new)
   tries_by none y c = ap (λ (v : Told). is_trying_for (v.bits.stored y) c) told
       ∙ put_at (λ (s : Option Entry). is_trying_for s c ≡ false) (told_of seen).bits.stored x (Some e) y
-      (λ _. and_none (same c (page w))) (λ _. none y c)
+      (λ _. and_right (same c (page w)) false refl) (λ _. none y c)
 
   page_owing : (f : Excuse) → OwesBut f seen → OwesBut (with_page (with_entry x f)) new
   unfolding with_page with_entry
@@ -200,27 +184,22 @@ module _ (seen new : Known) (x w p : ℕ)
   }
 
 -- the whole add of an entry for a page
-pub added_for_page : (old mid new : Known) (w p : ℕ) (e : Entry) → Looks old mid
-    → e ≡ tail_entry true (page w) kind.Page p → AreLow mid MEMBERS → AreSeen mid MEMBERS
-    → LooksAtMost (MEMBER_WORDS + length (shown_queue mid)) old mid → (q : HasQueued mid new 0 e)
-    → IsTailPlace q.seen e.place → HasAddedForPage old new w
-unfolding added_for_bit
-added_for_page old mid new w p en first is low seen counts q place =
-    let b = added_for_bit old mid new 0 p (tail_entry true (page w) kind.Page) refl en first is q low seen counts
-    place in
-    let now = add_is old mid new 0 p (tail_entry true (page w) kind.Page) refl en first is q in
-    let looks = add_looks old mid new 0 p (tail_entry true (page w) kind.Page) refl en first is q in
-    record {
-      place = p;
-      seen = q.seen;
-      looks = looks;
+pub added_for_page : (old new : Known) (w : ℕ) → HasPut forms.Tail old new 0 (tail_entry true (page w) kind.Page)
+    → HasAddedForPage old new w
+added_for_page old new w h =
+    let made = tail_entry true (page w) kind.Page in
+    let b = added_for_bit old new 0 made (λ p. refl) h in
+    let x = index old.view.number 0 in record {
+      place = b.place;
+      seen = b.seen;
+      looks = b.looks;
       whole = b.whole;
       low = b.low;
       is_off = b.is_off;
       sort = b.sort;
-      is = now;
+      is = b.is;
       queued = b.queued;
-      asks = page_asks q.seen new (index old.view.number 0) w p now;
+      asks = page_asks b.seen new x w b.place b.is;
       counts = b.counts;
-      carries = page_carried q.seen new (index old.view.number 0) w p now old (looks_carried old q.seen looks);
+      carries = page_carried b.seen new x w b.place b.is old (looks_carried old b.seen b.looks);
     }

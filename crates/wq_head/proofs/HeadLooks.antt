@@ -1,5 +1,6 @@
 -- A look at the member words of a head without its lock, one word after another.
 use Rattle.std.proofs.Common.{◌∙◌, ap, sym, refl, inl, inr, arith, eq-eqb, eqb-true}
+use Rattle.std.proofs.lemmas.Bool.{or_left, or_right}
 use Rattle.std.specs.Prelude.{ℕ, zero, suc, ◌≡◌, ◌≢◌, ◌+◌, ◌<◌, ◌≤◌, ◌==◌, ◌&&◌, ◌||◌, not, Bool, true, false}
 use Rattle.std.specs.Prelude.{List, [], ◌∷◌, ◌++◌}
 use Rattle.std.proofs.lemmas.Bool.Decides.{nat_tests}
@@ -56,20 +57,12 @@ scans_none : (h i n : ℕ) → has_bit (scans h i n) ≡ false
 scans_none h i zero = refl
 scans_none h i (suc n) = scans_none h (suc i) n
 
-or_true : (b c : Bool) → c ≡ true → (b || c) ≡ true
-or_true true c is = refl
-or_true false c is = is
-
-true_or : (b c : Bool) → b ≡ true → (b || c) ≡ true
-true_or true c is = refl
-true_or false c is = absurd (cc)
-
 scans_all : (h i n j : ℕ) → i ≤ j → j < i + n → has_word j (scans h i n) ≡ true
 scans_all h i zero j low high = absurd (omega arith)
 scans_all h i (suc n) j low high = elim (below_or i j) [
-  | inl behind ↦ or_true (i == j) (has_word j (scans h (suc i) n))
+  | inl behind ↦ or_right (i == j) (has_word j (scans h (suc i) n))
       (scans_all h (suc i) n j (omega arith) (omega arith))
-  | inr here ↦ true_or (i == j) (has_word j (scans h (suc i) n)) (eq-eqb i j (omega arith))
+  | inr here ↦ or_left (i == j) (has_word j (scans h (suc i) n)) (eq-eqb i j (omega arith))
 ]
 
 of_append : (h : ℕ) (xs ys : List Item) → AreScansOf h xs → AreScansOf h ys → AreScansOf h (xs ++ ys)
@@ -78,7 +71,7 @@ of_append h (x ∷ xs) ys one two = (one.0, of_append h xs ys one.1 two)
 
 bit_append : (xs ys : List Item) → has_bit ys ≡ true → has_bit (xs ++ ys) ≡ true
 bit_append [] ys is = is
-bit_append (x ∷ xs) ys is = or_true _ (has_bit (xs ++ ys)) (bit_append xs ys is)
+bit_append (x ∷ xs) ys is = or_right _ (has_bit (xs ++ ys)) (bit_append xs ys is)
 
 -- the look has found no bit in the first n words
 pub record HasFoundNone (old now : Known) (h n : ℕ) : Type 0 where
@@ -115,7 +108,7 @@ module _ (old now new : Known) (h n w : ℕ) (s : HasFoundNone old now h n) (mad
   bit_found some = record {
     items = scans h 0 n ++ load h n w;
     loads = of_append h (scans h 0 n) (load h n w) (scans_of h 0 n) (refl, tt);
-    found = bit_append (scans h 0 n) (load h n w) (true_or (not (w == 0)) false (let t : not (w == 0) ≡ true =
+    found = bit_append (scans h 0 n) (load h n w) (or_left (not (w == 0)) false (let t : not (w == 0) ≡ true =
         grind (arith, nat_tests, some) in t));
     all = λ no. absurd (cc);
     is = all_items;

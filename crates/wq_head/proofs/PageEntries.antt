@@ -1,7 +1,8 @@
 -- The function of an entry for a page: it tries the page for the entry's task, and stops the walk where the page is
 -- taken.
 use Rattle.std.proofs.Common.{◌∙◌, ap, sym, refl, inl, arith}
-use Rattle.std.specs.Prelude.{ℕ, ◌≡◌, ◌||◌, not, Bool, true, false, Option, [], ◌∷◌}
+use Rattle.std.proofs.lemmas.Bool.{or_right}
+use Rattle.std.specs.Prelude.{ℕ, ◌≡◌, not, Bool, true, false, Option, [], ◌∷◌}
 use Rattle.wait_model.specs.declared.layout.TheConstants.{MEMBERS}
 use Rattle.wait_model.specs.declared.watches.Watch.{Watch}
 use Rattle.wait_model.specs.declared.watches.Kind.TheVariants as kind
@@ -43,10 +44,6 @@ use Rattle.wq_head.proofs.FullHeads.{kind_page, page_same, same_self}
 use Rattle.wq_head.proofs.PageTransitions.{at_stage, try_goes, try_transition}
 use Rattle.wq_head.proofs.PassedBits.{past_all}
 use Rattle.wq_head.proofs.ShownMembers.{standing_same, whole_same}
-
-or_right : (b m : Bool) → m ≡ true → (b || m) ≡ true
-or_right true m is = refl
-or_right false m is = is
 
 -- the walk is one for the page of the entry at hand
 module _ (a : Aim) (k : Known) (v : ShownEntry) (w : Walking) (n : IsNextEntry a k w v)

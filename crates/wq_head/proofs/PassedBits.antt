@@ -1,5 +1,6 @@
 -- A walk whose hold has found its bit set, or has taken its page for a task, is past all entries that the hold shows.
 use Rattle.std.proofs.Common.{◌∙◌, ap, sym, refl, inl, inr, arith}
+use Rattle.std.proofs.lemmas.Bool.{or_left, or_right}
 use Rattle.std.specs.Prelude.{ℕ, ◌≡◌, ◌<◌, ◌||◌, not, Bool, true, false, if◌then◌else◌, Option}
 use Rattle.wait_model.specs.declared.layout.TheConstants.{ENTRIES, MEMBERS}
 use Rattle.wait_model.specs.declared.watches.Watch.{Watch}
@@ -19,14 +20,6 @@ use Rattle.wq_head.specs.Walks.{IsFull}
 use Rattle.wq_head.specs.Walking.{IsHeld, IsPastAll}
 use Rattle.wq_head.proofs.FullHeads.{bit_kinds, no_simple, one_of}
 use Rattle.wq_head.proofs.PastMembers.{passed_called}
-
-or_right : (b m : Bool) → m ≡ true → (b || m) ≡ true
-or_right true m is = refl
-or_right false m is = is
-
-or_left : (b m : Bool) → b ≡ true → (b || m) ≡ true
-or_left true m is = refl
-or_left false m is = absurd (cc)
 
 module _ (a : Aim) (full : IsFull a.watch) (k : Known) (walk : Walk)
     (under : (c : Watch) → same c walk.watch ≡ same c a.watch) (at : k.at ≡ head_of a.watch) (whole : IsWholeBook k)

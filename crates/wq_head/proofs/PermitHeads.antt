@@ -4,14 +4,12 @@ use Rattle.std.proofs.Common.{refl, ◌∙◌, ap, arith, inl, inr}
 use Rattle.std.specs.Prelude.{ℕ, ◌≡◌, ◌+◌, ◌*◌, ◌<◌, ◌-◌, Option, None, List, [], ◌∷◌, ◌++◌}
 use Rattle.wait_model.specs.declared.layout.TheConstants.{BIT_WORDS, WORD_BITS, FIRST_DONE_HEAD}
 use Rattle.wait_model.specs.declared.steps.Step.{Step}
-use Rattle.wait_model.specs.declared.steps.Step.TheVariants as step
 use Rattle.wait_model.specs.declared.watches.Entry.{Entry}
 use Rattle.wait_model.specs.declared.watches.Kind.{Kind}
 use Rattle.wait_model.specs.declared.watches.Watch.{Watch}
 use Rattle.wait_model.specs.declared.watches.Watch.TheVariants as watch
 use Rattle.wait_model.specs.Watches.{head_of, page}
 use Rattle.wait_rule.specs.declared.journal.Item.{Item}
-use Rattle.wait_rule.specs.declared.journal.Item.TheVariants as item
 use Rattle.wait_rule.specs.HandedPermits.{FoundNoPermit, OwesNoPermit}
 use Rattle.wait_rule.specs.HeldValues.{count_in, value_after, value_from}
 use Rattle.wait_rule.specs.Items.{steps_of}
@@ -23,6 +21,7 @@ use Rattle.wq_head.specs.Adds.{HasQueued, IsFor, IsForBit, IsForPlain, IsForVar}
 use Rattle.wq_head.specs.Looks.{Looks}
 use Rattle.wq_head.specs.Walks.{IsFull}
 use Rattle.wq_head.proofs.FullHeads.{hashed_low, head_small}
+use Rattle.wq_head.proofs.LookedItems.{looks_by}
 
 -- heads below those of completions
 pub plain_low : (w : Watch) (k : Kind) → IsForPlain w k → head_of w < FIRST_DONE_HEAD
@@ -80,18 +79,7 @@ value_more c o [] fs = refl
 value_more c o (e ∷ es) fs = value_more c (value_after c e o) es fs
 
 looks_value : (c : Watch) (o : Option ℕ) (xs : List Item) → AreLooks xs → value_from c o (steps_of xs) ≡ o
-looks_value c o [] l = refl
-looks_value c o (item.Made (step.Saw x w) ∷ xs) l = looks_value c o xs l.1
-looks_value c o (item.Made e ∷ xs) l = absurd l.0
-looks_value c o (item.Awake w ∷ xs) l = looks_value c o xs l.1
-looks_value c o (item.Bookmark t w ∷ xs) l = looks_value c o xs l.1
-looks_value c o (item.Member ∷ xs) l = looks_value c o xs l.1
-looks_value c o (item.Word w ∷ xs) l = looks_value c o xs l.1
-looks_value c o (item.Drawn h w ∷ xs) l = looks_value c o xs l.1
-looks_value c o (item.Serving h w ∷ xs) l = looks_value c o xs l.1
-looks_value c o (item.Served ∷ xs) l = looks_value c o xs l.1
-looks_value c o (item.Tally p n w ∷ xs) l = absurd l.0
-looks_value c o (item.Piped j a w ∷ xs) l = absurd l.0
+looks_value c o = looks_by (λ es. value_from c o es ≡ o) refl (λ y w es is. is)
 
 looked_count : (d : ℕ) (old new : Known) → Looks old new → count_in d (history_of new) ≡ count_in d (history_of old)
 looked_count d old new l =

@@ -1,5 +1,5 @@
 -- Whom a task has woken whose threads are to be roused, after each of its steps.
-use Rattle.std.proofs.Common.{◌∙◌, ap, sym, refl, append_assoc, append-nil, length-append, arith}
+use Rattle.std.proofs.Common.{◌∙◌, ap, sym, subst, refl, append_assoc, append-nil, length-append, arith}
 use Rattle.std.specs.Prelude.{ℕ, ◌≡◌, ◌≤◌, ◌++◌, ◌∷◌, [], Bool, true, false, List, length, if◌then◌else◌, Option, Some}
 use Rattle.std.specs.Prelude.{None}
 use Rattle.wait_model.specs.declared.steps.Step.{Step}
@@ -15,6 +15,7 @@ use Rattle.wait_rule.specs.Transitions.{AreLooks}
 use Rattle.wait_rule.specs.Tried.{rouses}
 use Rattle.wait_rule.proofs.TableSteps.ItemLists.{steps_append}
 use Rattle.wq_head.specs.declared.rousing.Rousing.{Rousing}
+use Rattle.wq_head.proofs.LookedItems.{looks_by}
 use Rattle.wq_head.specs.Looks.{Looks}
 use Rattle.wq_head.specs.Roused.{roused, roused_by, tasks_in, RousesNone, IsRousing, HasRoused}
 
@@ -53,18 +54,7 @@ none_unlocked k h spent = none_added (added k (item.Made (step.Unlock h spent)))
     ∙ none_added k (item.Made (step.Unlock h spent)) refl
 
 looks_none : (xs : List Item) → AreLooks xs → roused (steps_of xs) ≡ []
-looks_none [] l = refl
-looks_none (item.Made (step.Saw y w) ∷ xs) l = looks_none xs l.1
-looks_none (item.Made e ∷ xs) l = absurd l.0
-looks_none (item.Awake w ∷ xs) l = looks_none xs l.1
-looks_none (item.Bookmark t w ∷ xs) l = looks_none xs l.1
-looks_none (item.Member ∷ xs) l = looks_none xs l.1
-looks_none (item.Word w ∷ xs) l = looks_none xs l.1
-looks_none (item.Drawn h w ∷ xs) l = looks_none xs l.1
-looks_none (item.Serving h w ∷ xs) l = looks_none xs l.1
-looks_none (item.Served ∷ xs) l = looks_none xs l.1
-looks_none (item.Tally p n w ∷ xs) l = absurd l.0
-looks_none (item.Piped j a w ∷ xs) l = absurd l.0
+looks_none = looks_by (λ es. roused es ≡ []) refl (λ y w es none. none)
 
 pub none_looked : (old new : Known) → Looks old new → RousesNone old new
 none_looked old new l = none_more old new l.items (ap (λ (k : Known). k.view.items) l.is) (looks_none l.items l.looks)
@@ -74,6 +64,12 @@ pub rousing_on : (base mid new : Known) (r : Rousing) → RousesNone mid new →
 unfolding IsRousing
 rousing_on base mid new r none is = none ∙ is
 
+-- over the unlock of a hold, and over looks
+pub rousing_unlocked : (base mid new : Known) (r : Rousing) (spent : Bool) → new ≡ unlocked_with mid mid.at spent
+    → IsRousing base mid r → IsRousing base new r
+rousing_unlocked base mid new r spent is = rousing_on base mid new r
+    (subst (RousesNone mid) (sym is) (none_unlocked mid mid.at spent))
+
 pub rousing_from : (old mid new : Known) (r : Rousing) → RousesNone old mid → IsRousing mid new r → IsRousing old new r
 unfolding IsRousing
 rousing_from old mid new r none is = is ∙ ap (λ (l : List ℕ). l ++ tasks_in r) none
@@ -82,6 +78,9 @@ pub rousing_none : (k : Known) (r : Rousing) → tasks_in r ≡ [] → IsRousing
 unfolding IsRousing
 rousing_none k r none = sym (ap (λ (l : List ℕ). roused (history_of k) ++ l) none
     ∙ append-nil (roused (history_of k)))
+
+pub rousing_looked : (old new : Known) (r : Rousing) → Looks old new → tasks_in r ≡ [] → IsRousing old new r
+rousing_looked old new r looks none = rousing_on old old new r (none_looked old new looks) (rousing_none old r none)
 
 -- no wake, and steps that are none before or after one
 pub roused_none : (k : Known) (r : Rousing) → HasRoused k k r r

@@ -1,5 +1,6 @@
 -- Selections as transitions of the program of a call, from its lock to its last unlock.
 use Rattle.std.proofs.Common.{◌∙◌, ap, sym, refl, subst, inl, inr, eqb-true, eq-eqb, arith}
+use Rattle.std.proofs.lemmas.Bool.{and_right}
 use Rattle.std.proofs.lemmas.Bool.Decides.{nat_tests}
 use Rattle.std.specs.Prelude.{ℕ, zero, suc, ◌+◌, ◌≡◌, ◌≢◌, ◌<◌, ◌≤◌, ◌==◌, ◌&&◌, not, if◌then◌else◌}
 use Rattle.std.specs.Prelude.{Bool, true, false, Option, Some, None, List, [], ◌∷◌, ◌++◌}
@@ -46,15 +47,11 @@ use Rattle.wq_head.proofs.ShownQueue.{queue_in_order, queue_has}
 use Rattle.wq_head.proofs.SimpleEntries.{walk_is_simple}
 
 -- as many as a call selects
-and_no : (b : Bool) → (b && false) ≡ false
-and_no true = refl
-and_no false = refl
-
 not_enough : (n most : ℕ) → (most ≢ 0 → n < most) → (not (n == 0) && (n == most)) ≡ false
 not_enough n most fewer = by (n == most) refl (n == 0) refl
   where
     by : (b : Bool) → (n == most) ≡ b → (z : Bool) → (n == 0) ≡ z → (not z && b) ≡ false
-    by false other z is = and_no (not z)
+    by false other z is = and_right (not z) false refl
     by true same true is = refl
     by true same false is =
         let all = eqb-true n most same in

@@ -1,6 +1,7 @@
 -- The entries of adds at the tail, also at simple heads.
 use Rattle.std.proofs.Common.{refl, subst, sym, inl, inr, arith, ap}
-use Rattle.std.specs.Prelude.{ℕ, ◌≡◌, ◌<◌, ◌&&◌, not, Bool, true, false, Some}
+use Rattle.std.proofs.lemmas.Bool.{and_right}
+use Rattle.std.specs.Prelude.{ℕ, ◌≡◌, ◌<◌, not, Bool, false, Some}
 use Rattle.wait_model.specs.declared.layout.TheConstants.{FIRST_DONE_HEAD, PLAIN_CONDITIONS}
 use Rattle.wait_model.specs.declared.watches.Entry.{Entry}
 use Rattle.wait_model.specs.declared.watches.Watch.{Watch}
@@ -43,18 +44,14 @@ tail_stands x b w k p (inr (simple, inr done)) at = subst (λ (c : Watch). IsSta
       plain = λ _. at.middle_on;
     })
 
-no_and : (b : Bool) → (b && false) ≡ false
-no_and true = refl
-no_and false = refl
-
 pub tail_tries : (w : Watch) (k : Kind) (b : Bool) (p : ℕ) → IsForTail w k → TriesNo (tail_entry b w k p)
 tail_tries w k b p (inl full) = plain_tries w k b false p full
 tail_tries w k b p (inr (simple, inl plain)) = (
-  λ c. subst (λ (v : Watch). is_trying_for (Some (tail_entry b v k p)) c ≡ false) (sym plain.1) (no_and b),
+  λ c. subst (λ (v : Watch). is_trying_for (Some (tail_entry b v k p)) c ≡ false) (sym plain.1) (and_right b false refl),
   ap (λ (q : Kind). not (is_page q)) simple,
 )
 tail_tries w k b p (inr (simple, inr done)) = (
-  λ c. subst (λ (v : Watch). is_trying_for (Some (tail_entry b v k p)) c ≡ false) (sym done.1) (no_and b),
+  λ c. subst (λ (v : Watch). is_trying_for (Some (tail_entry b v k p)) c ≡ false) (sym done.1) (and_right b false refl),
   ap (λ (q : Kind). not (is_page q)) simple,
 )
 

@@ -1,7 +1,7 @@
 -- Holds of simple heads: their walk is that of the head's own watch, and a wake that is owed ends at their unlock.
-use Rattle.std.proofs.Common.{◌∙◌, ap, sym, refl, subst, inl, inr, eqb-true, arith}
+use Rattle.std.proofs.Common.{◌∙◌, ap, sym, refl, subst, inl, inr, arith}
 use Rattle.std.proofs.lemmas.Bool.Decides.{nat_tests}
-use Rattle.std.specs.Prelude.{ℕ, ◌+◌, ◌-◌, ◌≡◌, ◌<◌, ◌≤◌, ◌⊎◌, ◌&&◌, ◌||◌, ◌==◌, not, nat_lt, if◌then◌else◌}
+use Rattle.std.specs.Prelude.{ℕ, ◌+◌, ◌-◌, ◌≡◌, ◌<◌, ◌≤◌, ◌⊎◌, ◌&&◌, ◌||◌, not, nat_lt, if◌then◌else◌}
 use Rattle.std.specs.Prelude.{Bool, true, false, Option, Some, None}
 use Rattle.wait_model.specs.declared.layout.TheConstants.{ENTRIES, FIRST_SIMPLE, FIRST_SIMPLE_HEAD, FIRST_PLAIN_HEAD}
 use Rattle.wait_model.specs.declared.layout.TheConstants.{FIRST_DONE_HEAD, PLAIN_CONDITIONS}
@@ -28,7 +28,7 @@ use Rattle.wq_head.specs.Walks.{HasEnded, still_owed}
 use Rattle.wq_head.proofs.CarriedHolds.{ended_owes, unlock_carried, unlock_free, wake_carried}
 use Rattle.wq_head.proofs.LockWaits.{locked_at, locked_told, unlocked_stays}
 use Rattle.wq_head.proofs.SimpleEntries.{walk_is_simple}
-use Rattle.wq_head.proofs.FullHeads.{one_of}
+use Rattle.wq_head.proofs.FirstHold.{begins}
 use Rattle.wq_head.proofs.WalkUnlock.{owes_ended}
 
 -- a watch with a simple head is that head's own
@@ -51,50 +51,10 @@ own_done d = by (nat_lt (FIRST_DONE_HEAD + d) FIRST_DONE_HEAD) (grind (arith, na
     by true is = absurd (cc)
     by false is = ap watch.Done (omega arith)
 
-and_left : (a b : Bool) → (a && b) ≡ true → a ≡ true
-and_left true b is = refl
-and_left false b is = absurd (cc)
-
-and_right : (a b : Bool) → (a && b) ≡ true → b ≡ true
-and_right true b is = is
-and_right false b is = absurd (cc)
-
 -- a lock begins the walk of its aim, or goes on with one of that watch and mode
-begun_under : (a : Aim) (v : Told) (o : Option Walk) → v.walk ≡ begun o (Some a)
-    → (w : Walk) × IsUnder a v w
-begun_under a v None is = (
-  record { watch = a.watch; mask = mask_of a.mode; from = 0 },
-  record { under = is; watch = λ c. refl; mask = refl },
-)
-begun_under a v (Some w) is = by (same a.watch w.watch && (w.mask == mask_of a.mode)) refl
-  where
-    by : (b : Bool) → (same a.watch w.watch && (w.mask == mask_of a.mode)) ≡ b → (u : Walk) × IsUnder a v u
-    by true goes_on = (
-      w,
-      record {
-        under = is ∙ ap (λ (b : Bool). if b then Some w else Some (record {
-          watch = a.watch;
-          mask = mask_of a.mode;
-          from = 0;
-        })) goes_on;
-        watch = λ c.
-            let one = one_of a.watch w.watch (and_left (same a.watch w.watch) (w.mask == mask_of a.mode) goes_on) in
-            sym (one.likes c);
-        mask = eqb-true w.mask (mask_of a.mode) (and_right (same a.watch w.watch) (w.mask == mask_of a.mode) goes_on);
-      },
-    )
-    by false anew = (
-      record { watch = a.watch; mask = mask_of a.mode; from = 0 },
-      record {
-        under = is ∙ ap (λ (b : Bool). if b then Some w else Some (record {
-          watch = a.watch;
-          mask = mask_of a.mode;
-          from = 0;
-        })) anew;
-        watch = λ c. refl;
-        mask = refl;
-      },
-    )
+pub begun_under : (a : Aim) (v : Told) (o : Option Walk) → v.walk ≡ begun o (Some a) → (w : Walk) × IsUnder a v w
+begun_under a v o is =
+    let b = begins o a in (b.walk, record { under = is ∙ b.is; watch = b.watch; mask = b.mask })
 
 -- the hold that a lock of a simple head begins
 pub locked_simple : (old new : Known) (h : ℕ) → FIRST_SIMPLE_HEAD ≤ h → HasLocked old new h (walk_of_hold h None)

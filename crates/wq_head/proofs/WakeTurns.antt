@@ -17,7 +17,7 @@ use Rattle.wq_head.specs.Holds.{HasWaited, HasLocked}
 use Rattle.wq_head.specs.declared.wakes.WakeTurn.{WakeTurn}
 use Rattle.wq_head.specs.declared.wakes.WakeTurn.TheVariants as turn
 use Rattle.wq_head.specs.declared.wakes.WakeStage.{WakeStage}
-use Rattle.wq_head.specs.Turns.{HasTurned, WakeRests, InWalk, IsAtWake, IsServed, IsTurnStage, IsBroken, HasDrawn}
+use Rattle.wq_head.specs.Turns.{HasTurned, WakeRests, InWalk, IsAtWake, StandsAtWake, IsServed, IsTurnStage, IsBroken, HasDrawn}
 use Rattle.wq_head.specs.Turns.{first_counts}
 use Rattle.wq_head.specs.Walking.{with_left}
 use Rattle.wq_head.proofs.BrokenHold.{base_up, base_free, may_go, may_take, goes_back}
@@ -108,6 +108,19 @@ module _ (start mid new : Known) (r : WakeRun) (h found : ℕ) (at : IsAtWake st
       pub next_walks : (four : Known) → four ≡ stored_with three (marked (mark_of 0)) → InWalk r.aim start four r.walk
       next_walks four made = goes_back r.aim at.full start base r.walk broken three locked four made
 
+-- it stands there at another stage, with its aim
+stands_there : (start mid now : Known) (r : WakeRun) (n m : ℕ) (s t : WakeStage) → IsAtWake start mid r s
+    → StandsAtWake start now (record r { ticket = n; served = m }) t
+    → IsAtWake start now (record r { ticket = n; served = m }) t
+stands_there start mid now r n m s t at stands = record {
+  up = at.up;
+  idle = at.idle;
+  full = at.full;
+  tries = at.tries;
+  small = at.small;
+  stands = stands;
+}
+
 -- the draw of a ticket, by the stage before it
 module _ (start now : Known) (r : WakeRun) where
   pub free_first : IsAtWake start now r stage.First → IsFree now
@@ -132,50 +145,25 @@ module _ (start now : Known) (r : WakeRun) where
 
   module _ (new : Known) (h n : ℕ) (at_h : h ≡ head_of r.aim.watch) (is : new ≡ added now (item.Drawn h n)) where
     pub draws_first : IsAtWake start now r stage.First → IsAtWake start new (record r { ticket = n }) stage.FirstTurn
-    draws_first at = record {
-      up = at.up;
-      idle = at.idle;
-      full = at.full;
-      tries = at.tries;
-      small = at.small;
-      stands = draws start new (head_of r.aim.watch) n (is ∙ (λ i. added (at.stands i) (item.Drawn (at_h i) n)));
-    }
+    draws_first at = stands_there start now new r n r.served stage.First stage.FirstTurn at
+        (draws start new (head_of r.aim.watch) n (is ∙ (λ i. added (at.stands i) (item.Drawn (at_h i) n))))
 
     pub draws_next : IsAtWake start now r stage.Next → IsAtWake start new (record r { ticket = n }) stage.NextTurn
-    draws_next at = record {
-      up = at.up;
-      idle = at.idle;
-      full = at.full;
-      tries = at.tries;
-      small = at.small;
-      stands = (
-        now,
-        at.stands,
-        draws now new (head_of r.aim.watch) n (is ∙ (λ i. added now (item.Drawn (at_h i) n))),
-      );
-    }
+    draws_next at = stands_there start now new r n r.served stage.Next stage.NextTurn at (
+      now,
+      at.stands,
+      draws now new (head_of r.aim.watch) n (is ∙ (λ i. added now (item.Drawn (at_h i) n))),
+    )
 
 -- one look at the number that is served, by the stage at which the ticket is drawn
 module _ (start mid new : Known) (r : WakeRun) (h found : ℕ) (at_h : h ≡ head_of r.aim.watch)
     (is : new ≡ added mid (item.Serving h found)) where
   pub waits_on : (s : WakeStage) → IsTurnStage s → IsAtWake start mid r s → found ≢ r.ticket
       → IsAtWake start new (record r { served = found }) s
-  waits_on stage.FirstTurn turn at other = record {
-    up = at.up;
-    idle = at.idle;
-    full = at.full;
-    tries = at.tries;
-    small = at.small;
-    stands = first_waits start mid new r h found at at_h is other;
-  }
-  waits_on stage.NextTurn turn at other = record {
-    up = at.up;
-    idle = at.idle;
-    full = at.full;
-    tries = at.tries;
-    small = at.small;
-    stands = (at.stands.0, at.stands.1, next_waits start mid new r h found at at_h is other);
-  }
+  waits_on stage.FirstTurn turn at other = stands_there start mid new r r.ticket found stage.FirstTurn stage.FirstTurn
+      at (first_waits start mid new r h found at at_h is other)
+  waits_on stage.NextTurn turn at other = stands_there start mid new r r.ticket found stage.NextTurn stage.NextTurn at
+      (at.stands.0, at.stands.1, next_waits start mid new r h found at at_h is other)
   waits_on stage.First turn at other = absurd turn
   waits_on stage.Next turn at other = absurd turn
 
@@ -187,23 +175,9 @@ module _ (start mid new : Known) (r : WakeRun) (h found : ℕ) (at_h : h ≡ hea
 
   looked_at : (s : WakeStage) → IsTurnStage s → IsAtWake start mid r s → IsAtWake start mid (record r { served = found }) s
   looked_at stage.FirstTurn turn at =
-      record {
-        up = at.up;
-        idle = at.idle;
-        full = at.full;
-        tries = at.tries;
-        small = at.small;
-        stands = at.stands;
-      }
+      stands_there start mid mid r r.ticket found stage.FirstTurn stage.FirstTurn at at.stands
   looked_at stage.NextTurn turn at =
-      record {
-        up = at.up;
-        idle = at.idle;
-        full = at.full;
-        tries = at.tries;
-        small = at.small;
-        stands = at.stands;
-      }
+      stands_there start mid mid r r.ticket found stage.NextTurn stage.NextTurn at at.stands
   looked_at stage.First turn at = absurd turn
   looked_at stage.Next turn at = absurd turn
 

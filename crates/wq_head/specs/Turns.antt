@@ -35,20 +35,20 @@ use Rattle.wq_head.specs.Walking.{IsBreak, Meeting, rest_of, next_in_walk}
 abbrev pub walk_start : Next
 walk_start = next.Go (at.Walk walking.Lock)
 
--- what the walk has done from its beginning up to the beginning of a hold, and up to any place in it
-pub record HasComeTo (a : Aim) (start now : Known) (w : Walking) : Type 0 where
+-- What the walk has done from its beginning, where its real counts are such; up to the beginning of a hold, and up to
+-- any place in it.
+pub record HasComeBy (a : Aim) (start now : Known) (IsReal : Walking → Type 0) : Type 0 where
   pub real : Walking
   pub transitions : List Transition
-  pub counts : Counts w real
+  pub counts : IsReal real
   pub counted : IsCountedDown a.count real
   pub goes : Goes (walk_program a) start walk_start transitions now (next_in_walk real)
 
-pub record HasComeOn (a : Aim) (start now : Known) (w : Walking) : Type 0 where
-  pub real : Walking
-  pub transitions : List Transition
-  pub counts : IsAhead a now w real
-  pub counted : IsCountedDown a.count real
-  pub goes : Goes (walk_program a) start walk_start transitions now (next_in_walk real)
+abbrev pub HasComeTo : Aim → Known → Known → Walking → Type 0
+HasComeTo a start now w = HasComeBy a start now (λ real. Counts w real)
+
+abbrev pub HasComeOn : Aim → Known → Known → Walking → Type 0
+HasComeOn a start now w = HasComeBy a start now (λ real. IsAhead a now w real)
 
 -- the task has taken the lock of one of the walk's holds, and has called no entry in it
 pub record InWalk (a : Aim) (start now : Known) (w : Walking) : Type 0 where

@@ -18,7 +18,7 @@ use Rattle.wq_head.specs.Selects.{EndsSelection, HasSelected, IsSimpleHold, Keep
 use Rattle.wq_head.proofs.FirstAndLast.{below_or}
 use Rattle.wq_head.proofs.KeptHolds.{hold_carried, hold_holds, hold_looks, hold_on, hold_simple}
 use Rattle.wq_head.proofs.OneMoreLook.{holding_on, looks_on}
-use Rattle.wq_head.proofs.RousedTasks.{none_looked, rousing_none, rousing_on}
+use Rattle.wq_head.proofs.RousedTasks.{rousing_looked}
 use Rattle.wq_head.proofs.SelectingHold.{InSelection, selection_starts, first_here, passes_mark, takes_entry}
 use Rattle.wq_head.proofs.SelectingHold.{selection_is, selection_rises, none_left}
 use Rattle.wq_head.proofs.selects.select_tries.Goals as goal
@@ -42,8 +42,7 @@ returns-in-Empty c =
       keeps = hold_simple old new start.keeps;
       rises = λ some. absurd (omega arith);
       carries = hold_carried old new start.keeps;
-      rouses = rousing_on old old new c.args.rousing.now (none_looked old new looks)
-          (rousing_none old c.args.rousing.now c.requires.none);
+      rouses = rousing_looked old new c.args.rousing.now looks c.requires.none;
       starved = tt;
     }
 
@@ -137,8 +136,7 @@ returns-in-Sole c =
       keeps = hold_simple old new keeps;
       rises = sole_rises old mid s c.requires.held simple looks sole new r t;
       carries = hold_carried old new keeps;
-      rouses = c.take_sole.ensures.rouses old (rousing_on old old mid c.args.rousing.now (none_looked old mid looks)
-          (rousing_none old c.args.rousing.now c.requires.none));
+      rouses = c.take_sole.ensures.rouses old (rousing_looked old mid c.args.rousing.now looks c.requires.none);
       starved = sole_starves old mid s c.requires.held simple looks sole new r t;
     }
 
@@ -179,7 +177,6 @@ returns-in-Several c =
       keeps = hold_simple old new keeps;
       rises = several_rises old mid looks new c.select_several.result s.rises;
       carries = hold_carried old new keeps;
-      rouses = s.rouses old (rousing_on old old mid c.args.rousing.now (none_looked old mid looks)
-          (rousing_none old c.args.rousing.now c.requires.none));
+      rouses = s.rouses old (rousing_looked old mid c.args.rousing.now looks c.requires.none);
       starved = s.starved;
     }

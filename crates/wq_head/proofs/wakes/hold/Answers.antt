@@ -9,7 +9,7 @@ use Rattle.wq_head.proofs.PermitHeads.{walk_owes}
 use Rattle.wq_head.proofs.EntryFunctions.{keeps_on}
 use Rattle.wq_head.proofs.WholeWalk.{come_on, walk_passed, walk_spent, walk_stopped}
 use Rattle.wq_head.specs.Roused.{RousesNone}
-use Rattle.wq_head.proofs.RousedTasks.{none_stored, none_unlocked, rousing_on}
+use Rattle.wq_head.proofs.RousedTasks.{none_stored, none_unlocked, rousing_on, rousing_unlocked}
 use Rattle.wq_head.proofs.wakes.hold.Goals as goal
 
 pub returns-in-Passed-clause-turned : goal.returns-in-Passed-clause-turned
@@ -86,23 +86,16 @@ returns-in-Breaks-clause-turned c start up idle tries i =
 
 -- whom it is to rouse
 pub returns-in-Passed-clause-rouses : goal.returns-in-Passed-clause-rouses
-returns-in-Passed-clause-rouses c =
-    let mid = c.walk_hold.new.task in
-    rousing_on c.args.task.now mid c.give_back.new.task c.walk_hold.new.rousing
-    (subst (RousesNone mid) (sym c.give_back.ensures.given) (none_unlocked mid mid.at false)) c.walk_hold.ensures.rouses
+returns-in-Passed-clause-rouses c = rousing_unlocked c.args.task.now c.walk_hold.new.task c.give_back.new.task
+    c.walk_hold.new.rousing false c.give_back.ensures.given c.walk_hold.ensures.rouses
 
 pub returns-in-Spent-clause-rouses : goal.returns-in-Spent-clause-rouses
-returns-in-Spent-clause-rouses c =
-    let mid = c.walk_hold.new.task in
-    rousing_on c.args.task.now mid c.give_back-in-Spent.new.task c.walk_hold.new.rousing
-    (subst (RousesNone mid) (sym c.give_back-in-Spent.ensures.given) (none_unlocked mid mid.at true))
-    c.walk_hold.ensures.rouses
+returns-in-Spent-clause-rouses c = rousing_unlocked c.args.task.now c.walk_hold.new.task c.give_back-in-Spent.new.task
+    c.walk_hold.new.rousing true c.give_back-in-Spent.ensures.given c.walk_hold.ensures.rouses
 
 pub returns-in-Stopped-clause-rouses : goal.returns-in-Stopped-clause-rouses
-returns-in-Stopped-clause-rouses c =
-    let mid = c.walk_hold.new.task in
-    rousing_on c.args.task.now mid c.give_back-in-Stopped.new.task c.walk_hold.new.rousing
-    (subst (RousesNone mid) (sym c.give_back-in-Stopped.ensures.given) (none_unlocked mid mid.at false))
+returns-in-Stopped-clause-rouses c = rousing_unlocked c.args.task.now c.walk_hold.new.task
+    c.give_back-in-Stopped.new.task c.walk_hold.new.rousing false c.give_back-in-Stopped.ensures.given
     c.walk_hold.ensures.rouses
 
 pub returns-in-Breaks-clause-rouses : goal.returns-in-Breaks-clause-rouses

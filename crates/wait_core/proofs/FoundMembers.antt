@@ -1,5 +1,5 @@
 -- What the scan finds is the queue's member, and what the words show is what the task sees.
-use Rattle.std.specs.Prelude.{◌≡◌, ℕ, ◌+◌, ◌-◌, ◌*◌, Bool, true, false, ◌&&◌, nat_lt, nat_le, ◌<◌, ◌≤◌, ◌==◌}
+use Rattle.std.specs.Prelude.{◌≡◌, ℕ, ◌+◌, ◌-◌, ◌*◌, Bool, true, false, nat_lt, ◌<◌, ◌≤◌}
 use Rattle.std.specs.Prelude.{if◌then◌else◌, min, List, slice_index, IfSome, Option, Some, None}
 use Rattle.wait_model.specs.declared.layout.TheConstants.{TASKS, ENTRIES, MEMBERS, CONDITIONS, HEADS, ENTRY_AT}
 use Rattle.wait_model.specs.declared.layout.TheConstants.{BOOKMARK_AT, PLACES, MIDDLE, FIRST_PRIORITY, FIRST_PLACE}
@@ -30,8 +30,9 @@ use Rattle.wait_model.proofs.QueueLaws.QueueOrder.{IsFirstFrom, first_is, one_fi
 use Rattle.wait_model.proofs.QueueLaws.QueueEnds.{IsLastWithin, last_of, one_last, entry_in, in_entries, order_entries}
 use Rattle.std.proofs.lemmas.Bool.Decides.{nat_tests}
 use Rattle.wait_core.specs.declared.scan.Span.{Span}
-use Rattle.wait_core.specs.Scan.{marked_member, is_in_span, prefers, IsPick, IsPicked, entry_in_words, shown_mark}
+use Rattle.wait_core.specs.Scan.{is_in_span, prefers, IsPick, IsPicked, entry_in_words, shown_mark}
 use Rattle.wait_core.specs.Scan.{shown_stand, found_place}
+use Rattle.wait_core.proofs.IndexSearch.{counted_of, counts_is}
 
 within_is : (low high p : ℕ) → low ≤ p → p < high → within low high p ≡ Some p
 within_is low high p l h =
@@ -122,28 +123,7 @@ module _ (words : List ℕ) (s : State) (n : ℕ) (shown : Shows words s.table) 
       let small : m.at < MEMBERS = member_number m.at (there h m) is in
       (small, stand_shown_is m.at small ∙ is)
 
-  -- a member that a scan looks at, and one that it picked
-  counted_of : (span : Span) (x : ℕ) (k : Mark) → is_in_span span x k ≡ true → (k.head ≡ span.head)
-      × (span.low ≤ rank (marked_member x k)) × (rank (marked_member x k) < span.high)
-  counted_of span x k = by (k.head == span.head) (nat_le span.low (rank (marked_member x k)))
-      (nat_lt (rank (marked_member x k)) span.high) refl refl refl
-    where
-      by : (a b c : Bool) → (k.head == span.head) ≡ a → nat_le span.low (rank (marked_member x k)) ≡ b
-          → nat_lt (rank (marked_member x k)) span.high ≡ c → (a && (b && c)) ≡ true → (k.head ≡ span.head)
-          × (span.low ≤ rank (marked_member x k)) × (rank (marked_member x k) < span.high)
-      by true true true p q r h = (grind (arith, nat_tests), grind (arith, nat_tests), grind (arith, nat_tests))
-      by true true false p q r h = absurd (cc)
-      by true false c p q r h = absurd (cc)
-      by false b c p q r h = absurd (cc)
-
-  counts_is : (span : Span) (m : Member) → span.low ≤ rank m → rank m < span.high
-      → is_in_span span m.at (there span.head m) ≡ true
-  counts_is span m l u =
-      let a : (span.head == span.head) ≡ true = grind (arith, nat_tests) in
-      let b : nat_le span.low (rank m) ≡ true = grind (arith, nat_tests) in
-      let c : nat_lt (rank m) span.high ≡ true = grind (arith, nat_tests) in
-      rw (a, b, c) refl
-
+  -- a member that a scan picked
   module _ (count : ℕ) (few : count ≤ MEMBERS) where
     pick_in : (span : Span) (b : Member) (h : IsPick (shown_stand words) count span b)
         → IsIn b (s.queue span.head) × (span.low ≤ rank b) × (rank b < span.high)
@@ -165,14 +145,15 @@ module _ (words : List ℕ) (s : State) (n : ℕ) (shown : Shows words s.table) 
         → prefers span (rank m) (rank b) ≡ false
     picked_best span b m h i small l u =
         let k = member_shown span.head m i in
-        h.best m.at (there span.head m) small k.1 (counts_is span m l u)
+        h.best m.at (there span.head m) small k.1 (counts_is span m.at (there span.head m) refl l u)
 
     picked_none : (span : Span) (m : Member) → IsPicked (shown_stand words) count span None
         → IsIn m (s.queue span.head) → m.at < count → span.low ≤ rank m → rank m < span.high → ⊥
     picked_none span m h i small l u =
         let k = member_shown span.head m i in
         let never : is_in_span span m.at (there span.head m) ≡ false = h m.at (there span.head m) small k.1 in
-        let is_counted : is_in_span span m.at (there span.head m) ≡ true = counts_is span m l u in
+        let is_counted : is_in_span span m.at (there span.head m) ≡ true =
+        counts_is span m.at (there span.head m) refl l u in
         let z : true ≡ false = sym is_counted ∙ never in cc
 
   -- a member stands far from the end of the places
@@ -472,20 +453,7 @@ pick_fits words count span None h = tt
 pick_fits words count span (Some b) h =
     let same : h.stand.place ≡ b.place = h.place in (
       h.inside,
-      (let c = (low_of span b.at h.stand h.counted).0 in omega (arith, c)),
-      (let c = (low_of span b.at h.stand h.counted).1 in omega (arith, c)),
+      (let c = (counted_of span b.at h.stand h.counted).1 in omega (arith, c)),
+      (let c = (counted_of span b.at h.stand h.counted).2 in omega (arith, c)),
       (let small : h.stand.place < PLACES = stand_small words b.at h.stand h.stands in omega arith),
     )
-  where
-    low_of : (span : Span) (x : ℕ) (k : Mark) → is_in_span span x k ≡ true
-        → (span.low ≤ rank (marked_member x k)) × (rank (marked_member x k) < span.high)
-    low_of span x k = by (k.head == span.head) (nat_le span.low (rank (marked_member x k)))
-        (nat_lt (rank (marked_member x k)) span.high) refl refl
-      where
-        by : (a b c : Bool) → nat_le span.low (rank (marked_member x k)) ≡ b
-            → nat_lt (rank (marked_member x k)) span.high ≡ c → (a && (b && c)) ≡ true
-            → (span.low ≤ rank (marked_member x k)) × (rank (marked_member x k) < span.high)
-        by true true true q r h = (grind (arith, nat_tests), grind (arith, nat_tests))
-        by true true false q r h = absurd (cc)
-        by true false c q r h = absurd (cc)
-        by false b c q r h = absurd (cc)

@@ -28,7 +28,7 @@ sides i j = by (nat_lt i j) (nat_lt j i) refl refl
     by false false p q = inr (inl (grind (arith, nat_tests)))
 
 -- a member that counts, by its parts
-counted_of : (span : Span) (x : ℕ) (k : Mark) → is_in_span span x k ≡ true → (k.head ≡ span.head)
+pub counted_of : (span : Span) (x : ℕ) (k : Mark) → is_in_span span x k ≡ true → (k.head ≡ span.head)
     × (span.low ≤ rank (marked_member x k)) × (rank (marked_member x k) < span.high)
 counted_of span x k = by (k.head == span.head) (nat_le span.low (rank (marked_member x k)))
     (nat_lt (rank (marked_member x k)) span.high) refl refl refl
@@ -41,7 +41,7 @@ counted_of span x k = by (k.head == span.head) (nat_le span.low (rank (marked_me
     by true false c p q r h = absurd (cc)
     by false b c p q r h = absurd (cc)
 
-counts_is : (span : Span) (x : ℕ) (k : Mark) → k.head ≡ span.head → span.low ≤ rank (marked_member x k)
+pub counts_is : (span : Span) (x : ℕ) (k : Mark) → k.head ≡ span.head → span.low ≤ rank (marked_member x k)
     → rank (marked_member x k) < span.high → is_in_span span x k ≡ true
 counts_is span x k e l u =
     let a : (k.head == span.head) ≡ true = grind (arith, nat_tests) in

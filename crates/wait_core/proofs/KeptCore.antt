@@ -28,7 +28,7 @@ use Rattle.wait_model.specs.Reached.{HandsAt, marked_at, IsSound, IsSoundCall, I
 use Rattle.wait_model.specs.Reached.{KeepsCleared, CountedAt, CountedBy}
 use Rattle.wait_model.specs.Runs.{State, start_state, after_event, planned, seen_by, progress_at, progress_after}
 use Rattle.wait_model.specs.Runs.{given_by, found_by, own, happens, state_of, IsItem, Continues, busy_head, made_in}
-use Rattle.wait_model.specs.Runs.{is_open}
+use Rattle.wait_model.specs.Runs.{is_open, IsRun}
 use Rattle.wait_model.proofs.Functions.{put_at}
 use Rattle.wait_model.proofs.RunLaws.WalkEvents.{program_fine}
 use Rattle.wait_model.proofs.RunLaws.FineEvents.{Fine}
@@ -116,10 +116,13 @@ calls_few (p ∷ ps) =
 
 module _ (words : List ℕ) (points : List Progress) (items : List Ran) (count capacity : ℕ)
     (core : IsCore words points items count capacity) where
+  -- what is a law of every run holds of the core's run, as callers see it
+  pub by_law : {P : List Ran → Type 0} → ((run : List Ran) → IsRun run → made_in run ≤ EVENTS → P run)
+      → (v : List Ran) → items ≡ v → P v
+  by_law {P = P} law v view = subst P view (law items core.run (subst (λ n. n ≤ EVENTS) core.made core.few))
+
   pub sound : IsSound (state_of items) count
-  sound = subst (IsSound (state_of items)) (sym core.made)
-      (sound_of items core.run (let m : count ≡ made_in items = core.made in let f : count ≤ EVENTS =
-      core.few in omega arith))
+  sound = subst (IsSound (state_of items)) (sym core.made) (by_law sound_of items refl)
 
   module _ (me : ℕ) (mine : me < TASKS) (call : Call) (p : Point)
       (stands : slice_get points me ≡ Some (now.Open call p)) where
@@ -234,17 +237,19 @@ module _ (words : List ℕ) (points : List Progress) (items : List Ran) (count c
         (λ same. get_set_same points me t _ (omega (arith, core.tasks)) same)
         (λ ne. get_set_other points me t _ (omega (arith, core.tasks)) ne ∙ core.progress t inside)
 
-    was_closed : one_if_open ((state_of items).progress me) ≡ 0
-    was_closed = ap (λ b. if b then 1 else 0) closed
-
-    pub opened_room : length items < 2 * count + TASKS
-    opened_room =
-        let r : length items ≤ 2 * count + open_calls points = core.room in
+    calls_opened : open_calls (slice_set points me (now.Open call (program_start call))) ≡ open_calls points + 1
+    calls_opened =
         let c : open_calls (slice_set points me (now.Open call (program_start call))) + one_if_open
         ((state_of items).progress me) ≡ open_calls points + 1 =
         calls_set points me (now.Open call (program_start call)) ((state_of items).progress me)
         (core.progress me mine) in
-        let z : one_if_open ((state_of items).progress me) ≡ 0 = was_closed in
+        let z : one_if_open ((state_of items).progress me) ≡ 0 = ap (λ b. if b then 1 else 0) closed in
+        omega arith
+
+    pub opened_room : length items < 2 * count + TASKS
+    opened_room =
+        let r : length items ≤ 2 * count + open_calls points = core.room in
+        let c = calls_opened in
         let f : open_calls (slice_set points me (now.Open call (program_start call))) ≤ TASKS =
         (let l = calls_few (slice_set points me (now.Open call (program_start call)))
         in omega (arith, l, length-set points me (now.Open call (program_start call)), core.tasks)) in
@@ -266,11 +271,7 @@ module _ (words : List ℕ) (points : List Progress) (items : List Ran) (count c
           few = core.few;
           room =
               let r : length items ≤ 2 * count + open_calls points = core.room in
-              let c : open_calls (slice_set points me (now.Open call (program_start call))) + one_if_open
-              ((state_of items).progress me) ≡ open_calls points + 1 =
-              calls_set points me (now.Open call (program_start call)) ((state_of items).progress me)
-              (core.progress me mine) in
-              let z : one_if_open ((state_of items).progress me) ≡ 0 = was_closed in
+              let c = calls_opened in
               rw length-append (omega arith);
           reserved = let r : RUN_ITEMS ≤ capacity = core.reserved in omega arith;
         }

@@ -41,8 +41,9 @@ use Rattle.wait_core.specs.declared.arrivals.Arrived.{Arrived}
 use Rattle.wait_core.specs.Arrivals.{arrived, IsMarkedBy}
 use Rattle.wait_model.specs.Shown.{IsInRange}
 use Rattle.wait_model.specs.Locations.{Shows, IsLocation, location_of}
+use Rattle.wait_model.specs.Tables.{Table}
 use Rattle.wait_model.proofs.WordLaws.ShownSteps.{event_located}
-use Rattle.wait_model.specs.Reached.{IsSoundCall, IsCallSound, IsCounted, Allows, Joins}
+use Rattle.wait_model.specs.Reached.{IsSound, IsSoundCall, IsCallSound, IsCounted, Allows, Joins}
 use Rattle.wait_model.specs.Runs.{State, start_state, after_event, given_by, planned, progress_at, found_by, seen_by}
 use Rattle.wait_model.specs.Runs.{arrives_at, arrives_from, own, state_of, busy_head, made_in, is_open}
 use Rattle.std.proofs.lemmas.Bool.Decides.{nat_tests}
@@ -55,7 +56,7 @@ use Rattle.wait_core.specs.declared.engine.StartFault.TheVariants as faults
 use Rattle.std.specs.declared.result.Result.TheVariants.{Ok, Err}
 use Rattle.wait_core.specs.Core.{IsCore, open_calls}
 use Rattle.wait_core.specs.Keepers.{ShowsKeepers, ShowsTaken, keeps_shown, kept_after, taken_after}
-use Rattle.wait_core.proofs.KeptCore.{calls_few, MayOpen, allowed_in_range, open_is, allowed, joins, made_core}
+use Rattle.wait_core.proofs.KeptCore.{calls_few, MayOpen, sound, allowed_in_range, open_is, allowed, joins, made_core}
 use Rattle.wait_core.proofs.KeptCore.{keepers_kept, taken_kept, opened_room, opened_core}
 
 -- a bookmark is put only where a walk breaks, and then where it went on from its place
@@ -127,6 +128,13 @@ read_progress points me slot r l inside same is =
     slice_get_read points (length points) me r refl (omega arith)
     (subst (λ (j : ℕ). r ≡ get_or points j r) same is)
 
+-- an open call of a core's run whose task is awake, and the event that its program plans
+pub record IsPlanned (points : List Progress) (items : List Ran) (me : ℕ) (call : Call) (p : Point) (plan : Planned)
+    : Type 0 where
+  pub stands : slice_get points me ≡ Some (now.Open call p)
+  pub runs : ((state_of items).table.task me).runnable ≡ true
+  pub is : plan ≡ planned (state_of items) me call p
+
 -- the answers of a step
 module _ (words : List ℕ) (points : List Progress) (items : List Ran) (count capacity : ℕ)
     (core : IsCore words points items count capacity) (me : ℕ) (mine : me < TASKS) (v : List Ran)
@@ -152,68 +160,50 @@ module _ (words : List ℕ) (points : List Progress) (items : List Ran) (count c
       told answers.NoCall (sym (ap (stepped (state_of items) (made_in items) me) s ∙ closed_answer r h))
 
   module _ (call : Call) (p : Point) (stands : slice_get points me ≡ Some (now.Open call p)) where
-    S : State
-    S = state_of items
-
-    here : stepped (state_of items) (made_in items) me ((state_of items).progress me) ≡ stepped
-        (state_of items) (made_in items) me (now.Open call p)
-    here = ap (stepped (state_of items) (made_in items) me)
+    by_task : (b : Bool) → ((state_of items).table.task me).runnable ≡ b
+        → stepped (state_of items) (made_in items) me ((state_of items).progress me)
+        ≡ (if b then event_or_refusal (made_in items) (planned (state_of items) me call p)
+        (busy_head (state_of items) (planned (state_of items) me call p).event) else answers.Asleep)
+    by_task b r = ap (stepped (state_of items) (made_in items) me)
         (open_is words points items count capacity core me mine call p stands)
-
-    pub asleep : ((state_of items).table.task me).runnable ≡ false
-        → answers.Asleep ≡ stepped (state_of v) (made_in v) me ((state_of v).progress me)
-    asleep r =
-        told answers.Asleep
-        (sym (here
-        ∙ ap (λ b. if b then event_or_refusal (made_in items) (planned (state_of items) me call p)
-        (busy_head (state_of items) (planned (state_of items) me call p).event) else answers.Asleep) r))
-
-    runs_here : ((state_of items).table.task me).runnable ≡ true
-        → stepped (state_of items) (made_in items) me ((state_of items).progress me) ≡ event_or_refusal (made_in items)
-        (planned (state_of items) me call p)
-        (busy_head (state_of items) (planned (state_of items) me call p).event)
-    runs_here r = here
         ∙ ap (λ b. if b then event_or_refusal (made_in items) (planned (state_of items) me call p)
         (busy_head (state_of items) (planned (state_of items) me call p).event) else answers.Asleep) r
 
-    pub busy : (head : ℕ) → ((state_of items).table.task me).runnable ≡ true
-        → Some head ≡ busy_head (state_of items) (planned (state_of items) me call p).event
+    pub asleep : ((state_of items).table.task me).runnable ≡ false
+        → answers.Asleep ≡ stepped (state_of v) (made_in v) me ((state_of v).progress me)
+    asleep r = told answers.Asleep (sym (by_task false r))
+
+  module _ {call : Call} {p : Point} {plan : Planned} (due : IsPlanned points items me call p plan) where
+    by_lock : (lock : Option ℕ) → lock ≡ busy_head (state_of items) plan.event
+        → stepped (state_of items) (made_in items) me ((state_of items).progress me)
+        ≡ event_or_refusal (made_in items) plan lock
+    by_lock lock is = by_task call p due.stands true due.runs
+        ∙ sym (ap (λ (x : Planned). event_or_refusal (made_in items) x (busy_head (state_of items) x.event)) due.is)
+        ∙ ap (event_or_refusal (made_in items) plan) (sym is)
+
+    pub busy : (head : ℕ) → Some head ≡ busy_head (state_of items) plan.event
         → answers.Busy head ≡ stepped (state_of v) (made_in v) me ((state_of v).progress me)
-    busy head r b =
-        told (answers.Busy head)
-        (sym (runs_here r ∙ ap (event_or_refusal (made_in items) (planned (state_of items) me call p)) (sym b)))
+    busy head held = told (answers.Busy head) (sym (by_lock (Some head) held))
 
-    free_here : ((state_of items).table.task me).runnable ≡ true
-        → None ≡ busy_head (state_of items) (planned (state_of items) me call p).event
-        → stepped (state_of items) (made_in items) me ((state_of items).progress me) ≡ event_or_refusal (made_in items)
-        (planned (state_of items) me call p) None
-    free_here r b = runs_here r ∙ ap (event_or_refusal (made_in items) (planned (state_of items) me call p)) (sym b)
+    by_room : None ≡ busy_head (state_of items) plan.event → (b : Bool) → (made_in items == EVENTS) ≡ b
+        → (if b then answers.Full else answers.Made plan.event (answer_of plan.next))
+        ≡ stepped (state_of v) (made_in v) me ((state_of v).progress me)
+    by_room free b t = told _ (sym (by_lock None free
+        ∙ ap (λ b. if b then answers.Full else answers.Made plan.event (answer_of plan.next)) t))
 
-    pub full : ((state_of items).table.task me).runnable ≡ true
-        → None ≡ busy_head (state_of items) (planned (state_of items) me call p).event → count ≡ EVENTS
+    pub full : None ≡ busy_head (state_of items) plan.event → count ≡ EVENTS
         → answers.Full ≡ stepped (state_of v) (made_in v) me ((state_of v).progress me)
-    full r b n =
+    full free n =
         let m : count ≡ made_in items = core.made in
-        let t : (made_in items == EVENTS) ≡ true = grind (arith, nat_tests) in
-        told answers.Full
-        (sym (free_here r b
-        ∙ ap (λ b. if b then answers.Full else answers.Made (planned (state_of items) me call p).event
-        (answer_of (planned (state_of items) me call p).next)) t))
+        by_room free true (grind (arith, nat_tests))
 
-    pub made : ((state_of items).table.task me).runnable ≡ true
-        → None ≡ busy_head (state_of items) (planned (state_of items) me call p).event → (count ≡ EVENTS → ⊥)
-        → answers.Made (planned (state_of items) me call p).event
-        (answer_of (planned (state_of items) me call p).next) ≡ stepped (state_of v) (made_in v) me
-        ((state_of v).progress me)
-    made r b n =
+    pub made : None ≡ busy_head (state_of items) plan.event → (count ≡ EVENTS → ⊥)
+        → answers.Made plan.event (answer_of plan.next)
+        ≡ stepped (state_of v) (made_in v) me ((state_of v).progress me)
+    made free n =
         let m : count ≡ made_in items = core.made in
         let ne : (made_in items ≡ EVENTS) → ⊥ = λ k. n (m ∙ k) in
-        let t : (made_in items == EVENTS) ≡ false = grind (arith, nat_tests) in
-        told (answers.Made (planned (state_of items) me call p).event
-        (answer_of (planned (state_of items) me call p).next))
-        (sym (free_here r b
-        ∙ ap (λ b. if b then answers.Full else answers.Made (planned (state_of items) me call p).event
-        (answer_of (planned (state_of items) me call p).next)) t))
+        by_room free false (grind (arith, nat_tests))
 
 -- small steps between what the code read and what the state has
 pub opened_at : (words : List ℕ) (points : List Progress) (items : List Ran) (count capacity : ℕ)
@@ -230,13 +220,16 @@ pub standing : (words : List ℕ) (points : List Progress) (items : List Ran) (c
 standing words points items count capacity core me mine v same call p may =
     core.progress me mine ∙ ap Some (ap (λ (w : List Ran). (state_of w).progress me) same ∙ may.stands)
 
-pub awake_in : (items v : List Ran) → items ≡ v → (me : ℕ) (call : Call) (p : Point) → MayStep v me call p
-    → ((state_of items).table.task me).runnable ≡ true
-awake_in items v same me call p may = ap (λ (w : List Ran). ((state_of w).table.task me).runnable) same ∙ may.awake
-
-pub found_in : (items v : List Ran) → items ≡ v → (me : ℕ) (call : Call) (p : Point) (f : Found)
-    → IsFound v me call p f → IsFound items me call p f
-found_in items v same me call p f found = subst (λ (w : List Ran). IsFound w me call p f) (sym same) found
+pub planned_here : {words : List ℕ} {points : List Progress} {items v : List Ran} {count capacity : ℕ}
+    → IsCore words points items count capacity → {me : ℕ} → me < TASKS → items ≡ v → {call : Call} {p : Point}
+    → MayStep v me call p → {found : Found} → IsFound v me call p found → {plan : Planned}
+    → plan ≡ program me call p found.seen → IsPlanned points items me call p plan
+planned_here core {me = me} mine same {call = call} {p = p} may found is = record {
+  stands = standing _ _ _ _ _ core me mine _ same call p may;
+  runs = ap (λ (w : List Ran). ((state_of w).table.task me).runnable) same ∙ may.awake;
+  is = is ∙ ap (program me call p) found.seen
+      ∙ ap (λ (w : List Ran). program me call p (seen_by (state_of w) me call p)) (sym same);
+}
 
 pub may_step : (words : List ℕ) (points : List Progress) (items : List Ran) (count capacity : ℕ)
     → IsCore words points items count capacity → (me : ℕ) → me < TASKS → (v : List Ran) → items ≡ v
@@ -257,6 +250,13 @@ opened_again points me slot r call p l mine same read stands =
 
 pub shown_in : (now' words : List ℕ) (s : State) → now' ≡ words → Shows words s.table → Shows now' s.table
 shown_in now' words s e h = subst (λ (w : List ℕ). Shows w s.table) (sym e) h
+
+-- what a reader finds in the words of a core, it finds in the state of the core's run
+pub read_here : {words now' : List ℕ} {points : List Progress} {items : List Ran} {count capacity : ℕ} {A : Type 0}
+    {x : A} {f : State → A} → IsCore words points items count capacity → now' ≡ words
+    → ((s : State) (n : ℕ) → Shows now' s.table → IsSound s n → x ≡ f s) → x ≡ f (state_of items)
+read_here {items = items} core same reads =
+    reads (state_of items) _ (shown_in _ _ (state_of items) same core.shown) (sound _ _ _ _ _ core)
 
 pub stopped : (t u : TaskRecord) → t ≡ u → not t.runnable ≡ true → u.runnable ≡ false
 stopped t u e h = subst (λ (x : TaskRecord). x.runnable ≡ false) e (turned t.runnable h)
@@ -303,16 +303,6 @@ call_fits n call (at.Walk (walking.Page st w c)) few k = (counted_fits n w few k
 call_fits n call (at.Select (selecting.Next j)) few k = let l : j ≤ n = k.walk in omega arith
 call_fits n call p few k = tt
 
-pub plan_in_range : (words : List ℕ) (points : List Progress) (items : List Ran) (count capacity : ℕ)
-    (core : IsCore words points items count capacity) (me : ℕ) (mine : me < TASKS) (call : Call) (p : Point)
-    (stands : slice_get points me ≡ Some (now.Open call p))
-    → ((state_of items).table.task me).runnable ≡ true → (plan : Planned) → plan ≡ planned (state_of items) me call p
-    → IsInRange plan.event
-plan_in_range words points items count capacity core me mine call p stands runs plan is =
-    subst (λ (x : Planned). IsInRange x.event) (sym is)
-    (allowed_in_range (state_of items) me (planned (state_of items) me call p).event
-    (allowed words points items count capacity core me mine call p stands runs))
-
 pub room_left : (words : List ℕ) (points : List Progress) (items : List Ran) (count capacity : ℕ)
     → IsCore words points items count capacity → (count ≡ EVENTS → ⊥) → length items < capacity
 room_left words points items count capacity core more =
@@ -323,17 +313,20 @@ room_left words points items count capacity core more =
     let k : RUN_ITEMS ≤ capacity = core.reserved in
     omega arith
 
-module _ (words : List ℕ) (points : List Progress) (items : List Ran) (count capacity : ℕ)
-    (core : IsCore words points items count capacity) (me : ℕ) (mine : me < TASKS) (call : Call) (p : Point)
-    (stands : slice_get points me ≡ Some (now.Open call p)) (runs : ((state_of items).table.task me).runnable ≡ true)
-    (plan : Planned) (is : plan ≡ planned (state_of items) me call p) where
+-- what holds of the planned event, and after it
+module _ {words : List ℕ} {points : List Progress} {items : List Ran} {count capacity : ℕ}
+    (core : IsCore words points items count capacity) {me : ℕ} (mine : me < TASKS) {call : Call} {p : Point}
+    {plan : Planned} (due : IsPlanned points items me call p plan) where
   pub plan_allowed : Allows (state_of items) me plan.event
-  plan_allowed = subst (λ (x : Planned). Allows (state_of items) me x.event) (sym is)
-      (allowed words points items count capacity core me mine call p stands runs)
+  plan_allowed = subst (λ (x : Planned). Allows (state_of items) me x.event) (sym due.is)
+      (allowed words points items count capacity core me mine call p due.stands due.runs)
+
+  pub plan_in_range : IsInRange plan.event
+  plan_in_range = allowed_in_range (state_of items) me plan.event plan_allowed
 
   pub plan_joins : Joins (given_at call p) plan.event
-  plan_joins = subst (λ (x : Planned). Joins (given_at call p) x.event) (sym is)
-      (joins words points items count capacity core me mine call p stands runs)
+  plan_joins = subst (λ (x : Planned). Joins (given_at call p) x.event) (sym due.is)
+      (joins words points items count capacity core me mine call p due.stands due.runs)
 
   pub plan_located : IsLocation (location_of me plan.event)
   plan_located = event_located words (state_of items) core.shown me (given_at call p) mine plan.event plan_allowed
@@ -341,7 +334,7 @@ module _ (words : List ℕ) (points : List Progress) (items : List Ran) (count c
   pub plan_marked : (walk : Arrived) → walk ≡ arrived (arrives_at (state_of items).table.entry call p
       ((state_of items).queue (call_head call))) → IsMarkedBy (state_of items) call p plan.event walk
   plan_marked walk goes = marked (state_of items) me call (seen_by (state_of items) me call p) walk p plan.event goes
-      (ap (λ (x : Planned). x.event) (sym is))
+      (ap (λ (x : Planned). x.event) (sym due.is))
 
   -- who keeps each bit after it, and which page was taken for each task
   module _ (pages : List (Option ℕ)) (noted_pages : ShowsTaken pages (state_of items).table.taken) (found : ℕ)
@@ -353,7 +346,7 @@ module _ (words : List ℕ) (points : List Progress) (items : List Ran) (count c
         (subst P (sym (state_after-push start_state items (ran.Made me plan.event found)))
         (any (after_event (state_of items) me (given_by ((state_of items).progress me)) plan.event) _
         (subst (λ (x : Progress). P (after_event (state_of items) me (given_by x) plan.event))
-        (sym (open_is words points items count capacity core me mine call p stands)) h)))
+        (sym (open_is words points items count capacity core me mine call p due.stands)) h)))
 
     pub stepped_keepers : (keepers : List (Option ℕ)) → ShowsKeepers keepers (state_of items).table.view
         → None ≡ busy_head (state_of items) plan.event → (keepers' : List (Option ℕ))
@@ -363,9 +356,9 @@ module _ (words : List ℕ) (points : List Progress) (items : List Ran) (count c
         (subst (λ (k : List (Option ℕ)). ShowsKeepers k
         (after_event (state_of items) me (given_at call p) plan.event).table.view) (sym noted)
         (subst (λ (x : Planned). ShowsKeepers (kept_after me x.event pages keepers)
-        (after_event (state_of items) me (given_at call p) x.event).table.view) (sym is)
-        (keepers_kept words points items count capacity core me mine call p stands runs pages noted_pages keepers shown
-        (sym (free ∙ ap (λ (y : Planned). busy_head (state_of items) y.event) is)))))
+        (after_event (state_of items) me (given_at call p) x.event).table.view) (sym due.is)
+        (keepers_kept words points items count capacity core me mine call p due.stands due.runs pages noted_pages
+        keepers shown (sym (free ∙ ap (λ (y : Planned). busy_head (state_of items) y.event) due.is)))))
 
     pub stepped_taken : (pages' : List (Option ℕ)) → pages' ≡ taken_after me plan.event pages
         → ShowsTaken pages' (state_of items').table.taken
@@ -373,8 +366,8 @@ module _ (words : List ℕ) (points : List Progress) (items : List Ran) (count c
         (subst (λ (k : List (Option ℕ)). ShowsTaken k
         (after_event (state_of items) me (given_at call p) plan.event).table.taken) (sym noted)
         (subst (λ (x : Planned). ShowsTaken (taken_after me x.event pages)
-        (after_event (state_of items) me (given_at call p) x.event).table.taken) (sym is)
-        (taken_kept words points items count capacity core me mine call p stands runs pages noted_pages)))
+        (after_event (state_of items) me (given_at call p) x.event).table.taken) (sym due.is)
+        (taken_kept words points items count capacity core me mine call p due.stands due.runs pages noted_pages)))
 
   -- the core after what the code did
   pub stepped_core : (found : ℕ) → found ≡ found_by (state_of items) me plan.event
@@ -385,14 +378,20 @@ module _ (words : List ℕ) (points : List Progress) (items : List Ran) (count c
       → capacity ≤ capacity' → IsCore after (slice_set points slot x) items' (count + 1) capacity'
   stepped_core found was free few after shown x goes slot same items' grown capacity' more =
       let fewer : count < EVENTS = let n : count ≤ EVENTS = core.few in omega arith in
-      let k = made_core words points items count capacity core me mine call p stands found capacity' after x
-      (was ∙ ap (λ (y : Planned). found_by (state_of items) me y.event) is) runs
-      (sym (free ∙ ap (λ (y : Planned). busy_head (state_of items) y.event) is)) fewer more
+      let k = made_core words points items count capacity core me mine call p due.stands found capacity' after x
+      (was ∙ ap (λ (y : Planned). found_by (state_of items) me y.event) due.is) due.runs
+      (sym (free ∙ ap (λ (y : Planned). busy_head (state_of items) y.event) due.is)) fewer more
       (subst (λ (y : Planned). Shows after (after_event (state_of items) me (given_at call p) y.event).table)
-      is shown) (sym (goes ∙ ap (λ (y : Planned). progress_at call y.next) is)) in
+      due.is shown) (sym (goes ∙ ap (λ (y : Planned). progress_at call y.next) due.is)) in
       let g : items' ≡ items ++ ran.Made me (planned (state_of items) me call p).event found ∷ [] = grown
-      ∙ ap (λ (y : Planned). items ++ ran.Made me y.event found ∷ []) is in
+      ∙ ap (λ (y : Planned). items ++ ran.Made me y.event found ∷ []) due.is in
       rw (same, g) k
+
+pub in_range_here : {words : List ℕ} {points : List Progress} {items v : List Ran} {count capacity : ℕ}
+    → IsCore words points items count capacity → {me : ℕ} → me < TASKS → items ≡ v → {call : Call} {p : Point}
+    → MayStep v me call p → {found : Found} → IsFound v me call p found → {plan : Planned}
+    → plan ≡ program me call p found.seen → IsInRange plan.event
+in_range_here core mine same may found is = plan_in_range core mine (planned_here core mine same may found is)
 
 pub grown_run : (items v items' : List Ran) (me : ℕ) (e : Event) (found : ℕ) → items ≡ v
     → found ≡ found_by (state_of items) me e → items' ≡ items ++ ran.Made me e found ∷ [] → items' ≡ v
@@ -411,13 +410,24 @@ lacks_shown s me (calls.ClearBit w b) keepers shown mine fits =
     ap not (sym (shown.each me w b mine lw lb))
 lacks_shown s me call keepers shown mine fits = refl
 
+-- a task whose place is read as closed has no call open
+pub closed_here : {words : List ℕ} {points : List Progress} {items : List Ran} {count capacity : ℕ}
+    → IsCore words points items count capacity → {me : ℕ} → me < TASKS → {slot : ℕ} → slot ≡ me → {r : Progress}
+    → r ≡ get_or points slot r → {t : Bool} → t ≡ is_open r → t ≡ false
+    → is_open ((state_of items).progress me) ≡ false
+closed_here {points = points} {items = items} core {me = me} mine {slot = slot} same {r = r} read test shut =
+    let a : slice_get points me ≡ Some r = read_progress points me slot r core.tasks mine same read in
+    let b : Some ((state_of items).progress me) ≡ Some r = sym (core.progress me mine) ∙ a in
+    let d : (state_of items).progress me ≡ r = cc in
+    ap is_open d ∙ sym test ∙ shut
+
 -- an opening that is refused for a bit or for the own entry, by what the code read
-module _ (words : List ℕ) (points : List Progress) (items : List Ran) (count capacity : ℕ)
-    (core : IsCore words points items count capacity) (me : ℕ) (mine : me < TASKS) (slot : ℕ) (same : slot ≡ me)
-    (r : Progress) (read : r ≡ get_or points slot r) (t : Bool) (test : t ≡ is_open r) (shut : t ≡ false)
-    (call : Call) (v : List Ran) (view : items ≡ v) (fits : Bool) (fit : fits ≡ is_in_range me call)
-    (fitting : fits ≡ true) (keepers : List (Option ℕ)) (shown : ShowsKeepers keepers (state_of items).table.view)
-    (keeps : Bool) (keep : keeps ≡ keeps_shown keepers me call) (loose : Bool) (lack : loose ≡ lacks_bit call keeps)
+module _ {words : List ℕ} {points : List Progress} {items : List Ran} {count capacity : ℕ}
+    (core : IsCore words points items count capacity) {me : ℕ} (mine : me < TASKS)
+    (closed : is_open ((state_of items).progress me) ≡ false) (call : Call) {v : List Ran} (view : items ≡ v)
+    {fits : Bool} (fit : fits ≡ is_in_range me call) (fitting : fits ≡ true) {keepers : List (Option ℕ)}
+    (shown : ShowsKeepers keepers (state_of items).table.view) {read : List (Option ℕ)} (same : read ≡ keepers)
+    {keeps : Bool} (keep : keeps ≡ keeps_shown read me call) {loose : Bool} (lack : loose ≡ lacks_bit call keeps)
   where
     abbrev twice_in : Bool
     twice_in = is_queued_twice call ((state_of items).table.entry (own me))
@@ -425,26 +435,19 @@ module _ (words : List ℕ) (points : List Progress) (items : List Ran) (count c
     abbrev lacks_in : Bool
     lacks_in = lacks_entry call ((state_of items).table.entry (own me))
 
+    loose_is : loose ≡ lacks_bit call (((state_of items).table.view me).bits.keeps (call_watch call))
+    loose_is = lack ∙ ap (lacks_bit call) (keep ∙ ap (λ (k : List (Option ℕ)). keeps_shown k me call) same)
+        ∙ lacks_shown (state_of items) me call keepers shown mine (sym fit ∙ fitting)
+
     bit_checked : first_refusal true loose twice_in lacks_in ≡ started (state_of v) me call
     bit_checked = subst (λ (w : List Ran). first_refusal true loose twice_in lacks_in
         ≡ started (state_of w) me call) view
-        (sym (rw (closed_is, sym fit ∙ fitting) (ap (λ b. first_refusal true b twice_in lacks_in) (sym loose_is))))
-      where
-        closed_is : is_open ((state_of items).progress me) ≡ false
-        closed_is =
-            let a : slice_get points me ≡ Some r = read_progress points me slot r core.tasks mine same read in
-            let b : Some ((state_of items).progress me) ≡ Some r = sym (core.progress me mine) ∙ a in
-            let d : (state_of items).progress me ≡ r = cc in
-            ap is_open d ∙ sym test ∙ shut
-
-        loose_is : loose ≡ lacks_bit call (((state_of items).table.view me).bits.keeps (call_watch call))
-        loose_is = lack ∙ ap (lacks_bit call) keep
-            ∙ lacks_shown (state_of items) me call keepers shown mine (sym fit ∙ fitting)
+        (sym (rw (closed, sym fit ∙ fitting) (ap (λ b. first_refusal true b twice_in lacks_in) (sym loose_is))))
 
     pub loose_refused : loose ≡ true → Err faults.NotHeld ≡ started (state_of v) me call
     loose_refused y = ap (λ b. first_refusal true b twice_in lacks_in) (sym y) ∙ bit_checked
 
-    module _ (held : loose ≡ false) (entry : Option Entry) (is : entry ≡ (state_of items).table.entry (own me)) where
+    module _ (held : loose ≡ false) {entry : Option Entry} (is : entry ≡ (state_of items).table.entry (own me)) where
       entry_checked : first_refusal true false (is_queued_twice call entry) (lacks_entry call entry)
           ≡ started (state_of v)
           me call
@@ -452,80 +455,60 @@ module _ (words : List ℕ) (points : List Progress) (items : List Ran) (count c
           (lacks_entry call o)) is
           ∙ ap (λ b. first_refusal true b twice_in lacks_in) (sym held) ∙ bit_checked
 
-      pub queued_refused : (twice : Bool) → twice ≡ is_queued_twice call entry → twice ≡ true
+      pub queued_refused : {twice : Bool} → twice ≡ is_queued_twice call entry → twice ≡ true
           → Err faults.EntryQueued ≡ started (state_of v) me call
-      queued_refused twice k y =
+      queued_refused k y =
           ap (λ b. first_refusal true false b (lacks_entry call entry)) (sym y ∙ k) ∙ entry_checked
 
-      pub lacking_refused : (twice lacks : Bool) → twice ≡ is_queued_twice call entry → twice ≡ false
-          → lacks ≡ lacks_entry call entry → lacks ≡ true → Err faults.NoEntry ≡ started (state_of v) me call
-      lacking_refused twice lacks k n l y =
-          ap (λ b. first_refusal true false b true) (sym n ∙ k)
-          ∙ ap (λ b. first_refusal true false (is_queued_twice call entry) b) (sym y ∙ l) ∙ entry_checked
+      module _ {twice lacks : Bool} (k : twice ≡ is_queued_twice call entry) (once : twice ≡ false)
+          (l : lacks ≡ lacks_entry call entry) where
+        pub lacking_refused : lacks ≡ true → Err faults.NoEntry ≡ started (state_of v) me call
+        lacking_refused y =
+            ap (λ b. first_refusal true false b true) (sym once ∙ k)
+            ∙ ap (λ b. first_refusal true false (is_queued_twice call entry) b) (sym y ∙ l) ∙ entry_checked
 
--- what the code found lets the call be opened
-pub may_open : (s : State) (me : ℕ) (call : Call) (keepers : List (Option ℕ)) → ShowsKeepers keepers s.table.view
-    → me < TASKS → (entry : Option Entry) → entry ≡ s.table.entry (own me) → (keeps : Bool)
-    → keeps ≡ keeps_shown keepers me call → (a l b d : Bool) → a ≡ is_in_range me call → a ≡ true
-    → l ≡ lacks_bit call keeps → l ≡ false → b ≡ is_queued_twice call entry → b ≡ false → d ≡ lacks_entry call entry
-    → d ≡ false → IsListed call → MayOpen s me call
-may_open s me call keepers shown mine entry is keeps keep a l b d fits fit loose held twice once lacks has listed = rw (
-  ← is,
-  sym fits ∙ fit,
-  sym (lacks_shown s me call keepers shown mine (sym fits ∙ fit)) ∙ ap (lacks_bit call) (sym keep) ∙ sym loose
-      ∙ held,
-  sym twice ∙ once,
-  sym lacks ∙ has,
-  listed,
-) refl
+        -- what the code found lets the call be opened
+        pub may_open : lacks ≡ false → IsListed call → MayOpen (state_of items) me call
+        may_open has listed =
+            rw (← is, sym fit ∙ fitting, sym loose_is ∙ held, sym k ∙ once, sym l ∙ has, listed) refl
 
 -- an opening, by what the code read
-module _ (words : List ℕ) (points : List Progress) (items : List Ran) (count capacity : ℕ)
-    (core : IsCore words points items count capacity) (me : ℕ) (mine : me < TASKS) (slot : ℕ) (same : slot ≡ me)
-    (r : Progress) (read : r ≡ get_or points slot r) (t : Bool) (test : t ≡ is_open r) (no : t ≡ false)
-    (call : Call) (may : MayOpen (state_of items) me call) where
-  closed_is : is_open ((state_of items).progress me) ≡ false
-  closed_is =
-      let a : slice_get points me ≡ Some r = read_progress points me slot r core.tasks mine same read in
-      let b : Some ((state_of items).progress me) ≡ Some r = sym (core.progress me mine) ∙ a in
-      let d : (state_of items).progress me ≡ r = cc in
-      ap is_open d ∙ sym test ∙ no
-
+module _ {words : List ℕ} {points : List Progress} {items : List Ran} {count capacity : ℕ}
+    (core : IsCore words points items count capacity) {me : ℕ} (mine : me < TASKS)
+    (closed : is_open ((state_of items).progress me) ≡ false) (call : Call)
+    (may : MayOpen (state_of items) me call) where
   pub room_to_open : length items < capacity
   room_to_open =
       let r : length items < 2 * count + TASKS =
-      opened_room words points items count capacity core me mine call closed_is may in
+      opened_room words points items count capacity core me mine call closed may in
       let n : count ≤ EVENTS = core.few in
       let k : RUN_ITEMS ≤ capacity = core.reserved in
       omega arith
 
-  pub started_core : (p : Point) → p ≡ program_start call → (items' : List Ran) → items' ≡ items
-      ++ ran.Opened me call ∷ [] → (capacity' : ℕ) → capacity ≤ capacity'
-      → IsCore words (slice_set points slot (now.Open call p)) items' count capacity'
-  started_core p begins items' grown capacity' more =
-      rw (same, begins, grown) (opened_core words points items count capacity core me mine call closed_is
-      may capacity' more)
+  module _ (items' : List Ran) (grown : items' ≡ items ++ ran.Opened me call ∷ []) where
+    pub started_core : {slot : ℕ} → slot ≡ me → {p : Point} → p ≡ program_start call → {capacity' : ℕ}
+        → capacity ≤ capacity' → IsCore words (slice_set points slot (now.Open call p)) items' count capacity'
+    started_core same begins {capacity' = capacity'} more =
+        rw (same, begins, grown) (opened_core words points items count capacity core me mine call closed
+        may capacity' more)
 
-  pub started_keepers : (keepers : List (Option ℕ)) → ShowsKeepers keepers (state_of items).table.view
-      → (items' : List Ran)
-      → items' ≡ items ++ ran.Opened me call ∷ [] → ShowsKeepers keepers (state_of items').table.view
-  started_keepers keepers shown items' grown =
-      subst (λ (w : List Ran). ShowsKeepers keepers (state_of w).table.view) (sym grown)
-      (subst (λ (t : State). ShowsKeepers keepers t.table.view)
-      (sym (state_after-push start_state items (ran.Opened me call))) shown)
+    -- nothing but the task's progress is another
+    same_table : (P : Table → Type 0) → P (state_of items).table → P (state_of items').table
+    same_table P h = subst (λ (w : List Ran). P (state_of w).table) (sym grown)
+        (subst (λ (t : State). P t.table) (sym (state_after-push start_state items (ran.Opened me call))) h)
 
-  pub started_taken : (pages : List (Option ℕ)) → ShowsTaken pages (state_of items).table.taken
-      → (items' : List Ran)
-      → items' ≡ items ++ ran.Opened me call ∷ [] → ShowsTaken pages (state_of items').table.taken
-  started_taken pages shown items' grown =
-      subst (λ (w : List Ran). ShowsTaken pages (state_of w).table.taken) (sym grown)
-      (subst (λ (t : State). ShowsTaken pages t.table.taken)
-      (sym (state_after-push start_state items (ran.Opened me call))) shown)
+    pub started_keepers : {keepers : List (Option ℕ)} → ShowsKeepers keepers (state_of items).table.view
+        → ShowsKeepers keepers (state_of items').table.view
+    started_keepers {keepers = keepers} shown = same_table (λ t. ShowsKeepers keepers t.view) shown
+
+    pub started_taken : {pages : List (Option ℕ)} → ShowsTaken pages (state_of items).table.taken
+        → ShowsTaken pages (state_of items').table.taken
+    started_taken {pages = pages} shown = same_table (λ t. ShowsTaken pages t.taken) shown
 
   pub started_ok : (v : List Ran) → items ≡ v → Ok tt ≡ started (state_of v) me call
   started_ok v view = subst (λ (w : List Ran). Ok tt ≡ started (state_of w) me call) view
       (sym (rw (
-        closed_is,
+        closed,
         (admits_parts me call _ _ may).0,
         (admits_parts me call _ _ may).4,
         (admits_parts me call _ _ may).1,

@@ -227,6 +227,7 @@ fn place_of(member: Option<Member>) -> Option<u64>
 }
 
 /// The place that an add at the front takes. A million adds leave one.
+#[tactic(auto, using(crate::proofs::FoundMembers::front_left))]
 fn front_place_at(words: &[u64], index: &[RankedMember], head: u16) -> u64
     requires count { length words.now ≡ WORDS }
     requires index { IsIndex (shown_stand words.now) index.now }
@@ -239,6 +240,7 @@ fn front_place_at(words: &[u64], index: &[RankedMember], head: u16) -> u64
 }
 
 /// The place that an add at the tail takes. A million adds leave one.
+#[tactic(auto, using(crate::proofs::FoundMembers::tail_left))]
 fn tail_place_at(words: &[u64], index: &[RankedMember], head: u16) -> u64
     requires count { length words.now ≡ WORDS }
     requires index { IsIndex (shown_stand words.now) index.now }
@@ -252,6 +254,7 @@ fn tail_place_at(words: &[u64], index: &[RankedMember], head: u16) -> u64
 
 /// The place that an add with priority takes: behind the last entry with priority. No bookmark counts. A million adds
 /// leave one.
+#[tactic(auto, using(crate::proofs::FoundMembers::priority_left))]
 fn priority_place_at(words: &[u64], index: &[RankedMember], head: u16) -> u64
     requires count { length words.now ≡ WORDS }
     requires index { IsIndex (shown_stand words.now) index.now }

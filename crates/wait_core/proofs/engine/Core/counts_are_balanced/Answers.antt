@@ -1,11 +1,6 @@
-use Rattle.std.proofs.Common.{◌≤◌, arith}
-use Rattle.wait_model.specs.declared.layout.TheConstants.{EVENTS}
-use Rattle.wait_model.specs.Runs.{made_in}
 use Rattle.wait_model.proofs.AccountLaws.DoneStores.{no_run_miscounts}
+use Rattle.wait_core.proofs.KeptCore.{by_law}
 use Rattle.wait_core.proofs.engine.Core.counts_are_balanced.Goals as goal
 
 pub returns : goal.returns
-returns c =
-    let core = c.self.invariant.core in
-    let few : made_in c.self.inside.run.items ≤ EVENTS = omega (arith, core.made, core.few) in
-    rw (← c.self.view_is) (no_run_miscounts c.self.inside.run.items core.run few)
+returns c = by_law _ _ _ _ _ c.self.invariant.core no_run_miscounts _ c.self.view_is

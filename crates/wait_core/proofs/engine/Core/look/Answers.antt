@@ -6,7 +6,7 @@ use Rattle.wait_model.specs.Runs.{state_of}
 use Rattle.wait_core.specs.declared.reads.Found.{Found}
 use Rattle.wait_core.specs.Stepped.{IsFound}
 use Rattle.wait_core.proofs.KeptCore.{sound, call_sound}
-use Rattle.wait_core.proofs.StepAnswers.{standing, shown_in, call_limit, call_reaches, call_fits}
+use Rattle.wait_core.proofs.StepAnswers.{standing, read_here, shown_in, call_limit, call_reaches, call_fits}
 use Rattle.wait_core.proofs.engine.Core.look.Goals as goal
 
 pub arrived_at-walk-requires-clause-point : goal.arrived_at-walk-requires-clause-point
@@ -39,9 +39,7 @@ returns c =
     let mine : c.args.task < TASKS = omega arith in
     let stands = standing _ _ _ _ _ core _ mine _ c.self.view_is _ _ c.requires in
     let k = call_sound _ _ _ _ _ core c.args.task mine c.args.call c.args.point stands in
-    let walks = c.arrived_at-walk.ensures.arrived (state_of c.self.inside.run.items) _
-    (shown_in _ _ (state_of c.self.inside.run.items) c.deref.ensures.value core.shown)
-    (sound _ _ _ _ _ core) in
+    let walks = read_here core c.deref.ensures.value c.arrived_at-walk.ensures.arrived in
     let found : Found = record { seen = c.seen_at-seen.result; walk = c.arrived_at-walk.result } in
     subst (λ (w : List Ran). IsFound w c.args.task c.args.call c.args.point found) c.self.view_is (record {
       seen = c.seen_at-seen.ensures.seen (state_of c.self.inside.run.items) _

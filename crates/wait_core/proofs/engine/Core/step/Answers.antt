@@ -1,9 +1,7 @@
 use Rattle.std.specs.Prelude.{ℕ, ◌<◌, ◌≤◌}
 use Rattle.wait_model.specs.declared.layout.TheConstants.{TASKS, EVENTS}
 use Rattle.std.proofs.Common.{arith, sym, subst, append-nil}
-use Rattle.wait_model.specs.Runs.{state_of}
-use Rattle.wait_core.proofs.KeptCore.{sound}
-use Rattle.wait_core.proofs.StepAnswers.{read_progress, opened_at, may_step, shown_in, stopped, running, no_call}
+use Rattle.wait_core.proofs.StepAnswers.{read_progress, opened_at, may_step, read_here, stopped, running, no_call}
 use Rattle.wait_core.proofs.StepAnswers.{asleep}
 use Rattle.wait_core.proofs.SpokenCalls.{ended_well}
 use Rattle.wait_core.proofs.FollowedRuns.{left_now}
@@ -27,9 +25,7 @@ returns-then-not-read_task-clause-answer c =
     let mine : c.args.task < TASKS = omega arith in
     let stands = opened_at _ _ _ _ _ core _ _ _ _ _ mine c.from.ensures c.index.ensures
     c.in-Open.is in
-    let is = c.read_task.ensures (state_of c.self.inside.run.items) _
-    (shown_in _ _ (state_of c.self.inside.run.items) c.deref.ensures.value core.shown)
-    (sound _ _ _ _ _ core) in
+    let is = read_here core c.deref.ensures.value c.read_task.ensures in
     asleep _ _ _ _ _ core c.args.task mine c.args.self.now c.self.view_is c.in-Open.call c.in-Open.point
     stands
     (stopped _ _ is c.if-not-read_task.true)
@@ -40,9 +36,7 @@ step_open-requires c =
     let mine : c.args.task < TASKS = omega arith in
     let stands = opened_at _ _ _ _ _ core _ _ _ _ _ mine c.from.ensures c.index.ensures
     c.in-Open.is in
-    let record_is = c.read_task.ensures (state_of c.self.inside.run.items) _
-    (shown_in _ _ (state_of c.self.inside.run.items) c.deref.ensures.value core.shown)
-    (sound _ _ _ _ _ core) in
+    let record_is = read_here core c.deref.ensures.value c.read_task.ensures in
     may_step _ _ _ _ _ core c.args.task mine c.args.self.now c.self.view_is c.in-Open.call c.in-Open.point stands
     (running _ _ record_is c.if-not-read_task.false)
 

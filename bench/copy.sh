@@ -7,14 +7,8 @@
 # that starts the programs, as `chrt -f 50`, by which other work gives way to them.
 set -eu
 cd "$(dirname "$0")/.."
-. bench/busy.sh
-made=$(mktemp -d)
-end() {
-    end_loops
-    rm -rf "$made"
-}
-trap end EXIT
-rustc --edition 2021 -O -o "$made/copy" bench/copy.rs
+. bench/runs.sh
+build_plain copy "$made/copy" --edition 2021
 
 run=0
 while [ "$run" -lt "${RUNS:-3}" ]; do

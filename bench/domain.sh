@@ -5,14 +5,8 @@
 # programs, as `chrt -f 50`, by which other work gives way to them.
 set -eu
 cd "$(dirname "$0")/.."
-. bench/busy.sh
-made=$(mktemp -d)
-end() {
-    end_loops
-    rm -rf "$made"
-}
-trap end EXIT
-rustc -O -o "$made/plain" bench/plain.rs
+. bench/runs.sh
+build_plain plain "$made/plain"
 
 # NAME NANOSECONDS RATIO of one run; and the round trip that parks at once beside two threads that tell each other a number.
 ratios() {
@@ -27,13 +21,5 @@ ratios() {
         }'
 }
 
-for _ in $(seq "${RUNS:-5}"); do
-    ratios >"$made/run"
-    awk '{ printf "%s %s ns, ratio %s; ", $1, $2, $3 } END { print "" }' "$made/run"
-    cat "$made/run" >>"$made/all"
-done
-sort -k 1,1 -k 3,3g "$made/all" | awk '
-    function flush() { if (name != "") printf "%s: middle %s, from %s to %s\n", name, all[int((n + 1) / 2)], all[1], all[n] }
-    $1 != name { flush(); name = $1; n = 0 }
-    { all[++n] = $3 }
-    END { flush() }'
+make_runs '{ printf "%s %s ns, ratio %s; ", $1, $2, $3 }'
+spread 3 | awk '{ printf "%s: middle %s, from %s to %s\n", $1, $2, $5, $6 }'

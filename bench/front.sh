@@ -9,14 +9,7 @@
 # keep processors busy meanwhile (0). WITH: a command that starts the programs, as `chrt -f 50`.
 set -eu
 cd "$(dirname "$0")/.."
-. bench/busy.sh
 . bench/front_runs.sh
-made=$(mktemp -d)
-end() {
-    end_loops
-    rm -rf "$made"
-}
-trap end EXIT
 one=${ONE:-0}
 other=${OTHER:-1}
 archives=$PWD/front/out
@@ -25,14 +18,7 @@ build_c() {
     gcc -std=gnu11 -O2 "$@" bench/front.c front/c/sugwelan.c "$archives/libsugwelan.a" -lpthread
 }
 
-# A program whose first thread is on the first processor, and the one that it starts on the processor of a number.
-placed() {
-    local pin=$1
-    shift
-    ${WITH:-} taskset -c "$one" env PIN="$pin" LD_PRELOAD="$made/pin.so" "$@"
-}
-
-rustc -O --edition 2024 --crate-type cdylib -o "$made/pin.so" bench/pin.rs
+build_pin
 build_c -o "$made/c_front"
 build_c -DSUGWELAN_LOOKS=400 -o "$made/c_looks"
 build_rust front . "$made/rust_front"

@@ -12,14 +12,7 @@
 # left its archive: its libraries make the same in the same runs, and the ratio to them is `before`.
 set -eu
 cd "$(dirname "$0")/.."
-. bench/busy.sh
 . bench/front_runs.sh
-made=$(mktemp -d)
-end() {
-    end_loops
-    rm -rf "$made"
-}
-trap end EXIT
 RUNS=${RUNS:-5}
 
 # The program in C over the library of a clone: CLONE PROGRAM.

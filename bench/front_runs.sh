@@ -1,12 +1,12 @@
-# For front.sh and front_contended.sh: builds programs, makes runs of them, and writes what came out. The variable made,
-# a folder, is set before.
+# For front.sh and front_contended.sh: builds programs, makes runs of them, and writes what came out.
+. bench/runs.sh
 
 # A program in Rust, bench/NAME.rs, over the library of a clone, with parking_lot where it can be had: NAME CLONE PROGRAM.
 build_rust() {
-    local name=$1 clone registry=/usr/share/cargo/registry features=()
+    local name=$1 clone features=()
     clone=$(cd -- "$2" && pwd)
     rm -rf "$made/crate"
-    mkdir -p "$made/crate/src" "$made/crate/.cargo"
+    mkdir -p "$made/crate/src"
     cp "bench/$name.rs" "$made/crate/src/main.rs"
     cat >"$made/crate/Cargo.toml" <<-END
 	[package]
@@ -18,10 +18,9 @@ build_rust() {
 	[dependencies]
 	sugwelan = { path = "$clone/front/rust" }
 	END
-    if ls -d $registry/parking_lot-0.12.* >/dev/null 2>&1; then
+    if has_parking_lot; then
         printf 'parking_lot = { version = "0.12", optional = true }\n' >>"$made/crate/Cargo.toml"
-        printf '[source.crates-io]\nreplace-with = "debian"\n[source.debian]\ndirectory = "%s"\n' $registry \
-            >"$made/crate/.cargo/config.toml"
+        take_debian "$made/crate"
         features=(--features parking_lot)
     fi
     (cd "$made/crate" && SUGWELAN_ARCHIVES=$clone/front/out CARGO_TARGET_DIR=$made/target \

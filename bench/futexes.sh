@@ -17,22 +17,16 @@
 # the numbers that are handed on are written alone.
 set -eu
 cd "$(dirname "$0")/.."
-. bench/busy.sh
-made=$(mktemp -d)
-end() {
-    end_loops
-    rm -rf "$made"
-}
-trap end EXIT
-rustc --edition 2021 -O -o "$made/plain" bench/futexes.rs
-[ -z "${OTHER:-}" ] || rustc -O --edition 2024 --crate-type cdylib -o "$made/pin.so" bench/pin.rs
+. bench/runs.sh
+build_plain futexes "$made/plain" --edition 2021
+[ -z "${OTHER:-}" ] || build_pin
 
 # Starts a program, with its threads placed where that is asked for.
 start() {
     if [ -z "${OTHER:-}" ]; then
         ${WITH:-} "$@"
     else
-        ${WITH:-} taskset -c "${ONE:-0}" env PIN="$OTHER" LD_PRELOAD="$made/pin.so" "$@" | grep -E '^(hand|steps)'
+        placed "$OTHER" "$@" | grep -E '^(hand|steps)'
     fi
 }
 
@@ -48,43 +42,15 @@ rounds() {
             }
             { print $1 ~ /^(hand|steps)/ ? "own" : "beside", $0 }'
         start crates/bench_threads/out/bench_threads futexes | sed 's/^/own /'
-    done | awk 'NF == 4 { print $2, $1, $4 / $3 }' | sort -k 1,1 -k 2,2 -k 3,3g | awk '
-        function flush() { if (name != "") print name, who, all[int((n + 1) / 2)] }
-        $1 != name || $2 != who { flush(); name = $1; who = $2; n = 0 }
-        { all[++n] = $3 }
-        END { flush() }'
+    done | middle_rounds
 }
 
 # NAME NANOSECONDS RATIO of one run.
 ratios() {
-    rounds | awk '
-        { middle[$1, $2] = $3 }
-        $2 == "own" { names[++count] = $1 }
-        END {
-            for (i = 1; i <= count; i++) {
-                time = middle[names[i], "own"]
-                printf "%s %.1f %.2f\n", names[i], time, time / middle[names[i], "beside"]
-            }
-        }'
+    rounds | ratios_of own %.2f beside
 }
 
-# The middle one of a column for each name, with the least and the greatest.
-middles() {
-    sort -k 1,1 -k "$1,$1g" "$made/all" | awk -v column="$1" -v what="$2" '
-        function flush() {
-            if (name == "") return
-            printf "%s, %s: middle %s, from %s to %s\n", name, what, all[int((n + 1) / 2)], all[1], all[n]
-        }
-        $1 != name { flush(); name = $1; n = 0 }
-        { all[++n] = $column }
-        END { flush() }'
-}
-
-for _ in $(seq "${RUNS:-5}"); do
-    ratios >"$made/run"
-    awk '{ printf "%s %s ns, ratio %s; ", $1, $2, $3 } END { print "" }' "$made/run"
-    cat "$made/run" >>"$made/all"
-done
+make_runs '{ printf "%s %s ns, ratio %s; ", $1, $2, $3 }'
 middles 2 nanoseconds
 middles 3 'ratio' | tee "$made/ratios"
 if [ -n "${MOST:-}" ]; then

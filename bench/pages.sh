@@ -9,22 +9,14 @@
 # programs, as `chrt -f 50`, by which other work gives way to them.
 set -eu
 cd "$(dirname "$0")/.."
-. bench/busy.sh
-made=$(mktemp -d)
-end() {
-    end_loops
-    rm -rf "$made"
-}
-trap end EXIT
+. bench/runs.sh
 
 # The plain program, with parking_lot where it can be had.
 build() {
-    registry=/usr/share/cargo/registry
-    if ls -d $registry/parking_lot-0.12.* >/dev/null 2>&1; then
-        mkdir -p "$made/plain/src" "$made/plain/.cargo"
+    if has_parking_lot; then
+        mkdir -p "$made/plain/src"
+        take_debian "$made/plain"
         cp bench/pages.rs "$made/plain/src/main.rs"
-        printf '[source.crates-io]\nreplace-with = "debian"\n[source.debian]\ndirectory = "%s"\n' $registry \
-            >"$made/plain/.cargo/config.toml"
         cat >"$made/plain/Cargo.toml" <<-'END'
 	[package]
 	name = "pages"
@@ -38,7 +30,7 @@ build() {
         (cd "$made/plain" && cargo build --quiet --release --offline --features parking_lot)
         cp "$made/plain/target/release/pages" "$made/pages"
     else
-        rustc --edition 2021 -O -o "$made/pages" bench/pages.rs
+        build_plain pages "$made/pages" --edition 2021
     fi
 }
 build
@@ -77,27 +69,15 @@ middles_of() {
         }' | sort
 }
 
-ratio='function ratio(a, b) { return b == "-" ? "-" : sprintf("%.2f", a / b) }'
-for _ in $(seq "${RUNS:-5}"); do
-    lines | middles_of | awk "$ratio"'{
-        printf "%s %.1f %s %s %s %s %s %s %s\n", $1, $2, ratio($2, $3), ratio($2, $4), ratio($2, $5), $6, $7, $8, $9
-    }' >"$made/run"
-    awk '{ printf "%s %s ns, ratios %s, %s and %s, passed %s beside %s, %s and %s; ", $1, $2, $3, $4, $5, $6, $7, $8, $9
-    } END { print "" }' "$made/run"
-    cat "$made/run" >>"$made/all"
-done
-
-# The middle one of a column for each name, with the least and the greatest.
-middles() {
-    sort -k 1,1 -k "$1,$1g" "$made/all" | awk -v column="$1" -v what="$2" '
-        function flush() {
-            if (name == "") return
-            printf "%s, %s: middle %s, from %s to %s\n", name, what, all[int((n + 1) / 2)], all[1], all[n]
-        }
-        $1 != name { flush(); name = $1; n = 0 }
-        { all[++n] = $column }
-        END { flush() }'
+# NAME NANOSECONDS, the three ratios and the four that let another pass, of one run.
+ratios() {
+    lines | middles_of | awk '
+        function ratio(a, b) { return b == "-" ? "-" : sprintf("%.2f", a / b) }
+        { printf "%s %.1f %s %s %s %s %s %s %s\n", $1, $2, ratio($2, $3), ratio($2, $4), ratio($2, $5), $6, $7, $8, $9 }'
 }
+
+make_runs '{
+    printf "%s %s ns, ratios %s, %s and %s, passed %s beside %s, %s and %s; ", $1, $2, $3, $4, $5, $6, $7, $8, $9 }'
 middles 2 nanoseconds
 middles 3 'ratio to the Mutex'
 middles 4 'ratio to the fair Mutex'

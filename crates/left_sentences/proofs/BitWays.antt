@@ -21,6 +21,7 @@ use Rattle.wait_model.specs.Tasks.{pending, state_mask}
 use Rattle.wait_model.specs.Watches.{misses, number_of}
 use Rattle.wait_model.proofs.SentenceLaws.SentenceBits.{answered_by, wait_rest}
 use Rattle.wait_model.proofs.SentenceLaws.SentenceRests.{first_more}
+use Rattle.wait_model.proofs.WaitLaws.OutsideStages.{either}
 use Rattle.wait_rule.specs.Known.{Known}
 use Rattle.wait_rule.specs.Says.{MeetsLaw}
 use Rattle.wait_rule.specs.Transitions.{call_program}
@@ -64,20 +65,15 @@ BitAt _ trail = ⊥
 abbrev Led : List Event → Planned → Type 0
 Led trail u = AtNext BitAt (u.event ∷ trail) u.next
 
-either : (b : Bool) (u v : Planned) (trail : List Event) → Led trail u → Led trail v → Led trail (if b then u else v)
-either true u v trail l r = l
-either false u v trail l r = r
-
 one_of : (b : Bool) (p q : Point) (trail : List Event) → BitAt p trail → BitAt q trail
     → BitAt (if b then p else q) trail
-one_of true p q trail l r = l
-one_of false p q trail l r = r
+one_of b p q trail l r = either (λ (j : Point). BitAt j trail) b p q l r
 
 module _ (me w b : ℕ) (st : SleepState) where
   wait_leads : Leads BitAt (call_program me 0 (calls.WaitBit w b st))
   wait_leads (at.Bit biting.Try) seen trail h = tt
   wait_leads (at.Bit biting.First) seen trail h =
-      either (call_fails (calls.WaitBit w b st) seen) _ _ trail h tt
+      either (Led trail) (call_fails (calls.WaitBit w b st) seen) _ _ h tt
   wait_leads (at.Bit biting.Load) seen trail h = h
   wait_leads (at.Bit biting.Sleep) seen trail h = h
   wait_leads (at.Bit biting.Look) seen trail h =
@@ -91,23 +87,23 @@ module _ (me w b : ℕ) (st : SleepState) where
   wait_leads (at.Prepare preparing.Lock) seen trail h = refl
   wait_leads (at.Prepare preparing.Look) seen trail h = absurd h
   wait_leads (at.Prepare preparing.Queue) seen trail h =
-      either (is_some seen.entry) _ _ trail h (either seen.worn _ _ trail refl h)
+      either (Led trail) (is_some seen.entry) _ _ h (either (Led trail) seen.worn _ _ refl h)
   wait_leads (at.Prepare preparing.State) seen trail h = h
   wait_leads (at.Prepare preparing.Unlock) seen trail h = refl
-  wait_leads at.Worn seen trail h = either (call_fails (calls.WaitBit w b st) seen) _ _ trail tt h
+  wait_leads at.Worn seen trail h = either (Led trail) (call_fails (calls.WaitBit w b st) seen) _ _ tt h
   wait_leads (at.Finish finishing.State failed) seen trail h = h
   wait_leads (at.Finish finishing.Look failed) seen trail h =
-      either (is_some seen.entry) _ _ trail h (either (failed && false) _ _ trail h tt)
+      either (Led trail) (is_some seen.entry) _ _ h (either (Led trail) (failed && false) _ _ h tt)
   wait_leads (at.Finish finishing.Lock failed) seen trail h = refl
   wait_leads (at.Finish finishing.Queue failed) seen trail h =
-      either (is_some seen.entry) _ _ trail h (either (failed && false) _ _ trail refl tt)
-  wait_leads (at.Finish finishing.Unlock failed) seen trail h = either (failed && false) _ _ trail refl tt
+      either (Led trail) (is_some seen.entry) _ _ h (either (Led trail) (failed && false) _ _ refl tt)
+  wait_leads (at.Finish finishing.Unlock failed) seen trail h = either (Led trail) (failed && false) _ _ refl tt
   wait_leads p seen trail h = absurd h
 
   lock_leads : Leads BitAt (call_program me 0 (calls.LockBit w b st))
   lock_leads (at.Bit biting.Try) seen trail h = tt
   lock_leads (at.Bit biting.First) seen trail h =
-      either (call_fails (calls.LockBit w b st) seen) _ _ trail h tt
+      either (Led trail) (call_fails (calls.LockBit w b st) seen) _ _ h tt
   lock_leads (at.Bit biting.Load) seen trail h = h
   lock_leads (at.Bit biting.Sleep) seen trail h = h
   lock_leads (at.Bit biting.Look) seen trail h =
@@ -122,17 +118,17 @@ module _ (me w b : ℕ) (st : SleepState) where
   lock_leads (at.Prepare preparing.Lock) seen trail h = refl
   lock_leads (at.Prepare preparing.Look) seen trail h = absurd h
   lock_leads (at.Prepare preparing.Queue) seen trail h =
-      either (is_some seen.entry) _ _ trail h (either seen.worn _ _ trail refl h)
+      either (Led trail) (is_some seen.entry) _ _ h (either (Led trail) seen.worn _ _ refl h)
   lock_leads (at.Prepare preparing.State) seen trail h = h
   lock_leads (at.Prepare preparing.Unlock) seen trail h = refl
-  lock_leads at.Worn seen trail h = either (call_fails (calls.LockBit w b st) seen) _ _ trail tt tt
+  lock_leads at.Worn seen trail h = either (Led trail) (call_fails (calls.LockBit w b st) seen) _ _ tt tt
   lock_leads (at.Finish finishing.State failed) seen trail h = h
   lock_leads (at.Finish finishing.Look failed) seen trail h =
-      either (is_some seen.entry) _ _ trail h (either (failed && true) _ _ trail h tt)
+      either (Led trail) (is_some seen.entry) _ _ h (either (Led trail) (failed && true) _ _ h tt)
   lock_leads (at.Finish finishing.Lock failed) seen trail h = refl
   lock_leads (at.Finish finishing.Queue failed) seen trail h =
-      either (is_some seen.entry) _ _ trail h (either (failed && true) _ _ trail refl tt)
-  lock_leads (at.Finish finishing.Unlock failed) seen trail h = either (failed && true) _ _ trail refl tt
+      either (Led trail) (is_some seen.entry) _ _ h (either (Led trail) (failed && true) _ _ refl tt)
+  lock_leads (at.Finish finishing.Unlock failed) seen trail h = either (Led trail) (failed && true) _ _ refl tt
   lock_leads p seen trail h = absurd h
 
   -- where the action failed it finishes whatever its load finds

@@ -36,6 +36,7 @@ use Rattle.wait_model.proofs.SentenceLaws.SentenceAwaits.{await_rest, loaded, ov
 use Rattle.wait_model.proofs.SentenceLaws.SentenceCalls.{rest_of}
 use Rattle.wait_model.proofs.SentenceLaws.SentenceEnds.{can_end}
 use Rattle.wait_model.proofs.SentenceLaws.SentenceRests.{CanEnd, first_more, left_at as left_of}
+use Rattle.wait_model.proofs.WaitLaws.OutsideStages.{either}
 use Rattle.wait_rule.specs.Interleavings.{IsInterleaved}
 use Rattle.wait_rule.specs.Known.{Known}
 use Rattle.wait_rule.specs.Queues.{index}
@@ -65,10 +66,6 @@ use Rattle.left_sentences.specs.LeftWords.{IsLeftWord}
 use Rattle.left_sentences.proofs.LeftWays.{FollowsOn, IsRunOf, LeadsOut, Speech, before_law, gone_by, kept, left_word}
 use Rattle.left_sentences.proofs.LeftWays.{of_way}
 use Rattle.left_sentences.proofs.RunsTo.{AtNext, Before, Leads, OffFirst, all_notes}
-
-either : (P : Planned → Type 0) (b : Bool) (u v : Planned) → P u → P v → P (if b then u else v)
-either P true u v l r = l
-either P false u v l r = r
 
 -- from where it takes one of the count it goes to the answer 0 alone
 abbrev is_taking : Point → Bool

@@ -28,6 +28,7 @@ use Rattle.wait_model.specs.Watches.{head_of, misses, number_of}
 use Rattle.wait_model.proofs.SentenceLaws.SentenceCalls.{rest_of}
 use Rattle.wait_model.proofs.SentenceLaws.SentenceRests.{first_more}
 use Rattle.wait_model.proofs.SentenceLaws.SentenceWaits.{loop_rest, prepared, tested}
+use Rattle.wait_model.proofs.WaitLaws.OutsideStages.{either}
 use Rattle.wait_rule.specs.Known.{Known}
 use Rattle.wait_rule.specs.Says.{MeetsLaw}
 use Rattle.wait_rule.specs.Transitions.{Program, call_program}
@@ -80,11 +81,6 @@ module _ (me : ℕ) (c : Watch) (how : How) where
   abbrev Led : List Event → Planned → Type 0
   Led trail u = AtNext At (u.event ∷ trail) u.next
 
-  either : (b : Bool) (u v : Planned) (trail : List Event) → Led trail u → Led trail v
-      → Led trail (if b then u else v)
-  either true u v trail l r = l
-  either false u v trail l r = r
-
   locked : (b : Bool) (trail : List Event)
       → At (at.Prepare (if b then preparing.Look else preparing.Queue)) (event.Lock (head_of c) ∷ trail)
   locked true trail = (trail, refl)
@@ -102,24 +98,24 @@ module _ (me : ℕ) (c : Watch) (how : How) where
   tested_at false v trail unset h = tt
 
   plan_leads : (p : Point) (seen : Seen) (trail : List Event) → At p trail → Led trail (plan me c how p seen)
-  plan_leads at.First seen trail h = either (misses c seen.value) _ _ trail tt tt
+  plan_leads at.First seen trail h = either (Led trail) (misses c seen.value) _ _ tt tt
   plan_leads (at.Prepare preparing.Lock) seen trail h = locked (looks_in how.state) trail
   plan_leads (at.Prepare preparing.Look) seen trail h = looked (pending (state_mask how.state) seen.own) trail h
   plan_leads (at.Prepare preparing.Queue) seen trail h =
-      either (is_some seen.entry) _ _ trail (trail, refl) (either seen.worn _ _ trail tt tt)
+      either (Led trail) (is_some seen.entry) _ _ (trail, refl) (either (Led trail) seen.worn _ _ tt tt)
   plan_leads (at.Prepare preparing.State) seen trail h = (trail, refl)
   plan_leads (at.Prepare preparing.Unlock) seen trail h =
       (h.0, ap (λ (w : List Event). event.Unlock (head_of c) false ∷ w) h.1)
   plan_leads at.Test seen trail h = tested_at (misses c seen.value) seen.value trail refl h
   plan_leads at.Sleep seen trail h = tt
-  plan_leads at.Worn seen trail h = either (misses c seen.value) _ _ trail tt tt
-  plan_leads (at.Leave leaving.Queue) seen trail h = either (is_some seen.entry) _ _ trail tt tt
+  plan_leads at.Worn seen trail h = either (Led trail) (misses c seen.value) _ _ tt tt
+  plan_leads (at.Leave leaving.Queue) seen trail h = either (Led trail) (is_some seen.entry) _ _ tt tt
   plan_leads (at.Leave leaving.Unlock) seen trail h = tt
-  plan_leads (at.Leave leaving.Load) seen trail h = either (misses c seen.value) _ _ trail tt tt
+  plan_leads (at.Leave leaving.Load) seen trail h = either (Led trail) (misses c seen.value) _ _ tt tt
   plan_leads (at.Finish finishing.State false) seen trail h = tt
-  plan_leads (at.Finish finishing.Look false) seen trail h = either (is_some seen.entry) _ _ trail tt tt
+  plan_leads (at.Finish finishing.Look false) seen trail h = either (Led trail) (is_some seen.entry) _ _ tt tt
   plan_leads (at.Finish finishing.Lock false) seen trail h = tt
-  plan_leads (at.Finish finishing.Queue false) seen trail h = either (is_some seen.entry) _ _ trail tt tt
+  plan_leads (at.Finish finishing.Queue false) seen trail h = either (Led trail) (is_some seen.entry) _ _ tt tt
   plan_leads (at.Finish finishing.Unlock false) seen trail h = tt
   plan_leads p seen trail h = absurd h
 

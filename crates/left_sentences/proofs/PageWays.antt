@@ -1,4 +1,5 @@
 -- Waits for pages that are left make their words.
+use Rattle.std.proofs.lemmas.Option.{same_Some}
 use Rattle.std.proofs.Common.{ap, inl, inr, refl, subst}
 use Rattle.std.specs.Prelude.{ℕ, ◌≡◌, Bool, true, false, is_some, if◌then◌else◌, Some, List, [], ◌∷◌}
 use Rattle.wait_model.specs.declared.calls.Answer.{Answer}
@@ -18,6 +19,7 @@ use Rattle.wait_model.specs.Programs.{call_fails, ends_with, go, zero_answer}
 use Rattle.wait_model.specs.SentenceSteps.{minus_4}
 use Rattle.wait_model.specs.Tasks.{looks_in, pending, state_mask}
 use Rattle.wait_model.specs.Words.{bit_at, flag}
+use Rattle.wait_model.proofs.WaitLaws.OutsideStages.{either}
 use Rattle.wait_rule.specs.Known.{Known}
 use Rattle.wait_rule.specs.Says.{MeetsLaw}
 use Rattle.wait_rule.specs.Transitions.{call_program}
@@ -57,15 +59,9 @@ module _ (me p : ℕ) (st : SleepState) where
   abbrev Led : List Event → Planned → Type 0
   Led trail u = AtNext At (u.event ∷ trail) u.next
 
-  either : (b : Bool) (u v : Planned) (trail : List Event) → Led trail u → Led trail v
-      → Led trail (if b then u else v)
-  either true u v trail l r = l
-  either false u v trail l r = r
-
   one_of : (b : Bool) (q s : PagePoint) (trail : List Event) → At (at.Page q) trail → At (at.Page s) trail
       → At (at.Page (if b then q else s)) trail
-  one_of true q s trail l r = l
-  one_of false q s trail l r = r
+  one_of b q s trail l r = either (λ (j : PagePoint). At (at.Page j) trail) b q s l r
 
   -- its first try, by what it found
   first_led : (b : Bool) (trail : List Event) → trail ≡ []
@@ -78,7 +74,7 @@ module _ (me p : ℕ) (st : SleepState) where
   page_leads (at.Page paging.First) seen trail h = first_led (bit_at seen.value 0) trail h
   page_leads (at.Page paging.Unflag) seen trail h = ap (λ (w : List Event). event.Unflag ∷ w) h
   page_leads (at.Page paging.Lock) seen trail h = refl
-  page_leads (at.Page paging.Queue) seen trail h = either seen.worn _ _ trail refl h
+  page_leads (at.Page paging.Queue) seen trail h = either (Led trail) seen.worn _ _ refl h
   page_leads (at.Page paging.Try) seen trail h = one_of (call_fails call seen) (paging.Unlock false) paging.Off
       (event.Tas p 0 (flag (bit_at seen.value 0)) ∷ trail) h h
   page_leads (at.Page paging.Off) seen trail h = h
@@ -92,13 +88,13 @@ module _ (me p : ℕ) (st : SleepState) where
       (paging.Finish finishing.State) paging.Sleep (event.Look (pending (state_mask st) seen.own) ∷ trail) h h
   page_leads (at.Page paging.Sleep) seen trail h = h
   page_leads (at.Page (paging.Finish finishing.State)) seen trail h = h
-  page_leads (at.Page (paging.Finish finishing.Look)) seen trail h = either (is_some seen.entry) _ _ trail h h
+  page_leads (at.Page (paging.Finish finishing.Look)) seen trail h = either (Led trail) (is_some seen.entry) _ _ h h
   page_leads (at.Page (paging.Finish finishing.Lock)) seen trail h = refl
-  page_leads (at.Page (paging.Finish finishing.Queue)) seen trail h = either (is_some seen.entry) _ _ trail h refl
+  page_leads (at.Page (paging.Finish finishing.Queue)) seen trail h = either (Led trail) (is_some seen.entry) _ _ h refl
   page_leads (at.Page (paging.Finish finishing.Unlock)) seen trail h = refl
-  page_leads (at.Page paging.Last) seen trail h = either seen.flag _ _ trail h tt
+  page_leads (at.Page paging.Last) seen trail h = either (Led trail) seen.flag _ _ h tt
   page_leads (at.Page paging.Clear) seen trail h = tt
-  page_leads at.Worn seen trail h = either (call_fails call seen) _ _ trail tt tt
+  page_leads at.Worn seen trail h = either (Led trail) (call_fails call seen) _ _ tt tt
   page_leads q seen trail h = absurd h
 
   -- the exits
@@ -111,31 +107,25 @@ module _ (me p : ℕ) (st : SleepState) where
   abbrev Out : PageStage → Exit PageStage PageOutcome → Type 0
   Out s e = LeadsOut page_table me call (page_ways me p) At s e
 
-  out_at_once : (s : PageStage) (e : Exit PageStage PageOutcome) → over_exit ≡ e
-      → ((trail : List Event) → At (page_point_at s) trail → PageFrom p at_once trail) → Out s e
-  out_at_once s e is from = subst (Out s) is (record {
-    way = at_once;
-    from = from;
-    rest = λ w a h. h;
-    start = tt;
-  })
+  over_out : (s : PageStage) → ((trail : List Event) → At (page_point_at s) trail → PageFrom p at_once trail)
+      → Out s over_exit
+  over_out s from = record { way = at_once; from = from; rest = λ w a h. h; start = tt }
 
-  out_by_finish : (s : PageStage) (e : Exit PageStage PageOutcome) → finish_exit ≡ e
-      → ((trail : List Event) → At (page_point_at s) trail → PageFrom p by_finish trail) → Out s e
-  out_by_finish s e is from = subst (Out s) is (record {
-    way = by_finish;
-    from = from;
-    rest = λ w a h. h;
-    start = refl;
-  })
+  finish_out : (s : PageStage) → ((trail : List Event) → At (page_point_at s) trail → PageFrom p by_finish trail)
+      → Out s finish_exit
+  finish_out s from = record { way = by_finish; from = from; rest = λ w a h. h; start = refl }
 
   page_outs : (s : PageStage) (e : Exit PageStage PageOutcome) → page_exit s ≡ Some e → Out s e
-  page_outs stage.Unflag e is = out_at_once stage.Unflag e (let z : over_exit ≡ e = cc in z) (λ trail h. inl h)
-  page_outs stage.QueueLock e is = out_at_once stage.QueueLock e (let z : over_exit ≡ e = cc in z) (λ trail h. inr h)
-  page_outs stage.State e is = out_by_finish stage.State e (let z : finish_exit ≡ e = cc in z) (λ trail h. h)
-  page_outs stage.Flag e is = out_by_finish stage.Flag e (let z : finish_exit ≡ e = cc in z) (λ trail h. h)
-  page_outs stage.Look e is = out_by_finish stage.Look e (let z : finish_exit ≡ e = cc in z) (λ trail h. h)
-  page_outs stage.Sleep e is = out_by_finish stage.Sleep e (let z : finish_exit ≡ e = cc in z) (λ trail h. h)
+  page_outs stage.Unflag e is = subst (Out stage.Unflag) (same_Some over_exit e is)
+      (over_out stage.Unflag (λ trail h. inl h))
+  page_outs stage.QueueLock e is = subst (Out stage.QueueLock) (same_Some over_exit e is)
+      (over_out stage.QueueLock (λ trail h. inr h))
+  page_outs stage.State e is = subst (Out stage.State) (same_Some finish_exit e is)
+      (finish_out stage.State (λ trail h. h))
+  page_outs stage.Flag e is = subst (Out stage.Flag) (same_Some finish_exit e is) (finish_out stage.Flag (λ trail h. h))
+  page_outs stage.Look e is = subst (Out stage.Look) (same_Some finish_exit e is) (finish_out stage.Look (λ trail h. h))
+  page_outs stage.Sleep e is = subst (Out stage.Sleep) (same_Some finish_exit e is)
+      (finish_out stage.Sleep (λ trail h. h))
   page_outs s e is = absurd (cc)
 
   page_speech : Speech page_table page_exits me call (page_ways me p) At AnyRun

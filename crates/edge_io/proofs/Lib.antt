@@ -1,4 +1,3 @@
-pub mod FolderFiles
 pub mod Known
 pub mod Prefix
 pub mod Sending

@@ -1,5 +1,3 @@
-pub mod Fails
 pub mod Faults
 pub mod Folders
-pub mod Memory
 pub mod Text

@@ -4,7 +4,7 @@
 ghost use Rattle.std.specs.Prelude.{IsTrue};
 ghost use Rattle.wait_model.specs.Admission.{IsListed};
 
-use edge_io::MemSink;
+use mem_io::MemSink;
 use std::alloc::{AllocError, Global};
 use std::process::Abort;
 use std::test::Fail;

@@ -5,9 +5,9 @@ ghost use Rattle.copy_ends.specs.Did.{IsIdler};
 
 use crate::tests::wants::all_so;
 use copy_plan::{OpenGate, ReaderEnd, SINK_PIPE, SOURCE_PIPE, Stop, WorkerEnd};
-use edge_io::{MemSink, MemSource};
 use flow_copy::{controller_task, reader_task, relay_task, writer_task};
 use func_head::NoWatchers;
+use mem_io::{MemSink, MemSource};
 use std::sync::Wait;
 use std::test::Fail;
 use wait_rule::{Domain, Task};

@@ -5,9 +5,9 @@ ghost use Rattle.copy_plan.specs.declared.TheConstants.{SIGNALS};
 
 use crate::tests::wants::wants;
 use copy_plan::{OpenGate, Planned, Stop, Who};
-use edge_io::{MemSink, MemSource};
 use flow_copy::{CopyEnd, copy_all};
 use func_head::NoWatchers;
+use mem_io::{MemSink, MemSource};
 use std::alloc::{AllocError, Global};
 use std::process::Abort;
 use std::sync::Wait;

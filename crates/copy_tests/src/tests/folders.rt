@@ -1,7 +1,8 @@
 //! Files of a folder in memory by their names.
 
 use crate::tests::wants::{all_so, wants};
-use edge_io::{Failed, Folder, MemFolder, MemSink, OpenFault, Sink, SinkFault, Source};
+use edge_io::{Failed, Folder, OpenFault, Sink, SinkFault, Source};
+use mem_io::{MemFolder, MemSink};
 use std::alloc::{AllocError, Global};
 use std::test::Fail;
 

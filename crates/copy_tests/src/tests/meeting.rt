@@ -2,9 +2,9 @@
 
 use crate::tests::wants::all_so;
 use copy_plan::{Gate, Stop, Who};
-use edge_io::{MemSink, MemSource};
 use flow_copy::copy_all;
 use func_head::NoWatchers;
+use mem_io::{MemSink, MemSource};
 use std::sync::atomic::{AtomicU64, Ordering};
 use std::test::Fail;
 use wait_rule::Domain;

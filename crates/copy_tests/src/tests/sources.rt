@@ -3,9 +3,8 @@
 ghost use Rattle.std.specs.Prelude.{Some};
 
 use crate::tests::wants::{all_so, wants};
-use edge_io::{
-    Buffer, MemSink, MemSource, ReadFault, Sink, SinkFault, Source, read_all, write_all,
-};
+use edge_io::{Buffer, ReadFault, Sink, SinkFault, Source, read_all, write_all};
+use mem_io::{MemSink, MemSource};
 use std::alloc::Global;
 use std::test::Fail;
 

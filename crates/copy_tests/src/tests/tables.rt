@@ -2,9 +2,9 @@
 
 use crate::tests::wants::wants;
 use copy_plan::{OpenGate, Stop};
-use edge_io::{MemSink, MemSource};
 use flow_copy::copy_all;
 use func_head::NoWatchers;
+use mem_io::{MemSink, MemSource};
 use std::alloc::{AllocError, Global};
 use std::process::Abort;
 use std::sync::Wait;

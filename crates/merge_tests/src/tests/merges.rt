@@ -1,8 +1,8 @@
 //! Two sources that can be told apart, and what of each is in a sink.
 
 use copy_plan::OpenGate;
-use edge_io::{MemSink, MemSource};
 use flow_merge::{MergeEnd, merge_all};
+use mem_io::{MemSink, MemSource};
 use std::alloc::{AllocError, Global};
 use std::sync::Wait;
 use std::thread::Threads;

@@ -3,8 +3,9 @@
 use crate::cases::bytes::{Bytes, are_like, least_of, made, parts};
 use crate::cases::{Case, Held, REPLAY};
 use copy_plan::OpenGate;
-use edge_io::{Folder, MemFolder, MemSink, MemSource, Sink, Source};
+use edge_io::{Folder, Sink, Source};
 use func_head::FuncHead;
+use mem_io::{MemFolder, MemSink, MemSource};
 use std::alloc::{AllocError, Global};
 use std::process::Abort;
 use std::sync::Wait;

@@ -1,8 +1,8 @@
 -- The file stands in the place of the one that was found, or behind all others.
 use Rattle.std.proofs.Common.{arith, ◌∙◌}
-use Rattle.edge_io.specs.Folders.{FileState}
-use Rattle.edge_io.proofs.FolderFiles.{put_found, put_new}
-use Rattle.edge_io.proofs.mem_folder.keep.Goals as goal
+use Rattle.mem_io.specs.MemFolders.{FileState}
+use Rattle.mem_io.proofs.FolderFiles.{put_found, put_new}
+use Rattle.mem_io.proofs.mem_folder.keep.Goals as goal
 
 pub returns-then-at-len-clause-kept : goal.returns-then-at-len-clause-kept
 returns-then-at-len-clause-kept c =

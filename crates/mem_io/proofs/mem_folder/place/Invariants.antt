@@ -1,7 +1,7 @@
 -- No file before the place has the name.
 use Rattle.std.proofs.Common.{◌≡◌, ◌+◌, ◌-◌, ◌≤◌, length, drop}
-use Rattle.edge_io.specs.Folders.{place_of}
-use Rattle.edge_io.proofs.mem_folder.place.Given as goal
+use Rattle.mem_io.specs.MemFolders.{place_of}
+use Rattle.mem_io.proofs.mem_folder.place.Given as goal
 
 abbrev pub invariant-looks : goal.invariant-looks
 invariant-looks l = record {

@@ -1,11 +1,11 @@
 ghost use Rattle.std.specs.Prelude.{◌≡◌, ◌<◌, ◌≤◌, ◌+◌, ◌^◌, ◌-◌, ◌↔◌, ◌++◌, [], length, drop, take, min};
 ghost use Rattle.std.specs.Prelude.{Some, IfOk, IsErr, IsErrOf, IsTrue, OnErr};
 ghost use Rattle.edge_io.specs.Faults.{HasRisen, CountsFailed, CountsWanted};
-ghost use Rattle.edge_io.specs.Fails.{FailsNext, CountsCall, IsFresh};
-ghost use Rattle.edge_io.specs.Memory.{SourceState, SinkState};
+ghost use Rattle.mem_io.specs.Fails.{FailsNext, CountsCall, IsFresh};
+ghost use Rattle.mem_io.specs.Memory.{SourceState, SinkState};
 
 use crate::fails::Fails;
-use crate::{Failed, Sink, SinkFault, Source};
+use edge_io::{Failed, Sink, SinkFault, Source};
 use std::alloc::{AllocError, Global};
 use std::marker::Model;
 

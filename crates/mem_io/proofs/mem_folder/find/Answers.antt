@@ -1,8 +1,8 @@
 -- The file at the place that was found, or none.
 use Rattle.std.proofs.Common.{sym, arith}
 use Rattle.std.proofs.lemmas.Grind.{common_steps}
-use Rattle.edge_io.proofs.FolderFiles.{found, missing}
-use Rattle.edge_io.proofs.mem_folder.find.Goals as goal
+use Rattle.mem_io.proofs.FolderFiles.{found, missing}
+use Rattle.mem_io.proofs.mem_folder.find.Goals as goal
 
 pub returns-then-at-files : goal.returns-then-at-files
 returns-then-at-files c =

@@ -3,7 +3,8 @@ use Rattle.std.proofs.Common.{◌≡◌, ℕ, ◌<◌, ◌≤◌, suc, arith, Li
 use Rattle.std.proofs.Common.{false, cond, refl, ap, option_map, bytes_eq}
 use Rattle.std.proofs.Math.ListN.{set}
 use Rattle.std.proofs.lemmas.Slice.Eq.{bytes_eq-Decides}
-use Rattle.edge_io.specs.Folders.{FileState, file_at, bytes_at, place_of, put, StoresBytes}
+use Rattle.edge_io.specs.Folders.{StoresBytes}
+use Rattle.mem_io.specs.MemFolders.{FileState, file_at, bytes_at, place_of, put}
 
 -- the file at its place, as far as one step of the search tells
 found_by : (b : Bool) (f : FileState) (fs : List FileState) (name : List ℕ) (p : ℕ) (d : FileState)

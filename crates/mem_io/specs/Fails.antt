@@ -1,4 +1,4 @@
--- To be believed.
+-- For tests alone.
 -- Which calls of an object in memory fail: the definitions that the contracts of the forms in memory cite.
 use Rattle.std.specs.Prelude.{◌≡◌, ◌<◌, ℕ, ◌+◌, ◌-◌, ◌^◌, List, Contains, min}
 

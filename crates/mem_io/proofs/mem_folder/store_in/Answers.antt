@@ -1,8 +1,8 @@
 -- The file that was kept has the bytes, and each other one is as it was.
 use Rattle.std.proofs.Common.{refl, []}
-use Rattle.edge_io.specs.Folders.{FileState, bytes_at}
-use Rattle.edge_io.proofs.FolderFiles.{stores}
-use Rattle.edge_io.proofs.mem_folder.store_in.Goals as goal
+use Rattle.mem_io.specs.MemFolders.{FileState, bytes_at}
+use Rattle.mem_io.proofs.FolderFiles.{stores}
+use Rattle.mem_io.proofs.mem_folder.store_in.Goals as goal
 
 pub returns-in-Ok-clause-stored : goal.returns-in-Ok-clause-stored
 returns-in-Ok-clause-stored c =

@@ -1,6 +1,6 @@
 ghost use Rattle.std.specs.Prelude.{◌≡◌, ◌<◌, ◌≤◌, ◌+◌, ◌↔◌, [], IfOk, OnErr, IsTrue, IsFalse};
 ghost use Rattle.edge_io.specs.Faults.{HasCounted};
-ghost use Rattle.edge_io.specs.Fails.{Calls, FailsNext, CountsCall, IsFresh, IsRenumbered};
+ghost use Rattle.mem_io.specs.Fails.{Calls, FailsNext, CountsCall, IsFresh, IsRenumbered};
 
 use std::alloc::{AllocError, Global};
 use std::marker::Model;

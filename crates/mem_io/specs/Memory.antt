@@ -1,7 +1,7 @@
--- To be believed.
+-- For tests alone.
 -- What contracts see of the source and the sink in memory.
 use Rattle.std.specs.Prelude.{ℕ, List}
-use Rattle.edge_io.specs.Fails.{Calls}
+use Rattle.mem_io.specs.Fails.{Calls}
 
 -- a source: the bytes that are left, and its reads
 pub record SourceState : Type 0 where

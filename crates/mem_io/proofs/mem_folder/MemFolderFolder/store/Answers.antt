@@ -1,6 +1,6 @@
 -- The call is among those that fail.
 use Rattle.std.proofs.Common.{refl}
-use Rattle.edge_io.proofs.mem_folder.MemFolderFolder.store.Goals as goal
+use Rattle.mem_io.proofs.mem_folder.MemFolderFolder.store.Goals as goal
 
 pub returns-then-fails-clause-exact : goal.returns-then-fails-clause-exact
 returns-then-fails-clause-exact c =

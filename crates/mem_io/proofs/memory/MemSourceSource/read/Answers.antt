@@ -1,6 +1,6 @@
 -- What was handed out, and then what is left, is what was left.
 use Rattle.edge_io.proofs.Known.{handed-rest}
-use Rattle.edge_io.proofs.memory.MemSourceSource.read.Goals as goal
+use Rattle.mem_io.proofs.memory.MemSourceSource.read.Goals as goal
 
 pub returns-clause-bytes : goal.returns-clause-bytes
 returns-clause-bytes c =

@@ -1,12 +1,13 @@
 ghost use Rattle.std.specs.Prelude.{◌≡◌, ◌<◌, ◌≤◌, ◌+◌, ◌-◌, ◌^◌, ◌↔◌, [], Some, None, min, option_map, bytes_eq};
 ghost use Rattle.std.specs.Prelude.{IfOk, IfSome, IsTrue, IsFalse, OnOk, OnErr, IsErrOf};
 ghost use Rattle.edge_io.specs.Faults.{HasRisen, HasCounted, CountsFailed};
-ghost use Rattle.edge_io.specs.Fails.{FailsNext, CountsCall, IsFresh};
-ghost use Rattle.edge_io.specs.Folders.{HasBytes, HasNone, HoldsNothing, Stores, CountsOpening, FileState, FolderState};
-ghost use Rattle.edge_io.specs.Folders.{file_at, bytes_at, place_of, put};
+ghost use Rattle.mem_io.specs.Fails.{FailsNext, CountsCall, IsFresh};
+ghost use Rattle.edge_io.specs.Folders.{HasBytes, HasNone, HoldsNothing, Stores, CountsOpening};
+ghost use Rattle.mem_io.specs.MemFolders.{FileState, FolderState, file_at, bytes_at, place_of, put};
 
 use crate::fails::Fails;
-use crate::{Folder, MemSink, MemSource, OpenFault, SinkFault};
+use crate::{MemSink, MemSource};
+use edge_io::{Folder, OpenFault, SinkFault};
 use std::alloc::{AllocError, Global};
 use std::marker::Model;
 

@@ -30,7 +30,7 @@ use Rattle.wait_model.specs.Programs.{prepared_at, program, queue_event, signall
 use Rattle.wait_model.specs.Selections.{is_page_lock}
 use Rattle.wait_model.specs.Tasks.{looks_in, pending, state_mask}
 use Rattle.wait_model.specs.Views.{Look, View, blank, elsewhere, off, shown, unseen}
-use Rattle.wait_model.specs.Waiters.{is_wait}
+use Rattle.wait_model.specs.Findings.{is_waiting}
 use Rattle.wait_model.specs.Watches.{bare, head_of}
 use Rattle.wait_model.proofs.HistoryLaws.HoldLooks.{after_snoc}
 use Rattle.wait_model.proofs.HistoryLaws.Stretches.{lacks_append}
@@ -146,7 +146,7 @@ seen_shown (shown e) o s is = (e, refl)
 
 -- the calls
 abbrev is_queued : Call → Bool
-is_queued call = is_wait call && not (is_page_lock call)
+is_queued call = is_waiting call && not (is_page_lock call)
 
 module _ (me : ℕ) (call : Call) (is : is_queued call ≡ true) where
   abbrev x : ℕ
@@ -157,9 +157,6 @@ module _ (me : ℕ) (call : Call) (is : is_queued call ≡ true) where
 
   abbrev At : Point → List Step → Type 0
   At p es = QueuedAt x h p es
-
-  abbrev Lands : Point → List Step → Type 0
-  Lands q es = At q es
 
   starts : (es : List Step) → At (program_start call) es
   starts es = by call is
@@ -456,7 +453,7 @@ at_left x h es (calls.LockBit w n st) t q = q
 at_left x h es (calls.WaitVar i old st) t q = q
 at_left x h es call t q = absurd (cc)
 
-both_true : (call : Call) → is_wait call ≡ true → is_page_lock call ≡ false → is_queued call ≡ true
+both_true : (call : Call) → is_waiting call ≡ true → is_page_lock call ≡ false → is_queued call ≡ true
 both_true call wait page = rw (wait, page) refl
 
 -- the sleep itself is mild

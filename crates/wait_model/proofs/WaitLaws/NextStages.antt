@@ -84,7 +84,6 @@ store_held s me call e held is = held ∙ ap (λ n. Some n) (sym (head_of_bare (
 signalled_goes : (c : Call) → (stage (signalled_at c) ≡ outside) × (taken_off (signalled_at c) ≡ None)
     × FitsStage (now.Open c (signalled_at c))
 signalled_goes (calls.WaitFor d st) = (refl, refl, tt)
-signalled_goes calls.Remove = (refl, refl, tt)
 signalled_goes c = (refl, refl, tt)
 
 -- after its preparation a wait loads its condition, and one for a completion has done so
@@ -98,15 +97,11 @@ prepared_staged c t o es x up i = (up, λ d. i)
 
 prepared_goes : (c : Call) → (taken_off (prepared_at c) ≡ None) × FitsStage (now.Open c (prepared_at c))
 prepared_goes (calls.WaitFor d st) = (refl, tt)
-prepared_goes (calls.WaitBit w b st) = (refl, tt)
-prepared_goes (calls.LockBit w b st) = (refl, tt)
-prepared_goes calls.Remove = (refl, tt)
 prepared_goes c = (refl, tt)
 
 slept_goes : (c : Call) → (stage (slept_at c) ≡ dozing) × (taken_off (slept_at c) ≡ None)
     × FitsStage (now.Open c (slept_at c))
 slept_goes (calls.WaitFor d st) = (refl, refl, tt)
-slept_goes calls.Remove = (refl, refl, tt)
 slept_goes c = (refl, refl, tt)
 
 -- a load that found the condition not set is a failed load

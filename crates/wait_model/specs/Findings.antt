@@ -35,7 +35,8 @@ notes m (event.Lock h) = record m { held = true; loaded = false }
 notes m (event.Unlock h spent) = record m { held = false; loaded = false }
 notes m _ = record m { loaded = false }
 
--- the calls that wait: their own entry is off until they queue it
+-- the calls that sleep until their watch is set: their own entry is off until they queue it; a wait for a flag is none,
+-- since its caller loads its condition itself
 abbrev pub is_waiting : Call → Bool
 is_waiting (calls.Wait c how) = true
 is_waiting (calls.SimpleWait c st) = true

@@ -35,28 +35,14 @@ Fits p u = Stays is_biting (at.Bit biting.Sleep) p u
 
 module _ (me : ℕ) (call : Call) (is : is_bit_wait call ≡ true) where
   -- what depends on the call
-  prepared : is_biting (prepared_at call) ≡ true
-  prepared = by call is
+  goes_on : (is_biting (prepared_at call) ≡ true) × (is_biting (signalled_at call) ≡ true)
+      × (goes_within is_biting (worn_next call) ≡ true)
+  goes_on = by call is
     where
-      by : (a : Call) → is_bit_wait a ≡ true → is_biting (prepared_at a) ≡ true
-      by (calls.WaitBit w b st) t = refl
-      by (calls.LockBit w b st) t = refl
-      by a t = absurd (cc)
-
-  signalled : is_biting (signalled_at call) ≡ true
-  signalled = by call is
-    where
-      by : (a : Call) → is_bit_wait a ≡ true → is_biting (signalled_at a) ≡ true
-      by (calls.WaitBit w b st) t = refl
-      by (calls.LockBit w b st) t = refl
-      by a t = absurd (cc)
-
-  worn : goes_within is_biting (worn_next call) ≡ true
-  worn = by call is
-    where
-      by : (a : Call) → is_bit_wait a ≡ true → goes_within is_biting (worn_next a) ≡ true
-      by (calls.WaitBit w b st) t = refl
-      by (calls.LockBit w b st) t = refl
+      by : (a : Call) → is_bit_wait a ≡ true → (is_biting (prepared_at a) ≡ true)
+          × (is_biting (signalled_at a) ≡ true) × (goes_within is_biting (worn_next a) ≡ true)
+      by (calls.WaitBit w b st) t = (refl, refl, refl)
+      by (calls.LockBit w b st) t = (refl, refl, refl)
       by a t = absurd (cc)
 
   asks_none : (seen : Seen) → is_active (ask call seen) ≡ false
@@ -79,14 +65,14 @@ module _ (me : ℕ) (call : Call) (is : is_bit_wait call ≡ true) where
   bit_stays (at.Prepare preparing.Look) seen h = by (pending (state_mask (state_in call)) seen.own)
     where
       by : (hit : Bool) → Fits (at.Prepare preparing.Look) (look_event call hit)
-      by true = (signalled, refl, λ s. absurd (cc))
+      by true = (goes_on.1, refl, λ s. absurd (cc))
       by false = (refl, refl, λ s. absurd (cc))
   bit_stays (at.Prepare preparing.Queue) seen h = either (Fits (at.Prepare preparing.Queue)) (is_some seen.entry) _ _
       (refl, refl, λ s. absurd (cc))
-      (either (Fits (at.Prepare preparing.Queue)) seen.worn _ _ (worn, refl, λ s. absurd (cc))
+      (either (Fits (at.Prepare preparing.Queue)) seen.worn _ _ (goes_on.2, refl, λ s. absurd (cc))
       (refl, refl, λ s. absurd (cc)))
   bit_stays (at.Prepare preparing.State) seen h = (refl, refl, λ s. absurd (cc))
-  bit_stays (at.Prepare preparing.Unlock) seen h = (prepared, refl, λ s. absurd (cc))
+  bit_stays (at.Prepare preparing.Unlock) seen h = (goes_on.0, refl, λ s. absurd (cc))
   bit_stays at.Worn seen h = either (Fits at.Worn) (call_fails call seen) _ _
       (refl, asks_none seen, asks_awake at.Worn seen)
       (either (Fits at.Worn) (is_lock call) _ _ (refl, asks_none seen, asks_awake at.Worn seen)

@@ -20,7 +20,7 @@ use Rattle.wait_model.specs.declared.watches.Watch.{Watch}
 use Rattle.wait_model.specs.Histories.{Since}
 use Rattle.wait_model.specs.Points.{given_at}
 use Rattle.wait_model.specs.Programs.{program, zero_answer}
-use Rattle.wait_model.specs.Readings.{FailedBy, UnheardLoad, clears_flag, fails, outdates, reads_no}
+use Rattle.wait_model.specs.Readings.{FailedBy, HasTestedUnheard, UnheardLoad, clears_flag, fails, outdates, reads_no}
 use Rattle.wait_model.specs.Tasks.{sleep_of, state_mask}
 use Rattle.wait_model.specs.Views.{View}
 use Rattle.wait_model.specs.Fold.{view_of}
@@ -40,7 +40,7 @@ use Rattle.wait_event.specs.WokenWaits.{woken_program}
 use Rattle.wait_event.proofs.Hearing.Endings.{hears_on}
 use Rattle.wait_rule.proofs.TableSteps.MemberMoves.{own_index}
 use Rattle.waiter_laws.proofs.HistoryRuns.{IsLed, Leads, only_still, run, step_history}
-use Rattle.waiter_laws.specs.Listening.{EndsListening, HasTestedUnheard, HearingsAreOne, ListenersAreKept}
+use Rattle.waiter_laws.specs.Listening.{EndsListening, HearingsAreOne, ListenersAreKept}
 use Rattle.waiter_laws.specs.Listening.{StretchesEndListening}
 
 -- a step after which the test is still unheard, and one after which the flag is still read as not set
@@ -75,7 +75,7 @@ module _ (me slot : ℕ) (st : SleepState) (c : Watch) where
   abbrev ListensAt : Point → List Step → Type 0
   ListensAt (at.Woken hearing.State) es = HasTestedUnheard es x c
   ListensAt (at.Woken hearing.Flag) es = HasTestedUnheard es x c
-  ListensAt (at.Woken hearing.Sleep) es = HasTestedUnheard es x c × Since (reads_no x) (outdates x) es
+  ListensAt (at.Woken hearing.Sleep) es = UnheardLoad es x c
   ListensAt (at.Woken p) es = Unit {0}
   ListensAt _ es = ⊥
 
@@ -155,16 +155,7 @@ module _ (me slot : ℕ) (st : SleepState) (c : Watch) (k : Known) (seen : Seen)
 unheard : (slot : ℕ) (st : SleepState) (old new : Known) (c : Watch) → EndsListening slot st old new
     → HasTestedUnheard (history_of old) (index old.view.number slot) c
     → UnheardLoad (history_of new) (index old.view.number slot) c
-unheard slot st old new c z tested = record {
-  before = last.0.before;
-  load = last.0.load;
-  later = last.0.later;
-  split = last.0.split;
-  is_load = last.0.is_load;
-  uncleared = last.0.uncleared;
-  is_last = last.0.is_last;
-  asked = last.1;
-}
+unheard slot st old new c z tested = last
   where
     came : ListensAt old.view.number slot st c (at.Woken hearing.Sleep) (history_of z.came)
     came = run (call_program old.view.number slot (calls.Woken st)) (ListensAt old.view.number slot st c)

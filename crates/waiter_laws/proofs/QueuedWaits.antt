@@ -30,7 +30,7 @@ use Rattle.wait_model.specs.Programs.{prepared_at, program, queue_event, signall
 use Rattle.wait_model.specs.Selections.{is_page_lock}
 use Rattle.wait_model.specs.Tasks.{looks_in, pending, state_mask}
 use Rattle.wait_model.specs.Views.{Look, View, blank, elsewhere, off, shown, unseen}
-use Rattle.wait_model.specs.Waiters.{is_wait}
+use Rattle.wait_model.specs.Findings.{is_waiting}
 use Rattle.wait_model.specs.Watches.{bare, head_of}
 use Rattle.wait_model.proofs.HistoryLaws.HoldLooks.{after_snoc}
 use Rattle.wait_model.proofs.HistoryLaws.Stretches.{lacks_append}
@@ -146,7 +146,7 @@ seen_shown (shown e) o s is = (e, refl)
 
 -- the calls
 abbrev is_queued : Call → Bool
-is_queued call = is_wait call && not (is_page_lock call)
+is_queued call = is_waiting call && not (is_page_lock call)
 
 module _ (me : ℕ) (call : Call) (is : is_queued call ≡ true) where
   abbrev x : ℕ
@@ -158,19 +158,19 @@ module _ (me : ℕ) (call : Call) (is : is_queued call ≡ true) where
   abbrev At : Point → List Step → Type 0
   At p es = QueuedAt x h p es
 
-  abbrev Lands : Point → List Step → Type 0
-  Lands q es = At q es
-
-  starts : (es : List Step) → At (program_start call) es
-  starts es = by call is
+  -- where it begins, and where it goes on from its sleep, from a signal and from a head with no place
+  goes_on : (es : List Step) → At (program_start call) es × At (slept_at call) es × At (signalled_at call) es
+      × AtNext (call_program me 0 call) At (worn_next call) es
+  goes_on es = by call is
     where
-      by : (a : Call) → is_queued a ≡ true → At (program_start a) es
-      by (calls.Wait i how) t = tt
-      by (calls.SimpleWait i st) t = tt
-      by (calls.WaitFor d st) t = tt
-      by (calls.WaitBit w n st) t = tt
-      by (calls.LockBit w n st) t = tt
-      by (calls.WaitVar i old st) t = tt
+      by : (a : Call) → is_queued a ≡ true → At (program_start a) es × At (slept_at a) es × At (signalled_at a) es
+          × AtNext (call_program me 0 call) At (worn_next a) es
+      by (calls.Wait i how) t = (tt, tt, tt, tt)
+      by (calls.SimpleWait i st) t = (tt, tt, tt, tt)
+      by (calls.WaitFor d st) t = (tt, tt, tt, tt)
+      by (calls.WaitBit w n st) t = (tt, tt, tt, tt)
+      by (calls.LockBit w n st) t = (tt, tt, tt, tt)
+      by (calls.WaitVar i old st) t = (tt, tt, tt, tt)
       by a t = absurd (cc)
 
   prepared : (es : List Step) → LeftQueued x h es → At (prepared_at call) es
@@ -183,42 +183,6 @@ module _ (me : ℕ) (call : Call) (is : is_queued call ≡ true) where
       by (calls.WaitBit w n st) t = l
       by (calls.LockBit w n st) t = l
       by (calls.WaitVar i old st) t = l
-      by a t = absurd (cc)
-
-  slept : (es : List Step) → At (slept_at call) es
-  slept es = by call is
-    where
-      by : (a : Call) → is_queued a ≡ true → At (slept_at a) es
-      by (calls.Wait i how) t = tt
-      by (calls.SimpleWait i st) t = tt
-      by (calls.WaitFor d st) t = tt
-      by (calls.WaitBit w n st) t = tt
-      by (calls.LockBit w n st) t = tt
-      by (calls.WaitVar i old st) t = tt
-      by a t = absurd (cc)
-
-  signalled : (es : List Step) → At (signalled_at call) es
-  signalled es = by call is
-    where
-      by : (a : Call) → is_queued a ≡ true → At (signalled_at a) es
-      by (calls.Wait i how) t = tt
-      by (calls.SimpleWait i st) t = tt
-      by (calls.WaitFor d st) t = tt
-      by (calls.WaitBit w n st) t = tt
-      by (calls.LockBit w n st) t = tt
-      by (calls.WaitVar i old st) t = tt
-      by a t = absurd (cc)
-
-  worn : (es : List Step) → AtNext (call_program me 0 call) At (worn_next call) es
-  worn es = by call is
-    where
-      by : (a : Call) → is_queued a ≡ true → AtNext (call_program me 0 call) At (worn_next a) es
-      by (calls.Wait i how) t = tt
-      by (calls.SimpleWait i st) t = tt
-      by (calls.WaitFor d st) t = tt
-      by (calls.WaitBit w n st) t = tt
-      by (calls.LockBit w n st) t = tt
-      by (calls.WaitVar i old st) t = tt
       by a t = absurd (cc)
 
   module _ (k : Known) (p : Point) where
@@ -343,7 +307,7 @@ module _ (me : ℕ) (call : Call) (is : is_queued call ≡ true) where
         refl,
       )
       by false there = either (L k (at.Prepare preparing.Queue) seen) seen.worn _ _
-          (λ e made found. worn (history_of k ++ e ∷ []), refl)
+          (λ e made found. (goes_on (history_of k ++ e ∷ [])).3, refl)
           (λ e made found. joins k (at.Prepare preparing.Queue) h (form_of call) e made q, refl)
 
   any : (k : Known) (p : Point) (seen : Seen) → At p (history_of k) → L k p seen (program me call p seen)
@@ -358,7 +322,7 @@ module _ (me : ℕ) (call : Call) (is : is_queued call ≡ true) where
   any k (at.Prepare preparing.Look) seen q = by (pending (state_mask (state_in call)) seen.own)
     where
       by : (hit : Bool) → L k (at.Prepare preparing.Look) seen (look_event call hit)
-      by true = (λ e made found. signalled (history_of k ++ e ∷ []), refl)
+      by true = (λ e made found. (goes_on (history_of k ++ e ∷ [])).2, refl)
       by false = (λ e made found. looks k (at.Prepare preparing.Look) false e made q, refl)
   any k (at.Prepare preparing.Queue) seen q = queue_led k seen q
   any k (at.Prepare preparing.State) seen q =
@@ -373,7 +337,7 @@ module _ (me : ℕ) (call : Call) (is : is_queued call ≡ true) where
         (at.Finish finishing.State false) (loads_left k at.Test seen e made q) tt,
     refl,
   )
-  any k at.Sleep seen q = (λ e made found. slept (history_of k ++ e ∷ []), refl)
+  any k at.Sleep seen q = (λ e made found. (goes_on (history_of k ++ e ∷ [])).1, refl)
   any k at.Worn seen q = either (L k at.Worn seen) (call_fails call seen) _ _
       (λ e made found. tt, asks_quiet k at.Worn seen)
       (either (L k at.Worn seen) (is_lock call) _ _ (λ e made found. tt, asks_quiet k at.Worn seen)
@@ -456,7 +420,7 @@ at_left x h es (calls.LockBit w n st) t q = q
 at_left x h es (calls.WaitVar i old st) t q = q
 at_left x h es call t q = absurd (cc)
 
-both_true : (call : Call) → is_wait call ≡ true → is_page_lock call ≡ false → is_queued call ≡ true
+both_true : (call : Call) → is_waiting call ≡ true → is_page_lock call ≡ false → is_queued call ≡ true
 both_true call wait page = rw (wait, page) refl
 
 -- the sleep itself is mild
@@ -490,7 +454,7 @@ left_behind call is old new z = left_at x_at h_at (history_of new) call is last
     came : QueuedAt x_at h_at (sleep_point call) (history_of z.came)
     came = run (call_program old.view.number 0 call) (QueuedAt x_at h_at) (queued_led old.view.number call is) z.before
         (next.Go (program_start call)) (sleep_point call) old z.came z.comes
-        (starts old.view.number call is (history_of old))
+        (goes_on old.view.number call is (history_of old)).0
 
     knew : QueuedAt x_at h_at (sleep_point call) (history_of z.sleep.knew)
     knew = only_still (call_program old.view.number 0 call) (QueuedAt x_at h_at) (queued_led old.view.number call is)

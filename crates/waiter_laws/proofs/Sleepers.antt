@@ -1,8 +1,6 @@
 -- Whoever such a wait has put asleep sleeps on its watch.
-use Rattle.std.proofs.lemmas.Bool.Decides.{nat_tests}
 use Rattle.std.proofs.Common.{refl, sym, ◌∙◌, ap, subst, arith}
-use Rattle.std.specs.Prelude.{ℕ, ◌≡◌, ◌≢◌, nat_lt, Bool, true, false, if◌then◌else◌, Option, Some, None, List}
-use Rattle.wait_model.specs.declared.layout.TheConstants.{FIRST_SIMPLE}
+use Rattle.std.specs.Prelude.{ℕ, ◌≡◌, ◌≢◌, Bool, true, false, if◌then◌else◌, Option, Some, None, List}
 use Rattle.wait_model.specs.declared.calls.Call.{Call}
 use Rattle.wait_model.specs.declared.calls.Call.TheVariants as calls
 use Rattle.wait_model.specs.declared.calls.Event.{Event}
@@ -32,14 +30,15 @@ use Rattle.wait_model.specs.Readings.{FailedBy}
 use Rattle.wait_model.specs.Tables.{Table}
 use Rattle.wait_model.specs.Tasks.{sleep_of}
 use Rattle.wait_model.specs.Views.{View}
-use Rattle.wait_model.specs.Waiters.{is_wait}
+use Rattle.wait_model.specs.Findings.{is_waiting}
 use Rattle.wait_model.specs.Wakes.{NoWakeIsLost, Sleeps}
-use Rattle.wait_model.specs.Watches.{bare, is_done, is_page, is_woken, kind_for, owner, page, same}
+use Rattle.wait_model.specs.Watches.{is_done, is_page, is_woken, kind_for, owner, page}
 use Rattle.wait_model.proofs.HistoryLaws.HoldLooks.{IsLookTold}
 use Rattle.wait_model.proofs.HistoryLaws.NoLostWake.{no_wake_is_lost, tas_told}
 use Rattle.wait_model.proofs.HistoryLaws.PlainReadings.{failed_told}
 use Rattle.wait_model.proofs.HistoryLaws.ZeroLoads.{zero_told}
 use Rattle.wait_model.proofs.RunLaws.PagesHanded.{kind_plain}
+use Rattle.wait_model.proofs.WaitLaws.Sleepers.{never_woken, same_bare}
 use Rattle.wait_rule.specs.Interleavings.{table_of}
 use Rattle.wait_rule.specs.Items.{steps_of}
 use Rattle.wait_rule.specs.Known.{Known}
@@ -105,29 +104,9 @@ module _ (call : Call) (At : Point → Bool → View → Type 0) (d : Kind) (old
           subst (HasOwn (call_watch call) d (index old.view.number 0)) (sym same_told) knew.1,
         )
 
-never_woken : (c : Watch) → is_woken (kind_for c) ≡ false
-never_woken (watch.Plain c) = by (nat_lt c FIRST_SIMPLE)
-  where
-    by : (b : Bool) → is_woken (if b then kind.Autoremove else kind.Simple) ≡ false
-    by true = refl
-    by false = refl
-never_woken (watch.Done d) = refl
-never_woken (watch.Bit w b) = refl
-never_woken (watch.Var v o) = refl
-
-same_bare : (c : Watch) → same c (bare c) ≡ true
-same_bare (watch.Plain c) = grind (arith, nat_tests)
-same_bare (watch.Done d) = grind (arith, nat_tests)
-same_bare (watch.Bit w b) = grind (arith, nat_tests)
-same_bare (watch.Var v o) = grind (arith, nat_tests)
-
 plain_failed : (k : Kind) (b : Bool) (es : List Step) (x : ℕ) (c : Watch) → is_woken k ≡ false → is_page k ≡ false
     → is_done c ≡ b → FailedBy false false b es x c → FailedBy (is_woken k) (is_page k) (is_done c) es x c
 plain_failed k b es x c woken paged done l = rw (woken, paged, done) l
-
-page_failed : (k : Kind) (b : Bool) (es : List Step) (x : ℕ) (c : Watch) → k ≡ kind.Page
-    → FailedBy false true b es x c → FailedBy (is_woken k) (is_page k) b es x c
-page_failed k b es x c is l = rw is l
 
 -- a failed load of a task whose own entry is one of the call
 abbrev FailsWith : Kind → List Step → ℕ → Watch → Type 0
@@ -245,7 +224,7 @@ module _ (old new : Known) where
           (tried_led who w st) tt
           (sleep_by who (calls.LockPage w st) z.sleep.seen) (λ b u v h. h)
 
-  pub has_slept : (call : Call) → is_wait call ≡ true → EndsAsleep call old new → HasSlept call who new
+  pub has_slept : (call : Call) → is_waiting call ≡ true → EndsAsleep call old new → HasSlept call who new
   has_slept (calls.Wait c how) w z = by_tested (calls.Wait c how) refl z
   has_slept (calls.SimpleWait c st) w z = by_tested (calls.SimpleWait c st) refl z
   has_slept (calls.WaitFor d st) w z = by_count d st z

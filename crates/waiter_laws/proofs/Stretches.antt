@@ -13,7 +13,7 @@ use Rattle.wait_model.specs.declared.watches.Kind.{Kind}
 use Rattle.wait_model.specs.declared.watches.Kind.TheVariants as kind
 use Rattle.wait_model.specs.declared.watches.Watch.{Watch}
 use Rattle.wait_model.specs.declared.watches.Watch.TheVariants as watch
-use Rattle.wait_model.specs.Calls.{call_watch, program_start}
+use Rattle.wait_model.specs.Calls.{call_watch}
 use Rattle.wait_model.specs.Points.{is_bit_wait}
 use Rattle.wait_model.specs.Views.{View}
 use Rattle.wait_model.specs.Watches.{kind_for, page}
@@ -75,11 +75,6 @@ plain_for : (w : Watch) (how : How) → is_bit_wait (call_for w how) ≡ false
 plain_for (watch.Var v old) how = refl
 plain_for (watch.Plain c) how = refl
 plain_for w how = refl
-
-first_for : (w : Watch) (how : How) → program_start (call_for w how) ≡ at.First
-first_for (watch.Var v old) how = refl
-first_for (watch.Plain c) how = refl
-first_for w how = refl
 
 slept_place : (s : WaitStage) → is_slept s ≡ true → wait_point_at s ≡ at.Prepare preparing.Lock
 slept_place wait_stage.PrepareLock is = refl

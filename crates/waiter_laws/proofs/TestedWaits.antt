@@ -84,17 +84,6 @@ module _ (me : ℕ) (call : Call) (is : is_tested call ≡ true) where
       by (calls.WaitVar i old st) t = refl
       by a t = absurd (cc)
 
-  prepared : (b : Bool) (v : View) → At (prepared_at call) b v
-  prepared b v = by call is
-    where
-      by : (a : Call) → is_tested a ≡ true → TestedAt (is_bit_wait a) x c (prepared_at a) b v
-      by (calls.Wait i how) t = tt
-      by (calls.SimpleWait i st) t = tt
-      by (calls.WaitBit w n st) t = refl
-      by (calls.LockBit w n st) t = refl
-      by (calls.WaitVar i old st) t = tt
-      by a t = absurd (cc)
-
   slept : (b : Bool) (v : View) → HasFailed x c v → At (slept_at call) b v
   slept b v h = by call is
     where
@@ -106,29 +95,20 @@ module _ (me : ℕ) (call : Call) (is : is_tested call ≡ true) where
       by (calls.WaitVar i old st) t = λ plain down. h
       by a t = absurd (cc)
 
-  signalled : (b : Bool) (v : View) → At (signalled_at call) b v
-  signalled b v = by call is
-    where
-      by : (a : Call) → is_tested a ≡ true → TestedAt (is_bit_wait a) x c (signalled_at a) b v
-      by (calls.Wait i how) t = tt
-      by (calls.SimpleWait i st) t = tt
-      by (calls.WaitBit w n st) t = tt
-      by (calls.LockBit w n st) t = tt
-      by (calls.WaitVar i old st) t = tt
-      by a t = absurd (cc)
-
   abbrev Lands : Next → Bool → View → Type 0
   Lands n b v = AtNext (call_program me 0 call) At c (kind_for c) x n b v
 
-  worn : (b : Bool) (v : View) → Lands (worn_next call) b v
-  worn b v = by call is
+  -- where it goes on from its preparing, from a signal and from a head with no place
+  turned : (b : Bool) (v : View) → At (prepared_at call) b v × At (signalled_at call) b v × Lands (worn_next call) b v
+  turned b v = by call is
     where
-      by : (a : Call) → is_tested a ≡ true → Lands (worn_next a) b v
-      by (calls.Wait i how) t = tt
-      by (calls.SimpleWait i st) t = tt
-      by (calls.WaitBit w n st) t = tt
-      by (calls.LockBit w n st) t = tt
-      by (calls.WaitVar i old st) t = tt
+      by : (a : Call) → is_tested a ≡ true → TestedAt (is_bit_wait a) x c (prepared_at a) b v
+          × TestedAt (is_bit_wait a) x c (signalled_at a) b v × Lands (worn_next a) b v
+      by (calls.Wait i how) t = (tt, tt, tt)
+      by (calls.SimpleWait i st) t = (tt, tt, tt)
+      by (calls.WaitBit w n st) t = (refl, tt, tt)
+      by (calls.LockBit w n st) t = (refl, tt, tt)
+      by (calls.WaitVar i old st) t = (tt, tt, tt)
       by a t = absurd (cc)
 
   module _ (k : Known) (p : Point) (seen : Seen) where
@@ -194,15 +174,15 @@ module _ (me : ℕ) (call : Call) (is : is_tested call ≡ true) where
   any k (at.Prepare preparing.Look) seen h = by (pending (state_mask (state_in call)) seen.own)
     where
       by : (hit : Bool) → L k (at.Prepare preparing.Look) seen (look_event call hit)
-      by true = (λ e made found. signalled (learn_step e k.book).awake (after e (told_of k)), refl)
+      by true = (λ e made found. (turned (learn_step e k.book).awake (after e (told_of k))).1, refl)
       by false = (λ e made found. tt, refl)
   any k (at.Prepare preparing.Queue) seen h = either (L k (at.Prepare preparing.Queue) seen) (is_some seen.entry) _ _
       (λ e made found. tt, refl)
       (either (L k (at.Prepare preparing.Queue) seen) seen.worn _ _
-      (λ e made found. worn (learn_step e k.book).awake (after e (told_of k)), refl) (λ e made found. tt, refl))
+      (λ e made found. (turned (learn_step e k.book).awake (after e (told_of k))).2, refl) (λ e made found. tt, refl))
   any k (at.Prepare preparing.State) seen h = (λ e made found. tt, refl)
   any k (at.Prepare preparing.Unlock) seen h =
-      (λ e made found. prepared (learn_step e k.book).awake (after e (told_of k)), refl)
+      (λ e made found. (turned (learn_step e k.book).awake (after e (told_of k))).0, refl)
   any k at.Test seen h = (tests k at.Test seen (call_fails call seen) refl, refl)
   any k at.Sleep seen h = (
     λ e made found. slept (learn_step e k.book).awake (after e (told_of k))

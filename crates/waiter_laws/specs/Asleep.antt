@@ -12,7 +12,7 @@ use Rattle.wait_model.specs.declared.points.Point.TheVariants as at
 use Rattle.wait_model.specs.declared.watches.Entry.{Entry}
 use Rattle.wait_model.specs.Calls.{call_watch, program_start}
 use Rattle.wait_model.specs.Tables.{Table}
-use Rattle.wait_model.specs.Waiters.{is_wait}
+use Rattle.wait_model.specs.Findings.{is_waiting}
 use Rattle.wait_rule.specs.declared.journal.Item.{Item}
 use Rattle.wait_rule.specs.Interleavings.{AreAllowed, TaskStep, table_of}
 use Rattle.wait_rule.specs.Known.{Known}
@@ -55,5 +55,5 @@ pub record IsKept (call : Call) (old new : Known) : Type 0 where
 
 -- So is whoever a call that waits for a watch put asleep.
 abbrev pub SleepersAreKept : Type 0
-SleepersAreKept = (call : Call) → is_wait call ≡ true → (old new : Known) → EndsAsleep call old new
+SleepersAreKept = (call : Call) → is_waiting call ≡ true → (old new : Known) → EndsAsleep call old new
     → IsKept call old new

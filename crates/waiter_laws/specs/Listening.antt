@@ -6,13 +6,11 @@ use Rattle.wait_model.specs.declared.calls.Call.TheVariants as calls
 use Rattle.wait_model.specs.declared.points.Next.TheVariants as next
 use Rattle.wait_model.specs.declared.points.Point.TheVariants as at
 use Rattle.wait_model.specs.declared.points.WokenPoint.TheVariants as hearing
-use Rattle.wait_model.specs.declared.steps.Step.{Step}
 use Rattle.wait_model.specs.declared.tasks.SleepState.{SleepState}
 use Rattle.wait_model.specs.declared.watches.Entry.{Entry}
 use Rattle.wait_model.specs.declared.watches.Kind.TheVariants as kind
 use Rattle.wait_model.specs.declared.watches.Watch.{Watch}
-use Rattle.wait_model.specs.Histories.{Lacks}
-use Rattle.wait_model.specs.Readings.{clears_flag, fails}
+use Rattle.wait_model.specs.Readings.{HasTestedUnheard}
 use Rattle.wait_model.specs.Tables.{Table}
 use Rattle.wait_model.specs.Watches.{same}
 use Rattle.wait_rule.specs.declared.journal.Item.{Item}
@@ -28,17 +26,6 @@ use Rattle.wait_event.specs.declared.woken_waits.WokenTurn.TheVariants as turn
 use Rattle.wait_event.specs.WokenWaits.{Hears}
 use Rattle.order_laws.specs.SafeSleep.{SleepsSafely}
 
--- Since it queued entry x and cleared its flag the task loaded the watch, and the test failed. The caller of a wait for
--- a flag does that before the call.
-pub record HasTestedUnheard (es : List Step) (x : ℕ) (c : Watch) : Type 0 where
-  pub before : List Step
-  pub load : Step
-  pub later : List Step
-  pub split : es ≡ before ++ load ∷ later
-  pub is_load : fails load c ≡ true
-  pub uncleared : Lacks (clears_flag x) later
-  pub is_last : Lacks (λ e. fails e c) later
-
 -- The task went through the wait up to its sleep, and made that; since then it has looked at words alone.
 pub record EndsListening (slot : ℕ) (st : SleepState) (old new : Known) : Type 0 where
   pub before : List Transition
@@ -50,7 +37,8 @@ pub record EndsListening (slot : ℕ) (st : SleepState) (old new : Known) : Type
   pub looked : OnlyLooks (after_transition sleep) new
 
 -- In each table that meets the rule, with the list of such a task that was not woken, it sleeps on the watch, if its
--- entry is one of kind Woken for that: by its own list, since no other task takes such an entry off.
+-- entry is one of kind Woken for that: by its own list, since no other task takes such an entry off. It tested the watch
+-- before the call (`HasTestedUnheard`), which is for the caller to do.
 abbrev pub ListenersAreKept : Type 0
 ListenersAreKept = (slot : ℕ) (st : SleepState) (old new : Known) (e : Entry) (c : Watch) → slot < SLOTS
     → EndsListening slot st old new → HasTestedUnheard (history_of old) (index old.view.number slot) c

@@ -6,7 +6,7 @@ use Rattle.wait_model.specs.declared.calls.Call.{Call}
 use Rattle.wait_model.specs.declared.watches.Entry.{Entry}
 use Rattle.wait_model.specs.Calls.{call_watch}
 use Rattle.wait_model.specs.Selections.{is_page_lock}
-use Rattle.wait_model.specs.Waiters.{is_wait}
+use Rattle.wait_model.specs.Findings.{is_waiting}
 use Rattle.wait_rule.specs.Interleavings.{AreAllowed, TaskStep, table_of}
 use Rattle.wait_rule.specs.Known.{Known}
 use Rattle.wait_rule.specs.Queues.{index}
@@ -18,7 +18,7 @@ use Rattle.waiter_laws.specs.Asleep.{EndsAsleep}
 -- After each step of each such order of allowed steps the entry of a task stands that a call has put asleep and
 -- that was not woken; so the task is safe. A wait for a page, which stores its state in no hold, is left out.
 abbrev pub SleepersAreQueued : Type 0
-SleepersAreQueued = (xs : List TaskStep) → AreAllowed xs → AllTakeOffWoken xs → (call : Call) → is_wait call ≡ true
+SleepersAreQueued = (xs : List TaskStep) → AreAllowed xs → AllTakeOffWoken xs → (call : Call) → is_waiting call ≡ true
     → is_page_lock call ≡ false → (old new : Known) → EndsAsleep call old new
     → (table_of xs).history old.view.number ≡ history_of new → ((table_of xs).task old.view.number).state ≢ 0
     → (e : Entry) × ((table_of xs).entry (index old.view.number 0) ≡ Some e)

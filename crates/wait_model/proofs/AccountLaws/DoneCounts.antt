@@ -68,12 +68,6 @@ effect s a (step.Publish (watch.Done c) n r) d al is =
     by_store s a (step.Publish (watch.Done c) n r) c d n r (λ count. refl) refl al.2 is
 effect s a (step.Consume (watch.Done c) n r) d al is =
     by_store s a (step.Consume (watch.Done c) n r) c d n r (λ count. refl) refl al.2 is
-effect s a (step.Publish (watch.Plain c) n r) d al is = inl (record { counts = λ count. refl; same = refl })
-effect s a (step.Publish (watch.Bit w b) n r) d al is = inl (record { counts = λ count. refl; same = refl })
-effect s a (step.Publish (watch.Var v o) n r) d al is = inl (record { counts = λ count. refl; same = refl })
-effect s a (step.Consume (watch.Plain c) n r) d al is = inl (record { counts = λ count. refl; same = refl })
-effect s a (step.Consume (watch.Bit w b) n r) d al is = inl (record { counts = λ count. refl; same = refl })
-effect s a (step.Consume (watch.Var v o) n r) d al is = inl (record { counts = λ count. refl; same = refl })
 effect s a e d al is = inl (record { counts = λ count. refl; same = refl })
 
 pub counts_stay_balanced : CountsStayBalanced
@@ -132,12 +126,6 @@ counts_start_balanced n d = record {
 none_granted : (e : Step) (d : ℕ) → ends_count d e ≡ false → of_store grants d e ≡ 0
 none_granted (step.Publish (watch.Done c) value found) d h = grind arith
 none_granted (step.Consume (watch.Done c) value found) d h = grind arith
-none_granted (step.Publish (watch.Plain c) n r) d h = refl
-none_granted (step.Publish (watch.Bit w b) n r) d h = refl
-none_granted (step.Publish (watch.Var v o) n r) d h = refl
-none_granted (step.Consume (watch.Plain c) n r) d h = refl
-none_granted (step.Consume (watch.Bit w b) n r) d h = refl
-none_granted (step.Consume (watch.Var v o) n r) d h = refl
 none_granted e d h = refl
 
 none_in : (es : List Step) (d : ℕ) → Lacks (ends_count d) es → total (of_store grants d) es ≡ 0

@@ -67,10 +67,6 @@ IsAtHome now.Fresh = Unit {0}
 pub start_home : (call : Call) → is_at_home call (program_start call) ≡ true
 start_home (calls.Wake c m n) = refl
 start_home (calls.SimpleWake c all) = refl
-start_home (calls.Complete d) = refl
-start_home (calls.CompleteAll d) = refl
-start_home (calls.ClearBit w b) = refl
-start_home (calls.SetVar v x) = refl
 start_home call = refl
 
 -- the events of walks

@@ -15,7 +15,7 @@ use Rattle.wait_model.specs.Views.{View, Checks, blank, checked, covers}
 use Rattle.wait_model.specs.Fold.{after, after_all, view_of}
 use Rattle.wait_model.specs.Tables.{Table, met}
 use Rattle.wait_model.specs.Laws.{Waits, Covered, Spent, TryingBy, Trying, Tried, NoLostWake}
-use Rattle.wait_model.specs.Readings.{fails, clears_flag, reads_no, outdates, UnheardLoad, ZeroLoad, FailedBy}
+use Rattle.wait_model.specs.Readings.{fails, clears_flag, reads_no, outdates, HasTestedUnheard, ZeroLoad, FailedBy}
 use Rattle.wait_model.specs.Readings.{finds_set, queues}
 use Rattle.wait_model.specs.Readings.{before_load}
 use Rattle.wait_model.specs.Histories.{Lacks, Since, takes_lock, spent_found, LockFound, LastFound}
@@ -104,7 +104,7 @@ load_clears_none : (e : Step) (x : ℕ) (c : Watch) → fails e c ≡ true → c
 load_clears_none (step.Load l r) x c h = refl
 load_clears_none e x c h = absurd (cc)
 
-low_found : (es : List Step) (x : ℕ) (c : Watch) (l : UnheardLoad es x c)
+low_found : (es : List Step) (x : ℕ) (c : Watch) (l : HasTestedUnheard es x c)
     → (view_of es).checks.low x c ≡ Some ((view_of l.before).checks.found (head_of c))
 low_found es x c l = ap (λ (v : View). v.checks.low x c) (view_at es l.before l.load l.later l.split)
     ∙ low_stays l.later (after l.load (view_of l.before)) x c l.uncleared l.is_last
@@ -171,7 +171,7 @@ tas_told es x c h = elim (seen_in (tas_failed x c) (λ e v. finds_set c e) (queu
 
 -- the spent count that the last lock of the head before the load found; for a page, whose walks spend none, 0
 count_before : (woken page done : Bool) (es : List Step) (x : ℕ) (c : Watch) → FailedBy woken page done es x c → ℕ
-count_before true page done es x c l = (view_of l.before).checks.found (head_of c)
+count_before true page done es x c l = (view_of l.0.before).checks.found (head_of c)
 count_before false true done es x c l = 0
 count_before false false done es x c l = (view_of (before_load false false done es x c l)).checks.found (head_of c)
 
@@ -190,23 +190,13 @@ unfolding count_before
 view_failed v es x e c false true d kind pg done is l =
     rw (kind, pg) (rw (ap (λ (u : View). u.checks.tas_failed x c) is ∙ tas_read es x c l) refl)
 view_failed v es x e c true j d kind pg done is l =
-    let f : v.checks.flag_no x ≡ true = ap (λ (u : View). u.checks.flag_no x) is ∙ flag_read es x l.asked in
-    rw kind (rw f (ap (λ (u : View). u.checks.low x c) is ∙ low_found es x c l))
+    let f : v.checks.flag_no x ≡ true = ap (λ (u : View). u.checks.flag_no x) is ∙ flag_read es x l.1 in
+    rw kind (rw f (ap (λ (u : View). u.checks.low x c) is ∙ low_found es x c l.0))
 view_failed v es x e c false false true kind pg done is l =
     rw (kind, pg) (rw done (ap (λ (u : View). u.checks.zero_failed x c) is ∙ (zero_told es x c).1 l
     ∙ ap (λ (n : ℕ). Some n) (zero_count es x c l)))
 view_failed v es x e c false false false kind pg done is l =
     rw (kind, pg) (rw done (ap (λ (u : View). u.checks.failed x c) is ∙ (failed_told es x c).1 l))
-
--- the other way round, for an entry that is neither of kind Woken nor of kind Page
-pub failed_by : (v : View) (es : List Step) (x : ℕ) (e : Entry) (c : Watch) (n : ℕ) (d : Bool)
-    → is_woken e.kind ≡ false → is_page e.kind ≡ false → is_done c ≡ d → v ≡ view_of es → checked v x e c ≡ Some n
-    → FailedBy (is_woken e.kind) (is_page e.kind) (is_done c) es x c
-failed_by v es x e c n true kind pg done is h = rw (kind, pg, done)
-    (((zero_told es x c).0 n (sym (ap (λ (u : View). u.checks.zero_failed x c) is)
-    ∙ (rw (kind, pg, done) at h))).0)
-failed_by v es x e c n false kind pg done is h = rw (kind, pg, done)
-    (((failed_told es x c).0 n (sym (ap (λ (u : View). u.checks.failed x c) is) ∙ (rw (kind, pg, done) at h))).0)
 
 found_by : (s : Table) (x : ℕ) (e : Entry) (on : Watch) → Sleeps s x e on → ℕ
 found_by s x e on k = count_before (is_woken e.kind) (is_page e.kind) (is_done on) (s.history (owner x)) x on k.failed
@@ -246,7 +236,7 @@ set_uncounted c e h co = absurd (cc)
 found_at : (k j d : Bool) (es : List Step) (x : ℕ) (c : Watch) (l : FailedBy k j d es x c) → counted c ≡ true
     → LastFound (before_load k j d es x c l) (head_of c) (count_before k j d es x c l)
 unfolding count_before
-found_at true j d es x c l co = last_found l.before (head_of c)
+found_at true j d es x c l co = last_found l.0.before (head_of c)
 found_at false true d es x c l co = absurd (set_uncounted c l.it l.passes co)
 found_at false false d es x c l co = last_found (before_load false false d es x c l) (head_of c)
 

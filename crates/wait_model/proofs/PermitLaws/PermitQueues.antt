@@ -53,6 +53,22 @@ module _ (s : Table) (a : ℕ) (d : ℕ) (told : AreViewsTold s) (lt : a < TASKS
   abbrev Quiet : View → Dealt → Type 0
   Quiet u r = is_in d u ≡ false → (r.debt ≡ 0) × (r.count ≡ None)
 
+  -- a step inside a hold of the head that leaves what the hold knows of the count
+  quiet_on : (f : Step) → is_in d (after f v) ≡ true → (b : ℕ)
+      → Quiet ((next s a f).view b) (dealt_in (next s a f) d b)
+  quiet_on f inside b = elim (eqb_tells b a) [
+    | inl q ↦ at_own s a f d told lt k x Quiet (λ away. absurd (clash (is_in d (after f v)) inside away)) b q.1
+    | inr q ↦ at_other s a f d told lt k x Quiet b q.1 (x.quiet b)
+  ]
+
+  known_on : (f : Step) → (deals d (own a) v w f).count ≡ w.count → (b n : ℕ)
+      → (dealt_in (next s a f) d b).count ≡ Some n → s.words.dones d ≡ n
+  known_on f same b n = elim (eqb_tells b a) [
+    | inl q ↦ at_own s a f d told lt k x (λ _ r. r.count ≡ Some n → s.words.dones d ≡ n)
+        (λ c. x.known a n (sym same ∙ c)) b q.1
+    | inr q ↦ at_other s a f d told lt k x (λ _ r. r.count ≡ Some n → s.words.dones d ≡ n) b q.1 (x.known b n)
+  ]
+
   -- an add
   module _ (y : ℕ) (e : Entry) (mine : owner y ≡ a) (free : s.entry y ≡ None)
       (held : v.hold.head ≡ Some (head_of e.watch)) where
@@ -92,15 +108,8 @@ module _ (s : Table) (a : ℕ) (d : ℕ) (told : AreViewsTold s) (lt : a < TASKS
             at_other s a queued d told lt k x (Home z) (owner z)
                 (λ r. ne ((x.there z st).0 ∙ ap own r ∙ sym is)) (x.there z st).1,
           ));
-      quiet = λ b. elim (eqb_tells b a) [
-        | inl q ↦ at_own s a queued d told lt k x Quiet (λ away. absurd (clash (is_in d v) inside away)) b q.1
-        | inr q ↦ at_other s a queued d told lt k x Quiet b q.1 (x.quiet b)
-      ];
-      known = λ b n. elim (eqb_tells b a) [
-        | inl q ↦ at_own s a queued d told lt k x (λ _ r. r.count ≡ Some n → s.words.dones d ≡ n) (x.known a n) b q.1
-        | inr q ↦ at_other s a queued d told lt k x (λ _ r. r.count ≡ Some n → s.words.dones d ≡ n) b q.1
-            (x.known b n)
-      ];
+      quiet = λ b. quiet_on queued inside b;
+      known = λ b n. known_on queued refl b n;
     }
       where
         inside : is_in d v ≡ true
@@ -267,15 +276,8 @@ module _ (s : Table) (a : ℕ) (d : ℕ) (told : AreViewsTold s) (lt : a < TASKS
                 | inr q ↦ at_other s a taken d told lt k x (Home z) (owner z) q.1 (x.there z st).1
               ],
             ));
-        quiet = λ b. elim (eqb_tells b a) [
-          | inl q ↦ at_own s a taken d told lt k x Quiet (λ away. absurd (clash (is_in d v) inside away)) b q.1
-          | inr q ↦ at_other s a taken d told lt k x Quiet b q.1 (x.quiet b)
-        ];
-        known = λ b n. elim (eqb_tells b a) [
-          | inl q ↦ at_own s a taken d told lt k x (λ _ r. r.count ≡ Some n → s.words.dones d ≡ n) (x.known a n) b q.1
-          | inr q ↦ at_other s a taken d told lt k x (λ _ r. r.count ≡ Some n → s.words.dones d ≡ n) b q.1
-              (x.known b n)
-        ];
+        quiet = λ b. quiet_on taken inside b;
+        known = λ b n. known_on taken refl b n;
       }
         where
           still : (z : ℕ) → z ≢ y → Home z v w → Home z (after taken v) (deals d (own a) v w taken)

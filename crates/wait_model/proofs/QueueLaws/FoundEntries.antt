@@ -1,21 +1,40 @@
 -- The entry that a walk calls is one of its watch, and stands in the queue of its head.
 use Rattle.std.proofs.lemmas.Bool.Decides.{nat_tests}
 use Rattle.std.proofs.Common.{refl, sym, ◌∙◌, ap, subst, arith}
-use Rattle.std.specs.Prelude.{ℕ, ◌≡◌, ◌+◌, ◌<◌, ◌≤◌, Bool, true, false, List, Option, Some, None}
+use Rattle.std.specs.Prelude.{ℕ, ◌≡◌, ◌+◌, ◌<◌, ◌≤◌, Bool, true, false, if◌then◌else◌, List, Option, Some, None}
 use Rattle.wait_model.specs.declared.layout.TheConstants.{TASKS, ENTRIES, BREAK}
 use Rattle.wait_model.specs.declared.watches.Watch.{Watch}
 use Rattle.wait_model.specs.declared.watches.Entry.{Entry}
 use Rattle.wait_model.specs.declared.queues.Member.{Member}
 use Rattle.wait_model.specs.declared.queues.Mark.{Mark}
 use Rattle.wait_model.specs.declared.queues.CalledEntry.{CalledEntry}
-use Rattle.wait_model.specs.Runs.{own, arrives_from, called_as, called_by, called_of}
+use Rattle.wait_model.specs.declared.queues.Walking.{Walking}
+use Rattle.wait_model.specs.declared.calls.Call.{Call}
+use Rattle.wait_model.specs.declared.calls.Event.TheVariants as event
+use Rattle.wait_model.specs.declared.points.Planned.{Planned}
+use Rattle.wait_model.specs.declared.points.Point.TheVariants as at
+use Rattle.wait_model.specs.declared.points.WalkPoint.TheVariants as walking
+use Rattle.wait_model.specs.Tasks.{meets}
+use Rattle.wait_model.specs.Points.{call_aim, call_head, called_task, mode_of}
+use Rattle.wait_model.specs.Programs.{call_next, go, reached}
+use Rattle.wait_model.specs.Runs.{State, seen_by, own, arrives_from, called_as, called_by, called_of}
 use Rattle.wait_model.specs.Reached.{IsQueued, IsMember, IsLinked}
-use Rattle.wait_model.specs.Watches.{same, head_of, owner, is_for}
+use Rattle.wait_model.specs.Watches.{same, head_of, mask_of, owner, is_for}
 use Rattle.wait_model.specs.Queues.{is_entry, rank_at, members_from, Arrival, IsIn}
 use Rattle.wait_model.proofs.QueueLaws.Arrivals.{from_in, ordered_from, is_called, IsReached, arrives_in, arrives}
 use Rattle.wait_model.proofs.QueueLaws.MemberStands.{member_is}
 use Rattle.wait_model.proofs.WordLaws.DecodedWords.{owner_own}
 use Rattle.wait_model.proofs.Functions.{both_left, both_right}
+
+-- what a walk makes of the entry that it comes to; its hold breaks first, or it calls that
+abbrev pub calls_on : State → ℕ → Call → Walking → Arrival → Option CalledEntry → Planned
+calls_on s me call w r o = call_next (call_aim call) (reached w r.calls) o (seen_by s me call (at.Walk (walking.Call w)))
+    (meets (mask_of (mode_of call)) (s.table.task (called_task o)).state)
+
+abbrev pub breaks_or_calls : State → ℕ → Call → Walking → Arrival → Bool → Planned
+breaks_or_calls s me call w r b = if b
+    then go (event.Mark (call_head call)) (at.Walk (walking.BreakUnlock (reached w r.calls)))
+    else calls_on s me call w r (called_by s.table.entry (if b then None else r.member))
 
 pub record IsFoundEntry (entry : ℕ → Option Entry) (n : ℕ) (c : Watch) (d : CalledEntry) : Type 0 where
   pub it : Entry

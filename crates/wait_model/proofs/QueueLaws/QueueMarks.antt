@@ -4,38 +4,20 @@ use Rattle.std.proofs.Common.{refl, ap, arith, inl, inr}
 use Rattle.std.specs.Prelude.{◌≡◌, ◌≢◌, ◌<◌, ◌⊎◌, Bool, true, false, nat_lt, if◌then◌else◌, List, [], ◌∷◌}
 use Rattle.wait_model.specs.declared.queues.Member.{Member}
 use Rattle.wait_model.specs.Queues.{rank, mark_add, IsIn, IsRisingFrom, IsInOrder}
-use Rattle.wait_model.proofs.QueueLaws.QueueOrder.{before_in, before_all}
-
-marked_here : (b x m : Member) (ms : List Member) (t : Bool) → (IsIn x (mark_add b ms) → (x ≡ b) ⊎ IsIn x ms)
-    → IsIn x (if t then m ∷ mark_add b ms else b ∷ m ∷ ms) → (x ≡ b) ⊎ IsIn x (m ∷ ms)
-marked_here b x m ms true h (inl i) = inr (inl i)
-marked_here b x m ms true h (inr i) = elim (h i) [ inl s ↦ inl s | inr j ↦ inr (inr j) ]
-marked_here b x m ms false h (inl i) = inl i
-marked_here b x m ms false h (inr i) = inr i
+use Rattle.wait_model.proofs.QueueLaws.QueueOrder.{added_here, before_in, before_all, new_here, old_here}
 
 pub marked_in : (b x : Member) (q : List Member) → IsIn x (mark_add b q) → (x ≡ b) ⊎ IsIn x q
 marked_in b x [] (inl i) = inl i
 marked_in b x [] (inr i) = absurd i
-marked_in b x (m ∷ ms) i = marked_here b x m ms (nat_lt (rank m) (rank b)) (marked_in b x ms) i
-
-new_here : (b m : Member) (ms : List Member) (t : Bool) → IsIn b (mark_add b ms)
-    → IsIn b (if t then m ∷ mark_add b ms else b ∷ m ∷ ms)
-new_here b m ms true h = inr h
-new_here b m ms false h = inl refl
+marked_in b x (m ∷ ms) i = added_here b x m (mark_add b ms) ms (nat_lt (rank m) (rank b)) (marked_in b x ms) i
 
 pub mark_in : (b : Member) (q : List Member) → IsIn b (mark_add b q)
 mark_in b [] = inl refl
-mark_in b (m ∷ ms) = new_here b m ms (nat_lt (rank m) (rank b)) (mark_in b ms)
-
-old_here : (b x m : Member) (ms : List Member) (t : Bool) → (IsIn x ms → IsIn x (mark_add b ms))
-    → IsIn x (m ∷ ms) → IsIn x (if t then m ∷ mark_add b ms else b ∷ m ∷ ms)
-old_here b x m ms true h (inl s) = inl s
-old_here b x m ms true h (inr i) = inr (h i)
-old_here b x m ms false h i = inr i
+mark_in b (m ∷ ms) = new_here b m (mark_add b ms) ms (nat_lt (rank m) (rank b)) (mark_in b ms)
 
 pub unmarked_in : (b x : Member) (q : List Member) → IsIn x q → IsIn x (mark_add b q)
 unmarked_in b x [] i = absurd i
-unmarked_in b x (m ∷ ms) i = old_here b x m ms (nat_lt (rank m) (rank b)) (unmarked_in b x ms) i
+unmarked_in b x (m ∷ ms) i = old_here b x m (mark_add b ms) ms (nat_lt (rank m) (rank b)) (unmarked_in b x ms) i
 
 -- whatever stands behind the member stands behind it with the bookmark too
 behind_both : (b m : Member) (ms : List Member) → IsRisingFrom (rank m) ms → rank m < rank b → (x : Member)

@@ -91,37 +91,38 @@ one_first test p q (Some a) (Some b) o h k =
     let g : rank b ≤ rank a = k.3 a h.0 h.1 h.2 in
     ap (λ (x : Member). Some x) (one_rank q a b o h.0 k.0 (omega arith))
 
--- an add at the front: its members
-added_here : (e x m : Member) (ms : List Member) (b : Bool) → (IsIn x (front_add e ms) → (x ≡ e) ⊎ IsIn x ms)
-    → IsIn x (if b then m ∷ front_add e ms else e ∷ m ∷ ms) → (x ≡ e) ⊎ IsIn x (m ∷ ms)
-added_here e x m ms true h (inl i) = inr (inl i)
-added_here e x m ms true h (inr i) = elim (h i) [ inl s ↦ inl s | inr j ↦ inr (inr j) ]
-added_here e x m ms false h (inl i) = inl i
-added_here e x m ms false h (inr i) = inr i
+-- a member put behind m, into ms, or before m: the members
+pub added_here : (e x m : Member) (put ms : List Member) (b : Bool) → (IsIn x put → (x ≡ e) ⊎ IsIn x ms)
+    → IsIn x (if b then m ∷ put else e ∷ m ∷ ms) → (x ≡ e) ⊎ IsIn x (m ∷ ms)
+added_here e x m put ms true h (inl i) = inr (inl i)
+added_here e x m put ms true h (inr i) = elim (h i) [ inl s ↦ inl s | inr j ↦ inr (inr j) ]
+added_here e x m put ms false h (inl i) = inl i
+added_here e x m put ms false h (inr i) = inr i
 
+pub new_here : (e m : Member) (put ms : List Member) (b : Bool) → IsIn e put
+    → IsIn e (if b then m ∷ put else e ∷ m ∷ ms)
+new_here e m put ms true h = inr h
+new_here e m put ms false h = inl refl
+
+pub old_here : (e x m : Member) (put ms : List Member) (b : Bool) → (IsIn x ms → IsIn x put)
+    → IsIn x (m ∷ ms) → IsIn x (if b then m ∷ put else e ∷ m ∷ ms)
+old_here e x m put ms true h (inl s) = inl s
+old_here e x m put ms true h (inr i) = inr (h i)
+old_here e x m put ms false h i = inr i
+
+-- an add at the front: its members
 pub added_in : (e x : Member) (q : List Member) → IsIn x (front_add e q) → (x ≡ e) ⊎ IsIn x q
 added_in e x [] (inl i) = inl i
 added_in e x [] (inr i) = absurd i
-added_in e x (m ∷ ms) i = added_here e x m ms (nat_lt m.place MIDDLE) (added_in e x ms) i
-
-new_here : (e m : Member) (ms : List Member) (b : Bool) → IsIn e (front_add e ms)
-    → IsIn e (if b then m ∷ front_add e ms else e ∷ m ∷ ms)
-new_here e m ms true h = inr h
-new_here e m ms false h = inl refl
+added_in e x (m ∷ ms) i = added_here e x m (front_add e ms) ms (nat_lt m.place MIDDLE) (added_in e x ms) i
 
 pub new_in : (e : Member) (q : List Member) → IsIn e (front_add e q)
 new_in e [] = inl refl
-new_in e (m ∷ ms) = new_here e m ms (nat_lt m.place MIDDLE) (new_in e ms)
-
-old_here : (e x m : Member) (ms : List Member) (b : Bool) → (IsIn x ms → IsIn x (front_add e ms))
-    → IsIn x (m ∷ ms) → IsIn x (if b then m ∷ front_add e ms else e ∷ m ∷ ms)
-old_here e x m ms true h (inl s) = inl s
-old_here e x m ms true h (inr i) = inr (h i)
-old_here e x m ms false h i = inr i
+new_in e (m ∷ ms) = new_here e m (front_add e ms) ms (nat_lt m.place MIDDLE) (new_in e ms)
 
 pub old_in : (e x : Member) (q : List Member) → IsIn x q → IsIn x (front_add e q)
 old_in e x [] i = absurd i
-old_in e x (m ∷ ms) i = old_here e x m ms (nat_lt m.place MIDDLE) (old_in e x ms) i
+old_in e x (m ∷ ms) i = old_here e x m (front_add e ms) ms (nat_lt m.place MIDDLE) (old_in e x ms) i
 
 -- before a whole queue
 pub before_all : (p : ℕ) (q : List Member) → ((e : Member) → IsIn e q → p < rank e) → IsRisingFrom p q

@@ -30,7 +30,7 @@ use Rattle.wait_model.specs.declared.points.Progress.{Progress}
 use Rattle.wait_model.specs.declared.points.Progress.TheVariants as now
 use Rattle.wait_model.specs.declared.steps.Step.TheVariants as step
 use Rattle.wait_model.specs.Functions.{put}
-use Rattle.wait_model.specs.Runs.{called_of, State, own, entry_for, called_by, looks_below, looks, seen_by, event_steps}
+use Rattle.wait_model.specs.Runs.{called_of, State, own, entry_for, looks_below, looks, seen_by, event_steps}
 use Rattle.wait_model.specs.Runs.{planned, progress_at, after_event, busy_head}
 use Rattle.wait_model.specs.Reached.{free, IsHome, held_at, taken_by, IsQueued, IsTaken, IsFlagged, IsPlaced}
 use Rattle.wait_model.specs.Reached.{IsCallSound, WalksFor, IsSelecting, MayEndSpent, CountedAt, CountedBy, IsSound}
@@ -45,11 +45,11 @@ use Rattle.wait_model.specs.Views.{View, Walk, Look, unseen, off, elsewhere, sho
 use Rattle.wait_model.specs.Fold.{begun, is_off, picks, after, after_all}
 use Rattle.wait_model.specs.Tables.{steps, value_of}
 use Rattle.wait_model.specs.Tables as tables
-use Rattle.wait_model.specs.Points.{call_aim, call_watch, call_head, mode_of, called_task, given_at}
+use Rattle.wait_model.specs.Points.{call_aim, call_watch, call_head, mode_of, given_at}
 use Rattle.wait_model.specs.Programs.{go, load, call_fails, past, onward, reached, resumed, wake_event, wake_off_event}
-use Rattle.wait_model.specs.Programs.{tests, call_entry, call_next, tests_page}
+use Rattle.wait_model.specs.Programs.{tests, call_entry, tests_page}
 use Rattle.wait_model.specs.Queues.{place_for, Arrival}
-use Rattle.wait_model.proofs.QueueLaws.FoundEntries.{IsFoundEntry, reach, walk_case}
+use Rattle.wait_model.proofs.QueueLaws.FoundEntries.{IsFoundEntry, breaks_or_calls, calls_on, reach, walk_case}
 use Rattle.wait_model.proofs.QueueLaws.OutsideWalks.{IsOutside, goes_away, program_away}
 use Rattle.wait_model.proofs.RunLaws.OthersEvents.{Changes}
 use Rattle.wait_model.proofs.Sameness.{same_refl, same_head, same_trans, same_bit_is}
@@ -382,16 +382,10 @@ module _ (s : State) (n me : ℕ) (call : Call) (sound : IsSound s n) (mine : me
     abbrev r : Arrival
     r = reach s.table.entry s.table.mark s.queue n sound.linked (call_watch call) w.place w.calls k.walk.calls
 
-    abbrev calls_on : Option CalledEntry → Planned
-    calls_on o = call_next (call_aim call) (reached w r.calls) o (seen_by s me call (at.Walk (walking.Call w)))
-        (meets (mask_of (mode_of call)) (s.table.task (called_task o)).state)
-
-    turn_counted : (b : Bool) → r.breaks ≡ b → W (walking.Call w) (if b
-        then go (event.Mark (call_head call)) (at.Walk (walking.BreakUnlock (reached w r.calls)))
-        else calls_on (called_by s.table.entry (if b then None else r.member)))
+    turn_counted : (b : Bool) → r.breaks ≡ b → W (walking.Call w) (breaks_or_calls s me call w r b)
     turn_counted true is = f
     turn_counted false is = walk_case s.table.entry s.table.mark s.queue n sound.linked (call_watch call) w.place
-        w.calls k.walk.calls (λ o. W (walking.Call w) (calls_on o)) tt
+        w.calls k.walk.calls (λ o. W (walking.Call w) (calls_on s me call w r o)) tt
         (λ c d few. entry_counted w pl f (reached w r.calls) c d c.kind
         (seen_by s me call (at.Walk (walking.Call w)))
         (meets (mask_of (mode_of call)) (s.table.task c.who).state) refl

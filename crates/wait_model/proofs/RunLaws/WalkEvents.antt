@@ -13,7 +13,7 @@ use Rattle.wait_model.specs.declared.points.Planned.{Planned}
 use Rattle.wait_model.specs.declared.watches.Kind.{Kind}
 use Rattle.wait_model.specs.declared.watches.Entry.{Entry}
 use Rattle.wait_model.specs.declared.points.Seen.{Seen}
-use Rattle.wait_model.specs.Runs.{State, own, called_by, seen_by, planned}
+use Rattle.wait_model.specs.Runs.{State, own, seen_by, planned}
 use Rattle.wait_model.specs.Reached.{HomeAt, holds, is_amid_function, IsTaken, IsFlagged, IsPlaced, IsCounted}
 use Rattle.wait_model.specs.Reached.{CountedAt, WalksFor, MayEndSpent, KeepsCleared, Rests, IsCallSound, IsWalkSound}
 use Rattle.wait_model.specs.Reached.{mark_head, marked_at, IsSound, HandsAt, taken_by}
@@ -25,12 +25,12 @@ use Rattle.wait_model.specs.Watches.{is_page, misses}
 use Rattle.wait_model.specs.Words.{Suited, bit_at, flag}
 use Rattle.wait_model.specs.Views.{View}
 use Rattle.wait_model.specs.Rows.{MaySpend, Reads, Allowed}
-use Rattle.wait_model.specs.Points.{call_aim, call_watch, call_head, mode_of, count_of, called_task, head_at, given_at}
+use Rattle.wait_model.specs.Points.{call_aim, call_watch, call_head, mode_of, count_of, head_at, given_at}
 use Rattle.wait_model.specs.Programs.{go, load, call_fails, past, reached, wake_event, wake_off_event, call_entry}
-use Rattle.wait_model.specs.Programs.{call_next, again, resumed}
+use Rattle.wait_model.specs.Programs.{again, resumed}
 use Rattle.wait_model.specs.Queues.{Arrival}
 use Rattle.wait_model.specs.Functions.{put}
-use Rattle.wait_model.proofs.QueueLaws.FoundEntries.{IsFoundEntry, reach, reach_calls, walk_case}
+use Rattle.wait_model.proofs.QueueLaws.FoundEntries.{IsFoundEntry, breaks_or_calls, calls_on, reach, reach_calls, walk_case}
 use Rattle.wait_model.proofs.Sameness.{same_bit, same_bit_is}
 use Rattle.wait_model.proofs.WordLaws.DecodedWords.{task_read}
 use Rattle.wait_model.proofs.WordLaws.CondWords.{head_below, number_below, reads_value, going_kind}
@@ -541,13 +541,7 @@ module _ (s : State) (n me : ℕ) (call : Call) (sound : IsSound s n) (mine : me
     counts = reached_counted n w r.calls k.walk
         (reach_calls s.table.entry s.table.mark s.queue n sound.linked (call_watch call) w.place w.calls k.walk.calls)
 
-    abbrev calls_on : Option CalledEntry → Planned
-    calls_on o = call_next (call_aim call) (reached w r.calls) o (seen_by s me call (at.Walk (walking.Call w)))
-        (meets (mask_of (mode_of call)) (s.table.task (called_task o)).state)
-
-    break_fine : (b : Bool) → r.breaks ≡ b → F (walking.Call w) (if b
-        then go (event.Mark (call_head call)) (at.Walk (walking.BreakUnlock (reached w r.calls)))
-        else calls_on (called_by s.table.entry (if b then None else r.member)))
+    break_fine : (b : Bool) → r.breaks ≡ b → F (walking.Call w) (breaks_or_calls s me call w r b)
     break_fine true is = mark_fine s n me call sound mine (at.Walk (walking.Call w)) pl
         (at.Walk (walking.BreakUnlock (reached w r.calls))) (call_head call) refl refl (head_small k.watch)
         (unmarked (s.table.mark me) mk)
@@ -555,7 +549,7 @@ module _ (s : State) (n me : ℕ) (call : Call) (sound : IsSound s n) (mine : me
         (counted_later n (reached w r.calls) counts))
         (leads (walking.Call w) pl k refl refl (walking.BreakUnlock (reached w r.calls)) refl refl)
     break_fine false is = walk_case s.table.entry s.table.mark s.queue n sound.linked (call_watch call) w.place
-        w.calls k.walk.calls (λ o. F (walking.Call w) (calls_on o))
+        w.calls k.walk.calls (λ o. F (walking.Call w) (calls_on s me call w r o))
         (unlock_fine s n me call sound mine (at.Walk (walking.Call w)) pl (call_head call) false _ refl
         refl (head_small k.watch) (no_spend s n me call sound mine) tt refl pl.home refl refl)
         (λ d f few. entry_fine w pl k (reached w r.calls) counts few d f (seen_by s me call (at.Walk (walking.Call w)))

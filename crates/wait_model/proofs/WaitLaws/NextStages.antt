@@ -81,20 +81,10 @@ store_held s me call e held is = held ∙ ap (λ n. Some n) (sym (head_of_bare (
     ∙ ap head_of (sym is))
 
 -- where a call goes after its look, its unlock and its sleep
-signalled_stage : (c : Call) → stage (signalled_at c) ≡ outside
-signalled_stage (calls.WaitFor d st) = refl
-signalled_stage calls.Remove = refl
-signalled_stage c = refl
-
-signalled_takes : (c : Call) → taken_off (signalled_at c) ≡ None
-signalled_takes (calls.WaitFor d st) = refl
-signalled_takes calls.Remove = refl
-signalled_takes c = refl
-
-signalled_fits : (c : Call) → FitsStage (now.Open c (signalled_at c))
-signalled_fits (calls.WaitFor d st) = tt
-signalled_fits calls.Remove = tt
-signalled_fits c = tt
+signalled_goes : (c : Call) → (stage (signalled_at c) ≡ outside) × (taken_off (signalled_at c) ≡ None)
+    × FitsStage (now.Open c (signalled_at c))
+signalled_goes (calls.WaitFor d st) = (refl, refl, tt)
+signalled_goes c = (refl, refl, tt)
 
 -- after its preparation a wait loads its condition, and one for a completion has done so
 prepared_staged : (c : Call) (t : TaskRecord) (o : Option Entry) (es : List Step) (x : ℕ) → t.runnable ≡ true
@@ -105,34 +95,14 @@ prepared_staged (calls.LockBit w b st) t o es x up i = (up, λ d. i)
 prepared_staged calls.Remove t o es x up i = (up, λ d. i)
 prepared_staged c t o es x up i = (up, λ d. i)
 
-prepared_takes : (c : Call) → taken_off (prepared_at c) ≡ None
-prepared_takes (calls.WaitFor d st) = refl
-prepared_takes (calls.WaitBit w b st) = refl
-prepared_takes (calls.LockBit w b st) = refl
-prepared_takes calls.Remove = refl
-prepared_takes c = refl
+prepared_goes : (c : Call) → (taken_off (prepared_at c) ≡ None) × FitsStage (now.Open c (prepared_at c))
+prepared_goes (calls.WaitFor d st) = (refl, tt)
+prepared_goes c = (refl, tt)
 
-prepared_fits : (c : Call) → FitsStage (now.Open c (prepared_at c))
-prepared_fits (calls.WaitFor d st) = tt
-prepared_fits (calls.WaitBit w b st) = tt
-prepared_fits (calls.LockBit w b st) = tt
-prepared_fits calls.Remove = tt
-prepared_fits c = tt
-
-slept_stage : (c : Call) → stage (slept_at c) ≡ dozing
-slept_stage (calls.WaitFor d st) = refl
-slept_stage calls.Remove = refl
-slept_stage c = refl
-
-slept_takes : (c : Call) → taken_off (slept_at c) ≡ None
-slept_takes (calls.WaitFor d st) = refl
-slept_takes calls.Remove = refl
-slept_takes c = refl
-
-slept_fits : (c : Call) → FitsStage (now.Open c (slept_at c))
-slept_fits (calls.WaitFor d st) = tt
-slept_fits calls.Remove = tt
-slept_fits c = tt
+slept_goes : (c : Call) → (stage (slept_at c) ≡ dozing) × (taken_off (slept_at c) ≡ None)
+    × FitsStage (now.Open c (slept_at c))
+slept_goes (calls.WaitFor d st) = (refl, refl, tt)
+slept_goes c = (refl, refl, tt)
 
 -- a load that found the condition not set is a failed load
 pub misses_fails : (c : Watch) (v : ℕ) → misses c v ≡ true → failing c v c ≡ true
@@ -300,8 +270,8 @@ module _ (s : State) (me : ℕ) (call : Call) where
 
   look_good : (k : Known (at.Prepare preparing.Look)) (b : Bool)
       → IsGood s me call (at.Prepare preparing.Look) (look_event call b)
-  look_good k true = calm s me call (at.Prepare preparing.Look) k.up _ tt tt tt (signalled_stage call)
-      (signalled_takes call) (signalled_fits call)
+  look_good k true = calm s me call (at.Prepare preparing.Look) k.up _ tt tt tt (signalled_goes call).0
+      (signalled_goes call).1 (signalled_goes call).2
   look_good k false = calm s me call (at.Prepare preparing.Look) k.up _ tt tt tt refl refl tt
 
   prepare_good : (p : PreparePoint) → Known (at.Prepare p)
@@ -327,10 +297,10 @@ module _ (s : State) (me : ℕ) (call : Call) where
     staged = prepared_staged call (s.table.task me) (s.table.entry (own me))
         ((then_by s me call (at.Prepare preparing.Unlock) (event.Unlock (call_head call) false)).table.history me)
         (own me) k.up k.old.1;
-    taken = λ who some. absurd (none-some who (sym (prepared_takes call) ∙ some));
+    taken = λ who some. absurd (none-some who (sym (prepared_goes call).0 ∙ some));
     takes = tt;
     stores = tt;
-    fits = prepared_fits call;
+    fits = (prepared_goes call).1;
   }
 
   leave_good : (p : LeavePoint) → Known (at.Leave p)
@@ -692,7 +662,7 @@ module _ (s : State) (me : ℕ) (call : Call) where
   good at.First k = first_good k (unset s call) (value_of s.table.words (call_watch call))
   good (at.Prepare p) k = prepare_good p k
   good at.Test k = test_good (unset s call) refl k
-  good at.Sleep k = doze_good at.Sleep (slept_at call) k refl (slept_stage call) (slept_takes call) (slept_fits call)
+  good at.Sleep k = doze_good at.Sleep (slept_at call) k refl (slept_goes call).0 (slept_goes call).1 (slept_goes call).2
   good (at.Leave p) k = leave_good p k
   good (at.Finish p failed) k = finish_good p failed k
   good (at.Bit p) k = bit_good p k

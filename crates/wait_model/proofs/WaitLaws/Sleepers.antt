@@ -2,8 +2,8 @@
 use Rattle.std.proofs.lemmas.Bool.{both_ways}
 use Rattle.std.proofs.lemmas.Bool.Decides.{nat_tests}
 use Rattle.std.proofs.Common.{refl, sym, ◌∙◌, ap, subst, arith}
-use Rattle.std.specs.Prelude.{ℕ, ◌≡◌, ◌≢◌, ◌≤◌, Bool, true, false, nat_lt, if◌then◌else◌, Option, Some, None, List}
-use Rattle.wait_model.specs.declared.layout.TheConstants.{FIRST_SIMPLE, EVENTS}
+use Rattle.std.specs.Prelude.{ℕ, ◌≡◌, ◌≢◌, ◌≤◌, Bool, true, false, if◌then◌else◌, Option, Some, None, List}
+use Rattle.wait_model.specs.declared.layout.TheConstants.{EVENTS}
 use Rattle.wait_model.specs.declared.watches.Watch.{Watch}
 use Rattle.wait_model.specs.declared.watches.Watch.TheVariants as watch
 use Rattle.wait_model.specs.declared.watches.Kind.{Kind}
@@ -31,8 +31,10 @@ use Rattle.wait_model.specs.Histories.{Since}
 use Rattle.wait_model.specs.Readings.{FailedBy, finds_set, queues}
 use Rattle.wait_model.specs.Selections.{is_page_lock}
 use Rattle.wait_model.specs.Wakes.{Sleeps}
-use Rattle.wait_model.specs.Waiters.{is_wait, WaitsFor, IsSafe, NoRunLosesWaiter}
+use Rattle.wait_model.specs.Findings.{is_waiting}
+use Rattle.wait_model.specs.Waiters.{WaitsFor, IsSafe, NoRunLosesWaiter}
 use Rattle.wait_model.proofs.WordLaws.DecodedWords.{owner_own}
+use Rattle.wait_model.proofs.Sameness.{each_kind}
 use Rattle.wait_model.proofs.RunLaws.EveryRun.{sound_of}
 use Rattle.wait_model.proofs.HistoryLaws.ViewsTold.{views_told}
 use Rattle.wait_model.proofs.HistoryLaws.NoLostWake.{no_run_loses_wake, tas_told}
@@ -47,19 +49,19 @@ use Rattle.wait_model.specs.declared.points.PagePoint.TheVariants as paging
 
 -- the call of a task that waits
 waits_in : (q : Progress) (c : Watch) → WaitsFor q c
-    → (call : Call) × (p : Point) × (q ≡ now.Open call p) × (is_wait call ≡ true) × (c ≡ call_watch call)
+    → (call : Call) × (p : Point) × (q ≡ now.Open call p) × (is_waiting call ≡ true) × (c ≡ call_watch call)
 waits_in (now.Open call p) c w = (call, p, refl, w.0, w.1)
 waits_in now.Idle c w = absurd w
 waits_in now.Fresh c w = absurd w
 
-not_listening : (call : Call) → is_wait call ≡ true → is_page_lock call ≡ false → IsListening call → ⊥
+not_listening : (call : Call) → is_waiting call ≡ true → is_page_lock call ≡ false → IsListening call → ⊥
 not_listening (calls.Woken st) w o l = cc
 not_listening (calls.LockPage i st) w o l = cc
 not_listening calls.Remove w o l = l
 not_listening call w o l = l
 
 -- of those only the wait for a completion waits for one
-done_await : (call : Call) → is_wait call ≡ true → is_done (call_watch call) ≡ is_await call
+done_await : (call : Call) → is_waiting call ≡ true → is_done (call_watch call) ≡ is_await call
 done_await (calls.Wait c how) w = refl
 done_await (calls.SimpleWait c st) w = refl
 done_await (calls.WaitFor d st) w = refl
@@ -75,17 +77,10 @@ not_both (calls.WaitFor d st) b a = absurd (cc)
 not_both calls.Remove b a = absurd (cc)
 not_both call b a = absurd (cc)
 
-never_woken : (c : Watch) → is_woken (kind_for c) ≡ false
-never_woken (watch.Plain c) = by (nat_lt c FIRST_SIMPLE)
-  where
-    by : (b : Bool) → is_woken (if b then kind.Autoremove else kind.Simple) ≡ false
-    by true = refl
-    by false = refl
-never_woken (watch.Done d) = refl
-never_woken (watch.Bit w b) = refl
-never_woken (watch.Var v o) = refl
+pub never_woken : (c : Watch) → is_woken (kind_for c) ≡ false
+never_woken c = each_kind (λ k. is_woken k ≡ false) refl refl refl refl c
 
-same_bare : (c : Watch) → same c (bare c) ≡ true
+pub same_bare : (c : Watch) → same c (bare c) ≡ true
 same_bare (watch.Plain c) = grind (arith, nat_tests)
 same_bare (watch.Done d) = grind (arith, nat_tests)
 same_bare (watch.Bit w b) = grind (arith, nat_tests)
@@ -118,7 +113,7 @@ module _ (call : Call) (v : View) (x : ℕ) (w : is_await call ≡ true) where
   dozing_zero p g f h = absurd (cc)
 
 -- the failed load of a task that is asleep
-module _ (call : Call) (es : List Step) (x : ℕ) (e : Entry) (wait : is_wait call ≡ true)
+module _ (call : Call) (es : List Step) (x : ℕ) (e : Entry) (wait : is_waiting call ≡ true)
     (kind : e.kind ≡ kind_for (call_watch call)) where
   unwoken : is_woken e.kind ≡ false
   unwoken = ap (λ k. is_woken k) kind ∙ never_woken (call_watch call)
@@ -144,7 +139,7 @@ module _ (run : List Ran) (r : IsRun run) (few : made_in run ≤ EVENTS) (t : �
   abbrev s : State
   s = state_of run
 
-  load : (call : Call) (p : Point) → s.progress t ≡ now.Open call p → is_wait call ≡ true
+  load : (call : Call) (p : Point) → s.progress t ≡ now.Open call p → is_waiting call ≡ true
       → (k : IsDownInWait s t call p)
       → FailedBy (is_woken k.entry.kind) (is_page k.entry.kind) (is_done (call_watch call)) (s.table.history t)
       (own t) (call_watch call)
@@ -154,7 +149,7 @@ module _ (run : List Ran) (r : IsRun run) (few : made_in run ≤ EVENTS) (t : �
       (subst (λ (q : Progress). ZeroAt q (s.table.view t) (own t)) is (zero_of run r few t)) k.tested
       (is_await call) refl
 
-  sleeps : (call : Call) (p : Point) → s.progress t ≡ now.Open call p → is_wait call ≡ true
+  sleeps : (call : Call) (p : Point) → s.progress t ≡ now.Open call p → is_waiting call ≡ true
       → (k : IsDownInWait s t call p) → Sleeps s.table (own t) k.entry (call_watch call)
   sleeps call p is wait k = record {
     queued = k.stands;
@@ -165,7 +160,7 @@ module _ (run : List Ran) (r : IsRun run) (few : made_in run ≤ EVENTS) (t : �
         (own t) (call_watch call)) (sym (owner_own t)) (load call p is wait k);
   }
 
-  safe : (call : Call) (p : Point) → s.progress t ≡ now.Open call p → is_wait call ≡ true → IsDownInWait s t call p
+  safe : (call : Call) (p : Point) → s.progress t ≡ now.Open call p → is_waiting call ≡ true → IsDownInWait s t call p
       → IsSafe s t (call_watch call)
   safe call p is wait k = record {
     entry = k.entry;
@@ -248,7 +243,7 @@ module _ (run : List Ran) (r : IsRun run) (few : made_in run ≤ EVENTS) (t : �
 pub no_run_loses_waiter : NoRunLosesWaiter
 no_run_loses_waiter run r few t c a = by (waits_in ((state_of run).progress t) c a.waits)
   where
-    by : (call : Call) × (p : Point) × ((state_of run).progress t ≡ now.Open call p) × (is_wait call ≡ true)
+    by : (call : Call) × (p : Point) × ((state_of run).progress t ≡ now.Open call p) × (is_waiting call ≡ true)
         × (c ≡ call_watch call) → IsSafe (state_of run) t c
     by w = subst (IsSafe (state_of run) t) (sym w.4) (which (is_page_lock w.0) refl)
       where

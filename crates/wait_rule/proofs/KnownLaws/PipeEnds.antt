@@ -251,38 +251,23 @@ module _ (items : ℕ → List Item) (a : ℕ) (one two : Location → ℕ) (p :
             (λ shut. (after (sym (ap (λ (e : End). e.shut) own) ∙ shut)).0)))
 
 -- The counts of both ends.
-sound_w : (one : Location → ℕ) (items : ℕ → List Item) (p : ℕ) (l : IsPipe one items p) → IsSoundEnd (write_end p) l.w
-sound_w one items p l =
-    let c = counts one p l.w l.r l.flow in
-    let a = c.put in
-    let b = c.room in
-    let d = c.w_seen in
-    let e = c.took in
-    let f = c.there in
-    let g = c.r_seen in
-    record {
-      count = a;
-      room = omega arith;
-      write = λ even. record { seen = omega arith; count = a; room = b };
-      read = λ odd. absurd (omega arith);
-    }
-
-sound_r : (one : Location → ℕ) (items : ℕ → List Item) (p : ℕ) (l : IsPipe one items p) → IsSoundEnd (read_end p) l.r
-sound_r one items p l =
-    let c = counts one p l.w l.r l.flow in
-    let a = c.put in
-    let b = c.room in
-    let d = c.w_seen in
-    let e = c.took in
-    let f = c.there in
-    let g = c.r_seen in
-    let h = c.apart in
-    record {
-      count = e;
-      room = omega arith;
-      write = λ even. absurd (omega arith);
-      read = λ odd. record { count = e; there = f; room = omega arith };
-    }
+sound_ends : (one : Location → ℕ) (items : ℕ → List Item) (p : ℕ) (l : IsPipe one items p)
+    → IsSoundEnd (write_end p) l.w × IsSoundEnd (read_end p) l.r
+sound_ends one items p l =
+    let c = counts one p l.w l.r l.flow in (
+      record {
+        count = c.put;
+        room = omega (arith, c.room, c.w_seen, c.took, c.there, c.r_seen);
+        write = λ even. record { seen = omega (arith, c.w_seen, c.took, c.there, c.r_seen); count = c.put; room = c.room };
+        read = λ odd. absurd (omega arith);
+      },
+      record {
+        count = c.took;
+        room = omega (arith, c.there, c.r_seen, c.apart);
+        write = λ even. absurd (omega arith);
+        read = λ odd. record { count = c.took; there = c.there; room = omega (arith, c.r_seen, c.apart) };
+      },
+    )
 
 -- An end by its number: it is the write end of its pipe or the read end.
 pub by_side : (P : ℕ → Type 0) (k p : ℕ) → k / PIPE_ENDS ≡ p → P (write_end p) → P (read_end p) → P k
@@ -326,9 +311,9 @@ module _ (items : ℕ → List Item) (a : ℕ) (one two : Location → ℕ) (p :
     knows_end k of = by_side Knows k p of
         (λ mine. let own = own_w items a one two p few l mine in (
           l.flow.end_w ∙ ap (λ (e : End). end_word e.count e.shut) own,
-          subst (IsSoundEnd (write_end p)) own (sound_w one items p l),
+          subst (IsSoundEnd (write_end p)) own (sound_ends one items p l).0,
         ))
         (λ mine. let own = own_r items a one two p few l mine in (
           l.flow.end_r ∙ ap (λ (e : End). end_word e.count e.shut) own,
-          subst (IsSoundEnd (read_end p)) own (sound_r one items p l),
+          subst (IsSoundEnd (read_end p)) own (sound_ends one items p l).1,
         ))

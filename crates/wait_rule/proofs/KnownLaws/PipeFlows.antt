@@ -60,24 +60,17 @@ pub record Counts (w r : End) : Type 0 where
 -- the word that the other end loads
 module _ (one : Location → ℕ) (p : ℕ) (w r : End) (f : IsFlow one p w r) where
   pub counts : Counts w r
-  counts =
-      let a = f.w_put in
-      let b = f.w_room in
-      let c = f.w_seen in
-      let d = f.r_took in
-      let e = f.r_there in
-      let g = f.r_seen in
-      record {
-        put = a;
-        room = b;
-        w_seen = c;
-        took = d;
-        there = e;
-        r_seen = g;
-        apart = omega arith;
-        far = omega arith;
-        near = omega arith;
-      }
+  counts = record {
+    put = f.w_put;
+    room = f.w_room;
+    w_seen = f.w_seen;
+    took = f.r_took;
+    there = f.r_there;
+    r_seen = f.r_seen;
+    apart = omega (arith, f.w_put, f.w_room, f.w_seen);
+    far = omega (arith, f.r_took, f.r_there, f.r_seen, f.w_put, f.w_room);
+    near = omega (arith, f.w_put, f.w_room, f.w_seen, f.r_took, f.r_there);
+  }
 
   W : ℕ
   W = one (place.Var (write_end p))

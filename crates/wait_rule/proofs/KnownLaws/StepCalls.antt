@@ -69,6 +69,10 @@ end_spot k at few is =
     let there = is ∙ ap position_of (var_at k (omega (arith, few))) in
     (there, omega (arith, few, there))
 
+-- of a step whose task only looked before it
+pub added_from : {old mid new : Known} (x : Item) → new ≡ added mid x → mid ≡ old → new ≡ added old x
+added_from x is same = is ∙ ap (λ (k : Known). added k x) same
+
 pub known_same : {h : ℕ} {d e : TableId} {m n : Sat} {k : Known} → e ≡ d → n ≡ m → known d m.0 h ≡ k
     → known e n.0 h ≡ k
 known_same {h = h} same is view_is = (λ i. known (same i) (is i).0 h) ∙ view_is

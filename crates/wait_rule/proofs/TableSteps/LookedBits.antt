@@ -46,7 +46,7 @@ use Rattle.wait_rule.proofs.KnownLaws.TallySteps.{tallies_same}
 use Rattle.wait_rule.proofs.KnownLaws.PipeTables.{pipes_next, pipes_rest}
 use Rattle.wait_rule.proofs.TableSteps.KeptSteps.{law_kept, ChangesNone, KeepsLaw, IsOwn, ruled_seen}
 use Rattle.wait_rule.proofs.TableSteps.KeptSteps.{written}
-use Rattle.wait_rule.proofs.TableSteps.MemberMoves.{knew_entry, knew_mark, seen_links}
+use Rattle.wait_rule.proofs.TableSteps.MemberMoves.{knew_at, knew_entry, knew_mark, seen_links}
 use Rattle.wait_rule.proofs.TableSteps.QueueMoves.{head_seen}
 use Rattle.wait_rule.proofs.StepKinds.EntryKinds.{reads, sees, is_entry}
 use Rattle.wait_rule.proofs.StepKinds.MarkKinds.{mark_reads, is_mark}
@@ -224,18 +224,11 @@ module _ (c : Scene) (law : Law c) (me : Sat) (h i : ℕ) (head : h < HEADS) (fe
       → new ≡ added (known d me.0 at) (item.Made (step.Saw x (entry_word (law.table.entry x))))
       → SawEntry bit h x (known d me.0 at) new
   entry_told bit x d at new small tells is =
-      let k = knew_entry law.table c.items me x law.ruled (own_of c law me own) d in
       record {
         found = entry_word (law.table.entry x);
         is = is;
         lawful = is_entry law.table c.items law.ruled x;
-        knew = record {
-          shown = k.shown;
-          own = k.own;
-          stands = k.stands;
-          foreign = k.foreign;
-          apart = k.apart;
-        };
+        knew = knew_at d me.0 at x _ (knew_entry law.table c.items me x law.ruled (own_of c law me own) d);
         named = ap (λ (o : Option Entry). stands_at o h) (reads law.table c.items law.ruled x)
             ∙ (sym (entry_names law.table h x small) ∙ tells);
       }

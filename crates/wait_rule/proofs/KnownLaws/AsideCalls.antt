@@ -47,14 +47,7 @@ signals_append (x ∷ xs) ys = ap (λ l. raised_by x ++ l) (signals_append xs ys
     ∙ sym (append_assoc (raised_by x) (signals_of xs) (signals_of ys))
 
 pushed_append : (v : Journal) (xs ys : List Item) → pushed (pushed v xs) ys ≡ pushed v (xs ++ ys)
-pushed_append v xs ys = ap (λ (l : List Item). record {
-  lives = v.lives;
-  number = v.number;
-  next = v.next;
-  spare = v.spare;
-  items = l;
-  joined = v.joined;
-}) (append_assoc v.items xs ys)
+pushed_append v xs ys = ap (λ (l : List Item). record v { items = l }) (append_assoc v.items xs ys)
 
 -- no step claims an end
 pub step_mine : (k : ℕ) (s : Step) (e : End) → (end_step k s e).mine ≡ e.mine

@@ -19,7 +19,7 @@ use Rattle.wait_rule.proofs.KnownLaws.CarriedTasks.{kept_still}
 use Rattle.wait_rule.proofs.KnownLaws.StayingBeside.{stays_beside}
 use Rattle.wait_rule.proofs.KnownLaws.Debts.{entries_debts, publish_debts, step_debts}
 
-or_false : (k t : Bool) → t ≡ false → (k || t) ≡ k
+pub or_false : (k t : Bool) → t ≡ false → (k || t) ≡ k
 or_false true t is = refl
 or_false false t is = is
 
@@ -32,7 +32,7 @@ and_false true s is = ap not is
 and_false false s is = refl
 
 -- the bits that are kept beside some, with one taken and one given back
-held_more : (g t k : Bool) → (not t && k) ≡ false → (not (g || t) && (k || g)) ≡ false
+pub held_more : (g t k : Bool) → (not t && k) ≡ false → (not (g || t) && (k || g)) ≡ false
 held_more true t k is = refl
 held_more false true k is = refl
 held_more false false true is = is

@@ -12,15 +12,12 @@ use Rattle.wait_rule.specs.declared.journal.Item.TheVariants as item
 use Rattle.wait_rule.specs.Known.{Known}
 use Rattle.wait_rule.specs.Says.{Excuse, OwesBut, added, told_of}
 use Rattle.wait_rule.specs.Stays.{with_wakes, Carries, unchanged, publish_change}
-use Rattle.wait_rule.proofs.KnownLaws.CarriedTasks.{or_none, owes_more, published_carried, step_carried, step_owing}
+use Rattle.wait_rule.proofs.KnownLaws.CarriedTasks.{consumed_as, or_none, owes_more, published_carried}
 
 lowered_carried : (old new : Known) (d n r : ℕ) → new ≡ added old (item.Made (step.Consume (watch.Done d) n r))
     → Carries unchanged old new
-lowered_carried old new d n r is = step_carried (λ σ. σ) old new (step.Consume (watch.Done d) n r) is
-    (ap (λ (k : Known). k.book.awake) is) (ap (λ (k : Known). k.book.state) is) (ap (λ (k : Known). k.book.head) is)
-    refl refl refl refl refl (λ c. or_none ((told_of old).bits.keeps c))
-    (step_owing old new (step.Consume (watch.Done d) n r) is refl refl (λ i. refl)
-    (λ c. or_none ((told_of old).bits.keeps c)) (λ c none. ap (λ (b : Bool). b && true) none))
+lowered_carried old new d n r is = consumed_as old new (watch.Done d) n r is
+    (λ c. or_none ((told_of old).bits.keeps c)) (λ c none. ap (λ (b : Bool). b && true) none)
 
 -- what changes nothing owes no more than a publish
 or_more : (a b : Bool) → a ≡ true → (a || b) ≡ true

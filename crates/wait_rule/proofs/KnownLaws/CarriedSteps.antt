@@ -27,6 +27,7 @@ use Rattle.wait_rule.specs.Tickets.{Ticket, after_serving, drawn, given, no_tick
 use Rattle.wait_model.specs.Fold.{after, view_of}
 use Rattle.wait_rule.proofs.KnownLaws.AfterSteps.{told_added}
 use Rattle.wait_rule.proofs.KnownLaws.AskedPages.{asked_added}
+use Rattle.wait_rule.proofs.KnownLaws.CarriedBits.{held_more, or_false}
 use Rattle.wait_rule.proofs.KnownLaws.Debts.{LeavesNone, added_debts, end_added, item_begins_none, leaves_added, list_debts, wakes_told}
 use Rattle.wait_rule.proofs.KnownLaws.StayingBeside.{stays_beside}
 use Rattle.wait_rule.proofs.KnownLaws.SettledTasks.{owes_told, unlock_mark}
@@ -179,16 +180,6 @@ module _ (old new : Known) (w : ℕ) (is : new ≡ added old (item.Awake w)) whe
       ∙ ap (λ (b : Bool). after_awake old.book.awake b old.book) (sym same))
 
 -- a note of a page that was taken for the task
-or_false : (k t : Bool) → t ≡ false → (k || t) ≡ k
-or_false true t is = refl
-or_false false t is = is
-
-held_more : (g t k : Bool) → (not t && k) ≡ false → (not (g || t) && (k || g)) ≡ false
-held_more true t k is = refl
-held_more false true k is = refl
-held_more false false true is = is
-held_more false false false is = refl
-
 asks_no_more : (x p : ℕ) (k : Asked) → was_given_at x k ≡ Some p → is_asking (took_note x k) ≡ false
 asks_no_more x p nothing_asked is = refl
 asks_no_more x p (waits_for y q) is = absurd (cc)

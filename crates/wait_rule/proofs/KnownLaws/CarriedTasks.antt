@@ -251,13 +251,19 @@ loaded_carried old new l r is = step_carried (λ σ. σ) old new (step.Load l r)
     (step_owing old new (step.Load l r) is refl refl (λ i. refl) (λ c. refl)
     (λ c none. ap (λ (b : Bool). b && not (failing l r c)) none))
 
+-- of a word that has no bit which a task keeps
+pub consumed_as : (old new : Known) (w : Watch) (n r : ℕ) → new ≡ added old (item.Made (step.Consume w n r))
+    → ((c : Watch) → (after (step.Consume w n r) (told_of old)).bits.keeps c ≡ (told_of old).bits.keeps c)
+    → ((c : Watch) → (told_of old).bits.pending c ≡ false
+    → (after (step.Consume w n r) (told_of old)).bits.pending c ≡ false) → Carries unchanged old new
+consumed_as old new w n r is keeps pending = step_carried (λ σ. σ) old new (step.Consume w n r) is
+    (ap (λ (k : Known). k.book.awake) is) (ap (λ (k : Known). k.book.state) is) (ap (λ (k : Known). k.book.head) is)
+    refl refl refl refl refl keeps (step_owing old new (step.Consume w n r) is refl refl (λ i. refl) keeps pending)
+
 pub consumed_carried : (old new : Known) (c n r : ℕ) → new ≡ added old (item.Made (step.Consume (watch.Plain c) n r))
     → Carries unchanged old new
-consumed_carried old new c n r is = step_carried (λ σ. σ) old new (step.Consume (watch.Plain c) n r) is
-    (ap (λ (k : Known). k.book.awake) is) (ap (λ (k : Known). k.book.state) is) (ap (λ (k : Known). k.book.head) is)
-    refl refl refl refl refl (λ d. or_none ((told_of old).bits.keeps d))
-    (step_owing old new (step.Consume (watch.Plain c) n r) is refl refl (λ i. refl)
-    (λ d. or_none ((told_of old).bits.keeps d)) (λ d none. ap (λ (b : Bool). b && true) none))
+consumed_carried old new c n r is = consumed_as old new (watch.Plain c) n r is
+    (λ d. or_none ((told_of old).bits.keeps d)) (λ d none. ap (λ (b : Bool). b && true) none)
 
 -- a publish makes the task owe wakes of its watch, and no others; a bit that it clears it keeps no more
 kept_less : (b k s : Bool) → (b && k) ≡ false → (b && (k && not s)) ≡ false

@@ -401,17 +401,9 @@ wakes_debts x y k asks ends left wakes d = record {
 -- by another excuse of entries and bits
 pub entries_debts : (x y : Excuse) (k : Known) → y.wakes ≡ x.wakes → y.asks ≡ x.asks → y.ends ≡ x.ends
     → y.left ≡ x.left → Debts x k → Debts y k
-entries_debts x y k same asks ends left d = record {
-  none = by;
-  off = λ none. d.off (sym left ∙ none);
-  shows = λ none. d.shows (sym left ∙ none);
-}
-  where
-    by : (o : Obligation) → (has_duty k o && not (excuses y o)) ≡ false
-    by (wake_of c σ) = ap (λ (f : Watch → ℕ → Bool). (told_of k).duty.owes c σ && not (f c σ
-        || not (meets (mask_of mode.Normal) σ))) same ∙ d.none (wake_of c σ)
-    by page_asked = ap (λ (b : Bool). is_asking (asks_for k) && not b) asks ∙ d.none page_asked
-    by (end_unclosed e) = ap (λ (f : ℕ → Bool). has_end e k && not (f e)) ends ∙ d.none (end_unclosed e)
+entries_debts x y k same asks ends left d = wakes_debts x y k asks ends left
+    (λ c σ. ap (λ (f : Watch → ℕ → Bool). (told_of k).duty.owes c σ && not (f c σ
+    || not (meets (mask_of mode.Normal) σ))) same ∙ d.none (wake_of c σ)) d
 
 -- whether the task left an entry at a completion is one of the debts
 pub left_debts : (x : Excuse) (k : Known) → Debts x k → Debts (with_left_entry x) k
@@ -438,14 +430,7 @@ list_debts x old new same d = subst (λ (v : Journal). Debts x (seen_with new v)
 -- more items
 more_debts : (x : Excuse) (k : Known) (v : Journal) (xs : List Item) → all_begin_none xs → v ≡ pushed k.view xs
     → Debts x k → Debts x (seen_with k v)
-more_debts x k v [] quiet is d = list_debts x k (seen_with k v) (is ∙ ap (λ (l : List Item). record {
-  lives = k.view.lives;
-  number = k.view.number;
-  next = k.view.next;
-  spare = k.view.spare;
-  items = l;
-  joined = k.view.joined;
-}) (append-nil k.view.items)) d
+more_debts x k v [] quiet is d = list_debts x k (seen_with k v) (is ∙ ap (λ (l : List Item). record (k.view) { items = l }) (append-nil k.view.items)) d
 more_debts x k v (i ∷ xs) quiet is d = list_debts x (seen_with (added k i) v) (seen_with k v) refl
     (more_debts x (added k i) v xs quiet.1 (is ∙ ap (λ (l : List Item). record {
       lives = k.view.lives;

@@ -1,13 +1,12 @@
 -- What a task's own steps leave of permits, by the orders of steps that lead to them.
 use Rattle.std.proofs.Common.{refl, sym, ◌∙◌, ap, subst, arith, append_assoc, append-nil, inl, inr}
-use Rattle.std.specs.Prelude.{ℕ, ◌≡◌, ◌≢◌, ◌<◌, ◌⊎◌, ◌==◌, Bool, true, false, if◌then◌else◌, Option, Some, None, List}
+use Rattle.std.specs.Prelude.{ℕ, ◌≡◌, ◌<◌, ◌==◌, Bool, true, false, if◌then◌else◌, Option, Some, None, List}
 use Rattle.std.specs.Prelude.{[], ◌∷◌, ◌++◌}
 use Rattle.wait_model.specs.declared.layout.TheConstants.{FIRST_DONE_HEAD}
 use Rattle.wait_model.specs.declared.steps.Step.{Step}
 use Rattle.wait_model.specs.declared.steps.Step.TheVariants as step
 use Rattle.wait_model.specs.declared.watches.Entry.{Entry}
 use Rattle.wait_model.specs.Fold.{after, view_of}
-use Rattle.wait_model.specs.Functions.{put}
 use Rattle.wait_model.specs.Permits.{Dealt, dealt, deals, done_head, is_in, is_seen, none_dealt, shows_at}
 use Rattle.wait_model.specs.PermitFacts.{is_settled}
 use Rattle.wait_model.specs.Rows.{Allowed}
@@ -16,7 +15,7 @@ use Rattle.wait_model.specs.Tables.{Table}
 use Rattle.wait_model.specs.Views.{View, Hold, Look, off, elsewhere, shown, look_at, blank}
 use Rattle.wait_model.specs.Watches.{head_of, stands_at}
 use Rattle.wait_model.specs.Words.{entry_of}
-use Rattle.wait_model.proofs.Functions.{put_at, put_case}
+use Rattle.wait_model.proofs.Functions.{put_at}
 use Rattle.wait_model.proofs.HistoryLaws.HoldLooks.{after_snoc}
 use Rattle.wait_model.proofs.PermitLaws.OwnTurns.{clash, deals_snoc, in_is}
 use Rattle.wait_model.proofs.PermitLaws.PermitTurns.{and_left, and_right, not_unseen, seen_shows}
@@ -25,42 +24,21 @@ use Rattle.wait_model.proofs.WordLaws.DecodedWords.{owner_own}
 use Rattle.wait_rule.specs.LeftEntries.{Order}
 use Rattle.wait_rule.specs.Interleavings.{AreAllowed, AreHanded, TaskStep, table_of}
 use Rattle.wait_rule.proofs.KnownLaws.HandedPermits.{accounted_of, none_done}
-use Rattle.wait_rule.proofs.KnownLaws.Moments.{kept_of, last_split, never_none, views_of}
+use Rattle.wait_rule.proofs.KnownLaws.Moments.{by_latest, kept_of, never_none, views_of}
 
 -- where one more step of the task follows such an order
 pub record OrderStep (a : ℕ) (front : List Step) (e : Step) : Type 0 where
   pub order : Order a front
   pub allowed : Allowed (table_of order.steps) a e
 
--- the latest step of all tasks is the task's own, or not
-module _ (xs : List TaskStep) (may : AreAllowed xs) (on : AreHanded xs) (x : TaskStep)
-    (allowed : Allowed (table_of xs) x.task x.made) (a : ℕ) (front : List Step) (e : Step)
-    (earlier : (more : List Step) → (table_of xs).history a ≡ front ++ e ∷ more → OrderStep a front e) where
-  abbrev h : ℕ → List Step
-  h = (table_of xs).history
-
-  made_last : a ≡ x.task → h x.task ≡ front → x.made ≡ e → OrderStep a front e
-  made_last q all same = record {
-    order = record { steps = xs; may = may; on = on; is = ap h q ∙ all };
-    allowed = subst (λ (d : Step). Allowed (table_of xs) a d) same
-        (subst (λ (i : ℕ). Allowed (table_of xs) i x.made) (sym q) allowed);
-  }
-
-  one_more : (rest : List Step) → put h x.task (h x.task ++ x.made ∷ []) a ≡ front ++ e ∷ rest
-      → ((a ≡ x.task) × (put h x.task (h x.task ++ x.made ∷ []) a ≡ h x.task ++ x.made ∷ []))
-      ⊎ ((a ≢ x.task) × (put h x.task (h x.task ++ x.made ∷ []) a ≡ h a)) → OrderStep a front e
-  one_more rest is (inl q) = elim (last_split (h x.task) x.made front e rest (sym q.1 ∙ is)) [
-    | inl all ↦ made_last q.0 all.0 all.1
-    | inr part ↦ earlier part.0 (ap h q.0 ∙ part.1)
-  ]
-  one_more rest is (inr q) = earlier rest (sym q.1 ∙ is)
-
 order_at : (xs : List TaskStep) → AreAllowed xs → AreHanded xs → (a : ℕ) (front : List Step) (e : Step)
     (rest : List Step) → (table_of xs).history a ≡ front ++ e ∷ rest → OrderStep a front e
 order_at [] may on a front e rest is = never_none front e rest is
-order_at (x ∷ xs) may on a front e rest is = one_more xs may.2 on.1 x may.1 a front e
-    (λ more early. order_at xs may.2 on.1 a front e more early) rest is
-    (put_case (table_of xs).history x.task ((table_of xs).history x.task ++ x.made ∷ []) a)
+order_at (x ∷ xs) may on a front e rest is = by_latest {P = OrderStep a front e} (table_of xs) x may.1 a front e
+    (λ q all allowed. record {
+      order = record { steps = xs; may = may.2; on = on.1; is = ap (table_of xs).history q ∙ all };
+      allowed = allowed;
+    }) (λ more early. order_at xs may.2 on.1 a front e more early) rest is
 
 pub order_step : (a : ℕ) (front : List Step) (e : Step) (rest : List Step) → Order a (front ++ e ∷ rest)
     → OrderStep a front e

@@ -82,40 +82,40 @@ pub call_marks : (a : Aim) (x : Option ℕ) (met : Bool) (v : Told) (k : Notes) 
 call_marks a None met v k = refl
 call_marks a (Some x) met v k = refl
 
+-- a reading of the notes that a noted call leaves stays over a wake, and over what tells a task of its page
+module _ {A : Type 0} (f : Notes → A) (o : Option Aim) (v : Told) (k : Notes)
+    (call : (a : Aim) (x : Option ℕ) (met : Bool) → f (after_noted_call a x met v k) ≡ f k) where
+  noted_if : (a : Aim) (x : Option ℕ) (met b : Bool) → f (if b then after_noted_call a x met v k else k) ≡ f k
+  noted_if a x met true = call a x met
+  noted_if a x met false = refl
+
+  wake_noted : (who mask : ℕ) (met : Bool) → f (notes_after_wake o who mask met v k) ≡ f k
+  wake_noted who mask met = by o
+    where
+      by : (o : Option Aim) → f (notes_after_wake o who mask met v k) ≡ f k
+      by None = refl
+      by (Some a) = noted_if a (callee v k a.watch who) met (mask == mask_of a.mode)
+
+  telling_noted : (x : ℕ) → f (after_telling o x v k) ≡ f k
+  telling_noted x = by o
+    where
+      by : (o : Option Aim) → f (after_telling o x v k) ≡ f k
+      by None = refl
+      by (Some a) = noted_if a (Some x) true (is_for_look a.watch (v.hold.book x))
+
 pub wake_own : (o : Option Aim) (who mask : ℕ) (met : Bool) (v : Told) (k : Notes)
     → (notes_after_wake o who mask met v k).own ≡ k.own
-wake_own None who mask met v k = refl
-wake_own (Some a) who mask met v k = by (mask == mask_of a.mode)
-  where
-    by : (b : Bool) → (if b then after_noted_call a (callee v k a.watch who) met v k else k).own ≡ k.own
-    by true = call_own a (callee v k a.watch who) met v k
-    by false = refl
+wake_own o who mask met v k = wake_noted (λ (n : Notes). n.own) o v k (λ a x m. call_own a x m v k) who mask met
 
 pub wake_marks : (o : Option Aim) (who mask : ℕ) (met : Bool) (v : Told) (k : Notes)
     → (notes_after_wake o who mask met v k).marks ≡ k.marks
-wake_marks None who mask met v k = refl
-wake_marks (Some a) who mask met v k = by (mask == mask_of a.mode)
-  where
-    by : (b : Bool) → (if b then after_noted_call a (callee v k a.watch who) met v k else k).marks ≡ k.marks
-    by true = call_marks a (callee v k a.watch who) met v k
-    by false = refl
+wake_marks o who mask met v k = wake_noted (λ (n : Notes). n.marks) o v k (λ a x m. call_marks a x m v k) who mask met
 
--- and that a task is told of its page tells nothing of them
 pub telling_own : (o : Option Aim) (x : ℕ) (v : Told) (k : Notes) → (after_telling o x v k).own ≡ k.own
-telling_own None x v k = refl
-telling_own (Some a) x v k = by (is_for_look a.watch (v.hold.book x))
-  where
-    by : (b : Bool) → (if b then after_noted_call a (Some x) true v k else k).own ≡ k.own
-    by true = refl
-    by false = refl
+telling_own o x v k = telling_noted (λ (n : Notes). n.own) o v k (λ a y m. call_own a y m v k) x
 
 pub telling_marks : (o : Option Aim) (x : ℕ) (v : Told) (k : Notes) → (after_telling o x v k).marks ≡ k.marks
-telling_marks None x v k = refl
-telling_marks (Some a) x v k = by (is_for_look a.watch (v.hold.book x))
-  where
-    by : (b : Bool) → (if b then after_noted_call a (Some x) true v k else k).marks ≡ k.marks
-    by true = refl
-    by false = refl
+telling_marks o x v k = telling_noted (λ (n : Notes). n.marks) o v k (λ a y m. call_marks a y m v k) x
 
 pub wake_links : (s : Table) (a who mask w : ℕ) → KeepsLinks s a (step.Wake who mask w)
 wake_links s a who mask w = quiet_links s a (step.Wake who mask w) (record {

@@ -249,29 +249,21 @@ module _ (s : Table) (k : Known) (h : ℕ) (agrees : (x : ℕ) → Agrees h ((to
           (odd (m - ENTRIES) (record { head = h; place = p }) w).odd,
         )
 
-    front_step : (l p : ℕ) → p ≡ even_below l → MIDDLE ≤ p
+    -- one add more goes at most two places further
+    near_by : (first l p : ℕ) → p ≤ l + 2 → l ≤ p + 2 → IsNear first l N → IsNear first p (N + 1)
+    near_by first l p up down n = record { above = omega (arith, n.above, down); below = omega (arith, n.below, up) }
+
+    front_step : (l p : ℕ) → p ≡ even_below l
         → (IsNear FIRST_PLACE l N × (l % 2 ≡ 0)) ⊎ (IsNear FIRST_PLACE (l + 1) N × (l % 2 ≡ 1))
         → IsNear FIRST_PLACE p (N + 1)
-    front_step l p is far (inl n) =
-        let a = n.0.above in
-        let b = n.0.below in
-        record { above = omega (arith, n.1); below = omega (arith, n.1) }
-    front_step l p is far (inr n) =
-        let a = n.0.above in
-        let b = n.0.below in
-        record { above = omega (arith, n.1); below = omega (arith, n.1) }
+    front_step l p is (inl n) = near_by FIRST_PLACE l p (omega (arith, is, n.1)) (omega (arith, is, n.1)) n.0
+    front_step l p is (inr n) = near_by FIRST_PLACE (l + 1) p (omega (arith, is, n.1)) (omega (arith, is, n.1)) n.0
 
     tail_step : (first l p : ℕ) → p ≡ even_above l
         → (IsNear first l N × (l % 2 ≡ 0)) ⊎ (IsNear first (l + 1) N × (l % 2 ≡ 1))
         → IsNear first p (N + 1)
-    tail_step first l p is (inl n) =
-        let a = n.0.above in
-        let b = n.0.below in
-        record { above = omega (arith, n.1); below = omega (arith, n.1) }
-    tail_step first l p is (inr n) =
-        let a = n.0.above in
-        let b = n.0.below in
-        record { above = omega (arith, n.1); below = omega (arith, n.1) }
+    tail_step first l p is (inl n) = near_by first l p (omega (arith, is, n.1)) (omega (arith, is, n.1)) n.0
+    tail_step first l p is (inr n) = near_by first (l + 1) p (omega (arith, is, n.1)) (omega (arith, is, n.1)) n.0
 
     -- a member at a place from the middle on
     member_near : (l : ℕ) → StandsIn k MEMBERS MIDDLE PLACES l
@@ -292,7 +284,7 @@ module _ (s : Table) (k : Known) (h : ℕ) (agrees : (x : ℕ) → Agrees h ((to
             record { above = omega arith; below = omega arith }
         by (Some l) low is =
             let w = within_is MIDDLE PLACES (even_below l) p is in
-            front_step l p w.0 w.1 (member_near l low.0)
+            front_step l p w.0 (member_near l low.0)
 
     tail_near : (p : ℕ) → IsTailPlace k p → IsNear FIRST_PLACE p (N + 1)
     tail_near p f = by f.0 f.1 f.2

@@ -111,35 +111,31 @@ last_split (z ∷ h) y (x ∷ front) e rest is =
       | inr part ↦ inr (part.0, λ i. same i ∷ part.1 i)
     ]
 
--- the latest step of all tasks is the task's own, or not
-module _ (xs : List TaskStep) (may : AreAllowed xs) (x : TaskStep) (allowed : Allowed (table_of xs) x.task x.made)
-    (a : ℕ) (front : List Step) (e : Step)
-    (earlier : (more : List Step) → (table_of xs).history a ≡ front ++ e ∷ more → NextStep a front e) where
-  abbrev h : ℕ → List Step
-  h = (table_of xs).history
-
-  made_last : a ≡ x.task → h x.task ≡ front → x.made ≡ e → NextStep a front e
-  made_last q all same = record {
-    moment = moment_at xs may a front (ap h q ∙ all);
-    allowed = subst (λ (d : Step). Allowed (table_of xs) a d) same
-        (subst (λ (i : ℕ). Allowed (table_of xs) i x.made) (sym q) allowed);
-  }
-
-  one_more : (rest : List Step) → put h x.task (h x.task ++ x.made ∷ []) a ≡ front ++ e ∷ rest
-      → ((a ≡ x.task) × (put h x.task (h x.task ++ x.made ∷ []) a ≡ h x.task ++ x.made ∷ []))
-      ⊎ ((a ≢ x.task) × (put h x.task (h x.task ++ x.made ∷ []) a ≡ h a)) → NextStep a front e
-  one_more rest is (inl q) = elim (last_split (h x.task) x.made front e rest (sym q.1 ∙ is)) [
-    | inl all ↦ made_last q.0 all.0 all.1
-    | inr part ↦ earlier part.0 (ap h q.0 ∙ part.1)
-  ]
-  one_more rest is (inr q) = earlier rest (sym q.1 ∙ is)
+-- a step of a task is the latest of all tasks, or an earlier one
+pub by_latest : {P : Type 0} (s : Table) (x : TaskStep) → Allowed s x.task x.made → (a : ℕ) (front : List Step) (e : Step)
+    → (a ≡ x.task → s.history x.task ≡ front → Allowed s a e → P)
+    → ((more : List Step) → s.history a ≡ front ++ e ∷ more → P) → (rest : List Step)
+    → put s.history x.task (s.history x.task ++ x.made ∷ []) a ≡ front ++ e ∷ rest → P
+by_latest {P} s x allowed a front e last earlier rest is =
+    by (put_case s.history x.task (s.history x.task ++ x.made ∷ []) a)
+  where
+    by : ((a ≡ x.task) × (put s.history x.task (s.history x.task ++ x.made ∷ []) a ≡ s.history x.task ++ x.made ∷ []))
+        ⊎ ((a ≢ x.task) × (put s.history x.task (s.history x.task ++ x.made ∷ []) a ≡ s.history a)) → P
+    by (inl q) = elim (last_split (s.history x.task) x.made front e rest (sym q.1 ∙ is)) [
+      | inl all ↦ last q.0 all.0 (subst (λ (d : Step). Allowed s a d) all.1
+          (subst (λ (i : ℕ). Allowed s i x.made) (sym q.0) allowed))
+      | inr part ↦ earlier part.0 (ap s.history q.0 ∙ part.1)
+    ]
+    by (inr q) = earlier rest (sym q.1 ∙ is)
 
 step_at : (xs : List TaskStep) → AreAllowed xs → (a : ℕ) (front : List Step) (e : Step) (rest : List Step)
     → (table_of xs).history a ≡ front ++ e ∷ rest → NextStep a front e
 step_at [] may a front e rest is = never_none front e rest is
-step_at (x ∷ xs) may a front e rest is = one_more xs may.2 x may.1 a front e
-    (λ more early. step_at xs may.2 a front e more early) rest is
-    (put_case (table_of xs).history x.task ((table_of xs).history x.task ++ x.made ∷ []) a)
+step_at (x ∷ xs) may a front e rest is = by_latest {P = NextStep a front e} (table_of xs) x may.1 a front e
+    (λ q all allowed. record {
+      moment = moment_at xs may.2 a front (ap (table_of xs).history q ∙ all);
+      allowed = allowed;
+    }) (λ more early. step_at xs may.2 a front e more early) rest is
 
 module _ (s : Table) (k : IsInterleaved s) (a : ℕ) (front : List Step) where
   pub next_step : (e : Step) (rest : List Step) → s.history a ≡ front ++ e ∷ rest → NextStep a front e

@@ -196,6 +196,13 @@ module _ (items : ℕ → List Item) (a : ℕ) (one two : Location → ℕ) (p :
         subst IsCell (ap (λ (e : End). one (place.Cell (cell_of p (length e.cells)))) own ∙ sym is)
         (get_whole one p l.w l.r l.flow (subst (λ (e : End). length e.cells < e.seen) (sym own) there))
 
+    told_published : (k o n r m : ℕ) (b : Bool) (e : End) → e.mine ≡ true → n ≡ end_word m b → e.count ≤ m
+        → m ≤ e.count + PIPE_CELLS → (e.shut ≡ true → b ≡ true)
+        → end_item k (item.Made (step.Publish (watch.Var k o) n r)) e ≡ advanced m b e
+    told_published k o n r m b e mine is low near still =
+        ap (λ (c : Bool). if c then if_mine (after_end_publish n) e else e) (test_on k k refl)
+        ∙ (ap (λ (c : Bool). if c then after_end_publish n e else e) mine ∙ publish_is e m b n is low near still)
+
     -- a publish of the own word: the count rises to m, and the end is closed or not
     pub publishes_w : (o n r m : ℕ) (b : Bool) → MW.mine ≡ true → n ≡ end_word m b → MW.count ≤ m
         → m ≤ length MW.cells → (MW.shut ≡ true → (b ≡ true) × (m ≡ MW.count)) → two (place.Var (write_end p)) ≡ n
@@ -205,23 +212,16 @@ module _ (items : ℕ → List Item) (a : ℕ) (one two : Location → ℕ) (p :
         (item.Made (step.Publish (watch.Var (write_end p) o) n r)) one two p l mine
         (ap (λ (c : Bool). if c then if_mine (after_end_publish n) MR else MR) (test_off (write_end p) (read_end p)
         (ends_apart p))) never
-        (λ own. subst (λ (e : End). IsFlow two p e l.r) (sym (told own))
-        (publish_w_flow one two p l.w l.r few l.flow m b
-        (ap (λ (e : End). e.mine) own ∙ mine)
-        (subst (λ (e : End). e.count ≤ m) (sym own) low) (subst (λ (e : End). m ≤ length e.cells) (sym own) high)
-        (subst (λ (e : End). e.shut ≡ true → (b ≡ true) × (m ≡ e.count)) (sym own) after) (there ∙ is) rest))
-      where
-        told : l.w ≡ MW → end_item (write_end p) (item.Made (step.Publish (watch.Var (write_end p) o) n r)) l.w
-            ≡ advanced m b l.w
-        told own = ap (λ (c : Bool). if c then if_mine (after_end_publish n) l.w else l.w)
-            (test_on (write_end p) (write_end p) refl)
-            ∙ (ap (λ (c : Bool). if c then after_end_publish n l.w else l.w) (ap (λ (e : End). e.mine) own ∙ mine)
-            ∙ (let c = counts one p l.w l.r l.flow in
-            let high_w : m ≤ length l.w.cells = subst (λ (e : End). m ≤ length e.cells) (sym own) high in
-            let low_w : l.w.count ≤ m = subst (λ (e : End). e.count ≤ m) (sym own) low in
-            let x = c.room in let y = c.w_seen in let z = c.took in let u = c.there in let v = c.r_seen in
-            publish_is l.w m b n is low_w (omega arith)
-            (λ shut. (after (sym (ap (λ (e : End). e.shut) own) ∙ shut)).0)))
+        (λ own.
+        let f = l.flow in
+        let own_mine : l.w.mine ≡ true = ap (λ (e : End). e.mine) own ∙ mine in
+        let own_low : l.w.count ≤ m = subst (λ (e : End). e.count ≤ m) (sym own) low in
+        let own_high : m ≤ length l.w.cells = subst (λ (e : End). m ≤ length e.cells) (sym own) high in
+        let own_after : l.w.shut ≡ true → (b ≡ true) × (m ≡ l.w.count) =
+        subst (λ (e : End). e.shut ≡ true → (b ≡ true) × (m ≡ e.count)) (sym own) after in
+        subst (λ (e : End). IsFlow two p e l.r) (sym (told_published (write_end p) o n r m b l.w own_mine is own_low
+        (omega (arith, own_high, f.w_room, f.w_seen, f.r_took, f.r_there, f.r_seen)) (λ shut. (own_after shut).0)))
+        (publish_w_flow one two p l.w l.r few f m b own_mine own_low own_high own_after (there ∙ is) rest))
 
     pub publishes_r : (o n r m : ℕ) (b : Bool) → MR.mine ≡ true → n ≡ end_word m b → MR.count ≤ m
         → m ≤ length MR.cells → (MR.shut ≡ true → (b ≡ true) × (m ≡ MR.count)) → two (place.Var (read_end p)) ≡ n
@@ -231,58 +231,36 @@ module _ (items : ℕ → List Item) (a : ℕ) (one two : Location → ℕ) (p :
         (item.Made (step.Publish (watch.Var (read_end p) o) n r)) one two p l mine
         (ap (λ (c : Bool). if c then if_mine (after_end_publish n) MW else MW) (test_off (read_end p) (write_end p)
         (λ z. ends_apart p (sym z)))) never
-        (λ own. subst (λ (e : End). IsFlow two p l.w e) (sym (told own))
-        (publish_r_flow one two p l.w l.r few l.flow m b
-        (ap (λ (e : End). e.mine) own ∙ mine)
-        (subst (λ (e : End). e.count ≤ m) (sym own) low) (subst (λ (e : End). m ≤ length e.cells) (sym own) high)
-        (subst (λ (e : End). e.shut ≡ true → (b ≡ true) × (m ≡ e.count)) (sym own) after) (there ∙ is) rest))
-      where
-        told : l.r ≡ MR → end_item (read_end p) (item.Made (step.Publish (watch.Var (read_end p) o) n r)) l.r
-            ≡ advanced m b l.r
-        told own = ap (λ (c : Bool). if c then if_mine (after_end_publish n) l.r else l.r)
-            (test_on (read_end p) (read_end p) refl)
-            ∙ (ap (λ (c : Bool). if c then after_end_publish n l.r else l.r) (ap (λ (e : End). e.mine) own ∙ mine)
-            ∙ (let c = counts one p l.w l.r l.flow in
-            let high_r : m ≤ length l.r.cells = subst (λ (e : End). m ≤ length e.cells) (sym own) high in
-            let low_r : l.r.count ≤ m = subst (λ (e : End). e.count ≤ m) (sym own) low in
-            let x = c.room in let y = c.w_seen in let z = c.took in let u = c.there in let v = c.r_seen in
-            let w = c.put in
-            publish_is l.r m b n is low_r (omega arith)
-            (λ shut. (after (sym (ap (λ (e : End). e.shut) own) ∙ shut)).0)))
+        (λ own.
+        let f = l.flow in
+        let own_mine : l.r.mine ≡ true = ap (λ (e : End). e.mine) own ∙ mine in
+        let own_low : l.r.count ≤ m = subst (λ (e : End). e.count ≤ m) (sym own) low in
+        let own_high : m ≤ length l.r.cells = subst (λ (e : End). m ≤ length e.cells) (sym own) high in
+        let own_after : l.r.shut ≡ true → (b ≡ true) × (m ≡ l.r.count) =
+        subst (λ (e : End). e.shut ≡ true → (b ≡ true) × (m ≡ e.count)) (sym own) after in
+        subst (λ (e : End). IsFlow two p l.w e) (sym (told_published (read_end p) o n r m b l.r own_mine is own_low
+        (omega (arith, own_high, f.r_there, f.r_seen, f.w_put, f.w_room, f.w_seen)) (λ shut. (own_after shut).0)))
+        (publish_r_flow one two p l.w l.r few f m b own_mine own_low own_high own_after (there ∙ is) rest))
 
 -- The counts of both ends.
-sound_w : (one : Location → ℕ) (items : ℕ → List Item) (p : ℕ) (l : IsPipe one items p) → IsSoundEnd (write_end p) l.w
-sound_w one items p l =
-    let c = counts one p l.w l.r l.flow in
-    let a = c.put in
-    let b = c.room in
-    let d = c.w_seen in
-    let e = c.took in
-    let f = c.there in
-    let g = c.r_seen in
-    record {
-      count = a;
-      room = omega arith;
-      write = λ even. record { seen = omega arith; count = a; room = b };
-      read = λ odd. absurd (omega arith);
-    }
-
-sound_r : (one : Location → ℕ) (items : ℕ → List Item) (p : ℕ) (l : IsPipe one items p) → IsSoundEnd (read_end p) l.r
-sound_r one items p l =
-    let c = counts one p l.w l.r l.flow in
-    let a = c.put in
-    let b = c.room in
-    let d = c.w_seen in
-    let e = c.took in
-    let f = c.there in
-    let g = c.r_seen in
-    let h = c.apart in
-    record {
-      count = e;
-      room = omega arith;
-      write = λ even. absurd (omega arith);
-      read = λ odd. record { count = e; there = f; room = omega arith };
-    }
+sound_ends : (one : Location → ℕ) (items : ℕ → List Item) (p : ℕ) (l : IsPipe one items p)
+    → IsSoundEnd (write_end p) l.w × IsSoundEnd (read_end p) l.r
+sound_ends one items p l =
+    let f = l.flow in
+    let apart = (counts one p l.w l.r f).apart in (
+      record {
+        count = f.w_put;
+        room = omega (arith, f.w_room, f.w_seen, f.r_took, f.r_there, f.r_seen);
+        write = λ even. record { seen = omega (arith, f.w_seen, f.r_took, f.r_there, f.r_seen); count = f.w_put; room = f.w_room };
+        read = λ odd. absurd (omega arith);
+      },
+      record {
+        count = f.r_took;
+        room = omega (arith, f.r_there, f.r_seen, apart);
+        write = λ even. absurd (omega arith);
+        read = λ odd. record { count = f.r_took; there = f.r_there; room = omega (arith, f.r_seen, apart) };
+      },
+    )
 
 -- An end by its number: it is the write end of its pipe or the read end.
 pub by_side : (P : ℕ → Type 0) (k p : ℕ) → k / PIPE_ENDS ≡ p → P (write_end p) → P (read_end p) → P k
@@ -326,9 +304,9 @@ module _ (items : ℕ → List Item) (a : ℕ) (one two : Location → ℕ) (p :
     knows_end k of = by_side Knows k p of
         (λ mine. let own = own_w items a one two p few l mine in (
           l.flow.end_w ∙ ap (λ (e : End). end_word e.count e.shut) own,
-          subst (IsSoundEnd (write_end p)) own (sound_w one items p l),
+          subst (IsSoundEnd (write_end p)) own (sound_ends one items p l).0,
         ))
         (λ mine. let own = own_r items a one two p few l mine in (
           l.flow.end_r ∙ ap (λ (e : End). end_word e.count e.shut) own,
-          subst (IsSoundEnd (read_end p)) own (sound_r one items p l),
+          subst (IsSoundEnd (read_end p)) own (sound_ends one items p l).1,
         ))

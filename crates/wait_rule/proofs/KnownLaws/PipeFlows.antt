@@ -45,14 +45,8 @@ flow_words one two p w r same f = record {
   one = f.one;
 }
 
--- all counts of a pipe
+-- how far apart the counts of a pipe are
 pub record Counts (w r : End) : Type 0 where
-  pub put : w.count ≤ length w.cells
-  pub room : length w.cells ≤ w.seen + PIPE_CELLS
-  pub w_seen : w.seen ≤ r.count
-  pub took : r.count ≤ length r.cells
-  pub there : length r.cells ≤ r.seen
-  pub r_seen : r.seen ≤ w.count
   pub apart : w.count ≤ r.count + PIPE_CELLS
   pub far : r.count ≤ w.seen + PIPE_CELLS
   pub near : w.count ≤ r.seen + PIPE_CELLS
@@ -60,24 +54,11 @@ pub record Counts (w r : End) : Type 0 where
 -- the word that the other end loads
 module _ (one : Location → ℕ) (p : ℕ) (w r : End) (f : IsFlow one p w r) where
   pub counts : Counts w r
-  counts =
-      let a = f.w_put in
-      let b = f.w_room in
-      let c = f.w_seen in
-      let d = f.r_took in
-      let e = f.r_there in
-      let g = f.r_seen in
-      record {
-        put = a;
-        room = b;
-        w_seen = c;
-        took = d;
-        there = e;
-        r_seen = g;
-        apart = omega arith;
-        far = omega arith;
-        near = omega arith;
-      }
+  counts = record {
+    apart = omega (arith, f.w_put, f.w_room, f.w_seen);
+    far = omega (arith, f.r_took, f.r_there, f.r_seen, f.w_put, f.w_room);
+    near = omega (arith, f.w_put, f.w_room, f.w_seen, f.r_took, f.r_there);
+  }
 
   W : ℕ
   W = one (place.Var (write_end p))
@@ -86,10 +67,10 @@ module _ (one : Location → ℕ) (p : ℕ) (w r : End) (f : IsFlow one p w r) w
   R = one (place.Var (read_end p))
 
   pub reads_r : count_on w.seen (one (place.Var (read_end p))) ≡ r.count
-  reads_r = ap (count_on w.seen) f.end_r ∙ count_is w.seen r.count r.shut counts.w_seen counts.far
+  reads_r = ap (count_on w.seen) f.end_r ∙ count_is w.seen r.count r.shut f.w_seen counts.far
 
   pub reads_w : count_on r.seen (one (place.Var (write_end p))) ≡ w.count
-  reads_w = ap (count_on r.seen) f.end_w ∙ count_is r.seen w.count w.shut counts.r_seen counts.near
+  reads_w = ap (count_on r.seen) f.end_w ∙ count_is r.seen w.count w.shut f.r_seen counts.near
 
   pub shut_r : (one (place.Var (read_end p)) % 2 == 1) ≡ r.shut
   shut_r = ap (λ (n : ℕ). n % 2 == 1) f.end_r ∙ odd_is r.count r.shut
@@ -107,7 +88,7 @@ module _ (one : Location → ℕ) (p : ℕ) (w r : End) (f : IsFlow one p w r) w
     end_w = f.end_w;
     end_r = f.end_r;
     w_put = f.w_put;
-    w_room = let g = counts.room in let h = counts.w_seen in let i = reads_r in omega arith;
+    w_room = let g = f.w_room in let h = f.w_seen in let i = reads_r in omega arith;
     w_seen = let i = reads_r in omega arith;
     r_took = f.r_took;
     r_there = f.r_there;
@@ -135,7 +116,7 @@ module _ (one : Location → ℕ) (p : ℕ) (w r : End) (f : IsFlow one p w r) w
     w_room = f.w_room;
     w_seen = f.w_seen;
     r_took = f.r_took;
-    r_there = let a = counts.there in let b = counts.r_seen in let i = reads_w in omega arith;
+    r_there = let a = f.r_there in let b = f.r_seen in let i = reads_w in omega arith;
     r_seen = let i = reads_w in omega arith;
     stands = f.stands;
     whole = f.whole;
@@ -151,11 +132,11 @@ module _ (one : Location → ℕ) (p : ℕ) (w r : End) (f : IsFlow one p w r) w
   -- the next cell of the reader
   pub get_is : length r.cells < r.seen
       → one (place.Cell (cell_of p (length r.cells))) ≡ get_or w.cells (length r.cells) 0
-  get_is there = let c = counts in let a = c.r_seen in let b = c.put in
-      f.stands (length r.cells) c.took (omega arith)
+  get_is there = let a = f.r_seen in let b = f.w_put in
+      f.stands (length r.cells) f.r_took (omega arith)
 
   pub get_whole : length r.cells < r.seen → IsCell (one (place.Cell (cell_of p (length r.cells))))
-  get_whole there = let c = counts in let a = c.r_seen in let b = c.put in
+  get_whole there = let a = f.r_seen in let b = f.w_put in
       subst IsCell (sym (get_is there)) (f.whole (length r.cells) (omega arith))
 
   pub get_flow : r.mine ≡ true → length r.cells < r.seen
@@ -201,7 +182,7 @@ module _ (one : Location → ℕ) (p : ℕ) (w r : End) (f : IsFlow one p w r) w
   -- what was sent and what was got, as bytes
   pub delivers : Delivers w r
   delivers = record {
-    behind = let c = counts in let x = c.took in let y = c.there in let z = c.r_seen in omega arith;
+    behind = let x = f.r_took in let y = f.r_there in let z = f.r_seen in omega arith;
     room = counts.apart;
     flows = flows;
     before = f.w_before;

@@ -15,7 +15,7 @@ use Rattle.wait_rule.specs.declared.journal.EndAct.TheVariants as act
 use Rattle.wait_rule.specs.declared.journal.Item.{Item}
 use Rattle.wait_rule.specs.declared.journal.Item.TheVariants as item
 use Rattle.wait_rule.specs.Pipes.{write_end, read_end, other_end, End, after_end_look, after_end_publish, if_mine}
-use Rattle.wait_rule.specs.Pipes.{if_unclosed, end_act, end_item, end_of, refused_item, IsFlow, IsPipe, ArePipes}
+use Rattle.wait_rule.specs.Pipes.{if_unclosed, end_word, end_act, end_item, end_of, refused_item, IsFlow, IsPipe, ArePipes}
 use Rattle.wait_rule.proofs.KnownLaws.PipeFlows.{flow_words, look_w_flow, look_r_flow, publish_same}
 use Rattle.wait_rule.proofs.KnownLaws.PipeItems.{other_w, other_r, ends_apart, now, owner, pipe_stays, writer_moves}
 use Rattle.wait_rule.proofs.KnownLaws.PipeItems.{reader_moves, never}
@@ -124,36 +124,26 @@ module _ (items : ℕ → List Item) (a : ℕ) (one two : Location → ℕ) (p :
   store_pipe v o n r stores = pipe_stays items a x one two p l same
       (dite (ℕ_discrete v (write_end p))
       (λ (e : v ≡ write_end p). ap (λ (b : Bool). if b then if_mine (after_end_publish n) W else W)
-      (test_on v (write_end p) e) ∙ by_w e W.mine refl)
+      (test_on v (write_end p) e) ∙ by_end (write_end p) W l.w e (omega arith)
+      (λ m. (owner items a x (write_end p) l.writer l.w l.writes m).1) l.flow.w_before l.flow.end_w W.mine refl)
       (λ (ne : v ≢ write_end p). tested (v == write_end p) (if_mine (after_end_publish n)) W (test_off v (write_end p) ne)))
       (dite (ℕ_discrete v (read_end p))
       (λ (e : v ≡ read_end p). ap (λ (b : Bool). if b then if_mine (after_end_publish n) R else R)
-      (test_on v (read_end p) e) ∙ by_r e R.mine refl)
+      (test_on v (read_end p) e) ∙ by_end (read_end p) R l.r e (omega arith)
+      (λ m. (owner items a x (read_end p) l.reader l.r l.reads m).1) l.flow.r_before l.flow.end_r R.mine refl)
       (λ (ne : v ≢ read_end p). tested (v == read_end p) (if_mine (after_end_publish n)) R (test_off v (read_end p) ne)))
       never never
     where
       x : Item
       x = item.Made (step.Publish (watch.Var v o) n r)
 
-      by_w : v ≡ write_end p → (b : Bool) → W.mine ≡ b → if_mine (after_end_publish n) W ≡ W
-      by_w is false none = unmoved (after_end_publish n) W none
-      by_w is true mine =
-          let own = owner items a x (write_end p) l.writer l.w l.writes mine in
-          ap (λ (b : Bool). if b then after_end_publish n W else W) mine
-          ∙ subst (λ (e : End). after_end_publish n e ≡ e) (sym own.1)
-          (publish_same l.w n l.flow.w_before
-          (stores (ap (λ (k : ℕ). k / PIPE_ENDS) is ∙ omega arith) ∙ (ap (λ (k : ℕ). one (place.Var k)) is
-          ∙ l.flow.end_w)))
-
-      by_r : v ≡ read_end p → (b : Bool) → R.mine ≡ b → if_mine (after_end_publish n) R ≡ R
-      by_r is false none = unmoved (after_end_publish n) R none
-      by_r is true mine =
-          let own = owner items a x (read_end p) l.reader l.r l.reads mine in
-          ap (λ (b : Bool). if b then after_end_publish n R else R) mine
-          ∙ subst (λ (e : End). after_end_publish n e ≡ e) (sym own.1)
-          (publish_same l.r n l.flow.r_before
-          (stores (ap (λ (k : ℕ). k / PIPE_ENDS) is ∙ omega arith) ∙ (ap (λ (k : ℕ). one (place.Var k)) is
-          ∙ l.flow.end_r)))
+      -- an end whose word it is, by what the task knows of it
+      by_end : (k : ℕ) (E e : End) → v ≡ k → k / PIPE_ENDS ≡ p → (E.mine ≡ true → E ≡ e) → e.before ≡ e.count
+          → one (place.Var k) ≡ end_word e.count e.shut → (b : Bool) → E.mine ≡ b → if_mine (after_end_publish n) E ≡ E
+      by_end k E e is side own before word false none = unmoved (after_end_publish n) E none
+      by_end k E e is side own before word true mine = ap (λ (b : Bool). if b then after_end_publish n E else E) mine
+          ∙ subst (λ (i : End). after_end_publish n i ≡ i) (sym (own mine)) (publish_same e n before
+          (stores (ap (λ (i : ℕ). i / PIPE_ENDS) is ∙ side) ∙ (ap (λ (i : ℕ). one (place.Var i)) is ∙ word)))
 
   still : (e : Step) → end_item (write_end p) (item.Made e) W ≡ W → end_item (read_end p) (item.Made e) R ≡ R
       → IsPipe two (now items a (item.Made e)) p

@@ -3,7 +3,7 @@
 use Rattle.std.proofs.Common.{refl, sym, ◌∙◌, ap, subst, eqb-true, arith}
 use Rattle.std.specs.Prelude.{ℕ, ◌≡◌, ◌+◌, ◌-◌, ◌*◌, ◌<◌, Bool, true, false, cond, eqb, [], ◌∷◌, MatchBool}
 use Rattle.atomic_table.specs.Seated.{TableId}
-use Rattle.wait_model.specs.declared.layout.TheConstants.{CLAIMS, FIRST_VARIABLE, SLOTS, WORDS}
+use Rattle.wait_model.specs.declared.layout.TheConstants.{CLAIMS, FIRST_VARIABLE, PIPES, PIPE_ENDS, SLOTS, WORDS}
 use Rattle.wait_model.specs.declared.watches.Watch.{Watch}
 use Rattle.wait_model.specs.declared.steps.Step.{Step}
 use Rattle.wait_model.specs.Fold.{after}
@@ -62,12 +62,23 @@ pub own_index_at : {d : TableId} {v : Journal} {h : ℕ} {k : Known} (first at n
 own_index_at first at number slot is mine view_is = index_at first at number slot is
     ∙ ap (λ (u : ℕ). index u slot) (sym mine ∙ ap (λ (k : Known). k.view.number) view_is)
 
--- the place of the word of an end of a pipe, and the end that the table names by it
-pub end_spot : (k at : ℕ) → k < CLAIMS → at ≡ position_of (cond_at (FIRST_VARIABLE + k))
-    → (at ≡ position_of (place.Var k)) × (var_end at ≡ k)
-end_spot k at few is =
-    let there = is ∙ ap position_of (var_at k (omega (arith, few))) in
-    (there, omega (arith, few, there))
+-- where the word of an end of a pipe stands, and the end that the table names by it
+pub record EndSpot (k at : ℕ) : Type 0 where
+  pub few : k < CLAIMS
+  pub small : at < WORDS
+  pub is : at ≡ position_of (place.Var k)
+  pub names : var_end at ≡ k
+
+pub end_spot : (pipe end at : ℕ) → pipe < PIPES → end < PIPE_ENDS
+    → at ≡ position_of (cond_at (FIRST_VARIABLE + (PIPE_ENDS * pipe + end))) → EndSpot (PIPE_ENDS * pipe + end) at
+end_spot pipe end at one two is =
+    let few : PIPE_ENDS * pipe + end < CLAIMS = omega (arith, one, two) in
+    let there = is ∙ ap position_of (var_at (PIPE_ENDS * pipe + end) (omega (arith, few))) in
+    record { few = few; small = omega (arith, few, there); is = there; names = omega (arith, few, there) }
+
+-- of a step whose task only looked before it
+pub added_from : {old mid new : Known} (x : Item) → new ≡ added mid x → mid ≡ old → new ≡ added old x
+added_from x is same = is ∙ ap (λ (k : Known). added k x) same
 
 pub known_same : {h : ℕ} {d e : TableId} {m n : Sat} {k : Known} → e ≡ d → n ≡ m → known d m.0 h ≡ k
     → known e n.0 h ≡ k

@@ -162,32 +162,12 @@ module _ (s z : Table) (tickets : ℕ → Ticket) (beside : place.Location → �
     unlocks = unlocks;
   }
 
--- heads are held as before
-pub quiet_tickets : (s z : Table) (tickets : ℕ → Ticket) (beside : place.Location → ℕ)
-    → ((b : ℕ) → (z.view b).hold.head ≡ (s.view b).hold.head)
-    → ((h : ℕ) → unlocked_at h z.history ≡ unlocked_at h s.history) → AreTickets s tickets beside
-    → AreTickets z tickets beside
-quiet_tickets s z tickets beside heads unlocks r = record {
-  draws = r.draws;
-  serves = r.serves;
-  number = r.number;
-  next = r.next;
-  serving = r.serving;
-  within = r.within;
-  each = r.each;
-  once = r.once;
-  count = r.count;
-  shown = r.shown;
-  turn = r.turn;
-  held = λ b h is. r.held b h (sym (heads b) ∙ is);
-  unlocks = λ h. unlocks h ∙ r.unlocks h;
-}
-
--- other words beside the table
-pub beside_tickets : (s : Table) (tickets : ℕ → Ticket) (one two : place.Location → ℕ)
+-- other words beside the table, and a table in which heads are held as before
+tickets_as : (s z : Table) (tickets : ℕ → Ticket) (one two : place.Location → ℕ)
     → ((h : ℕ) → two (place.Next h) ≡ one (place.Next h)) → ((h : ℕ) → two (place.Serving h) ≡ one (place.Serving h))
-    → AreTickets s tickets one → AreTickets s tickets two
-beside_tickets s tickets one two nexts servings r = record {
+    → ((b : ℕ) → (z.view b).hold.head ≡ (s.view b).hold.head)
+    → ((h : ℕ) → unlocked_at h z.history ≡ unlocked_at h s.history) → AreTickets s tickets one → AreTickets z tickets two
+tickets_as s z tickets one two nexts servings heads unlocks r = record {
   draws = r.draws;
   serves = r.serves;
   number = r.number;
@@ -199,9 +179,22 @@ beside_tickets s tickets one two nexts servings r = record {
   count = r.count;
   shown = r.shown;
   turn = r.turn;
-  held = r.held;
-  unlocks = r.unlocks;
+  held = λ b h is. r.held b h (sym (heads b) ∙ is);
+  unlocks = λ h. unlocks h ∙ r.unlocks h;
 }
+
+pub quiet_tickets : (s z : Table) (tickets : ℕ → Ticket) (beside : place.Location → ℕ)
+    → ((b : ℕ) → (z.view b).hold.head ≡ (s.view b).hold.head)
+    → ((h : ℕ) → unlocked_at h z.history ≡ unlocked_at h s.history) → AreTickets s tickets beside
+    → AreTickets z tickets beside
+quiet_tickets s z tickets beside heads unlocks r =
+    tickets_as s z tickets beside beside (λ _. refl) (λ _. refl) heads unlocks r
+
+pub beside_tickets : (s : Table) (tickets : ℕ → Ticket) (one two : place.Location → ℕ)
+    → ((h : ℕ) → two (place.Next h) ≡ one (place.Next h)) → ((h : ℕ) → two (place.Serving h) ≡ one (place.Serving h))
+    → AreTickets s tickets one → AreTickets s tickets two
+beside_tickets s tickets one two nexts servings r =
+    tickets_as s s tickets one two nexts servings (λ _. refl) (λ _. refl) r
 
 -- steps of the table
 still_step : (s : Table) (a : ℕ) (e : Step) (b : Book) (tickets : ℕ → Ticket) (beside : place.Location → ℕ)

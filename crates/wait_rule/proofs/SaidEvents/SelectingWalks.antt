@@ -25,6 +25,7 @@ use Rattle.wait_model.specs.declared.points.Seen.{Seen}
 use Rattle.wait_model.specs.declared.points.Point.TheVariants as at
 use Rattle.wait_model.specs.declared.points.WalkPoint.{WalkPoint}
 use Rattle.wait_model.specs.declared.points.WalkPoint.TheVariants as walking
+use Rattle.wait_model.specs.declared.points.PageStage.{PageStage}
 use Rattle.wait_model.specs.declared.points.PageStage.TheVariants as staging
 use Rattle.wait_model.specs.Tasks.{meets}
 use Rattle.wait_model.specs.Watches.{bit_of, mask_of, misses, number_of, word_of}
@@ -188,19 +189,14 @@ module _ (aim : Aim) where
   test_led done e quiet false w c k = same_counts done (done + yes_by false e) w w (omega (arith, quiet)) refl refl
       refl k
 
-  page_led : (done : ℕ) (e : Event) → yes_by false e ≡ 0 → (b : Bool) (w : Walking) (c : CalledEntry) → Counts n done w
-      → Led done (go e (at.Walk (if b then walking.Stopped w else walking.Page staging.Try w c)))
-  page_led done e quiet true w c k = same_counts done (done + yes_by false e) w w (omega (arith, quiet)) refl refl
-      refl k
-  page_led done e quiet false w c k = same_counts done (done + yes_by false e) w w (omega (arith, quiet)) refl refl
-      refl k
-
-  hand_led : (done : ℕ) (e : Event) → yes_by false e ≡ 0 → (b : Bool) (w : Walking) (c : CalledEntry) → Counts n done w
-      → Led done (go e (at.Walk (if b then walking.Stopped w else walking.Page staging.Hand w c)))
-  hand_led done e quiet true w c k = same_counts done (done + yes_by false e) w w (omega (arith, quiet)) refl refl
-      refl k
-  hand_led done e quiet false w c k = same_counts done (done + yes_by false e) w w (omega (arith, quiet)) refl refl
-      refl k
+  -- a page is tried, or its task is handed it
+  stage_led : (stage : PageStage) (done : ℕ) (e : Event) → yes_by false e ≡ 0 → (b : Bool) (w : Walking) (c : CalledEntry)
+      → (Counts n (done + yes_by false e) w → TallyAt (done + yes_by false e) (walking.Page stage w c))
+      → Counts n done w → Led done (go e (at.Walk (if b then walking.Stopped w else walking.Page stage w c)))
+  stage_led stage done e quiet true w c to k = same_counts done (done + yes_by false e) w w (omega (arith, quiet)) refl
+      refl refl k
+  stage_led stage done e quiet false w c to k = to (same_counts done (done + yes_by false e) w w
+      (omega (arith, quiet)) refl refl refl k)
 
   handed_led : (done more : ℕ) (w : Walking) (c : CalledEntry) → more ≡ done
       → (d : ℕ) × (done ≡ d + 1) × Counts n d w → LedTo more (next.Go (onward (past w c true)))
@@ -218,8 +214,8 @@ module _ (aim : Aim) where
   entry_led done w c kind.Bit seen hit k = test_led done (event.Load (number_of aim.watch) seen.value) refl
       (misses aim.watch seen.value) w c k
   entry_led done w c kind.Var seen hit k = off_led done c.who w c hit k
-  entry_led done w c kind.Page seen hit k = page_led done (event.Load (number_of aim.watch) seen.value) refl
-      (misses aim.watch seen.value) w c k
+  entry_led done w c kind.Page seen hit k = stage_led staging.Try done
+      (event.Load (number_of aim.watch) seen.value) refl (misses aim.watch seen.value) w c (λ s. s) k
   entry_led done w c kind.Simple seen hit k = onward_led (done + yes_by false (event.Wake c.who hit))
       (past w c hit) (past_counts done c.who w c hit k)
 
@@ -292,9 +288,9 @@ module _ (aim : Aim) where
 
   walk_tally : (done : ℕ) (p : WalkPoint) (seen : Seen) → TallyAt done p
       → LedTo (done + yes_by (told_at p) (walk_event aim p seen).event) (walk_event aim p seen).next
-  walk_tally done (walking.Page staging.Try w c) seen k = hand_led done
+  walk_tally done (walking.Page staging.Try w c) seen k = stage_led staging.Hand done
       (event.TasFor (word_of aim.watch) c.who (flag (bit_at seen.value (bit_of aim.watch)))) refl
-      (misses aim.watch seen.value) w c k
+      (misses aim.watch seen.value) w c (λ s. s) k
   walk_tally done (walking.Page staging.Hand w c) seen k = (done, refl, k)
   walk_tally done (walking.Page staging.Wake w c) seen k = (k.0, let is = k.1 in omega (arith, is), k.2)
   walk_tally done (walking.Page staging.Off w c) seen k = handed_led done (done + 0) w c (omega arith) k

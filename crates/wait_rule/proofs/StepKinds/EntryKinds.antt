@@ -37,24 +37,30 @@ use Rattle.wait_rule.proofs.TableSteps.KeptSteps.{Leaves, KeepsLaw}
 pub fits_difference : (t : TaskRecord) (b : Book) (d : Difference) → Fits t b → Fits t (with_difference d b)
 fits_difference t b d f = record { up = f.up; stored = f.stored; rose = f.rose }
 
+-- what a step leaves that changes no task word
+pub tasks_stay : (s z : Table) (a : ℕ) (l : Location) (n : ℕ) (b : Book) → ((t : ℕ) → z.task t ≡ s.task t)
+    → IsLawfulTable z → Fits (s.task a) b → word_in z l ≡ n → ((k : Location) → k ≢ l → word_in z k ≡ word_in s k)
+    → Leaves s z a l n b
+tasks_stay s z a l n b tasks lawful f left rest = record {
+  lawful = lawful;
+  own = subst (λ (t : TaskRecord). Fits t b) (sym (tasks a)) f;
+  others = λ t ne c g. subst (λ (r : TaskRecord). Fits r c) (sym (tasks t)) g;
+  left = left;
+  rest = rest;
+}
+
 -- what a step on an entry word leaves
 entry_leaves : (s : Table) (a x : ℕ) (o : Option Entry) (b : Book) (history : ℕ → List Step) (view : ℕ → Told)
     → IsLawfulTable s → Fits (s.task a) b → ((e : Entry) → o ≡ Some e → IsStanding x e)
     → Leaves s (record s { entry = put s.entry x o; history = history; view = view }) a (place.Entry x) (entry_word o) b
-entry_leaves s a x o b history view l f standing = record {
-  lawful = record {
-    tasks = l.tasks;
-    entries = λ y e. put_at (λ (p : Option Entry). p ≡ Some e → IsStanding y e) s.entry x o y
-        (λ q is. subst (λ (i : ℕ). IsStanding i e) (sym q) (standing e is)) (λ _. l.entries y e);
-    marks = l.marks;
-    spent = l.spent;
-    bits = l.bits;
-  };
-  own = f;
-  others = λ t ne c g. g;
-  left = ap entry_word (put_same s.entry x o);
-  rest = rest_of;
-}
+entry_leaves s a x o b history view l f standing = tasks_stay s _ a (place.Entry x) (entry_word o) b (λ t. refl) (record {
+  tasks = l.tasks;
+  entries = λ y e. put_at (λ (p : Option Entry). p ≡ Some e → IsStanding y e) s.entry x o y
+      (λ q is. subst (λ (i : ℕ). IsStanding i e) (sym q) (standing e is)) (λ _. l.entries y e);
+  marks = l.marks;
+  spent = l.spent;
+  bits = l.bits;
+}) f (ap entry_word (put_same s.entry x o)) rest_of
   where
     rest_of : (k : Location) → k ≢ place.Entry x
         → word_in (record s { entry = put s.entry x o; history = history; view = view }) k ≡ word_in s k
@@ -70,19 +76,13 @@ pub words_leave : (s : Table) (a : ℕ) (w : Words) (l : Location) (n : ℕ) (b 
     → word_in (with_words s w pages history view) l ≡ n
     → ((k : Location) → k ≢ l → word_in (with_words s w pages history view) k ≡ word_in s k)
     → Leaves s (with_words s w pages history view) a l n b
-words_leave s a w l n b pages history view lawful f low left rest = record {
-  lawful = record {
-    tasks = lawful.tasks;
-    entries = lawful.entries;
-    marks = lawful.marks;
-    spent = lawful.spent;
-    bits = low;
-  };
-  own = f;
-  others = λ t ne c g. g;
-  left = left;
-  rest = rest;
-}
+words_leave s a w l n b pages history view lawful f low left rest = tasks_stay s _ a l n b (λ t. refl) (record {
+  tasks = lawful.tasks;
+  entries = lawful.entries;
+  marks = lawful.marks;
+  spent = lawful.spent;
+  bits = low;
+}) f left rest
 
 pub load_leaves : (s : Table) (a : ℕ) (l : Location) (b : Book) (history : ℕ → List Step) (view : ℕ → Told)
     → IsLawfulTable s → Fits (s.task a) b

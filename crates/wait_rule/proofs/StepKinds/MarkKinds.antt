@@ -14,7 +14,7 @@ use Rattle.wait_model.proofs.WordLaws.DecodedWords.{mark_read, no_mark_read}
 use Rattle.wait_model.proofs.Functions.{put_at, put_same, put_other}
 use Rattle.wait_rule.specs.declared.journal.Item.{Item}
 use Rattle.wait_rule.specs.Items.{nothing, at_mark, Book, with_difference, Fits}
-use Rattle.wait_rule.proofs.StepKinds.EntryKinds.{fits_difference}
+use Rattle.wait_rule.proofs.StepKinds.EntryKinds.{fits_difference, tasks_stay}
 use Rattle.wait_rule.specs.Notes.{Notes, Glance, unknown, away, there, note_step}
 use Rattle.wait_rule.specs.Members.{IsStandingMark, IsMarkWord, MarkAgrees}
 use Rattle.wait_rule.specs.Rule.{IsLawfulTable, IsRuled, AreLinked}
@@ -26,20 +26,14 @@ use Rattle.wait_rule.proofs.TableSteps.KeptSteps.{Leaves, KeepsLaw}
 mark_leaves : (s : Table) (a : ℕ) (o : Option Mark) (b : Book) (history : ℕ → List Step) (view : ℕ → Told)
     → IsLawfulTable s → Fits (s.task a) b → ((m : Mark) → o ≡ Some m → IsStandingMark m)
     → Leaves s (record s { mark = put s.mark a o; history = history; view = view }) a (place.Bookmark a) (mark_word o) b
-mark_leaves s a o b history view l f standing = record {
-  lawful = record {
-    tasks = l.tasks;
-    entries = l.entries;
-    marks = λ t m. put_at (λ (p : Option Mark). p ≡ Some m → IsStandingMark m) s.mark a o t
-        (λ _ is. standing m is) (λ _. l.marks t m);
-    spent = l.spent;
-    bits = l.bits;
-  };
-  own = f;
-  others = λ t ne c g. g;
-  left = ap mark_word (put_same s.mark a o);
-  rest = rest_of;
-}
+mark_leaves s a o b history view l f standing = tasks_stay s _ a (place.Bookmark a) (mark_word o) b (λ t. refl) (record {
+  tasks = l.tasks;
+  entries = l.entries;
+  marks = λ t m. put_at (λ (p : Option Mark). p ≡ Some m → IsStandingMark m) s.mark a o t
+      (λ _ is. standing m is) (λ _. l.marks t m);
+  spent = l.spent;
+  bits = l.bits;
+}) f (ap mark_word (put_same s.mark a o)) rest_of
   where
     rest_of : (k : Location) → k ≢ place.Bookmark a
         → word_in (record s { mark = put s.mark a o; history = history; view = view }) k ≡ word_in s k

@@ -214,18 +214,15 @@ tickets_on c law a e few may orderly = subst (λ (f : ℕ → Ticket). AreTicket
     (tickets_after law.table a e (book_of (c.items a)) (all_tickets c.items) law.beside few may orderly refl
     law.tickets)
 
--- a step that keeps the law, on the words
-pub law_step : (c : Scene) (law : Law c) (a : ℕ) (l : Location) (n : ℕ) (e : Step) → a < TASKS
-    → IsLocation l → is_beside l ≡ false → KeepsLaw law.table a l n e (book_of (c.items a))
+-- a step that keeps the law, by the words then
+pub law_kept : (words : List ℕ) (c : Scene) (law : Law c) (a : ℕ) (l : Location) (n : ℕ) (e : Step) → a < TASKS
+    → KeepsLaw law.table a l n e (book_of (c.items a)) → ShowsWith words (next law.table a e) law.beside
     → ArePipes (word_with (next law.table a e) law.beside) (put c.items a (c.items a ++ item.Made e ∷ []))
-    → Law (moved c a (position_of l) n (item.Made e ∷ []))
-law_step c law a l n e few there plain k pipes = record {
+    → Law (record { words = words; items = put c.items a (c.items a ++ item.Made e ∷ []) })
+law_kept words c law a l n e few k shown pipes = record {
   table = next law.table a e;
   beside = law.beside;
-  shown = subst (λ (m : ℕ). ShowsWith (slice_set c.words (position_of l) m) (next law.table a e) law.beside)
-      (table_word (next law.table a e) law.beside l plain ∙ k.leaves.left)
-      (written c.words law.table (next law.table a e) law.beside law.beside l law.shown there
-      (λ j ne. ap (λ (w : ℕ). if is_beside j then law.beside j else w) (k.leaves.rest j ne)));
+  shown = shown;
   ruled = ruled_next law.table c.items a l n e few law.ruled k;
   members = subst (λ (d : ℕ → Difference). AreMembers (next law.table a e) d law.beside)
       (sym (differences_next c.items a (item.Made e ∷ [])))
@@ -235,6 +232,17 @@ law_step c law a l n e few there plain k pipes = record {
   tallies = tallies_same c.items a (item.Made e ∷ []) law.beside law.beside (λ p. refl) (λ p. refl) law.tallies;
   pipes = pipes;
 }
+
+-- one that stores a word
+pub law_step : (c : Scene) (law : Law c) (a : ℕ) (l : Location) (n : ℕ) (e : Step) → a < TASKS
+    → IsLocation l → is_beside l ≡ false → KeepsLaw law.table a l n e (book_of (c.items a))
+    → ArePipes (word_with (next law.table a e) law.beside) (put c.items a (c.items a ++ item.Made e ∷ []))
+    → Law (moved c a (position_of l) n (item.Made e ∷ []))
+law_step c law a l n e few there plain k pipes = law_kept (slice_set c.words (position_of l) n) c law a l n e few k
+    (subst (λ (m : ℕ). ShowsWith (slice_set c.words (position_of l) m) (next law.table a e) law.beside)
+    (table_word (next law.table a e) law.beside l plain ∙ k.leaves.left)
+    (written c.words law.table (next law.table a e) law.beside law.beside l law.shown there
+    (λ j ne. ap (λ (w : ℕ). if is_beside j then law.beside j else w) (k.leaves.rest j ne)))) pipes
 
 -- the variables of pipes are none of the words that calls change by other steps
 pipe_unstepped : (v : ℕ) → v < CLAIMS → is_stepped (place.Var v) ≡ false

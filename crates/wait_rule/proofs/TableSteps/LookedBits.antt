@@ -17,7 +17,7 @@ use Rattle.wait_model.specs.Words.{bit_at, entry_word}
 use Rattle.wait_model.specs.Fold.{view_of}
 use Rattle.wait_model.specs.Tables.{next}
 use Rattle.wait_model.specs.Locations as place
-use Rattle.wait_model.specs.Locations.{Location, IsLocation, position_of, word_in, mark_word}
+use Rattle.wait_model.specs.Locations.{Location, IsLocation, position_of, mark_word}
 use Rattle.wait_model.proofs.Functions.{put_case, put_at, put_same, put_other}
 use Rattle.wait_model.proofs.WordLaws.BitWords.{bit_read}
 use Rattle.wait_rule.specs.declared.journal.Item.{Item}
@@ -37,16 +37,16 @@ use Rattle.wait_rule.proofs.TableSteps.ItemLists.{book_append}
 use Rattle.wait_rule.proofs.TableSteps.StateLaws.{allows_some}
 use Rattle.wait_rule.proofs.KnownLaws.AfterSteps.{notes_after}
 use Rattle.wait_rule.proofs.KnownLaws.HeadLinks.{same_links}
-use Rattle.wait_rule.proofs.KnownLaws.MemberSteps.{differences_next, differences_same, members_next, nothing_named}
+use Rattle.wait_rule.proofs.KnownLaws.MemberSteps.{differences_same, nothing_named}
 use Rattle.wait_rule.proofs.KnownLaws.MemberSteps.{entry_names}
 use Rattle.wait_rule.specs.Tickets.{Ticket}
 use Rattle.wait_rule.specs.TicketWords.{AreTickets}
 use Rattle.wait_rule.proofs.KnownLaws.TicketSteps.{tickets_same}
 use Rattle.wait_rule.proofs.KnownLaws.TallySteps.{tallies_same}
 use Rattle.wait_rule.proofs.KnownLaws.PipeTables.{pipes_next, pipes_rest}
-use Rattle.wait_rule.proofs.TableSteps.KeptSteps.{ChangesNone, tickets_on, KeepsLaw, IsOwn, ruled_next, ruled_seen}
+use Rattle.wait_rule.proofs.TableSteps.KeptSteps.{law_kept, ChangesNone, KeepsLaw, IsOwn, ruled_seen}
 use Rattle.wait_rule.proofs.TableSteps.KeptSteps.{written}
-use Rattle.wait_rule.proofs.TableSteps.MemberMoves.{knew_entry, knew_mark, seen_links}
+use Rattle.wait_rule.proofs.TableSteps.MemberMoves.{knew_at, knew_entry, knew_mark, seen_links}
 use Rattle.wait_rule.proofs.TableSteps.QueueMoves.{head_seen}
 use Rattle.wait_rule.proofs.StepKinds.EntryKinds.{reads, sees, is_entry}
 use Rattle.wait_rule.proofs.StepKinds.MarkKinds.{mark_reads, is_mark}
@@ -81,23 +81,11 @@ law_twice c a xs ys = subst (λ (f : ℕ → List Item). Law (record { words = c
 -- a step that changes no word
 pub look_law : (c : Scene) (law : Law c) (a : ℕ) (l : Location) (n : ℕ) (e : Step) → a < TASKS → ChangesNone a e
     → KeepsLaw law.table a l n e (book_of (c.items a)) → Law (with_items c a (item.Made e ∷ []))
-look_law c law a l n e few idle k = record {
-  table = next law.table a e;
-  beside = law.beside;
-  shown = record {
-    count = law.shown.count;
-    each = λ j is. law.shown.each j is
-        ∙ ap (λ (w : ℕ). if is_beside j then law.beside j else w) (sym (idle law.table j));
-  };
-  ruled = ruled_next law.table c.items a l n e few law.ruled k;
-  members = subst (λ (d : ℕ → Difference). AreMembers (next law.table a e) d law.beside)
-      (sym (differences_next c.items a (item.Made e ∷ [])))
-      (members_next law.table a (book_of (c.items a)) (all_differences c.items) law.beside
-      law.ruled.whole.kept.facts.one_holder refl e k.allowed k.orderly law.members);
-  tickets = tickets_on c law a e few k.allowed k.orderly;
-  tallies = tallies_same c.items a (item.Made e ∷ []) law.beside law.beside (λ p. refl) (λ p. refl) law.tallies;
-  pipes = pipes_next law.table law.beside c.items a e k.allowed (λ v small. idle law.table (place.Var v)) law.pipes;
-}
+look_law c law a l n e few idle k = law_kept c.words c law a l n e few k (record {
+  count = law.shown.count;
+  each = λ j is. law.shown.each j is
+      ∙ ap (λ (w : ℕ). if is_beside j then law.beside j else w) (sym (idle law.table j));
+}) (pipes_next law.table law.beside c.items a e k.allowed (λ v small. idle law.table (place.Var v)) law.pipes)
 
 saw_none : (a x w : ℕ) → ChangesNone a (step.Saw x w)
 saw_none a x w s place.Base = refl
@@ -236,18 +224,11 @@ module _ (c : Scene) (law : Law c) (me : Sat) (h i : ℕ) (head : h < HEADS) (fe
       → new ≡ added (known d me.0 at) (item.Made (step.Saw x (entry_word (law.table.entry x))))
       → SawEntry bit h x (known d me.0 at) new
   entry_told bit x d at new small tells is =
-      let k = knew_entry law.table c.items me x law.ruled (own_of c law me own) d in
       record {
         found = entry_word (law.table.entry x);
         is = is;
         lawful = is_entry law.table c.items law.ruled x;
-        knew = record {
-          shown = k.shown;
-          own = k.own;
-          stands = k.stands;
-          foreign = k.foreign;
-          apart = k.apart;
-        };
+        knew = knew_at d me.0 at x _ (knew_entry law.table c.items me x law.ruled (own_of c law me own) d);
         named = ap (λ (o : Option Entry). stands_at o h) (reads law.table c.items law.ruled x)
             ∙ (sym (entry_names law.table h x small) ∙ tells);
       }

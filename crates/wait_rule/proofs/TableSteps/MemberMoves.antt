@@ -23,12 +23,13 @@ use Rattle.wait_model.specs.Fold.{view_of}
 use Rattle.wait_model.specs.Tables.{Table, mark_of}
 use Rattle.wait_model.specs.Facts.{Agrees}
 use Rattle.wait_model.specs.Locations as place
-use Rattle.wait_model.specs.Locations.{word_in, mark_word, cond_at}
+use Rattle.wait_model.specs.Locations.{mark_word, cond_at}
 use Rattle.wait_model.proofs.WordLaws.CondWords.{cond_located, number_below, plain_at, var_at}
 use Rattle.wait_model.proofs.WordLaws.DecodedWords.{entry_read, mark_read, no_mark_read}
 use Rattle.wait_model.proofs.Functions.{put_at}
 use Rattle.wait_rule.specs.declared.journal.Item.{Item}
 use Rattle.wait_rule.specs.declared.journal.Item.TheVariants as item
+use Rattle.wait_rule.specs.declared.journal.Journal.{Journal}
 use Rattle.wait_rule.specs.Items.{nothing, page_told, book_of, first_book, Fits}
 use Rattle.wait_rule.specs.Asked.{nothing_asked, asked_by_items}
 use Rattle.wait_rule.specs.Pages.{uses_flag}
@@ -87,6 +88,16 @@ knew_entry s items me x ruled own d = record {
       (subst (λ (v : Told). Agrees h (v.hold.book y) (s.entry y)) own.told
       ((ruled.whole.kept.facts.views me.0.number).hold.agrees h y (head_seen s items me (Some h) own held))) in
       ruled.placed.apart y x f e seen.0 (sym (reads s items ruled x) ∙ q) (seen.1 ∙ sym same) at;
+}
+
+-- whatever head the task took last
+pub knew_at : (d : TableId) (v : Journal) (h x w : ℕ) → KnewEntry (known d v 0) x w → KnewEntry (known d v h) x w
+knew_at d v h x w k = record {
+  shown = k.shown;
+  own = k.own;
+  stands = k.stands;
+  foreign = k.foreign;
+  apart = k.apart;
 }
 
 module _ (slots id : ℕ) (me : Sat) (lives : me.0.lives ≡ true) (x p : ℕ) (small : x < ENTRIES)

@@ -15,14 +15,7 @@ use Rattle.wait_rule.proofs.TableSteps.SeenStates.{total_set, total_at, owns_own
 use Rattle.wait_rule.proofs.TableSteps.SeenStates.{seen_step}
 
 pub pushed_none : (v : Journal) → pushed v [] ≡ v
-pushed_none v = ap (λ l. record {
-  lives = v.lives;
-  number = v.number;
-  next = v.next;
-  spare = v.spare;
-  items = l;
-  joined = v.joined;
-}) (append-nil v.items)
+pushed_none v = ap (λ (l : List Item). record v { items = l }) (append-nil v.items)
 
 one_most : (b : Bool) → flag b ≤ 1
 one_most true = omega arith

@@ -1,6 +1,6 @@
 use Rattle.std.proofs.Common.{◌∙◌, ap, sym, refl, subst, arith, true≢false}
-use Rattle.std.specs.Prelude.{ℕ, ◌==◌, ◌%◌, ◌+◌, ◌*◌, ◌<◌, true}
-use Rattle.wait_model.specs.declared.layout.TheConstants.{CLAIMS, PIPE_ENDS}
+use Rattle.std.specs.Prelude.{ℕ, ◌==◌, ◌%◌, ◌+◌, ◌*◌, true}
+use Rattle.wait_model.specs.declared.layout.TheConstants.{PIPE_ENDS}
 use Rattle.wait_model.specs.declared.watches.Watch.TheVariants as watch
 use Rattle.wait_model.specs.declared.steps.Step.TheVariants as step
 use Rattle.wait_rule.specs.declared.journal.Item.TheVariants as item
@@ -17,22 +17,20 @@ use Rattle.wait_rule.proofs.pipes.shut.Goals as goal
 pub store-requires : goal.store-requires
 store-requires c =
     let k = PIPE_ENDS * c.args.pipe + c.args.end in
-    let few : k < CLAIMS = omega (arith, c.requires.pipe, c.requires.end) in
-    let at = (end_spot k c.cond_at-at.result few c.cond_at-at.ensures).0 in
+    let spot = end_spot c.args.pipe c.args.end _ c.requires.pipe c.requires.end c.cond_at-at.ensures in
     let still = subst (λ (j : Known). IsOpen (end_at k j)) (sym c.task.view_is) c.requires.still in
-    may_step c.task.view_is c.requires.of c.domain.view_is c.domain.invariant (omega (arith, few, at))
-    (end_moves _ _ _ c.task.invariant.1 _ k c.args.word (end_of k c.task.inside.seat.me.0.items).count true few
+    may_step c.task.view_is c.requires.of c.domain.view_is c.domain.invariant spot.small
+    (end_moves _ _ _ c.task.invariant.1 _ k c.args.word (end_of k c.task.inside.seat.me.0.items).count true spot.few
     (subst IsIdle (sym c.task.view_is) c.requires.idle).free.head still.mine
     (c.requires.word ∙ ap (λ (j : Known). end_word (end_at k j).count true) (sym c.task.view_is))
-    (λ sound. (omega arith, sound.count)) (λ shut. absurd (true≢false (sym shut ∙ still.unshut))) at)
+    (λ sound. (omega arith, sound.count)) (λ shut. absurd (true≢false (sym shut ∙ still.unshut))) spot.is)
 
 pub returns : goal.returns
 returns c =
     let k = PIPE_ENDS * c.args.pipe + c.args.end in
     let e = c.store.ensures in
-    let spot = (end_spot k c.cond_at-at.result (omega (arith, c.requires.pipe, c.requires.end))
-    c.cond_at-at.ensures).1 in
-    let now = known_by e.0 e.2.1.0 (λ j. item.Made (step.Publish (watch.Var (spot j) 0) c.args.word e.2.0))
+    let spot = end_spot c.args.pipe c.args.end _ c.requires.pipe c.requires.end c.cond_at-at.ensures in
+    let now = known_by e.0 e.2.1.0 (λ j. item.Made (step.Publish (watch.Var (spot.names j) 0) c.args.word e.2.0))
     c.task.view_is in
     record {
       step = (e.2.0, now);

@@ -1,29 +1,21 @@
-use Rattle.std.proofs.Common.{◌∙◌, refl, ap}
+use Rattle.std.proofs.Common.{refl}
 use Rattle.wait_model.specs.declared.steps.Step.TheVariants as step
-use Rattle.wait_rule.specs.declared.journal.Item.TheVariants as item
-use Rattle.wait_rule.specs.Known.{Known}
-use Rattle.wait_rule.specs.Says.{added}
 use Rattle.wait_rule.proofs.KnownLaws.SettledTasks.{settled_after, owes_after}
 use Rattle.wait_rule.proofs.KnownLaws.CarriedSteps.{slept_carried}
+use Rattle.wait_rule.proofs.KnownLaws.StepCalls.{added_from}
 use Rattle.wait_rule.proofs.tries.sleep_try.Goals as goal
 
 pub returns-then-try_sleep-clause-settled : goal.returns-then-try_sleep-clause-settled
 returns-then-try_sleep-clause-settled c =
     settled_after c.args.task.now _ (step.Sleep c.load_word-found.result) refl
-    (c.if-try_sleep.ensures
-    ∙ ap (λ (k : Known). added k (item.Made (step.Sleep c.load_word-found.result)))
-    (c.load_word-found.ensures.same))
+    (added_from _ c.if-try_sleep.ensures c.load_word-found.ensures.same)
 
 pub returns-then-try_sleep-clause-owing : goal.returns-then-try_sleep-clause-owing
 returns-then-try_sleep-clause-owing c =
     owes_after c.args.task.now _ (step.Sleep c.load_word-found.result) refl
-    (c.if-try_sleep.ensures
-    ∙ ap (λ (k : Known). added k (item.Made (step.Sleep c.load_word-found.result)))
-    (c.load_word-found.ensures.same))
+    (added_from _ c.if-try_sleep.ensures c.load_word-found.ensures.same)
 
 pub returns-then-try_sleep-clause-carries : goal.returns-then-try_sleep-clause-carries
 returns-then-try_sleep-clause-carries c =
     slept_carried c.args.task.now _ c.load_word-found.result
-    (c.if-try_sleep.ensures
-    ∙ ap (λ (k : Known). added k (item.Made (step.Sleep c.load_word-found.result)))
-    (c.load_word-found.ensures.same)) c.slept-sleep.result.1 c.slept-sleep.ensures.sleep
+    (added_from _ c.if-try_sleep.ensures c.load_word-found.ensures.same) c.slept-sleep.result.1 c.slept-sleep.ensures.sleep

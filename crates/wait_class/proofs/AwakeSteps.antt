@@ -112,6 +112,10 @@ awake_unlocked old new is = record {
   awake = refl;
 }
 
+pub awake_back : (old mid new : Known) (o : Option Entry) → HasSeenOwn old mid o → new ≡ unlocked_with mid mid.at false
+    → SleepsNot old new
+awake_back old mid new o own is = sleeps_not_on old mid new (awake_seen old mid o own) (awake_unlocked mid new is)
+
 -- an add
 pub awake_looked : (old new : Known) → Looks old new → SleepsNot old new
 awake_looked old new l = only_awake old new (only_looked old new l.items l.same l.looks l.is)

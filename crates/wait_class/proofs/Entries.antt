@@ -20,11 +20,11 @@ use Rattle.wait_rule.specs.Transitions.{OnlyLooks}
 use Rattle.wait_rule.proofs.KnownLaws.Transitions.{only_none}
 use Rattle.wq_head.specs.Adds.{HasRemoved}
 use Rattle.wq_head.specs.Holds.{IsHolding}
-use Rattle.wait_class.specs.Posts.{HasSeenOwn, IsStateFor, Post, Stands, zone_at}
+use Rattle.wait_class.specs.Posts.{HasSeenOwn, Stands, zone_at}
 use Rattle.wait_class.specs.Findings.{saw_entry, with_own}
 use Rattle.wait_class.proofs.Ground.Standing.{bare_head}
 use Rattle.wait_class.proofs.Ground.Standing.{carried_stands, finds_own, seen_book, seen_home, seen_is, seen_looks}
-use Rattle.wait_class.proofs.Ground.Standing.{seen_shows, seen_stands, still_stands}
+use Rattle.wait_class.proofs.Ground.Standing.{seen_shows, seen_stands, stands_with, still_stands}
 use Rattle.wait_class.specs.declared.stages.Doing.TheVariants as doing
 use Rattle.wait_class.specs.declared.stages.Run.{Run}
 use Rattle.wait_class.specs.declared.stages.Turn.{Turn}
@@ -59,20 +59,6 @@ watch_open (parts k) is c e h = absurd (cc)
 pub none_in : (z : Zone) (c d : Watch) → IsHome z d None → (o : Option Entry) → IsHome absent c o → IsHome z d o
 none_in z c d home None h = home
 none_in z c d home (Some e) h = absurd h
-
--- a place that says no more, by the entry that is stored
-stands_with : (k : Known) (p q : Post) → Stands k p → q.head ≡ p.head → q.ticket ≡ p.ticket
-    → IsStateFor q.stirs q.state k.book.state
-    → IsHome q.zone q.watch ((told_of k).bits.stored (index k.view.number 0)) → Stands k q
-stands_with k p q s head ticket state home = record {
-  head = s.head ∙ sym head;
-  at = λ h is. s.at h (sym head ∙ is);
-  told = s.told ∙ sym head;
-  ticket = s.ticket ∙ sym ticket;
-  agreed = λ h is. s.agreed h (sym head ∙ is);
-  state = state;
-  home = home;
-}
 
 module _ {C S O : Type 0} (t : CallTable C S O) where
   -- where the own entry is queued it is one of this call
@@ -264,6 +250,16 @@ module _ {C S O : Type 0} (t : CallTable C S O) where
           };
         }
 
+    pub not_there : (old mid new : Known) (r : Run C) (s : S) (held : IsHeldStage t r.of s) (opens : MayBeQueued t s)
+        (l : GiveLaw t r.of s) → IsAt t old r s → (o : Option Entry) → HasSeenOwn old mid o → (b : Bool) → b ≡ is_some o
+        → b ≡ false → new ≡ unlocked_with mid mid.at false → (u : Turn S O) → u ≡ t.found_to r.of s false
+        → Turned t old new r r s u
+    not_there old mid new r s held opens l a (Some e) h b some miss is u to = absurd (cc)
+    not_there old mid new r s held opens l a None h b some miss is u to =
+        subst (λ (v : Turn S O). Turned t old new r r s v) (sym to)
+        (advance_by t old new r r s (t.found_to r.of s false) refl a.fits l.moves.plain
+        (gives_from old mid new r s held opens l a h is))
+
     pub pare_may : (old mid : Known) (r : Run C) (s : S) → t.doing s ≡ doing.Pare → IsAt t old r s → (o : Option Entry)
         → HasSeenOwn old mid o → is_some o ≡ true → (me : ℕ) → me ≡ old.view.number → MayUnqueue mid me 0
     pare_may old mid r s here a None h some me mine = absurd (cc)
@@ -280,17 +276,6 @@ module _ {C S O : Type 0} (t : CallTable C S O) where
         subst (λ (v : Turn S O). Turned t old new r r s v) (sym to)
         (advance_by t old new r r s (t.found_to r.of s true) refl a.fits (l.takes e).plain
         (takes_from old mid new r s e l a h (subst (λ (n : ℕ). HasRemoved mid new n 0) mine x) held))
-
-    pub gives_advances : (old mid new : Known) (r : Run C) (s : S) → t.doing s ≡ doing.Pare → IsAt t old r s
-        → (o : Option Entry) → HasSeenOwn old mid o → (b : Bool) → b ≡ is_some o → b ≡ false
-        → new ≡ unlocked_with mid mid.at false → (u : Turn S O) → u ≡ t.found_to r.of s false
-        → Turned t old new r r s u
-    gives_advances old mid new r s here a (Some e) h b some miss is u to = absurd (cc)
-    gives_advances old mid new r s here a None h b some miss is u to =
-        let l = pare_law r.of s here in
-        subst (λ (v : Turn S O). Turned t old new r r s v) (sym to)
-        (advance_by t old new r r s (t.found_to r.of s false) refl a.fits l.gives.moves.plain
-        (gives_from old mid new r s l.held l.opens l.gives a h is))
 
     pub takes_falls : (r : C) (s : S) → t.doing s ≡ doing.Pare → (o : Option Entry) (b : Bool) → b ≡ is_some o
         → b ≡ true → (u : Turn S O) → u ≡ t.found_to r s true → falls t s u ≡ true
@@ -380,17 +365,6 @@ module _ {C S O : Type 0} (t : CallTable C S O) where
     heeds_falls r s here None b some sure w hit tells u to = absurd (cc)
     heeds_falls r s here (Some e) b some sure w hit tells u to = ap (falls t s) to
         ∙ ((heed_law r s here).looks hit e w (sym tells)).falls
-
-    pub off_advances : (old mid new : Known) (r : Run C) (s : S) → t.doing s ≡ doing.Heed → IsAt t old r s
-        → (o : Option Entry) → HasSeenOwn old mid o → (b : Bool) → b ≡ is_some o → b ≡ false
-        → new ≡ unlocked_with mid mid.at false → (u : Turn S O) → u ≡ t.found_to r.of s false
-        → Turned t old new r r s u
-    off_advances old mid new r s here a (Some e) h b some miss is u to = absurd (cc)
-    off_advances old mid new r s here a None h b some miss is u to =
-        let l = heed_law r.of s here in
-        subst (λ (v : Turn S O). Turned t old new r r s v) (sym to)
-        (advance_by t old new r r s (t.found_to r.of s false) refl a.fits l.gives.moves.plain
-        (gives_from old mid new r s l.held l.opens l.gives a h is))
 
     pub off_falls : (r : C) (s : S) → t.doing s ≡ doing.Heed → (u : Turn S O) → u ≡ t.found_to r s false
         → falls t s u ≡ true

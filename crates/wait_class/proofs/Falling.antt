@@ -14,7 +14,7 @@ use Rattle.wait_rule.specs.Tried.{IsOneMore}
 use Rattle.wait_class.specs.declared.stages.Turn.{Turn}
 use Rattle.wait_class.specs.declared.stages.Turn.TheVariants as turn
 use Rattle.wait_class.specs.Handing.{LastGiven}
-use Rattle.wait_class.specs.Tables.{Advances, MadeEvent, ShowsTurn, SleptLast, CallTable}
+use Rattle.wait_class.specs.Tables.{Advances, IsStop, MadeEvent, ShowsTurn, SleptLast, CallTable, falls}
 
 -- it has made nothing yet, or an event
 abbrev pub IsBegun : {C : Type 0} → Known → Known → Run C → Run C → Type 0
@@ -65,6 +65,26 @@ module _ {C S O : Type 0} (t : CallTable C S O) (old mid new : Known) (r q w : R
           (subst (λ (p : Run C). ShowsTurn t mid new p w (turn.Again n)) same.1 (inr failed))
       by (inr made) = inl (made_on old mid new made [] (failed.still ∙ sym (append-nil (history_of mid))))
 
+-- a place at which no head is held
+pub falls_still : (h : Bool) → not h ≡ true → h ≡ false
+falls_still true is = absurd (cc)
+falls_still false is = refl
+
+-- a turn that is not to go on at once
+module _ {C S O : Type 0} (t : CallTable C S O) where
+  pub other_shown : (old mid new : Known) (r q w : Run C) → IsBegun old mid r q → (u : Turn S O)
+      → ((n : S) → u ≡ turn.Again n → ⊥) → ShowsTurn t mid new q w u → ShowsTurn t old new r w u
+  other_shown old mid new r q w begun (turn.Again n) other x = absurd (other n refl)
+  other_shown old mid new r q w begun (turn.Asleep n) other x = goes_slept old mid new r q begun x
+  other_shown old mid new r q w begun (turn.Locked n) other x = x
+  other_shown old mid new r q w begun (turn.Done o) other x = tt
+
+  pub other_stops : (s : S) (u : Turn S O) → ((n : S) → u ≡ turn.Again n → ⊥) → falls t s u ≡ true → IsStop t u
+  other_stops s (turn.Again n) other f = absurd (other n refl)
+  other_stops s (turn.Asleep n) other f = falls_still (holds (t.point_of n)) f
+  other_stops s (turn.Locked n) other f = falls_still (holds (t.point_of n)) f
+  other_stops s (turn.Done o) other f = tt
+
 -- behind what is no event
 pub shown_behind : {C S O : Type 0} (t : CallTable C S O) (old mid new : Known) (r q w : Run C)
     → history_of mid ≡ history_of old → q.failed ≡ r.failed → (u : Turn S O) → ShowsTurn t mid new q w u
@@ -97,10 +117,6 @@ pub record IsInStretch {C S O : Type 0} (t : CallTable C S O) (old new : Known) 
   pub low : t.depth n + turns ≤ 6
 
 -- a place at which no head is held
-pub falls_still : (h : Bool) → not h ≡ true → h ≡ false
-falls_still true is = absurd (cc)
-falls_still false is = refl
-
 pub unheld : (h r : Bool) → r ≡ not h → r ≡ true → h ≡ false
 unheld true r is up = absurd (cc)
 unheld false r is up = refl

@@ -1,13 +1,13 @@
 -- Where a hold's whole book shows that a place is left for an add of a form, and where it shows that none is.
 use Rattle.std.proofs.Common.{◌∙◌, ap, sym, refl, inl, arith}
 use Rattle.std.proofs.lemmas.Bool.Decides.{nat_tests}
-use Rattle.std.specs.Prelude.{ℕ, ◌≡◌, ◌<◌, ◌≤◌, ◌&&◌, ◌||◌, not, Bool, true, false, nat_lt, if◌then◌else◌, Option, Some}
+use Rattle.std.specs.Prelude.{ℕ, ◌≡◌, ◌<◌, ◌≤◌, ◌&&◌, ◌||◌, not, Bool, true, false, Option, Some}
 use Rattle.std.specs.Prelude.{None, List, [], ◌∷◌, MatchBool}
 use Rattle.wait_model.specs.declared.layout.TheConstants.{ENTRIES, MEMBERS, PLACES, MIDDLE, FIRST_PLACE, FIRST_PRIORITY}
 use Rattle.wait_model.specs.declared.queues.Form.{Form}
 use Rattle.wait_model.specs.declared.queues.Form.TheVariants as forms
 use Rattle.wait_model.specs.declared.queues.Member.{Member}
-use Rattle.wait_model.specs.Places.{within, tail_for, priority_for}
+use Rattle.wait_model.specs.Places.{tail_for, priority_for}
 use Rattle.wait_model.specs.Queues.{even_above, entries_of, is_entry, is_within, last_within, place_behind, place_for}
 use Rattle.wait_model.specs.Queues.{IsIn}
 use Rattle.wait_model.proofs.QueueLaws.QueueEnds.{IsLastWithin, entry_in, in_entries, last_of, order_entries}
@@ -21,19 +21,31 @@ use Rattle.wq_head.proofs.AddedEntries.{priority_below, tail_after}
 use Rattle.wq_head.proofs.ShownPlaces.{tail_place_is, within_is}
 use Rattle.wq_head.proofs.ShownQueue.{queue_in_order, queue_has, queue_of}
 use Rattle.wait_class.specs.Queueing.{IsFormPlace, IsFormWorn, TellsFirst, is_none}
-use Rattle.wait_class.proofs.WornPlaces.{front_is, front_left, front_worn, queue_same, whole_seen}
+use Rattle.wait_class.proofs.WornPlaces.{front_is, front_left, front_worn, left_within, queue_same, whole_seen, worn_within}
 
-left_within : (low high p : ℕ) → low ≤ p → p < high → not (is_within low high p) ≡ false
-left_within low high p up down = let yes : is_within low high p ≡ true = grind (arith, nat_tests) in ap not yes
-
-worn_within : (low high q : ℕ) → within low high q ≡ None → not (is_within low high q) ≡ true
-worn_within low high q none = by (nat_lt q low) (nat_lt q high) refl refl none
-  where
-    by : (a b : Bool) → nat_lt q low ≡ a → nat_lt q high ≡ b
-        → (if a then None else if b then Some q else None) ≡ None → not (is_within low high q) ≡ true
-    by true b x y n = let no : is_within low high q ≡ false = grind (arith, nat_tests) in ap not no
-    by false true x y n = absurd (cc)
-    by false false x y n = let no : is_within low high q ≡ false = grind (arith, nat_tests) in ap not no
+-- the last member of those that stand in a range is the one at the highest place
+ends_at : (k : Known) (count low high first : ℕ) → count ≤ MEMBERS → (queue : List Member)
+    → ((m : Member) → IsIn m queue → (m.at < count) × (place_by k m.at ≡ Some m.place))
+    → ((m p : ℕ) → m < count → place_by k m ≡ Some p → IsIn (record { at = m; place = p }) queue) → (l : ℕ)
+    → IsHighest k count low high (Some l) → (o : Option Member) → IsLastWithin low high queue o
+    → place_behind first o ≡ even_above l
+ends_at k count low high first few queue has of l s None h =
+    absurd (h (record { at = s.0.member; place = l }) (of s.0.member l s.0.counts s.0.stands) s.0.above s.0.below)
+ends_at k count low high first few queue has of l s (Some m) h =
+    let q = has m h.0 in
+    let c = q.0 in
+    let b = s.0.counts in
+    let one = s.1 m.place (record {
+      member = m.at;
+      counts = q.0;
+      stands = q.1;
+      above = h.1;
+      below = h.2;
+    }) in
+    let at : Member = record { at = s.0.member; place = l } in
+    let two = h.3 at (of s.0.member l s.0.counts s.0.stands) s.0.above s.0.below in
+    let same : m.place ≡ l = omega (arith, one, two, b, c, few) in
+    ap even_above same
 
 -- at the tail
 module _ (k : Known) (low : AreLow k MEMBERS) where
@@ -48,23 +60,8 @@ module _ (k : Known) (low : AreLow k MEMBERS) where
 
   last_stands : (l : ℕ) → IsHighest k MEMBERS MIDDLE PLACES (Some l) → (o : Option Member)
       → IsLastWithin MIDDLE PLACES (shown_queue k) o → place_behind FIRST_PLACE o ≡ even_above l
-  last_stands l s None h = absurd (h (record { at = s.0.member; place = l })
-      (queue_of k (record { at = s.0.member; place = l }) s.0.counts s.0.stands) s.0.above s.0.below)
-  last_stands l s (Some m) h =
-      let q = queue_has k m h.0 in
-      let c = q.0 in
-      let b = s.0.counts in
-      let one = s.1 m.place (record {
-        member = m.at;
-        counts = q.0;
-        stands = q.1;
-        above = h.1;
-        below = h.2;
-      }) in
-      let at : Member = record { at = s.0.member; place = l } in
-      let two = h.3 at (queue_of k at s.0.counts s.0.stands) s.0.above s.0.below in
-      let same : m.place ≡ l = omega (arith, one, two, b, c) in
-      ap even_above same
+  last_stands = ends_at k MEMBERS MIDDLE PLACES FIRST_PLACE (omega arith) (shown_queue k) (λ m i. queue_has k m i)
+      (λ m p few at. queue_of k (record { at = m; place = p }) few at)
 
   tail_worn : (l : ℕ) → IsHighest k MEMBERS MIDDLE PLACES (Some l) → tail_for (Some l) ≡ None
       → is_worn forms.Tail (shown_queue k) ≡ true
@@ -95,23 +92,7 @@ module _ (k : Known) where
 
   prior_stands : (l : ℕ) → IsHighest k ENTRIES 0 MIDDLE (Some l) → (o : Option Member)
       → IsLastWithin 0 MIDDLE (entries_of (shown_queue k)) o → place_behind FIRST_PRIORITY o ≡ even_above l
-  prior_stands l s None h = absurd (h (record { at = s.0.member; place = l })
-      (to_entry s.0.member l s.0.counts s.0.stands) s.0.above s.0.below)
-  prior_stands l s (Some m) h =
-      let q = of_entry m h.0 in
-      let c = q.0 in
-      let b = s.0.counts in
-      let one = s.1 m.place (record {
-        member = m.at;
-        counts = q.0;
-        stands = q.1;
-        above = h.1;
-        below = h.2;
-      }) in
-      let at : Member = record { at = s.0.member; place = l } in
-      let two = h.3 at (to_entry s.0.member l s.0.counts s.0.stands) s.0.above s.0.below in
-      let same : m.place ≡ l = omega (arith, one, two, b, c) in
-      ap even_above same
+  prior_stands = ends_at k ENTRIES 0 MIDDLE FIRST_PRIORITY (omega arith) (entries_of (shown_queue k)) of_entry to_entry
 
   prior_none : IsHighest k ENTRIES 0 MIDDLE None → (o : Option Member)
       → IsLastWithin 0 MIDDLE (entries_of (shown_queue k)) o → place_behind FIRST_PRIORITY o ≡ FIRST_PRIORITY

@@ -1,6 +1,6 @@
 -- Which lock a part of a call gave back, read off what it added.
 use Rattle.std.proofs.Common.{◌∙◌, ap, append_assoc, append-nil, refl, sym}
-use Rattle.std.specs.Prelude.{ℕ, ◌≡◌, Bool, Option, Some, None, List, [], ◌∷◌, ◌++◌}
+use Rattle.std.specs.Prelude.{ℕ, ◌≡◌, Bool, false, Option, Some, None, List, [], ◌∷◌, ◌++◌}
 use Rattle.wait_model.specs.declared.layout.TheConstants.{HEADS}
 use Rattle.wait_model.specs.declared.steps.Step.{Step}
 use Rattle.wait_model.specs.declared.steps.Step.TheVariants as step
@@ -99,6 +99,12 @@ given_on old mid new h a b = record {
       ∙ append_assoc (history_of old) a.steps b.steps);
   last = b.last ∙ (ap (last_given_back b.steps) a.last ∙ sym (last_on a.steps b.steps HEADS));
 }
+
+-- the head that is given back behind a look at the own entry
+pub given_back : (old mid new : Known) (o : Option Entry) → HasSeenOwn old mid o → (h : ℕ) → h ≡ mid.at
+    → new ≡ unlocked_with mid mid.at false → LastGiven old new h
+given_back old mid new o own h same is = given_as old new mid.at h same (given_on old mid new mid.at
+    (given_seen old mid o own) (given_unlocked mid new mid.at false is))
 
 -- a look at the served number, and the lock taken
 pub given_looked : (old new : Known) (h w : ℕ) → new ≡ added old (item.Serving h w) → LastGiven old new HEADS

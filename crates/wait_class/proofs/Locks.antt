@@ -39,7 +39,7 @@ use Rattle.wait_class.specs.Tables.{head_in}
 use Rattle.wait_class.specs.Tables.{Advances, IsAt, IsStop, CallTable, Turned, falls, plan_post, plan_program, post_of, run_post, watch_in}
 use Rattle.wait_class.specs.Laws.{Calm, turn_post}
 use Rattle.wait_class.proofs.CalmSteps.{calm_on, calm_quiet, calm_step, calm_unlock}
-use Rattle.wait_class.proofs.Turns.{GoesOn, advance_by, drawn_post, free_head, free_ticket, held_head, moves_quiet, stands_plain, stops_by}
+use Rattle.wait_class.proofs.Turns.{GoesOn, advance_by, drawn_post, free_task, free_ticket, held_head, moves_quiet, stands_plain, stops_by}
 
 -- the head is there
 pub head_fits : {C S O : Type 0} (t : CallTable C S O) (law : IsLawfulCallTable t) (r : C) (s : S) → t.Fits r → (h : ℕ) → h ≡ head_in t r s
@@ -130,13 +130,7 @@ module _ {C S O : Type 0} (t : CallTable C S O) (law : IsLawfulCallTable t) wher
       ∙ (steps_append old.view.items (item.Drawn h n ∷ []) ∙ append-nil (history_of old))
 
   pub draw_free : (old : Known) (r : Run C) (s : S) → t.doing s ≡ doing.Draw → IsAt t old r s → IsFreeTask old
-  draw_free old r s here a =
-      let l = draw_law r.of s here in
-      let st = stands_plain t old r s l.fresh a.stands in
-      record {
-        head = st.head ∙ free_head None (t.plan_of r.of) (t.point_of s) l.free;
-        ticket = st.ticket ∙ free_ticket None (t.plan_of r.of) (t.point_of s) l.free;
-      }
+  draw_free old r s here a = let l = draw_law r.of s here in free_task t old r s l.fresh l.free a
 
   pub draw_head : (r : C) (s : S) → t.doing s ≡ doing.Draw → head_in t r s ≡ head_in t r (t.drawn_to s)
   draw_head r s here = ap (λ (p : Point). head_of ((t.plan_of r).watches p)) (sym (draw_law r s here).same)

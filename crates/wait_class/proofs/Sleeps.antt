@@ -37,7 +37,7 @@ use Rattle.wait_class.specs.Laws.{IsLawfulCallTable, LawOf, SleepLaw}
 use Rattle.wait_class.specs.Tables.{Advances, IsAsleepAt, IsAt, CallTable, SleptLast, Turned, Went, falls, plan_program, post_of, run_post, watch_in}
 use Rattle.wait_class.specs.Laws.{Unmoved}
 use Rattle.wait_class.proofs.CalmSteps.{calm_step}
-use Rattle.wait_class.proofs.Turns.{advances_none, any_for, free_head, free_ticket, Passage, moves_quiet, plain_post}
+use Rattle.wait_class.proofs.Turns.{advances_none, any_for, free_head, free_task, free_ticket, Passage, moves_quiet, plain_post}
 use Rattle.wait_class.proofs.Turns.{stands_plain, zero_for}
 
 module _ {C S O : Type 0} (t : CallTable C S O) (law : IsLawfulCallTable t) where
@@ -46,13 +46,7 @@ module _ {C S O : Type 0} (t : CallTable C S O) (law : IsLawfulCallTable t) wher
 
   -- no head is held, and no ticket out
   pub sleep_free : (old : Known) (r : Run C) (s : S) → t.doing s ≡ doing.Sleep → IsAt t old r s → IsFreeTask old
-  sleep_free old r s here a =
-      let l = sleep_law r.of s here in
-      let st = stands_plain t old r s l.fresh a.stands in
-      record {
-        head = st.head ∙ free_head None (t.plan_of r.of) (t.point_of s) l.free;
-        ticket = st.ticket ∙ free_ticket None (t.plan_of r.of) (t.point_of s) l.free;
-      }
+  sleep_free old r s here a = let l = sleep_law r.of s here in free_task t old r s l.fresh l.free a
 
   module _ (old : Known) (r : Run C) (s : S) (l : SleepLaw t r.of s (t.slept_to r.of s)) (a : IsAt t old r s) (w : ℕ) where
     abbrev slept : Known

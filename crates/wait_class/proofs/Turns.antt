@@ -12,7 +12,7 @@ use Rattle.wait_rule.specs.declared.journal.Item.TheVariants as item
 use Rattle.wait_rule.specs.Items.{steps_of}
 use Rattle.wait_rule.specs.Known.{Known}
 use Rattle.wait_rule.specs.Queues.{index}
-use Rattle.wait_rule.specs.Says.{IsUp, MayStore, added, history_of}
+use Rattle.wait_rule.specs.Says.{IsFree as IsFreeTask, IsUp, MayStore, added, history_of}
 use Rattle.wait_rule.proofs.KnownLaws.TaskHistories.{history_after}
 use Rattle.wait_rule.proofs.TableSteps.ItemLists.{steps_append}
 use Rattle.wait_rule.specs.Tickets.{taken}
@@ -95,6 +95,14 @@ module _ {C S O : Type 0} (t : CallTable C S O) where
   pub stands_plain : (k : Known) (r : Run C) (s : S) → t.drawn s ≡ false → Stands k (run_post t r s)
       → Stands k (post_of t r.of s)
   stands_plain k r s is = subst (Stands k) (plain_post r s is)
+
+  -- no head is held there, and no ticket out
+  pub free_task : (k : Known) (r : Run C) (s : S) → t.drawn s ≡ false → holds (t.point_of s) ≡ false → IsAt t k r s
+      → IsFreeTask k
+  free_task k r s fresh free a = let st = stands_plain k r s fresh a.stands in record {
+    head = st.head ∙ free_head None (t.plan_of r.of) (t.point_of s) free;
+    ticket = st.ticket ∙ free_ticket None (t.plan_of r.of) (t.point_of s) free;
+  }
 
   -- a turn behind which no head is held stops
   pub stops_by : (r : C) (u : Turn S O) → IsPlainTurn t u → (turn_post t r u).head ≡ None → IsStop t u

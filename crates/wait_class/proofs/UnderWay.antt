@@ -8,8 +8,22 @@ use Rattle.wait_class.specs.declared.stages.Turn.{Turn}
 use Rattle.wait_class.specs.declared.stages.Turn.TheVariants as turn
 use Rattle.wait_class.specs.Laws.{IsLawfulCallTable}
 use Rattle.wait_class.specs.Tables.{Advances, CallTable, IsAt, Plan, Went}
-use Rattle.wait_class.specs.UnderWay.{Came, IsUnderWay}
+use Rattle.wait_class.specs.UnderWay.{Came, HasCome, IsUnderWay}
 use Rattle.wait_class.proofs.Turns.{advances_none, advances_on, again}
+
+-- a call that began somewhere began there as well behind a further part of its way
+pub come_on : {C S O : Type 0} {t : CallTable C S O} {c : Plan} {P Q : Known → Run C → S → Type 0} → HasCome t c P
+    → ((old : Known) (r : Run C) (s : S) → P old r s → Q old r s) → HasCome t c Q
+come_on i on = record {
+  old = i.old;
+  began = i.began;
+  start = i.start;
+  clean = i.clean;
+  told = i.told;
+  nothing = i.nothing;
+  plan = i.plan;
+  came = on i.old i.began i.start i.came;
+}
 
 module _ {C S O : Type 0} (t : CallTable C S O) where
   -- what a turn answered is gone on with there
@@ -52,29 +66,11 @@ module _ {C S O : Type 0} (t : CallTable C S O) where
 
     pub under_on : (c : Plan) (mid new : Known) (q w : Run C) (n : S) (u : Turn S O)
         → IsUnderWay t c mid q (turn.Again n) → Advances t mid new q w n u → IsUnderWay t c new w u
-    under_on c mid new q w n u i b = record {
-      old = i.old;
-      began = i.began;
-      start = i.start;
-      clean = i.clean;
-      told = i.told;
-      nothing = i.nothing;
-      plan = i.plan;
-      came = came_on i.old mid new i.began q w i.start n u i.came b;
-    }
+    under_on c mid new q w n u i b = come_on i (λ old r s a. came_on old mid new r q w s n u a b)
 
     pub under_awake : (c : Plan) (mid new : Known) (q w : Run C) (n : S) (u : Turn S O)
         → IsUnderWay t c mid q (turn.Asleep n) → Advances t mid new q w n u → IsUnderWay t c new w u
-    under_awake c mid new q w n u i b = record {
-      old = i.old;
-      began = i.began;
-      start = i.start;
-      clean = i.clean;
-      told = i.told;
-      nothing = i.nothing;
-      plan = i.plan;
-      came = woke_on i.old mid new i.began q w i.start n u i.came b;
-    }
+    under_awake c mid new q w n u i b = come_on i (λ old r s a. woke_on old mid new r q w s n u a b)
 
     -- by what the look of one that was asleep answered
     pub under_woke : (c : Plan) (mid new : Known) (q : Run C) (n : S) (b : Bool)

@@ -1,25 +1,35 @@
 -- Where a hold's whole book shows that a place is left at the front, and where it shows that none is.
 use Rattle.std.proofs.Common.{◌∙◌, ap, refl, arith}
 use Rattle.std.proofs.lemmas.Bool.Decides.{nat_tests}
-use Rattle.std.specs.Prelude.{ℕ, zero, suc, ◌≡◌, ◌≢◌, ◌-◌, ◌<◌, ◌≤◌, not, Bool, true, false, nat_lt, if◌then◌else◌}
+use Rattle.std.specs.Prelude.{ℕ, zero, suc, ◌≡◌, ◌<◌, ◌≤◌, not, Bool, true, false, nat_lt, if◌then◌else◌}
 use Rattle.std.specs.Prelude.{Option, Some, None}
-use Rattle.wait_model.specs.declared.layout.TheConstants.{ENTRIES, MEMBERS, PLACES, MIDDLE}
+use Rattle.wait_model.specs.declared.layout.TheConstants.{MEMBERS, PLACES, MIDDLE}
 use Rattle.wait_model.specs.declared.queues.Member.{Member}
 use Rattle.wait_model.specs.declared.queues.Form.TheVariants as forms
 use Rattle.wait_model.specs.Queues.{even_below, rank_at, member_from, place_before, place_for, is_within}
-use Rattle.wait_model.specs.Places.{front_for}
+use Rattle.wait_model.specs.Places.{front_for, within}
 use Rattle.wait_model.proofs.QueueLaws.QueueOrder.{IsFirstFrom, first_is}
 use Rattle.wait_rule.specs.Known.{Known}
-use Rattle.wait_rule.specs.Notes.{Glance, unknown, away, there}
-use Rattle.wait_rule.specs.Says.{told_of, noted}
-use Rattle.wait_rule.specs.Queues.{IsWholeBook, IsLowest, IsFrontPlace, place_by}
+use Rattle.wait_rule.specs.Queues.{IsLowest, IsFrontPlace, place_by}
 use Rattle.wait_rule.specs.Shown.{queue_with, queue_below, shown_queue}
 use Rattle.wait_rule.specs.Transitions.{is_worn}
-use Rattle.wait_model.specs.Views.{Look, unseen, off, elsewhere, shown}
-use Rattle.wq_head.specs.Looks.{AreLow, AreSeen, is_look, is_glance}
+use Rattle.wq_head.specs.Looks.{AreLow}
+pub use Rattle.wq_head.proofs.LookingHold.{seen_whole as whole_seen}
 use Rattle.wq_head.proofs.ShownQueue.{queue_in_order, queue_has, queue_of}
 use Rattle.wq_head.proofs.ShownPlaces.{front_place_is}
 use Rattle.wq_head.proofs.AddedEntries.{front_after}
+
+pub left_within : (low high p : ℕ) → low ≤ p → p < high → not (is_within low high p) ≡ false
+left_within low high p up down = let yes : is_within low high p ≡ true = grind (arith, nat_tests) in ap not yes
+
+pub worn_within : (low high q : ℕ) → within low high q ≡ None → not (is_within low high q) ≡ true
+worn_within low high q none = by (nat_lt q low) (nat_lt q high) refl refl none
+  where
+    by : (a b : Bool) → nat_lt q low ≡ a → nat_lt q high ≡ b
+        → (if a then None else if b then Some q else None) ≡ None → not (is_within low high q) ≡ true
+    by true b x y n = let no : is_within low high q ≡ false = grind (arith, nat_tests) in ap not no
+    by false true x y n = absurd (cc)
+    by false false x y n = let no : is_within low high q ≡ false = grind (arith, nat_tests) in ap not no
 
 module _ (k : Known) (low : AreLow k MEMBERS) where
   small : (m p : ℕ) → m < MEMBERS → place_by k m ≡ Some p → p < PLACES
@@ -29,25 +39,12 @@ module _ (k : Known) (low : AreLow k MEMBERS) where
   front_is p is = front_place_is k small p is
 
   -- a place is left
-  within_yes : (p : ℕ) → MIDDLE ≤ p → p < PLACES → not (is_within MIDDLE PLACES p) ≡ false
-  within_yes p up down = let yes : is_within MIDDLE PLACES p ≡ true = grind (arith, nat_tests) in ap not yes
-
   pub front_left : (p : ℕ) → IsFrontPlace k p → is_worn forms.Front (shown_queue k) ≡ false
   front_left p is =
       let a = front_after is.0 p is.2 in
-      ap (λ (q : ℕ). not (is_within MIDDLE PLACES q)) (front_is p is) ∙ within_yes p a.middle_on a.small
+      ap (λ (q : ℕ). not (is_within MIDDLE PLACES q)) (front_is p is) ∙ left_within MIDDLE PLACES p a.middle_on a.small
 
   -- none is left: the first member from the middle on stands at the lowest place
-  within_no : (q : ℕ) → (if nat_lt q MIDDLE then None else if nat_lt q PLACES then Some q else None) ≡ None
-      → not (is_within MIDDLE PLACES q) ≡ true
-  within_no q none = by (nat_lt q MIDDLE) (nat_lt q PLACES) refl refl none
-    where
-      by : (a b : Bool) → nat_lt q MIDDLE ≡ a → nat_lt q PLACES ≡ b
-          → (if a then None else if b then Some q else None) ≡ None → not (is_within MIDDLE PLACES q) ≡ true
-      by true b x y n = let no : is_within MIDDLE PLACES q ≡ false = grind (arith, nat_tests) in ap not no
-      by false true x y n = absurd (cc)
-      by false false x y n = let no : is_within MIDDLE PLACES q ≡ false = grind (arith, nat_tests) in ap not no
-
   first_stands : (l : ℕ) → IsLowest k MEMBERS MIDDLE PLACES (Some l) → (o : Option Member)
       → IsFirstFrom (λ _. true) (rank_at MIDDLE) (shown_queue k) o → place_before o ≡ even_below l
   first_stands l s None h = absurd (
@@ -79,29 +76,7 @@ module _ (k : Known) (low : AreLow k MEMBERS) where
   front_worn l s none = ap (λ (q : ℕ). not (is_within MIDDLE PLACES q))
       (first_stands l s (member_from (rank_at MIDDLE) (shown_queue k))
       (first_is (λ _. true) (rank_at MIDDLE) (shown_queue k) (queue_in_order k)))
-      ∙ within_no (even_below l) none
-
--- a whole book has seen each member
-look_known : (l : Look) → l ≢ unseen → is_look l ≡ true
-look_known unseen known = absurd (known refl)
-look_known off known = refl
-look_known elsewhere known = refl
-look_known (shown e) known = refl
-
-glance_known : (g : Glance) → g ≢ unknown → is_glance g ≡ true
-glance_known unknown known = absurd (known refl)
-glance_known away known = refl
-glance_known (there p) known = refl
-
-pub whole_seen : (k : Known) → IsWholeBook k → AreSeen k MEMBERS
-whole_seen k w m few = by (nat_lt m ENTRIES) refl
-  where
-    by : (b : Bool) → nat_lt m ENTRIES ≡ b
-        → (if b then is_look ((told_of k).hold.book m) else is_glance ((noted k).marks (m - ENTRIES))) ≡ true
-    by true low = let in_range : m < ENTRIES = grind (arith, nat_tests) in
-        look_known ((told_of k).hold.book m) (w.entries m in_range)
-    by false high = let above : ENTRIES ≤ m = grind (arith, nat_tests) in
-        glance_known ((noted k).marks (m - ENTRIES)) (w.marks (m - ENTRIES) (omega (arith, above, few)))
+      ∙ worn_within MIDDLE PLACES (even_below l) none
 
 -- where all members have the same places, the queue is the same
 below_same : (f g : ℕ → Option ℕ) (n : ℕ) → ((m : ℕ) → m < n → f m ≡ g m) → queue_below f n ≡ queue_below g n

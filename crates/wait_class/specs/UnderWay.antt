@@ -20,8 +20,9 @@ going (turn.Done o) = turn.Done o
 abbrev pub Came : {C S O : Type 0} → CallTable C S O → Known → Known → Run C → Run C → S → Turn S O → Type 0
 Came t old new r q s u = Advances t old new r q s (going u)
 
--- A task that owed nothing began the call of this plan, at a stage at which it had taken nothing, and came there.
-pub record HasCome {C S O : Type 0} (t : CallTable C S O) (c : Plan) (k : Known) (r : Run C) (u : Turn S O) :
+-- A task that owed nothing began the call of this plan, at a stage at which it had taken nothing, and came from there as
+-- the last of these says.
+pub record HasCome {C S O : Type 0} (t : CallTable C S O) (c : Plan) (Comes : Known → Run C → S → Type 0) :
     Type 0 where
   pub old : Known
   pub began : Run C
@@ -30,8 +31,8 @@ pub record HasCome {C S O : Type 0} (t : CallTable C S O) (c : Plan) (k : Known)
   pub told : IsTold old
   pub nothing : t.took start ≡ false
   pub plan : t.plan_of began.of ≡ c
-  pub came : Advances t old k began r start u
+  pub came : Comes old began start
 
 -- the call of this plan is under way, and goes on behind what a turn answered
 abbrev pub IsUnderWay : {C S O : Type 0} → CallTable C S O → Plan → Known → Run C → Turn S O → Type 0
-IsUnderWay t c k r u = HasCome t c k r (going u)
+IsUnderWay t c k r u = HasCome t c (λ old began start. Came t old k began r start u)

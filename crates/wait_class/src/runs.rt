@@ -59,9 +59,7 @@ pub fn stretch<C: Machine>(
                 }
                 at = next;
             }
-            Turn::Asleep(next) => return Turn::Asleep(next),
-            Turn::Locked(next) => return Turn::Locked(next),
-            Turn::Done(outcome) => return Turn::Done(outcome),
+            turn => return turn,
         }
     }
     unreachable!()
@@ -89,7 +87,7 @@ pub fn woke<C: Machine>(domain: &Domain, task: &mut Task, run: &Run<C>, stage: C
 
 /// Waits until a wait that was put asleep was woken.
 #[inline(always)]
-fn rise<R: Wait, C: Machine>(
+pub fn rise<R: Wait, C: Machine>(
     rt: &R,
     domain: &Domain,
     task: &mut Task,
@@ -98,7 +96,8 @@ fn rise<R: Wait, C: Machine>(
 )
     requires of { task.old.domain ≡ domain.now }
     requires asleep { IsAsleepAt C.table task.old run.now stage }
-    ensures { Advances C.table task.old task.new run.now run.now stage (turn.Again stage) }
+    ensures of { task.new.domain ≡ domain.now }
+    ensures rises { Advances C.table task.old task.new run.now run.now stage (turn.Again stage) }
 {
     C::lawful();
     let _ = (*run, stage);

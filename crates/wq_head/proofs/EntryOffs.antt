@@ -356,16 +356,16 @@ module _ (a : Aim) (k new : Known) (v : ShownEntry) (full : IsFull a.watch) (w :
   none_before : SamePlaces (v.entry.place + 1) (place_by k) (place_by k)
   none_before m p low over = (λ is. is, λ is. is)
 
-  pub auto_called : v.entry.kind ≡ kind.Autoremove → HasCalled a k new w v yes_no
-  auto_called is = off_called a k k v full w n (off_auto v.entry.kind is) (keeps_same a k) none_before
-      (λ found real c. (
-        wake_transition a k v full w n real c (owner v.member) (mask_of a.mode) found refl refl ∷ [],
-        auto_goes a k v full w n real c (owner v.member) (mask_of a.mode) found refl refl is,
-      )) new yes_no o
+  off_either : (v.entry.kind ≡ kind.Autoremove) ⊎ (v.entry.kind ≡ kind.Var) → TakesOff v.entry.kind
+  off_either (inl auto) = off_auto v.entry.kind auto
+  off_either (inr var) = off_var v.entry.kind var
 
-  pub var_called : v.entry.kind ≡ kind.Var → HasCalled a k new w v yes_no
-  var_called is = off_called a k k v full w n (off_var v.entry.kind is) (keeps_same a k) none_before
+  pub off_called_at_once : (v.entry.kind ≡ kind.Autoremove) ⊎ (v.entry.kind ≡ kind.Var) → HasCalled a k new w v yes_no
+  off_called_at_once is = off_called a k k v full w n (off_either is) (keeps_same a k) none_before
       (λ found real c. (
         wake_transition a k v full w n real c (owner v.member) (mask_of a.mode) found refl refl ∷ [],
-        var_goes a k v full w n real c (owner v.member) (mask_of a.mode) found refl refl is,
+        elim is [
+          | inl auto ↦ auto_goes a k v full w n real c (owner v.member) (mask_of a.mode) found refl refl auto
+          | inr var ↦ var_goes a k v full w n real c (owner v.member) (mask_of a.mode) found refl refl var
+        ],
       )) new yes_no o

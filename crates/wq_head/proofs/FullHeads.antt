@@ -110,25 +110,18 @@ module _ (a : Watch) (full : IsFull a) (x : ℕ) (e : Entry) (at : IsStanding x 
   no_simple = ap not simple_none
 
 -- the kinds of entries by their watches
-plain_bit : (k : Kind) → (k ≡ kind.Default) ⊎ ((k ≡ kind.Autoremove) ⊎ ((k ≡ kind.Woken) ⊎ (k ≡ kind.Simple)))
-    → k ≡ kind.Bit → ⊥
-plain_bit k (inl is) bit = absurd (cc)
-plain_bit k (inr (inl is)) bit = absurd (cc)
-plain_bit k (inr (inr (inl is))) bit = absurd (cc)
-plain_bit k (inr (inr (inr is))) bit = absurd (cc)
-
-plain_page : (k : Kind) → (k ≡ kind.Default) ⊎ ((k ≡ kind.Autoremove) ⊎ ((k ≡ kind.Woken) ⊎ (k ≡ kind.Simple)))
-    → k ≡ kind.Page → ⊥
-plain_page k (inl is) page = absurd (cc)
-plain_page k (inr (inl is)) page = absurd (cc)
-plain_page k (inr (inr (inl is))) page = absurd (cc)
-plain_page k (inr (inr (inr is))) page = absurd (cc)
+plain_unhashed : (k : Kind) → (k ≡ kind.Default) ⊎ ((k ≡ kind.Autoremove) ⊎ ((k ≡ kind.Woken) ⊎ (k ≡ kind.Simple)))
+    → (k ≡ kind.Bit → ⊥) × (k ≡ kind.Page → ⊥)
+plain_unhashed k (inl is) = (λ bit. absurd (cc), λ page. absurd (cc))
+plain_unhashed k (inr (inl is)) = (λ bit. absurd (cc), λ page. absurd (cc))
+plain_unhashed k (inr (inr (inl is))) = (λ bit. absurd (cc), λ page. absurd (cc))
+plain_unhashed k (inr (inr (inr is))) = (λ bit. absurd (cc), λ page. absurd (cc))
 
 pub kind_bit : (x : ℕ) (e : Entry) → IsStanding x e → e.kind ≡ kind.Bit → is_bit e.watch ≡ true
 kind_bit x e at is = by e.watch e.kind at.lawful.suited is
   where
     by : (w : Watch) (k : Kind) → Suited w k → k ≡ kind.Bit → is_bit w ≡ true
-    by (watch.Plain c) k suits is = absurd (plain_bit k suits.1 is)
+    by (watch.Plain c) k suits is = absurd ((plain_unhashed k suits.1).0 is)
     by (watch.Done d) k suits is = let both : kind.Simple ≡ kind.Bit = sym suits.1 ∙ is in absurd (cc)
     by (watch.Bit w b) k suits is = refl
     by (watch.Var v o) k suits is = let both : kind.Var ≡ kind.Bit = sym suits.2 ∙ is in absurd (cc)
@@ -137,7 +130,7 @@ pub kind_page : (x : ℕ) (e : Entry) → IsStanding x e → e.kind ≡ kind.Pag
 kind_page x e at is = by e.watch e.kind at.lawful.suited is
   where
     by : (w : Watch) (k : Kind) → Suited w k → k ≡ kind.Page → (p : ℕ) × (w ≡ page p)
-    by (watch.Plain c) k suits is = absurd (plain_page k suits.1 is)
+    by (watch.Plain c) k suits is = absurd ((plain_unhashed k suits.1).1 is)
     by (watch.Done d) k suits is = let both : kind.Simple ≡ kind.Page = sym suits.1 ∙ is in absurd (cc)
     by (watch.Bit w b) k suits is = elim suits.2 [
       | inl bit ↦ let both : kind.Bit ≡ kind.Page = sym bit ∙ is in absurd (cc)

@@ -54,19 +54,25 @@ still_stands c old new p q carries s agreed blind all head at ticket state home 
     carried_stands c old new p q carries s agreed head at ticket state
     (subst (IsHome q.zone q.watch) (sym (carries.stored x blind (all x))) (home ((told_of old).bits.stored x) s.home))
 
--- a place that says no more
-pub stands_as : (k : Known) (p q : Post) → Stands k p → q.head ≡ p.head → q.ticket ≡ p.ticket
-    → (IsStateFor p.stirs p.state k.book.state → IsStateFor q.stirs q.state k.book.state)
-    → ((o : Option Entry) → IsHome p.zone p.watch o → IsHome q.zone q.watch o) → Stands k q
-stands_as k p q s head ticket state home = record {
+-- a place that says no more, by the entry that is stored, and by any
+pub stands_with : (k : Known) (p q : Post) → Stands k p → q.head ≡ p.head → q.ticket ≡ p.ticket
+    → IsStateFor q.stirs q.state k.book.state
+    → IsHome q.zone q.watch ((told_of k).bits.stored (index k.view.number 0)) → Stands k q
+stands_with k p q s head ticket state home = record {
   head = s.head ∙ sym head;
   at = λ h is. s.at h (sym head ∙ is);
   told = s.told ∙ sym head;
   ticket = s.ticket ∙ sym ticket;
   agreed = λ h is. s.agreed h (sym head ∙ is);
-  state = state s.state;
-  home = home ((told_of k).bits.stored (index k.view.number 0)) s.home;
+  state = state;
+  home = home;
 }
+
+pub stands_as : (k : Known) (p q : Post) → Stands k p → q.head ≡ p.head → q.ticket ≡ p.ticket
+    → (IsStateFor p.stirs p.state k.book.state → IsStateFor q.stirs q.state k.book.state)
+    → ((o : Option Entry) → IsHome p.zone p.watch o → IsHome q.zone q.watch o) → Stands k q
+stands_as k p q s head ticket state home = stands_with k p q s head ticket (state s.state)
+    (home ((told_of k).bits.stored (index k.view.number 0)) s.home)
 
 -- any step behind which no head is held, by what it changes of the book and of the own entry
 pub stands_on : (k : Known) (e : Step) (p q : Post) → Stands k p → (learn_step e k.book).head ≡ q.head

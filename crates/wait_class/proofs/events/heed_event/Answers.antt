@@ -1,10 +1,10 @@
-use Rattle.std.proofs.Common.{false, ◌∙◌, ℕ, ap, inl, inr, refl}
+use Rattle.std.proofs.Common.{◌∙◌, ℕ, ap, inl, inr, refl}
 use Rattle.wait_model.specs.Tasks.{pending, state_mask, task_of}
 use Rattle.wait_model.specs.declared.layout.TheConstants.{HEADS}
-use Rattle.wait_class.proofs.Entries.{heed_holds, heed_owes, heed_stops, heeds_advances, heeds_falls, off_advances, off_falls}
+use Rattle.wait_class.proofs.Entries.{heed_holds, heed_owes, heed_stops, heeds_advances, heeds_falls, heed_law, not_there, off_falls}
 use Rattle.wait_model.specs.declared.steps.Step.TheVariants as step
-use Rattle.wait_class.proofs.Handed.{given_as, given_on, given_seen, given_step, given_unlocked}
-use Rattle.wait_class.proofs.AwakeSteps.{awake_seen, awake_step, awake_unlocked, sleeps_not_on}
+use Rattle.wait_class.proofs.Handed.{given_as, given_on, given_back, given_seen, given_step}
+use Rattle.wait_class.proofs.AwakeSteps.{awake_back, awake_seen, awake_step, sleeps_not_on}
 use Rattle.wait_class.proofs.events.heed_event.Goals as goal
 
 pub returns-then-is_some-clause-turned : goal.returns-then-is_some-clause-turned
@@ -35,9 +35,12 @@ give_back-requires-clause-permits g c = heed_owes g.C.Machine.table c.lawful.ens
     c.args.run.now c.args.stage c.requires.here c.requires.at c.own_entry-entry.result c.own_entry-entry.ensures
 
 pub returns-clause-turned : goal.returns-clause-turned
-returns-clause-turned g c = off_advances g.C.Machine.table c.lawful.ensures c.args.task.now c.own_entry-entry.new.task
-    c.give_back.new.task c.args.run.now c.args.stage c.requires.here c.requires.at c.own_entry-entry.result c.own_entry-entry.ensures
-    c.is_some.result c.is_some.ensures c.if-is_some.false c.give_back.ensures.given c.found_to.result c.found_to.ensures
+returns-clause-turned g c =
+    let l = heed_law g.C.Machine.table c.lawful.ensures c.args.run.now.of c.args.stage c.requires.here in
+    not_there g.C.Machine.table c.lawful.ensures c.args.task.now c.own_entry-entry.new.task c.give_back.new.task
+    c.args.run.now c.args.stage l.held l.opens l.gives c.requires.at c.own_entry-entry.result c.own_entry-entry.ensures
+    c.is_some.result c.is_some.ensures c.if-is_some.false c.give_back.ensures.given c.found_to.result
+    c.found_to.ensures
 
 pub returns-clause-falls : goal.returns-clause-falls
 returns-clause-falls g c = off_falls g.C.Machine.table c.lawful.ensures c.args.run.now.of c.args.stage
@@ -58,12 +61,9 @@ returns-then-is_some-clause-given g c = given_as c.args.task.now c.load_own-own.
     c.load_own-own.ensures.step))
 
 pub returns-clause-given : goal.returns-clause-given
-returns-clause-given g c = given_as c.args.task.now c.give_back.new.task c.own_entry-entry.new.task.at
-    c.put.new.self.head (c.put.ensures ∙ c.give_back.ensures.head)
-    (given_on c.args.task.now c.own_entry-entry.new.task c.give_back.new.task c.own_entry-entry.new.task.at
-    (given_seen c.args.task.now c.own_entry-entry.new.task c.own_entry-entry.result c.own_entry-entry.ensures)
-    (given_unlocked c.own_entry-entry.new.task c.give_back.new.task c.own_entry-entry.new.task.at false
-    c.give_back.ensures.given))
+returns-clause-given g c = given_back c.args.task.now c.own_entry-entry.new.task c.give_back.new.task
+    c.own_entry-entry.result c.own_entry-entry.ensures c.put.new.self.head (c.put.ensures ∙ c.give_back.ensures.head)
+    c.give_back.ensures.given
 
 pub returns-then-is_some-clause-awake : goal.returns-then-is_some-clause-awake
 returns-then-is_some-clause-awake g c = sleeps_not_on c.args.task.now c.own_entry-entry.new.task c.load_own-own.new.task
@@ -71,6 +71,5 @@ returns-then-is_some-clause-awake g c = sleeps_not_on c.args.task.now c.own_entr
     (awake_step c.own_entry-entry.new.task c.load_own-own.new.task (step.Look c.load_own-own.result.0) c.load_own-own.ensures.step refl)
 
 pub returns-clause-awake : goal.returns-clause-awake
-returns-clause-awake g c = sleeps_not_on c.args.task.now c.own_entry-entry.new.task c.give_back.new.task
-    (awake_seen c.args.task.now c.own_entry-entry.new.task c.own_entry-entry.result c.own_entry-entry.ensures)
-    (awake_unlocked c.own_entry-entry.new.task c.give_back.new.task c.give_back.ensures.given)
+returns-clause-awake g c = awake_back c.args.task.now c.own_entry-entry.new.task c.give_back.new.task c.own_entry-entry.result
+    c.own_entry-entry.ensures c.give_back.ensures.given

@@ -1,11 +1,11 @@
-use Rattle.std.proofs.Common.{false, ◌∙◌, ap, inl, inr, refl}
+use Rattle.std.proofs.Common.{◌∙◌, ap, inl, inr, refl}
 use Rattle.wait_model.specs.Tasks.{state_mask}
 use Rattle.wait_model.specs.declared.layout.TheConstants.{HEADS}
 use Rattle.wait_class.proofs.Queues.{join_advances, join_falls, mid_holds, queue_at, queue_may, queue_out, queue_seen}
 use Rattle.wait_class.proofs.Queues.{stay_advances, stay_falls, worn_advances, worn_falls, worn_owes, worn_stops}
 use Rattle.wait_model.specs.declared.steps.Step.TheVariants as step
-use Rattle.wait_class.proofs.Handed.{given_as, given_joined, given_on, given_seen, given_member_looks, given_step, given_unlocked}
-use Rattle.wait_class.proofs.AwakeSteps.{awake_joined, awake_looked, awake_seen, awake_step, awake_unlocked, sleeps_not_on}
+use Rattle.wait_class.proofs.Handed.{given_as, given_back, given_joined, given_on, given_seen, given_member_looks, given_step}
+use Rattle.wait_class.proofs.AwakeSteps.{awake_back, awake_joined, awake_looked, awake_seen, awake_step, sleeps_not_on}
 use Rattle.wait_class.proofs.events.queue_event.Goals as goal
 
 pub set_state-requires-clause-may : goal.set_state-requires-clause-may
@@ -90,16 +90,14 @@ returns-in-Ok-clause-given g c = given_as c.args.task.now c.add.new.task HEADS c
     (c.in-Ok.ensures c.requires.here).by))
 
 pub returns-in-Err-clause-given : goal.returns-in-Err-clause-given
-returns-in-Err-clause-given g c = given_as c.args.task.now c.give_back.new.task c.own_entry.new.task.at
-    c.put.new.self.head (c.put.ensures ∙ c.give_back.ensures.head)
-    (given_on c.args.task.now c.own_entry-entry.new.task c.give_back.new.task c.own_entry.new.task.at
+returns-in-Err-clause-given g c =
+    let h = c.put.new.self.head in
+    given_on c.args.task.now c.own_entry-entry.new.task c.give_back.new.task h
     (given_seen c.args.task.now c.own_entry-entry.new.task c.own_entry-entry.result c.own_entry-entry.ensures)
-    (given_on c.own_entry-entry.new.task c.add.new.task c.give_back.new.task c.own_entry.new.task.at
+    (given_on c.own_entry-entry.new.task c.add.new.task c.give_back.new.task h
     (given_member_looks c.own_entry-entry.new.task c.add.new.task (c.in-Err.ensures c.requires.here).by.looks)
-    (given_on c.add.new.task c.own_entry.new.task c.give_back.new.task c.own_entry.new.task.at
-    (given_seen c.add.new.task c.own_entry.new.task c.own_entry.result c.own_entry.ensures)
-    (given_unlocked c.own_entry.new.task c.give_back.new.task c.own_entry.new.task.at false
-    c.give_back.ensures.given))))
+    (given_back c.add.new.task c.own_entry.new.task c.give_back.new.task c.own_entry.result c.own_entry.ensures h
+    (c.put.ensures ∙ c.give_back.ensures.head) c.give_back.ensures.given))
 
 pub returns-then-is_some-clause-awake : goal.returns-then-is_some-clause-awake
 returns-then-is_some-clause-awake g c = sleeps_not_on c.args.task.now c.own_entry-entry.new.task c.set_state.new.task
@@ -116,6 +114,5 @@ returns-in-Err-clause-awake g c = sleeps_not_on c.args.task.now c.own_entry-entr
     (awake_seen c.args.task.now c.own_entry-entry.new.task c.own_entry-entry.result c.own_entry-entry.ensures)
     (sleeps_not_on c.own_entry-entry.new.task c.add.new.task c.give_back.new.task
     (awake_looked c.own_entry-entry.new.task c.add.new.task (c.in-Err.ensures c.requires.here).by.looks)
-    (sleeps_not_on c.add.new.task c.own_entry.new.task c.give_back.new.task
-    (awake_seen c.add.new.task c.own_entry.new.task c.own_entry.result c.own_entry.ensures)
-    (awake_unlocked c.own_entry.new.task c.give_back.new.task c.give_back.ensures.given)))
+    (awake_back c.add.new.task c.own_entry.new.task c.give_back.new.task c.own_entry.result c.own_entry.ensures
+    c.give_back.ensures.given))

@@ -24,6 +24,6 @@ returns-in-Asleep g c =
     let b = advances_on g.C.Machine.table c.lawful.ensures c.args.task.now c.event.new.task c.rise.new.task
     c.args.run.now c.event.new.run c.event.new.run c.args.stage c.in-Asleep.next
     (turn.Again c.in-Asleep.next) a.same
-    (record { runs = a.went.runs; tells = a.went.tells; keeps = a.went.keeps }) c.rise.ensures in
+    (record { runs = a.went.runs; tells = a.went.tells; keeps = a.went.keeps }) c.rise.ensures.rises in
     advances_on g.C.Machine.table c.lawful.ensures c.args.task.now c.rise.new.task r.new.task c.args.run.now
     c.event.new.run r.new.run c.args.stage c.in-Asleep.next (turn.Done r.result) b.same b.went r.ensures

@@ -31,7 +31,7 @@ loop-preserved-in-Asleep g c =
     advances_on g.C.Machine.table c.lawful.ensures c.args.task.now c.three_events.new.task c.rise.new.task
     c.args.run.now c.three_events.new.run c.three_events.new.run c.args.stage c.in-Asleep.next
     (turn.Again c.in-Asleep.next) a.same
-    (record { runs = a.went.runs; tells = a.went.tells; keeps = a.went.keeps }) c.rise.ensures
+    (record { runs = a.went.runs; tells = a.went.tells; keeps = a.went.keeps }) c.rise.ensures.rises
 
 pub rise-requires-clause-of : goal.rise-requires-clause-of
 rise-requires-clause-of g c = same_domain g.C.Machine.table c.lawful.ensures c.loop.task c.three_events.new.task

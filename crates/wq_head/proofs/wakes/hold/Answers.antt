@@ -7,7 +7,7 @@ use Rattle.wait_rule.specs.Says.{stored_with}
 use Rattle.wait_rule.proofs.KnownLaws.Turns.{unlocked_free}
 use Rattle.wq_head.proofs.PermitHeads.{walk_owes}
 use Rattle.wq_head.proofs.EntryFunctions.{keeps_on}
-use Rattle.wq_head.proofs.WholeWalk.{come_on, walk_passed, walk_spent, walk_stopped}
+use Rattle.wq_head.proofs.WholeWalk.{turned_over, come_on, walk_passed, walk_spent, walk_stopped}
 use Rattle.wq_head.specs.Roused.{RousesNone}
 use Rattle.wq_head.proofs.RousedTasks.{none_stored, none_unlocked, rousing_on, rousing_unlocked}
 use Rattle.wq_head.proofs.wakes.hold.Goals as goal
@@ -15,38 +15,29 @@ use Rattle.wq_head.proofs.wakes.hold.Goals as goal
 pub returns-in-Passed-clause-turned : goal.returns-in-Passed-clause-turned
 returns-in-Passed-clause-turned c start up idle tries i =
     let mid = c.walk_hold.new.task in
-    let over = c.in-Passed.ensures.over in record {
-      aim = refl;
-      outside = subst (λ (k : Known). k.book.head ≡ None) (sym c.give_back.ensures.given)
-          (unlocked_free mid mid.at false).head;
-      turns = walk_passed c.args.run.now.aim start c.args.task.now mid c.give_back.new.task c.args.run.now.walk
-          c.in-Passed.walk i c.in-Passed.ensures.keeps over.0 idle c.requires.small c.requires.full over.1 over.2 over.3
-          over.4 c.give_back.ensures.given c.walked.result c.walked.ensures;
-    }
+    let over = c.in-Passed.ensures.over in
+    turned_over start mid c.give_back.new.task _ _ false _ refl c.give_back.ensures.given
+    (walk_passed c.args.run.now.aim start c.args.task.now mid c.give_back.new.task c.args.run.now.walk
+    c.in-Passed.walk i c.in-Passed.ensures.keeps over.0 idle c.requires.small c.requires.full over.1 over.2 over.3
+    over.4 c.give_back.ensures.given c.walked.result c.walked.ensures)
 
 pub returns-in-Spent-clause-turned : goal.returns-in-Spent-clause-turned
 returns-in-Spent-clause-turned c start up idle tries i =
     let mid = c.walk_hold.new.task in
-    let over = c.in-Spent.ensures.over in record {
-      aim = refl;
-      outside = subst (λ (k : Known). k.book.head ≡ None) (sym c.give_back-in-Spent.ensures.given)
-          (unlocked_free mid mid.at true).head;
-      turns = walk_spent c.args.run.now.aim start c.args.task.now mid c.give_back-in-Spent.new.task
-          c.args.run.now.walk c.in-Spent.walk i c.in-Spent.ensures.keeps over.0 idle c.requires.small over.1 over.2
-          c.give_back-in-Spent.ensures.given c.walked-in-Spent.result c.walked-in-Spent.ensures;
-    }
+    let over = c.in-Spent.ensures.over in
+    turned_over start mid c.give_back-in-Spent.new.task _ _ true _ refl c.give_back-in-Spent.ensures.given
+    (walk_spent c.args.run.now.aim start c.args.task.now mid c.give_back-in-Spent.new.task
+    c.args.run.now.walk c.in-Spent.walk i c.in-Spent.ensures.keeps over.0 idle c.requires.small over.1 over.2
+    c.give_back-in-Spent.ensures.given c.walked-in-Spent.result c.walked-in-Spent.ensures)
 
 pub returns-in-Stopped-clause-turned : goal.returns-in-Stopped-clause-turned
 returns-in-Stopped-clause-turned c start up idle tries i =
     let mid = c.walk_hold.new.task in
-    let over = c.in-Stopped.ensures.over in record {
-      aim = refl;
-      outside = subst (λ (k : Known). k.book.head ≡ None) (sym c.give_back-in-Stopped.ensures.given)
-          (unlocked_free mid mid.at false).head;
-      turns = walk_stopped c.args.run.now.aim start c.args.task.now mid c.give_back-in-Stopped.new.task
-          c.args.run.now.walk c.in-Stopped.walk i c.in-Stopped.ensures.keeps over.0 idle c.requires.small over.1
-          over.2 over.3 c.give_back-in-Stopped.ensures.given c.walked-in-Stopped.result c.walked-in-Stopped.ensures;
-    }
+    let over = c.in-Stopped.ensures.over in
+    turned_over start mid c.give_back-in-Stopped.new.task _ _ false _ refl c.give_back-in-Stopped.ensures.given
+    (walk_stopped c.args.run.now.aim start c.args.task.now mid c.give_back-in-Stopped.new.task
+    c.args.run.now.walk c.in-Stopped.walk i c.in-Stopped.ensures.keeps over.0 idle c.requires.small over.1
+    over.2 over.3 c.give_back-in-Stopped.ensures.given c.walked-in-Stopped.result c.walked-in-Stopped.ensures)
 
 pub returns-in-Breaks-clause-turned : goal.returns-in-Breaks-clause-turned
 returns-in-Breaks-clause-turned c start up idle tries i =

@@ -37,6 +37,7 @@ use Rattle.wait_rule.specs.Ends.{WasWorn}
 use Rattle.wait_rule.specs.Queues.{IsFrontPlace}
 use Rattle.wq_head.proofs.FullHeads.{hashed_low}
 use Rattle.wait_event.specs.Ends.{wait_change}
+use Rattle.wait_event.proofs.Behind.{StandsOver}
 use Rattle.wait_class.specs.Posts.{IsOut, Keeps}
 use Rattle.wait_class.specs.Posts.{EndsWith}
 use Rattle.wait_class.specs.Findings.{with_value}
@@ -363,11 +364,8 @@ module _ (old ended : Known) (q : Run (Framed WaitBit)) (o : BitOutcome) (kept :
   rested : Rested ended new
   rested = rests ended new (is_bit_worn o) (state_mask q.of.wait.state) h at_end.stands.state
 
-  pub ends_up : IsUp new
+  ends_up : IsUp new
   ends_up = rested.awake ∙ at_end.up
-
-  pub ends_out : IsOut new
-  ends_out = rested_out ended new (bit_end_post q.of.wait o) at_end.stands refl rested
 
   out_then : (told_of ended).bits.stored (index old.view.number 0) ≡ None
   out_then = ap (λ (n : ℕ). (told_of ended).bits.stored (index n 0)) (sym kept.number)
@@ -402,16 +400,20 @@ module _ (old ended : Known) (q : Run (Framed WaitBit)) (o : BitOutcome) (kept :
         owes = λ x owes. owes_still (with_entry i x) owes;
       })
 
-  pub ends_idle : (told_of old).mark ≡ None → IsIdle new
-  ends_idle unmarked = rested_idle ended new (bit_end_post q.of.wait o) at_end.stands refl refl rested
-      (kept.mark ∙ unmarked)
+  pub ends_over : StandsOver old new
+  ends_over = record {
+    up = ends_up;
+    idle = λ unmarked. rested_idle ended new (bit_end_post q.of.wait o) at_end.stands refl refl rested
+        (kept.mark ∙ unmarked);
+    out = rested_out ended new (bit_end_post q.of.wait o) at_end.stands refl rested;
+  }
 
   -- who began owing nothing owes nothing
   pub ends_clean : IsClean old → IsClean new
   ends_clean clean = record {
     up = ends_up;
     running = rested.state;
-    free = (ends_idle clean.settled.unmarked).free;
+    free = (ends_over.idle clean.settled.unmarked).free;
     settled = owes_on no_excuse clean.settled;
   }
 

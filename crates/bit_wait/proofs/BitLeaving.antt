@@ -16,7 +16,7 @@ use Rattle.wait_rule.specs.Known.{Known}
 use Rattle.wait_rule.specs.Queues.{IsIdle, index}
 use Rattle.wait_rule.specs.Says.{IsClean, IsUp, told_of}
 use Rattle.wait_rule.specs.Stays.{Carries}
-use Rattle.wait_class.specs.Posts.{IsOut, Keeps}
+use Rattle.wait_class.specs.Posts.{Keeps}
 use Rattle.wait_class.specs.declared.stages.Doing.TheVariants as doing
 use Rattle.wait_class.specs.declared.frame_stages.Framed.{Framed}
 use Rattle.wait_class.specs.declared.frame_stages.Stage.{Stage}
@@ -29,6 +29,7 @@ use Rattle.wait_class.specs.Wholes.{HasRested}
 use Rattle.wait_class.proofs.Framing.{framed_lawful}
 use Rattle.wait_class.proofs.Ground.Standing.{home_waits}
 use Rattle.wait_event.specs.Ends.{wait_change}
+use Rattle.wait_event.proofs.Behind.{StandsOver}
 use Rattle.wait_leave.specs.declared.exits.Until.{Until}
 use Rattle.wait_leave.specs.declared.exits.Until.TheVariants as until
 use Rattle.wait_leave.specs.ExitLaws.{AreLawfulExits, AwakeOn, is_awake}
@@ -48,7 +49,7 @@ use Rattle.bit_wait.specs.declared.waits.BitOutcome.TheVariants as outcome
 use Rattle.bit_wait.specs.declared.waits.BitTest.{BitTest}
 use Rattle.bit_wait.specs.declared.waits.BitTest.TheVariants as test
 use Rattle.bit_wait.specs.declared.waits.WaitBit.{WaitBit}
-use Rattle.bit_wait.proofs.BitLaws.{bit_lawful, ends_carried, ends_clean, ends_idle, ends_kept, ends_out, ends_up}
+use Rattle.bit_wait.proofs.BitLaws.{bit_lawful, ends_carried, ends_clean, ends_kept, ends_over}
 
 -- the exits
 asks_law : AskLaw bit_table bit_exits
@@ -134,14 +135,14 @@ module _ (A : Type 0) (old ended : Known) (r q : Run (Framed WaitBit)) (s : Stag
 
 module _ (A : Type 0) (old ended new : Known) (r q : Run (Framed WaitBit)) (s : Stage BitTest) (o : BitOutcome)
     (came : OnTheWay A bit_table bit_exits old r s ended q (turn.Done o)) (h : HasRested ended new (is_bit_worn o)) where
-  pub left_up : IsUp new
-  left_up = ends_up old ended q o (kept A old ended r q s o came) (left_ended A old ended r q s o came) new h
+  pub left_over : StandsOver old new
+  left_over = ends_over old ended q o (kept A old ended r q s o came) (left_ended A old ended r q s o came) new h
 
-  pub left_out : IsOut new
-  left_out = ends_out old ended q o (kept A old ended r q s o came) (left_ended A old ended r q s o came) new h
+  pub left_up : IsUp new
+  left_up = left_over.up
 
   pub left_idle : (told_of old).mark ≡ None → IsIdle new
-  left_idle = ends_idle old ended q o (kept A old ended r q s o came) (left_ended A old ended r q s o came) new h
+  left_idle = left_over.idle
 
   pub left_kept : Keeps (index old.view.number 0) old new
   left_kept = ends_kept old ended q o (kept A old ended r q s o came) (left_ended A old ended r q s o came) new h

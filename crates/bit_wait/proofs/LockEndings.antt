@@ -10,7 +10,7 @@ use Rattle.wait_model.specs.Tasks.{state_mask}
 use Rattle.wait_rule.specs.Known.{Known}
 use Rattle.wait_rule.specs.Says.{IsClean, IsUp, told_of}
 use Rattle.wait_rule.specs.Queues.{IsIdle, IsTold, index}
-use Rattle.wait_class.specs.Posts.{IsOut, own_of}
+use Rattle.wait_class.specs.Posts.{IsOut}
 use Rattle.bit_wait.specs.BitEnds.{answer_of_bit_end}
 use Rattle.bit_wait.specs.LockStays.{LockKeeps, TakesBit}
 use Rattle.bit_wait.specs.LockTables.{CauseIn, IsFreshLock, IsRunningLock, WhyFailed, answer_to_lock, lock_end_post, lock_bit_in, is_lock_over, lock_frame, lock_table}
@@ -28,9 +28,11 @@ use Rattle.wait_class.specs.declared.stages.Run.{Run}
 use Rattle.wait_class.specs.declared.stages.Turn.TheVariants as turn
 use Rattle.wait_class.specs.Tables.{Advances, IsAt, Plan, call_plan}
 use Rattle.wait_class.specs.UnderWay.{IsUnderWay}
+use Rattle.wait_event.proofs.Behind.{StandsOver}
 use Rattle.wait_leave.specs.Leaves.{with_asked}
 use Rattle.bit_wait.specs.Holders.{IsHolder}
 use Rattle.wait_class.proofs.Wholes.{Rested, begins, ended_runs, rested_idle, rested_out, rests}
+use Rattle.bit_wait.proofs.Holders.{clean_idle, clean_out}
 use Rattle.bit_wait.proofs.LockKinds.{locks_clean, takes_bit}
 
 -- the numbers of a call are in their ranges
@@ -122,14 +124,12 @@ module _ (old ended new : Known) (r q : Run (Framed LockBit)) (w b : ℕ) (st : 
   abbrev first : Stage LockTest
   first = stage.Test test.First
 
-  pub ends_up : IsUp new
-  ends_up = up_by old ended new r q w b st fresh first refl o a h
-
-  pub ends_out : IsOut new
-  ends_out = out_by old ended new r q w b st fresh first refl o a h
-
-  pub ends_idle : (told_of old).mark ≡ None → IsIdle new
-  ends_idle = idle_by old ended new r q w b st fresh first refl o a h
+  pub ends_over : StandsOver old new
+  ends_over = record {
+    up = up_by old ended new r q w b st fresh first refl o a h;
+    idle = idle_by old ended new r q w b st fresh first refl o a h;
+    out = out_by old ended new r q w b st fresh first refl o a h;
+  }
 
   pub ends_takes : IsUp old → IsIdle old → IsOut old → (told_of old).hold.head ≡ None
       → TakesBit old new (watch.Bit w b) (given (lock_end_in q.of.wait o))
@@ -160,12 +160,8 @@ under_clean c ended new q o i h =
     let b = r.of.wait.bit in
     let st = r.of.wait.state in
     let fresh : IsFreshLock r.of.wait w b st = record { word = refl; bit = refl; state = refl } in
-    let was : IsIdle i.old = record {
-      running = i.clean.running;
-      free = i.clean.free;
-      unmarked = i.clean.settled.unmarked;
-    } in
-    let out : IsOut i.old = i.clean.settled.unqueued (own_of i.old) in
+    let was = clean_idle i.old i.clean in
+    let out = clean_out i.old i.clean in
     subst (λ (d : Watch). MatchBool (given (lock_end_in q.of.wait o)) (IsHolder new d) (IsClean new))
     (ap (λ (x : Plan). x.watch) i.plan)
     (locks_clean i.old new (watch.Bit w b) i.clean (up_by i.old ended new r q w b st fresh i.start i.nothing o i.came h)

@@ -40,7 +40,7 @@ use Rattle.wait_class.proofs.Turns.{GoesOn, free_head, stands_plain}
 use Rattle.wait_class.proofs.Wholes.{Rested}
 use Rattle.bit_wait.specs.Holders.{IsHolder}
 use Rattle.bit_wait.specs.LockStays.{LockKeeps, TakesBit}
-use Rattle.bit_wait.proofs.Holders.{none_taken}
+use Rattle.bit_wait.proofs.Holders.{holds_or_owes}
 use Rattle.bit_wait.proofs.LockGround.{gone, lock_keeps_by, lock_keeps_looks, lock_keeps_none, lock_keeps_on}
 use Rattle.bit_wait.proofs.LockGround.{lock_keeps_own, lock_keeps_removed, lock_keeps_same, lock_keeps_set}
 use Rattle.bit_wait.proofs.LockGround.{lock_keeps_step, lock_keeps_unlock}
@@ -141,6 +141,30 @@ held_on : (g t was now : Bool) → (g ≡ false → now ≡ was) → (not t && w
 held_on true t was now same is = refl
 held_on false t was now same is = ap (λ (k : Bool). not t && k) (same refl) ∙ is
 
+-- the entries of a task behind a call of the one of this index, which is off before it and behind it
+pub entries_out : (i : ℕ) (old new : Known) → (told_of new).bits.stored i ≡ None
+    → ((y : ℕ) → (y == i) ≡ false → (told_of old).bits.stored y ≡ None → (told_of new).bits.stored y ≡ None)
+    → (y : ℕ) → (told_of old).bits.stored y ≡ None → (told_of new).bits.stored y ≡ None
+entries_out i old new gone others y is = by (eqb_tells y i)
+  where
+    by : (((y == i) ≡ true) × (y ≡ i)) ⊎ (((y == i) ≡ false) × (y ≢ i)) → (told_of new).bits.stored y ≡ None
+    by (inl q) = ap (told_of new).bits.stored q.1 ∙ gone
+    by (inr q) = others y q.0 is
+
+pub entries_stand : (i : ℕ) (old new : Known) → (told_of old).bits.stored i ≡ None
+    → ((slot : ℕ) → slot < SLOTS → (index old.view.number slot == i) ≡ false → (e : Entry)
+    → (told_of old).bits.stored (index old.view.number slot) ≡ Some e → IsOwnKind e.kind
+    → (told_of new).bits.stored (index old.view.number slot) ≡ Some e)
+    → (slot : ℕ) → slot < SLOTS → (e : Entry) → (told_of old).bits.stored (index old.view.number slot) ≡ Some e
+    → IsOwnKind e.kind → (told_of new).bits.stored (index old.view.number slot) ≡ Some e
+entries_stand i old new out others slot few e is own = by (eqb_tells (index old.view.number slot) i)
+  where
+    by : (((index old.view.number slot == i) ≡ true) × (index old.view.number slot ≡ i))
+        ⊎ (((index old.view.number slot == i) ≡ false) × (index old.view.number slot ≢ i))
+        → (told_of new).bits.stored (index old.view.number slot) ≡ Some e
+    by (inl q) = absurd (let no : None ≡ Some e = sym (ap (told_of old).bits.stored q.1 ∙ out) ∙ is in cc)
+    by (inr q) = others slot few q.0 e is own
+
 -- by the parts that a whole call leaves, whatever it answers
 module _ (old ended new : Known) (w b : ℕ) (g : Bool)
     (k : LockKeeps (index old.view.number 0) (watch.Bit w b) false g old ended) (rest : Rested ended new)
@@ -156,22 +180,13 @@ module _ (old ended new : Known) (w b : ℕ) (g : Bool)
   i = index old.view.number 0
 
   none_stored : (y : ℕ) → (told_of old).bits.stored y ≡ None → (told_of new).bits.stored y ≡ None
-  none_stored y is = by (eqb_tells y i)
-    where
-      by : (((y == i) ≡ true) × (y ≡ i)) ⊎ (((y == i) ≡ false) × (y ≢ i)) → (told_of new).bits.stored y ≡ None
-      by (inl q) = ap (told_of new).bits.stored q.1 ∙ out_new
-      by (inr q) = rest.stored y ∙ k.out y q.0 is
+  none_stored = entries_out i old new out_new (λ y away is. rest.stored y ∙ k.out y away is)
 
   slots_stand : (slot : ℕ) → slot < SLOTS → (e : Entry)
       → (told_of old).bits.stored (index old.view.number slot) ≡ Some e → IsOwnKind e.kind
       → (told_of new).bits.stored (index old.view.number slot) ≡ Some e
-  slots_stand slot few e is own = by (eqb_tells (index old.view.number slot) i)
-    where
-      by : (((index old.view.number slot == i) ≡ true) × (index old.view.number slot ≡ i))
-          ⊎ (((index old.view.number slot == i) ≡ false) × (index old.view.number slot ≢ i))
-          → (told_of new).bits.stored (index old.view.number slot) ≡ Some e
-      by (inl q) = absurd (let no : None ≡ Some e = sym (ap (told_of old).bits.stored q.1 ∙ out) ∙ is in cc)
-      by (inr q) = rest.stored (index old.view.number slot) ∙ k.stands slot few q.0 e is own
+  slots_stand = entries_stand i old new out
+      (λ slot few away e is own. rest.stored (index old.view.number slot) ∙ k.stands slot few away e is own)
 
   stays : StaysBeside (taken_bits c g) old new
   stays = record {
@@ -242,15 +257,4 @@ module _ (old ended new : Known) (w b : ℕ) (g : Bool)
 -- who owed nothing
 pub locks_clean : (old new : Known) (c : Watch) → IsClean old → IsUp new → IsIdle new → (g : Bool)
     → TakesBit old new c g → MatchBool g (IsHolder new c) (IsClean new)
-locks_clean old new c clean up idle true t = record {
-  up = up;
-  idle = idle;
-  keeps = t.keeps refl;
-  owes = t.owes no_excuse clean.settled;
-}
-locks_clean old new c clean up idle false t = record {
-  up = up;
-  running = idle.running;
-  free = idle.free;
-  settled = none_taken c new (t.owes no_excuse clean.settled);
-}
+locks_clean old new c clean up idle g t = holds_or_owes new c up idle g t.keeps (t.owes no_excuse clean.settled)

@@ -13,7 +13,7 @@ use Rattle.wait_model.specs.Tasks.{state_mask}
 use Rattle.wait_rule.specs.Known.{Known}
 use Rattle.wait_rule.specs.Queues.{IsIdle, index}
 use Rattle.wait_rule.specs.Says.{IsClean, IsUp, told_of}
-use Rattle.wait_class.specs.Posts.{IsOut, own_of}
+use Rattle.wait_class.specs.Posts.{IsOut}
 use Rattle.wait_class.specs.declared.stages.Doing.TheVariants as doing
 use Rattle.wait_class.specs.declared.frame_stages.Framed.{Framed}
 use Rattle.wait_class.specs.declared.frame_stages.Stage.{Stage}
@@ -26,6 +26,7 @@ use Rattle.wait_class.specs.Wholes.{HasRested}
 use Rattle.wait_class.proofs.Framing.{framed_lawful}
 use Rattle.wait_class.proofs.Ground.Standing.{home_waits}
 use Rattle.wait_class.proofs.Wholes.{Rested, rested_idle, rested_out, rests}
+use Rattle.wait_event.proofs.Behind.{StandsOver}
 use Rattle.wait_leave.specs.declared.exits.Until.{Until}
 use Rattle.wait_leave.specs.ExitLaws.{AreLawfulExits, AwakeOn, is_awake}
 use Rattle.wait_leave.specs.Leaves.{with_asked}
@@ -44,6 +45,7 @@ use Rattle.bit_wait.specs.declared.lock_runs.LockOutcome.{LockOutcome}
 use Rattle.bit_wait.specs.declared.lock_runs.LockOutcome.TheVariants as outcome
 use Rattle.bit_wait.specs.declared.lock_runs.LockTest.{LockTest}
 use Rattle.bit_wait.specs.declared.lock_runs.LockTest.TheVariants as test
+use Rattle.bit_wait.proofs.Holders.{clean_idle, clean_out}
 use Rattle.bit_wait.proofs.LockGround.{lock_keeps_none, lock_keeps_on, lock_keeps_step}
 use Rattle.bit_wait.proofs.LockKinds.{locks_clean, takes_bit}
 use Rattle.bit_wait.proofs.LockLaws.{lock_lawful}
@@ -149,14 +151,18 @@ module _ (A : Type 0) (old ended new : Known) (r q : Run (Framed LockBit)) (s : 
   pub left_up : IsUp new
   left_up = rested.awake ∙ at_end.up
 
-  pub left_out : IsOut new
-  left_out = rested_out ended new (lock_end_post e o) at_end.stands refl rested
-
   kept : LockKeeps (index old.view.number 0) (lock_bit_in r.of.wait) (lock_table.took s) (is_lock_over o) old ended
   kept = way_keeps A lock_table lock_exits lock_may_leave lawful old r s ended q (turn.Done o) came
 
   pub left_idle : (told_of old).mark ≡ None → IsIdle new
   left_idle unmarked = rested_idle ended new (lock_end_post e o) at_end.stands refl refl rested (kept.mark ∙ unmarked)
+
+  pub left_over : StandsOver old new
+  left_over = record {
+    up = left_up;
+    idle = left_idle;
+    out = rested_out ended new (lock_end_post e o) at_end.stands refl rested;
+  }
 
   pub left_tries : (told_of new).bits.pending (lock_bit_in r.of.wait) ≡ false
   left_tries = ap (told_of new).bits.pending (sym bit_is) ∙ (rested.pending (lock_bit_in e) ∙ at_end.trail.tries)
@@ -176,7 +182,7 @@ module _ (A : Type 0) (old ended new : Known) (r q : Run (Framed LockBit)) (s : 
       (subst (λ (c : Watch). LockKeeps (index old.view.number 0) c false (is_lock_over o) old ended) is
       (subst (λ (g : Bool). LockKeeps (index old.view.number 0) (lock_bit_in r.of.wait) g (is_lock_over o) old ended) fresh kept)))
       rested up idle out held left_up (left_idle idle.unmarked) (rested.hold ∙ at_end.stands.told)
-      (ap (λ (n : ℕ). (told_of new).bits.stored (index n 0)) (sym (rested.number ∙ kept.number)) ∙ left_out)
+      (ap (λ (n : ℕ). (told_of new).bits.stored (index n 0)) (sym (rested.number ∙ kept.number)) ∙ left_over.out)
       (ap (told_of new).bits.pending (sym is) ∙ left_tries)
       (λ took. ap (told_of new).bits.keeps (sym is) ∙ (ap (told_of new).bits.keeps (sym bit_is)
       ∙ (rested.keeps (lock_bit_in e) ∙ at_end.trail.keeps (taken_is e o ∙ took))))
@@ -222,12 +228,8 @@ pub left_clean : (A : Type 0) (c : Plan) (ended new : Known) (q : Run (Framed Lo
     → MatchBool (takes_until (until_in q.of.wait o)) (IsHolder new c.watch) (IsClean new)
 left_clean A c ended new q o i h =
     let r = i.began in
-    let was : IsIdle i.old = record {
-      running = i.clean.running;
-      free = i.clean.free;
-      unmarked = i.clean.settled.unmarked;
-    } in
-    let out : IsOut i.old = i.clean.settled.unqueued (own_of i.old) in
+    let was = clean_idle i.old i.clean in
+    let out = clean_out i.old i.clean in
     subst (λ (d : Watch). MatchBool (takes_until (until_in q.of.wait o)) (IsHolder new d) (IsClean new))
     (ap (λ (x : Plan). x.watch) i.plan)
     (locks_clean i.old new (lock_bit_in r.of.wait) i.clean (left_up A i.old ended new r q i.start o i.came h)

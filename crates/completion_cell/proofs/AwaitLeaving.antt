@@ -20,7 +20,7 @@ use Rattle.wait_rule.specs.Says.{IsClean, IsUp, history_of, told_of}
 use Rattle.wait_rule.specs.Stays.{Carries}
 use Rattle.wait_rule.proofs.KnownLaws.OtherCalls.{Adding}
 use Rattle.wait_rule.proofs.KnownLaws.TaskHistories.{history_after}
-use Rattle.wait_class.specs.Posts.{IsOut, own_of}
+use Rattle.wait_class.specs.Posts.{own_of}
 use Rattle.wait_class.specs.declared.stages.Doing.TheVariants as doing
 use Rattle.wait_class.specs.declared.stages.Run.{Run}
 use Rattle.wait_class.specs.declared.stages.Turn.{Turn}
@@ -29,6 +29,7 @@ use Rattle.wait_class.specs.Tables.{IsEnded, Plan}
 use Rattle.wait_class.specs.Wholes.{HasRested}
 use Rattle.wait_class.proofs.Histories.{unmoved_by}
 use Rattle.wait_event.specs.Ends.{wait_change}
+use Rattle.wait_event.proofs.Behind.{StandsOver}
 use Rattle.wait_event.specs.declared.wait_events.WaitEnd.{WaitEnd}
 use Rattle.wait_leave.specs.declared.exits.Until.{Until}
 use Rattle.wait_leave.specs.ExitLaws.{AreLawfulExits, AwakeOn}
@@ -47,7 +48,7 @@ use Rattle.completion_cell.specs.declared.awaits.AwaitStage.{AwaitStage}
 use Rattle.completion_cell.specs.declared.awaits.AwaitStage.TheVariants as stage
 use Rattle.completion_cell.proofs.AwaitLaws.{await_lawful}
 use Rattle.completion_cell.proofs.AwaitTrails.{still_by}
-use Rattle.completion_cell.proofs.Endings.{carried_by, clean_by, given_back, idle_by, out_by}
+use Rattle.completion_cell.proofs.Endings.{carried_by, clean_by, given_back, over_by}
 use Rattle.completion_cell.proofs.OtherCells.{IsAside, aside_on, aside_stays, given_off, wait_adds}
 
 -- the exits: out of a hold that has loaded 0; before its sleep it stores RUNNING
@@ -156,18 +157,18 @@ module _ (A : Type 0) (old new : Known) (r q : Run AwaitCall) (s : AwaitStage) (
   same_plan : with_asked false (await_table.plan_of q.of) ≡ with_asked false (await_table.plan_of r.of)
   same_plan = way_plan A await_table await_exits await_may_leave await_lawful old r s new q (turn.Done o) w
 
+  pub left_over : StandsOver old new
+  left_over = over_by old new q o lands left_kept
+
   pub left_up : IsUp new
   left_up = lands.up
 
-  pub left_out : IsOut new
-  left_out = out_by old new q o lands left_kept
-
   pub left_idle : (told_of old).mark ≡ None → IsIdle new
-  left_idle = idle_by old new q o lands left_kept
+  left_idle = left_over.idle
 
   pub left_here : LeftOff r.of.cell new
   left_here = subst (λ (d : ℕ). LeftOff d new) (ap (λ (p : Plan). cell_in p.watch) same_plan)
-      (given_off new q.of (given_back new q.of o lands.trail) left_out)
+      (given_off new q.of (given_back new q.of o lands.trail) left_over.out)
 
   pub left_off : (told_of old).hold.head ≡ None → StaysOff old new
   left_off free c left = by (eqb_tells c r.of.cell)

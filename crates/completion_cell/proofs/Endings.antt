@@ -22,7 +22,7 @@ use Rattle.wait_class.specs.Posts.{IsOut}
 use Rattle.wait_event.specs.Ends.{wait_change}
 use Rattle.wait_class.specs.Posts.{EndsWith, own_of}
 use Rattle.wait_event.specs.Waits.{has_queued_in}
-use Rattle.wait_event.proofs.Behind.{behind_at}
+use Rattle.wait_event.proofs.Behind.{StandsOver, behind_at, over_behind}
 use Rattle.wait_class.proofs.Wholes.{begins}
 use Rattle.completion_cell.specs.AwaitEnds.{EndsAwait, HasAwaited, await_end_in}
 use Rattle.wait_class.specs.Tables.{Advances, IsAt, IsEnded, Plan}
@@ -36,7 +36,7 @@ use Rattle.completion_cell.specs.declared.awaits.AwaitOutcome.TheVariants as out
 use Rattle.completion_cell.specs.declared.awaits.AwaitCall.{AwaitCall}
 use Rattle.completion_cell.specs.declared.awaits.AwaitStage.{AwaitStage}
 use Rattle.completion_cell.specs.declared.awaits.AwaitStage.TheVariants as stage
-use Rattle.completion_cell.proofs.Behind.{StandsBehind, behind_carried, behind_clean, behind_idle}
+use Rattle.completion_cell.proofs.Behind.{StandsBehind, behind_carried, behind_clean}
 use Rattle.completion_cell.proofs.OtherCells.{wait_stays_off}
 
 -- a task that is idle, with its entry off, may begin
@@ -58,11 +58,8 @@ module _ (old new : Known) (q : Run AwaitCall) (o : AwaitOutcome) (ended : IsEnd
   behind = behind_at (await_end_post q.of o) (record { head = refl; ticket = refl; stirs = refl; zone = refl }) old new
       ended.up ended.stands keeps
 
-  pub idle_by : (told_of old).mark ≡ None → IsIdle new
-  idle_by = behind_idle old new behind
-
-  pub out_by : IsOut new
-  out_by = behind.out
+  pub over_by : StandsOver old new
+  over_by = over_behind old new behind
 
   pub carried_by : StaysOff old new → IsUp old → IsIdle old → (told_of old).hold.head ≡ None
       → Carries (wait_change (index old.view.number 0) new.at) old new
@@ -73,19 +70,13 @@ module _ (old new : Known) (q : Run AwaitCall) (o : AwaitOutcome) (ended : IsEnd
 
 module _ (old new : Known) (r q : Run AwaitCall) (s : AwaitStage) (o : AwaitOutcome)
     (a : Advances await_table old new r q s (turn.Done o)) where
-  pub ends_up : IsUp new
-  ends_up = a.lands.up
-
-  pub ends_idle : (told_of old).mark ≡ None → IsIdle new
-  ends_idle = idle_by old new q o a.lands a.went.keeps
-
-  pub ends_out : IsOut new
-  ends_out = out_by old new q o a.lands a.went.keeps
+  pub ends_over : StandsOver old new
+  ends_over = over_by old new q o a.lands a.went.keeps
 
   -- it leaves no entry at a completion
   pub ends_off : (told_of old).hold.head ≡ None → StaysOff old new
   ends_off free = wait_stays_off old new q.of r.of.cell r.of.state _ _ a.went.tells.cell a.went.runs free
-      (given_back new q.of o a.lands.trail) ends_out
+      (given_back new q.of o a.lands.trail) ends_over.out
 
   pub ends_carried : IsUp old → IsIdle old → (told_of old).hold.head ≡ None
       → Carries (wait_change (index old.view.number 0) new.at) old new

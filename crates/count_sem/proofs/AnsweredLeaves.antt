@@ -110,22 +110,14 @@ module _ (c me g t : ℕ) where
     kept_order : rested ≡ k → Order me (history_of rested) → Order me (history_of k)
     kept_order still order = subst (λ (x : Known). Order me (history_of x)) still order
 
-    look_out : rested ≡ k → Exited k rested m stage.Look goes_out
-    look_out still = record {
+    out_at : (n : DownStage) → (At (turn.Again n) k → At (turn.Again stage.LeaveQueue) k) → rested ≡ k
+        → Exited k rested m n goes_out
+    out_at n holds still = record {
       to = stage.LeaveQueue;
       is = refl;
       order = kept_order still;
       same = kept_same still;
-      counts = λ q. subst (λ (x : Known). At (turn.Again stage.LeaveQueue) x) (sym still) q;
-    }
-
-    queue_out : rested ≡ k → Exited k rested m stage.Queue goes_out
-    queue_out still = record {
-      to = stage.LeaveQueue;
-      is = refl;
-      order = kept_order still;
-      same = kept_same still;
-      counts = λ q. subst (λ (x : Known). At (turn.Again stage.LeaveQueue) x) (sym still) q;
+      counts = λ q. subst (λ (x : Known). At (turn.Again stage.LeaveQueue) x) (sym still) (holds q);
     }
 
     slept_on : (e : Step) → IsCalm e → At (turn.Again stage.Sleep) k → history_of rested ≡ history_of k ++ e ∷ []
@@ -159,8 +151,8 @@ module _ (c me g t : ℕ) where
         subst (λ (x : DownExit). HasRested k rested x.rests → Exited k rested m n x) same
 
     exits : (n : DownStage) (e : DownExit) → down_exit n ≡ Some e → HasRested k rested e.rests → Exited k rested m n e
-    exits stage.Look e is = exit_as stage.Look goes_out e is look_out
-    exits stage.Queue e is = exit_as stage.Queue goes_out e is queue_out
+    exits stage.Look e is = exit_as stage.Look goes_out e is (out_at stage.Look (λ q. q))
+    exits stage.Queue e is = exit_as stage.Queue goes_out e is (out_at stage.Queue (λ q. q))
     exits stage.Sleep e is = exit_as stage.Sleep goes_again e is sleep_out
     exits n e is = absurd (cc)
 

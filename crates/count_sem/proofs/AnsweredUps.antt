@@ -59,32 +59,30 @@ pub record Has (c me : ℕ) (es : List Step) (given taken : ℕ) : Type 0 where
 
 -- one step more
 module _ (c me : ℕ) (es : List Step) (e : Step) (g t : ℕ) (has : Has c me es g t) where
+  gave_by : (b : Bool) (n : ℕ) → gives_permit c (own me) (view_of es) (dealt c me es) e ≡ b → n ≡ g + flag b
+      → permits_given c me (es ++ e ∷ []) ≡ n
+  gave_by b n gives is = let one = counted_snoc gives_permit c (own me) blank none_dealt es e in
+      let two = has.gave in let by = ap flag gives in omega (arith, one, two, by, is)
+
+  took_by : (b : Bool) (n : ℕ) → takes_permit c (own me) (view_of es) (dealt c me es) e ≡ b → n ≡ t + flag b
+      → permits_taken c me (es ++ e ∷ []) ≡ n
+  took_by b n takes is = let one = counted_snoc takes_permit c (own me) blank none_dealt es e in
+      let two = has.took in let by = ap flag takes in omega (arith, one, two, by, is)
+
   pub has_still : gives_permit c (own me) (view_of es) (dealt c me es) e ≡ false
       → takes_permit c (own me) (view_of es) (dealt c me es) e ≡ false → Has c me (es ++ e ∷ []) g t
   has_still gives takes = record {
-    gave = let one = counted_snoc gives_permit c (own me) blank none_dealt es e in
-        let two = has.gave in let none = ap flag gives in omega (arith, one, two, none);
-    took = let one = counted_snoc takes_permit c (own me) blank none_dealt es e in
-        let two = has.took in let none = ap flag takes in omega (arith, one, two, none);
+    gave = gave_by false g gives (omega arith);
+    took = took_by false t takes (omega arith);
   }
 
   pub has_gift : gives_permit c (own me) (view_of es) (dealt c me es) e ≡ true
       → takes_permit c (own me) (view_of es) (dealt c me es) e ≡ false → Has c me (es ++ e ∷ []) (g + 1) t
-  has_gift gives takes = record {
-    gave = let one = counted_snoc gives_permit c (own me) blank none_dealt es e in
-        let two = has.gave in let some = ap flag gives in omega (arith, one, two, some);
-    took = let one = counted_snoc takes_permit c (own me) blank none_dealt es e in
-        let two = has.took in let none = ap flag takes in omega (arith, one, two, none);
-  }
+  has_gift gives takes = record { gave = gave_by true (g + 1) gives refl; took = took_by false t takes (omega arith) }
 
   pub has_take : gives_permit c (own me) (view_of es) (dealt c me es) e ≡ false
       → takes_permit c (own me) (view_of es) (dealt c me es) e ≡ true → Has c me (es ++ e ∷ []) g (t + 1)
-  has_take gives takes = record {
-    gave = let one = counted_snoc gives_permit c (own me) blank none_dealt es e in
-        let two = has.gave in let none = ap flag gives in omega (arith, one, two, none);
-    took = let one = counted_snoc takes_permit c (own me) blank none_dealt es e in
-        let two = has.took in let some = ap flag takes in omega (arith, one, two, some);
-  }
+  has_take gives takes = record { gave = gave_by false g gives (omega arith); took = took_by true (t + 1) takes refl }
 
 -- a look takes nothing where the last hold left nothing
 pub unleft_look : (a b l r : Bool) → l ≡ false → (a && b) && (l && r) ≡ false

@@ -82,34 +82,23 @@ first_falls false looks true = refl
 first_falls false looks false = refl
 
 again_goes : (queued zero looks ends : Bool)
-    → ◌≡◌ {A = Next} (if queued
+    → (◌≡◌ {A = Next} (if queued
     then next.Go (if zero then at.Prepare (if looks then preparing.Look else preparing.Queue)
     else at.Await (awaiting.Off false))
     else if zero || ends then next.Go (at.Await awaiting.Unlock) else next.Ends (answer.Value 0))
-    (next_in down_table (again_by queued zero looks ends))
-again_goes true true true ends = refl
-again_goes true true false ends = refl
-again_goes true false looks ends = refl
-again_goes false true looks ends = refl
-again_goes false false looks true = refl
-again_goes false false looks false = refl
-
-again_plain : (queued zero looks ends : Bool) → IsPlainTurn down_table (again_by queued zero looks ends)
-again_plain true true true ends = refl
-again_plain true true false ends = refl
-again_plain true false looks ends = refl
-again_plain false true looks ends = refl
-again_plain false false looks true = refl
-again_plain false false looks false = tt
+    (next_in down_table (again_by queued zero looks ends)))
+    × IsPlainTurn down_table (again_by queued zero looks ends)
+    × (falls down_table stage.AgainLoad (again_by queued zero looks ends) ≡ true)
+again_goes true true true ends = (refl, refl, refl)
+again_goes true true false ends = (refl, refl, refl)
+again_goes true false looks ends = (refl, refl, refl)
+again_goes false true looks ends = (refl, refl, refl)
+again_goes false false looks true = (refl, refl, refl)
+again_goes false false looks false = (refl, tt, refl)
 
 pub again_falls : (queued zero looks ends : Bool)
     → falls down_table stage.AgainLoad (again_by queued zero looks ends) ≡ true
-again_falls true true true ends = refl
-again_falls true true false ends = refl
-again_falls true false looks ends = refl
-again_falls false true looks ends = refl
-again_falls false false looks true = refl
-again_falls false false looks false = refl
+again_falls queued zero looks ends = (again_goes queued zero looks ends).2
 
 pub end_is : (v : ℕ) → (v == ALL_DONE) ≡ true → ALL_DONE ≤ v
 end_is v is = let e = eqb-true v ALL_DONE is in omega (arith, e)
@@ -362,7 +351,7 @@ module _ (old mid : Known) (run : Run DownCall) (o : Option Entry) (h : HasSeenO
         (seen_looks old mid o h hd a.stands.head) (step_behind mid new (step.Load (watch.Done r.cell) v) is)
         (λ x did. told_by r q x refl refl refl (ap is_queue did))
         (kept_on r mid new v begun is finds carries old (own_keeps old mid o h))
-        (planned (is_some o) ∙ again_goes (is_some o) (v == 0) (looks_in r.state) (v == ALL_DONE)) refl
+        (planned (is_some o) ∙ (again_goes (is_some o) (v == 0) (looks_in r.state) (v == ALL_DONE)).0) refl
         (refl, finds_own old mid o h hd a.stands.head a.stands.told here o refl, tt)
         (carries.awake ∙ (h.carries.awake ∙ a.up)) (stood (is_some o) (v == 0) (looks_in r.state) (v == ALL_DONE) refl)
         (trail (is_some o) (v == 0) (looks_in r.state) (v == ALL_DONE) refl refl refl)
@@ -372,4 +361,4 @@ module _ (old mid : Known) (run : Run DownCall) (o : Option Entry) (h : HasSeenO
     again_turned queued at t to = subst (λ (z : DownTurn). Turned down_table old new run (record run { of = q })
         stage.AgainLoad z) (sym (to ∙ ap (again_to q) at))
         (advance_by down_table old new run (record run { of = q }) stage.AgainLoad u refl a.fits
-        (again_plain (is_some o) (v == 0) (looks_in r.state) (v == ALL_DONE)) goes)
+        (again_goes (is_some o) (v == 0) (looks_in r.state) (v == ALL_DONE)).1 goes)

@@ -140,15 +140,19 @@ begun_under a v None is = (
 )
 begun_under a v (Some w) is = by (same a.watch w.watch && (w.mask == mask_of a.mode)) refl
   where
+    walks : (b : Bool) → (same a.watch w.watch && (w.mask == mask_of a.mode)) ≡ b
+        → v.walk ≡ (if b then Some w else Some (record { watch = a.watch; mask = mask_of a.mode; from = 0 }))
+    walks b on = is ∙ ap (λ (c : Bool). if c then Some w else Some (record {
+      watch = a.watch;
+      mask = mask_of a.mode;
+      from = 0;
+    })) on
+
     by : (b : Bool) → (same a.watch w.watch && (w.mask == mask_of a.mode)) ≡ b → (u : Walk) × IsUnder a v u
     by true goes_on = (
       w,
       record {
-        under = is ∙ ap (λ (b : Bool). if b then Some w else Some (record {
-          watch = a.watch;
-          mask = mask_of a.mode;
-          from = 0;
-        })) goes_on;
+        under = walks true goes_on;
         watch = λ c.
             let one = one_of a.watch w.watch (and_left (same a.watch w.watch) (w.mask == mask_of a.mode) goes_on) in
             sym (one.likes c);
@@ -157,15 +161,7 @@ begun_under a v (Some w) is = by (same a.watch w.watch && (w.mask == mask_of a.m
     )
     by false anew = (
       record { watch = a.watch; mask = mask_of a.mode; from = 0 },
-      record {
-        under = is ∙ ap (λ (b : Bool). if b then Some w else Some (record {
-          watch = a.watch;
-          mask = mask_of a.mode;
-          from = 0;
-        })) anew;
-        watch = λ c. refl;
-        mask = refl;
-      },
+      record { under = walks false anew; watch = λ c. refl; mask = refl },
     )
 
 told_step : (old new : Known) (e : Step) → history_of new ≡ history_of old ++ e ∷ [] → told_of new ≡ after e

@@ -2,7 +2,7 @@
 use Rattle.std.proofs.Common.{◌∙◌, ap, sym, refl, subst, arith, inl, inr, append_assoc}
 use Rattle.std.proofs.lemmas.Bool.Decides.{nat_tests}
 use Rattle.std.specs.Prelude.{ℕ, ◌≡◌, ◌<◌, ◌≤◌, ◌+◌, ◌-◌, if◌then◌else◌, Bool, true, false, Option, Some, None}
-use Rattle.std.specs.Prelude.{Err, Ok, [], ◌∷◌, ◌++◌}
+use Rattle.std.specs.Prelude.{Result, Err, Ok, [], ◌∷◌, ◌++◌}
 use Rattle.wait_model.specs.declared.layout.TheConstants.{FIRST_SIMPLE_HEAD}
 use Rattle.wait_model.specs.declared.calls.Call.TheVariants as calls
 use Rattle.wait_model.specs.declared.points.CountPoint.{CountPoint}
@@ -58,6 +58,7 @@ use Rattle.completion_cell.proofs.Completing.{stored_agreed}
 use Rattle.completion_cell.proofs.Ground.{quiet_store, step_behind, holding_on}
 use Rattle.completion_cell.proofs.Permits.{MayEndHold, ends_off, ends_owing_none, hold_made, inside_join, inside_step}
 use Rattle.completion_cell.proofs.Permits.{nobody, selection_inside, store_inside}
+use Rattle.count_sem.specs.declared.ups.SemFull.{SemFull}
 use Rattle.count_sem.specs.declared.ups.TheConstants.{FULL}
 use Rattle.count_sem.specs.SemPrograms.{full_answer, gives_to, is_full, sem_head, up_next, up_plan}
 use Rattle.count_sem.specs.Ups.{FoundNobody, HasRaised}
@@ -118,6 +119,12 @@ module _ (me d : ℕ) where
       (refl, (whole, sym (ap (called_by (shown_entry m)) (no_entry m none))), tt)
       (step_behind m b (step.Load (watch.Done d) v) is)
 
+-- what a permit given back says, by its answer
+pub record RaisedBy (old new : Known) (d : ℕ) (r : Result (Unit {0}) SemFull) : Type 0 where
+  pub raised : HasRaised old new d r
+  pub carries : Carries (set_change (watch.Done d) mode.Normal new.at) old new
+  pub off : StaysOff old new
+
 -- with somebody queued
 module _ (d : ℕ) (old a m new : Known) (took : TookLock old a (sem_head d)) (free : IsFree old) (told : IsTold old)
     (s : HasSelected a m 1 1) (k : KeepsHold a m) where
@@ -132,17 +139,14 @@ module _ (d : ℕ) (old a m new : Known) (took : TookLock old a (sem_head d)) (f
   given_owes left = ends_owing_none d old m given_may left
 
   module _ (is : new ≡ unlocked_with m m.at true) where
-    pub given_off : StaysOff old new
-    given_off = ends_off d old m new true given_may is
-
-    pub given_carried : (IsSimpleHold a → IsSimpleHold m)
+    given_carried : (IsSimpleHold a → IsSimpleHold m)
         → Carries (set_change (watch.Done d) mode.Normal new.at) old new
     given_carried simple = ended_carried d old a m new true free told took.carries
         (looked_first (publish_change (watch.Done d)) a m m (hold_carried a m k)
         (as_publish (watch.Done d) m m (unchanged_none m))) (unlock_carried m new true is)
         (simple (took.simple (done_simple d))) given_at (inl refl) is
 
-    pub has_given : HasRaised old new d (Ok tt)
+    has_given : HasRaised old new d (Ok tt)
     has_given =
         let me = old.view.number in
         let f = up_program me d in
@@ -153,6 +157,13 @@ module _ (d : ℕ) (old a m new : Known) (took : TookLock old a (sem_head d)) (f
               (up_gives me d a m s) (up_spends me d m new given_at is));
           cause = tt;
         }
+
+    pub given_by : (IsSimpleHold a → IsSimpleHold m) → RaisedBy old new d (Ok tt)
+    given_by simple = record {
+      raised = has_given;
+      carries = given_carried simple;
+      off = ends_off d old m new true given_may is;
+    }
 
 -- with nobody queued
 module _ (d : ℕ) (old m : Known) (f : FoundNobody old m d) where
@@ -206,16 +217,13 @@ module _ (d : ℕ) (old m : Known) (f : FoundNobody old m d) where
       full_owes = ends_owing_none d old b full_may f.left
 
       module _ (new : Known) (gave : new ≡ unlocked_with b b.at false) where
-        pub full_off : StaysOff old new
-        full_off = ends_off d old b new false full_may gave
-
-        pub full_carried : Carries (set_change (watch.Done d) mode.Normal new.at) old new
+        full_carried : Carries (set_change (watch.Done d) mode.Normal new.at) old new
         full_carried = ended_carried d old f.locked b new false f.free f.told f.took.carries
             (looked_first (publish_change (watch.Done d)) f.locked m b look (as_publish (watch.Done d) m b loaded))
             (unlock_carried b new false gave) (simple_loaded m b (watch.Done d) v is f.simple)
             at_b (inr (whole_on m b (book_load m b d v is) f.whole, nobody_on m b (book_load m b d v is) f.nobody)) gave
 
-        pub has_refused : HasRaised old new d (Err (record { count = v }))
+        has_refused : HasRaised old new d (Err (record { count = v }))
         has_refused =
             let full : is_full v ≡ true = grind (arith, nat_tests, many) in
             let g = up_program old.view.number d in record {
@@ -237,6 +245,13 @@ module _ (d : ℕ) (old m : Known) (f : FoundNobody old m d) where
                 );
               };
             }
+
+        pub full_by : RaisedBy old new d (Err (record { count = v }))
+        full_by = record {
+          raised = has_refused;
+          carries = full_carried;
+          off = ends_off d old b new false full_may gave;
+        }
 
     -- it is raised
     module _ (below : v < FULL) (c : Known) (made : StoresCount b c d (v + 1)) where
@@ -276,17 +291,14 @@ module _ (d : ℕ) (old m : Known) (f : FoundNobody old m d) where
       published = unchanged_first (publish_change (watch.Done d)) m b c loaded made.publishes
 
       module _ (new : Known) (gave : new ≡ unlocked_with c c.at false) where
-        pub raised_off : StaysOff old new
-        raised_off = ends_off d old c new false raised_may gave
-
-        pub raised_carried : Carries (set_change (watch.Done d) mode.Normal new.at) old new
+        raised_carried : Carries (set_change (watch.Done d) mode.Normal new.at) old new
         raised_carried = ended_carried d old f.locked c new false f.free f.told f.took.carries
             (looked_first (publish_change (watch.Done d)) f.locked m c look published)
             (unlock_carried c new false gave)
             (simple_stored b c d (v + 1) made.found made.is (simple_loaded m b (watch.Done d) v is f.simple)) at_c
             (inr (whole_on m c kept f.whole, nobody_on m c kept f.nobody)) gave
 
-        pub has_raised : HasRaised old new d (Ok tt)
+        has_raised : HasRaised old new d (Ok tt)
         has_raised =
             let full : is_full v ≡ false = grind (arith, nat_tests, below) in
             let g = up_program old.view.number d in record {
@@ -297,6 +309,13 @@ module _ (d : ℕ) (old m : Known) (f : FoundNobody old m d) where
                   (next.Ends zero_answer) store_runs (up_unlocks old.view.number d c new at_c gave));
               cause = tt;
             }
+
+        pub raised_by : RaisedBy old new d (Ok tt)
+        raised_by = record {
+          raised = has_raised;
+          carries = raised_carried;
+          off = ends_off d old c new false raised_may gave;
+        }
 
 -- for the code: a lock that was taken, and a selection that found nobody
 pub took_of : (d h : ℕ) (old a : Known) → h ≡ sem_head d → IsUp a → HasLocked old a h (walk_of_hold h None)

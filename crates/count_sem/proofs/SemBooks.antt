@@ -1,7 +1,8 @@
 -- Loads and stores of a count change nothing of what a hold has seen.
-use Rattle.std.proofs.Common.{◌∙◌, ap, sym}
+use Rattle.std.proofs.Common.{◌∙◌, ap, sym, refl}
 use Rattle.std.specs.Prelude.{ℕ, ◌≡◌, ◌||◌, ◌==◌, nat_lt, if◌then◌else◌, Bool, true, false}
 use Rattle.wait_model.specs.declared.layout.TheConstants.{ALL_DONE}
+use Rattle.wait_model.specs.declared.steps.Step.{Step}
 use Rattle.wait_model.specs.declared.steps.Step.TheVariants as step
 use Rattle.wait_model.specs.declared.watches.Watch.TheVariants as watch
 use Rattle.wait_model.specs.Runs.{set_step}
@@ -35,34 +36,32 @@ book_none k new is = record {
   at = ap (λ (x : Known). x.at) is;
 }
 
-pub book_load : (k new : Known) (d v : ℕ) → new ≡ added k (item.Made (step.Load (watch.Done d) v)) → SameBook k new
-book_load k new d v is = record {
-  book = ap (λ (x : Known). (told_of x).hold.book) is
-      ∙ ap (λ (u : Told). u.hold.book) (told_added k (item.Made (step.Load (watch.Done d) v)));
-  marks = ap (λ (x : Known). (noted x).marks) is
-      ∙ ap (λ (n : Notes). n.marks) (noted_added k (item.Made (step.Load (watch.Done d) v)));
-  at = ap (λ (x : Known). x.at) is;
+-- a step that touches neither
+book_made : (e : Step) (k new : Known) → new ≡ added k (item.Made e)
+    → (told_of (added k (item.Made e))).hold.book ≡ (told_of k).hold.book
+    → (noted (added k (item.Made e))).marks ≡ (noted k).marks → (added k (item.Made e)).at ≡ k.at → SameBook k new
+book_made e k new is book marks here = record {
+  book = ap (λ (x : Known). (told_of x).hold.book) is ∙ book;
+  marks = ap (λ (x : Known). (noted x).marks) is ∙ marks;
+  at = ap (λ (x : Known). x.at) is ∙ here;
 }
+
+pub book_load : (k new : Known) (d v : ℕ) → new ≡ added k (item.Made (step.Load (watch.Done d) v)) → SameBook k new
+book_load k new d v is = book_made (step.Load (watch.Done d) v) k new is
+    (ap (λ (u : Told). u.hold.book) (told_added k (item.Made (step.Load (watch.Done d) v))))
+    (ap (λ (n : Notes). n.marks) (noted_added k (item.Made (step.Load (watch.Done d) v)))) refl
 
 pub book_store : (k new : Known) (d n r : ℕ) → new ≡ added k (item.Made (set_step (watch.Done d) n r)) → SameBook k new
 book_store k new d n r is = by (nat_lt r n || (n == ALL_DONE)) is
   where
     by : (b : Bool) → new ≡ added k (item.Made (if b then step.Publish (watch.Done d) n r
         else step.Consume (watch.Done d) n r)) → SameBook k new
-    by true made = record {
-      book = ap (λ (x : Known). (told_of x).hold.book) made
-          ∙ ap (λ (u : Told). u.hold.book) (told_added k (item.Made (step.Publish (watch.Done d) n r)));
-      marks = ap (λ (x : Known). (noted x).marks) made
-          ∙ ap (λ (m : Notes). m.marks) (noted_added k (item.Made (step.Publish (watch.Done d) n r)));
-      at = ap (λ (x : Known). x.at) made;
-    }
-    by false made = record {
-      book = ap (λ (x : Known). (told_of x).hold.book) made
-          ∙ ap (λ (u : Told). u.hold.book) (told_added k (item.Made (step.Consume (watch.Done d) n r)));
-      marks = ap (λ (x : Known). (noted x).marks) made
-          ∙ ap (λ (m : Notes). m.marks) (noted_added k (item.Made (step.Consume (watch.Done d) n r)));
-      at = ap (λ (x : Known). x.at) made;
-    }
+    by true made = book_made (step.Publish (watch.Done d) n r) k new made
+        (ap (λ (u : Told). u.hold.book) (told_added k (item.Made (step.Publish (watch.Done d) n r))))
+        (ap (λ (m : Notes). m.marks) (noted_added k (item.Made (step.Publish (watch.Done d) n r)))) refl
+    by false made = book_made (step.Consume (watch.Done d) n r) k new made
+        (ap (λ (u : Told). u.hold.book) (told_added k (item.Made (step.Consume (watch.Done d) n r))))
+        (ap (λ (m : Notes). m.marks) (noted_added k (item.Made (step.Consume (watch.Done d) n r)))) refl
 
 pub whole_on : (k new : Known) → SameBook k new → IsWholeBook k → IsWholeBook new
 whole_on k new s w = whole_same k new s.book s.marks s.at w

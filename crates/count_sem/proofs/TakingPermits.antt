@@ -36,6 +36,12 @@ use Rattle.completion_cell.proofs.Ground.{count_loads, count_locks, count_unlock
 use Rattle.completion_cell.proofs.Permits.{MayEndHold, ends_off, ends_owing_none}
 use Rattle.count_sem.specs.Ups.{HasTakenPermit}
 
+-- what a try says
+pub record PermitTried (old new : Known) (d : ℕ) (hit : Bool) : Type 0 where
+  pub tried : HasTakenPermit old new d hit
+  pub carries : Carries (hold_change new.at) old new
+  pub off : StaysOff old new
+
 module _ (d n h : ℕ) (old a b : Known) (same : h ≡ head_of (watch.Done d)) (free : IsFree old) (told : IsTold old)
     (l : HasLocked old a h (walk_of_hold h None)) (lock : Carries (lock_change h) old a) (held : IsHolding a)
     (is : b ≡ added a (item.Made (step.Load (watch.Done d) n))) (finds : FindsCount a d n)
@@ -59,10 +65,7 @@ module _ (d n h : ℕ) (old a b : Known) (same : h ≡ head_of (watch.Done d)) (
     permit_owes left = ends_owing_none d old c may left
 
     module _ (new : Known) (gave : new ≡ unlocked_with c c.at false) where
-      pub permit_off : StaysOff old new
-      permit_off = ends_off d old c new false may gave
-
-      pub permit_carried : Carries unlock_change c new → Carries (hold_change new.at) old new
+      permit_carried : Carries unlock_change c new → Carries (hold_change new.at) old new
       permit_carried back = whole_carried old a c new free (none_held old told free) h lock carries back
 
       locked : HasLocked old a (head_of (watch.Done d)) (walk_of_hold (head_of (watch.Done d)) None)
@@ -83,7 +86,7 @@ module _ (d n h : ℕ) (old a b : Known) (same : h ≡ head_of (watch.Done d)) (
           ∙ (ap (λ (es : List Step). es ++ rest) (history_after a b (step.Load (watch.Done d) n) is)
           ∙ append_assoc (history_of a) (step.Load (watch.Done d) n ∷ []) rest)))
 
-      pub has_taken_permit : (hit : Bool) → hit ≡ not (n == 0) → HasTakenPermit old new d hit
+      has_taken_permit : (hit : Bool) → hit ≡ not (n == 0) → HasTakenPermit old new d hit
       has_taken_permit hit tells =
           let me = old.view.number in
           let f = call_program me 0 (calls.TryWait d) in
@@ -111,3 +114,10 @@ module _ (d n h : ℕ) (old a b : Known) (same : h ≡ head_of (watch.Done d)) (
             );
             tells = tells;
           }
+
+      pub permit_ends : Carries unlock_change c new → (hit : Bool) → hit ≡ not (n == 0) → PermitTried old new d hit
+      permit_ends back hit tells = record {
+        tried = has_taken_permit hit tells;
+        carries = permit_carried back;
+        off = ends_off d old c new false may gave;
+      }

@@ -20,6 +20,12 @@ pub record IsBehind (meanwhile : Excuse → Excuse) (old new : Known) : Type 0 w
   pub out : IsOut new
   pub keeps : KeepsBut meanwhile (own_of old) old new
 
+-- how a task stands whose wait is over, whatever way it came there
+pub record StandsOver (old new : Known) : Type 0 where
+  pub up : IsUp new
+  pub idle : (told_of old).mark ≡ None → IsIdle new
+  pub out : IsOut new
+
 -- an end that holds no head, has no ticket out, its entry off, and its task RUNNING
 pub record IsOutPost (p : Post) : Type 0 where
   pub head : p.head ≡ None
@@ -39,6 +45,30 @@ behind_at p at old new up stands keeps = record {
   keeps = keeps;
 }
 
+-- what a task carries on over a call of its entry, between whose ends it holds no head
+pub call_carried : (from to : Excuse → Excuse) (s : ℕ → ℕ) {f : Excuse → Excuse} (i : ℕ) (old new : Known)
+    → KeepsBut f i old new → IsUp old → IsUp new → IsFree old → IsFree new
+    → (told_of new).hold.head ≡ (told_of old).hold.head → new.book.state ≡ s old.book.state
+    → ((x : Excuse) → OwesBut (from x) old → OwesBut (to x) new)
+    → Carries (record (wait_change i new.at) { from = from; to = to; state = s }) old new
+call_carried from to s i old new keeps up still free out hold state owes = record {
+  domain = keeps.domain;
+  number = keeps.number;
+  awake = still ∙ sym up;
+  state = state;
+  head = out.head ∙ sym free.head;
+  ticket = out.ticket ∙ sym free.ticket;
+  hold = hold;
+  at = refl;
+  mark = keeps.mark;
+  fewer = λ w σ none is. keeps.fewer w σ is;
+  stored = λ x none away. absurd (cc);
+  out = keeps.out;
+  stands = keeps.stands;
+  keeps = λ d _. keeps.keeps d;
+  owes = owes;
+}
+
 module _ {f : Excuse → Excuse} (old new : Known) (b : IsBehind f old new) where
   pub idle_behind : (told_of old).mark ≡ None → IsIdle new
   idle_behind unmarked = record { running = b.running; free = b.free; unmarked = b.keeps.mark ∙ unmarked }
@@ -46,24 +76,8 @@ module _ {f : Excuse → Excuse} (old new : Known) (b : IsBehind f old new) wher
   -- who began idle goes on as it was, where it owes no more than before
   pub carried_behind : ((x : Excuse) → OwesBut x old → OwesBut x new) → IsUp old → IsIdle old
       → (told_of old).hold.head ≡ None → Carries (wait_change (index old.view.number 0) new.at) old new
-  carried_behind owed up idle held =
-      let keeps = b.keeps in record {
-        domain = keeps.domain;
-        number = keeps.number;
-        awake = b.up ∙ sym up;
-        state = b.running ∙ sym idle.running;
-        head = b.free.head ∙ sym idle.free.head;
-        ticket = b.free.ticket ∙ sym idle.free.ticket;
-        hold = b.told ∙ sym held;
-        at = refl;
-        mark = keeps.mark;
-        fewer = λ w σ none is. keeps.fewer w σ is;
-        stored = λ x none away. absurd (cc);
-        out = keeps.out;
-        stands = keeps.stands;
-        keeps = λ d _. keeps.keeps d;
-        owes = owed;
-      }
+  carried_behind owed up idle held = call_carried (λ x. x) (λ x. x) (λ σ. σ) (own_of old) old new b.keeps up b.up
+      idle.free b.free (b.told ∙ sym held) (b.running ∙ sym idle.running) owed
 
   -- and who began owing nothing
   pub clean_behind : ((x : Excuse) → OwesBut x old → OwesBut x new) → IsClean old → IsClean new
@@ -73,6 +87,9 @@ module _ {f : Excuse → Excuse} (old new : Known) (b : IsBehind f old new) wher
     free = b.free;
     settled = owed no_excuse clean.settled;
   }
+
+  pub over_behind : StandsOver old new
+  over_behind = record { up = b.up; idle = idle_behind; out = b.out }
 
   pub stored_behind : (told_of new).bits.stored (index old.view.number 0) ≡ None
   stored_behind = ap (λ (n : ℕ). (told_of new).bits.stored (index n 0)) (sym b.keeps.number) ∙ b.out

@@ -28,7 +28,7 @@ use Rattle.wait_class.specs.declared.stages.Run.{Run}
 use Rattle.wait_class.specs.declared.stages.Turn.TheVariants as turn
 use Rattle.wait_class.specs.Tables.{Advances, IsAt, IsEnded, Plan}
 use Rattle.wait_class.proofs.Wholes.{begins}
-use Rattle.wait_event.proofs.Behind.{IsBehind, behind_at, carried_behind, clean_behind, idle_behind, owes_behind}
+use Rattle.wait_event.proofs.Behind.{IsBehind, StandsOver, behind_at, carried_behind, clean_behind, over_behind, owes_behind}
 use Rattle.wait_event.proofs.Plans.{program_is}
 
 -- a task that is idle, with its entry off, may begin
@@ -39,23 +39,17 @@ begins_at k r runs = begins wait_table k r stage.First runs refl refl refl refl 
 -- how a task stands whose wait has ended, whatever way it came there
 module _ (old new : Known) (q : Run WaitCall) (o : WaitOutcome) (over : IsEnded wait_table new q o)
     (keeps : Keeps (index old.view.number 0) old new) where
-  pub over_behind : IsBehind (λ x. x) old new
-  over_behind = behind_at (wait_end_post q.of o) (record { head = refl; ticket = refl; stirs = refl; zone = refl }) old new
+  pub wait_behind : IsBehind (λ x. x) old new
+  wait_behind = behind_at (wait_end_post q.of o) (record { head = refl; ticket = refl; stirs = refl; zone = refl }) old new
       over.up over.stands keeps
 
 module _ (old new : Known) (r q : Run WaitCall) (s : WaitStage) (o : WaitOutcome)
     (a : Advances wait_table old new r q s (turn.Done o)) where
   ended : IsBehind (λ x. x) old new
-  ended = over_behind old new q o a.lands a.went.keeps
+  ended = wait_behind old new q o a.lands a.went.keeps
 
-  pub ends_up : IsUp new
-  ends_up = a.lands.up
-
-  pub ends_idle : (told_of old).mark ≡ None → IsIdle new
-  ends_idle = idle_behind old new ended
-
-  pub ends_out : IsOut new
-  ends_out = ended.out
+  pub ends_over : StandsOver old new
+  ends_over = over_behind old new ended
 
   pub ends_carried : IsUp old → IsIdle old → (told_of old).hold.head ≡ None
       → Carries (wait_change (index old.view.number 0) new.at) old new

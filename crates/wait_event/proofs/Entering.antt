@@ -163,6 +163,14 @@ pub lock_carries : (old a : Known) (c h : ℕ) → h ≡ head_of (watch.Plain c)
     → Carries (lock_change (head_of (watch.Plain c))) old a
 lock_carries old a c h is l = subst (λ (n : ℕ). Carries (lock_change n) old a) is l
 
+-- what an add says, by its answer
+pub record EntersBy (old new : Known) (c : ℕ) (k : Kind) (form : Form) (r : Result (Unit {0}) Worn) : Type 0 where
+  pub added : EndsAdd old new c k form r
+  pub stands : IfOk r (λ _. MayRemove new)
+  pub woken : IfOk r (λ _. k ≡ kind.Woken → HasWokenEntry new)
+  pub carries : IfOk r (λ _. Carries (add_change (own_of old) new.at) old new)
+  pub same : IfErr r (λ _. Carries (hold_change new.at) old new)
+
 -- an add
 module _ (old a b new : Known) (c : ℕ) (k : Kind) (form : Form) (own : IsOwnKind k)
     (l : HasLocked old a (head_of (watch.Plain c)) (walk_of_hold (head_of (watch.Plain c)) None))
@@ -245,14 +253,14 @@ module _ (old a b new : Known) (c : ℕ) (k : Kind) (form : Form) (own : IsOwnKi
       entry = ((form_worn form a b w worn).head ∙ at_lock, note_unlocked b new w u.is noted);
     }
 
-    pub ends_add : (r : Result (Unit {0}) Worn)
+    ends_add : (r : Result (Unit {0}) Worn)
         → IfOk r (λ _. HasAdded (IsFormPlace form) a b 0 (form_entry form (watch.Plain c) k))
         → IfErr r (λ w. IsFormWorn form a b w) → IfErr r (λ w. WasWorn b.view.number b.view.items w.head w.place)
         → EndsAdd old new c k form r
     ends_add (Ok u) x worn noted = added_own x
     ends_add (Err w) x worn noted = worn_own w worn noted
 
-    pub add_carries : (r : Result (Unit {0}) Worn)
+    add_carries : (r : Result (Unit {0}) Worn)
         → IfOk r (λ _. HasAdded (IsFormPlace form) a b 0 (form_entry form (watch.Plain c) k))
         → IfOk r (λ _. Carries (add_change (own_of old) new.at) old new)
     add_carries (Ok u) x =
@@ -261,13 +269,13 @@ module _ (old a b new : Known) (c : ℕ) (k : Kind) (form : Form) (own : IsOwnKi
         (subst (λ (n : ℕ). Carries (queue_change (index n 0)) a b) one.number x.carries) three
     add_carries (Err w) x = tt
 
-    pub worn_carries : (r : Result (Unit {0}) Worn) → IfErr r (λ w. Carries only_looks a b)
+    worn_carries : (r : Result (Unit {0}) Worn) → IfErr r (λ w. Carries only_looks a b)
         → IfErr r (λ w. Carries (hold_change new.at) old new)
     worn_carries (Ok u) two = tt
     worn_carries (Err w) two =
         hold_carried (λ y. y) (λ y. y) (λ x. false) true old a b new free held_none h one two three
 
-    pub add_stands : IsUp old → c < FIRST_SIMPLE → (r : Result (Unit {0}) Worn)
+    add_stands : IsUp old → c < FIRST_SIMPLE → (r : Result (Unit {0}) Worn)
         → IfOk r (λ _. HasAdded (IsFormPlace form) a b 0 (form_entry form (watch.Plain c) k))
         → IfOk r (λ _. MayRemove new)
     add_stands up full (Ok u) x =
@@ -285,18 +293,23 @@ module _ (old a b new : Known) (c : ℕ) (k : Kind) (form : Form) (own : IsOwnKi
         }
     add_stands up full (Err w) x = tt
 
-    pub add_woken : c < FIRST_SIMPLE → (r : Result (Unit {0}) Worn)
+    add_woken : IsUp old → c < FIRST_SIMPLE → (r : Result (Unit {0}) Worn)
         → IfOk r (λ _. HasAdded (IsFormPlace form) a b 0 (form_entry form (watch.Plain c) k))
         → IfOk r (λ _. k ≡ kind.Woken → HasWokenEntry new)
-    add_woken full (Ok u) x = λ is.
-        let number = three.number ∙ (x.carries.number ∙ one.number) in record {
-          cond = c;
-          full = full;
-          entry = form_entry form (watch.Plain c) k x.place;
-          queued = ap (λ (n : ℕ). (told_of new).bits.stored (index n 0)) number
-              ∙ (three.stored (index old.view.number 0) refl refl
-              ∙ (ap (λ (n : ℕ). (told_of b).bits.stored (index n 0)) (sym one.number) ∙ x.queued));
-          kind = is;
-          about = refl;
-        }
-    add_woken full (Err w) x = tt
+    unfolding add_stands
+    add_woken up full (Ok u) x = λ is.
+        let m = add_stands up full (Ok u) x in
+        record { cond = m.cond; full = m.full; entry = m.entry; queued = m.queued; kind = is; about = m.about }
+    add_woken up full (Err w) x = tt
+
+    pub enters : IsUp old → c < FIRST_SIMPLE → (r : Result (Unit {0}) Worn)
+        → IfOk r (λ _. HasAdded (IsFormPlace form) a b 0 (form_entry form (watch.Plain c) k))
+        → IfErr r (λ w. IsFormWorn form a b w) → IfErr r (λ w. WasWorn b.view.number b.view.items w.head w.place)
+        → IfErr r (λ w. Carries only_looks a b) → EntersBy old new c k form r
+    enters up full r x worn noted two = record {
+      added = ends_add r x worn noted;
+      stands = add_stands up full r x;
+      woken = add_woken up full r x;
+      carries = add_carries r x;
+      same = worn_carries r two;
+    }

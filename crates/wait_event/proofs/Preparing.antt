@@ -51,6 +51,7 @@ use Rattle.wait_event.specs.Prepares.{exclusive_in, leave_change, prepare_progra
 use Rattle.wait_event.specs.Waits.{wait_left_by, queues_first}
 use Rattle.wait_event.proofs.Conditions.{suits_low}
 use Rattle.wait_event.proofs.Entering.{note_unlocked, unlock_looks}
+use Rattle.wait_event.proofs.Behind.{call_carried}
 use Rattle.wait_event.proofs.PartSteps.{IsPlanned, part_keeps, pares_out, pares_part, runs_planned, still_part}
 use Rattle.wait_event.proofs.Tellings.{firsts_more}
 use Rattle.wait_event.proofs.WaitTrails.{left_off, left_taken}
@@ -453,45 +454,18 @@ module _ (old new : Known) (up : IsUp old) (free : IsFree old) (was : IsTold old
 
   -- the entry is owed still, and the state is this one
   pub queued_carried : (σ : ℕ) → new.book.state ≡ σ → Carries (prepare_change (own_of old) σ new.at) old new
-  queued_carried σ state = record {
-    domain = keeps.domain;
-    number = keeps.number;
-    awake = still ∙ sym up;
-    state = state;
-    head = out.head ∙ sym free.head;
-    ticket = out.ticket ∙ sym free.ticket;
-    hold = hold_is;
-    at = refl;
-    mark = keeps.mark;
-    fewer = λ w σ none is. keeps.fewer w σ is;
-    stored = λ x none away. absurd (cc);
-    out = keeps.out;
-    stands = keeps.stands;
-    keeps = λ d _. keeps.keeps d;
-    owes = keeps.owes;
-  }
+  queued_carried σ state =
+      let i = own_of old in
+      call_carried (with_entry i) (with_entry i) (λ _. σ) i old new keeps up still free out hold_is state keeps.owes
 
   -- the entry is off
   pub left_carried : (s : ℕ → ℕ) → new.book.state ≡ s old.book.state → IsOut new
       → Carries (record (leave_change (own_of old) new.at) { state = s }) old new
-  left_carried s state gone = record {
-    domain = keeps.domain;
-    number = keeps.number;
-    awake = still ∙ sym up;
-    state = state;
-    head = out.head ∙ sym free.head;
-    ticket = out.ticket ∙ sym free.ticket;
-    hold = hold_is;
-    at = refl;
-    mark = keeps.mark;
-    fewer = λ w σ none is. keeps.fewer w σ is;
-    stored = λ x none away. absurd (cc);
-    out = keeps.out;
-    stands = keeps.stands;
-    keeps = λ d _. keeps.keeps d;
-    owes = λ x o. owes_out (own_of old) x new
-        (ap (λ (n : ℕ). (told_of new).bits.stored (index n 0)) (sym keeps.number) ∙ gone) (keeps.owes x o);
-  }
+  left_carried s state gone =
+      let i = own_of old in
+      call_carried (with_entry i) (λ x. x) s i old new keeps up still free out hold_is state
+      (λ x o. owes_out i x new (ap (λ (n : ℕ). (told_of new).bits.stored (index n 0)) (sym keeps.number) ∙ gone)
+      (keeps.owes x o))
 
 pub begins_owing : (old new : Known) → Keeps (own_of old) old new → BeginsOwing old new
 begins_owing old new keeps x o = keeps.owes x (owes_also (own_of old) x old o)

@@ -50,6 +50,12 @@ pub not_gone : (old : Known) → MayRemove old → (o : Option Entry)
 not_gone old may o tells gone =
     let no : None ≡ Some may.entry = sym gone ∙ tells may.entry may.queued may.kind in absurd (cc)
 
+-- what a removal says
+pub record Removes (old new : Known) : Type 0 where
+  pub removed : HasRemovedOwn old new
+  pub out : IsOut new
+  pub carries : Carries (remove_change (own_of old) new.at) old new
+
 module _ (old seen : Known) (may : MayRemove old) (told : IsTold old) (e : Entry) (same : seen ≡ old)
     (stands : (told_of old).bits.stored (own_of old) ≡ Some e) where
   same_entry : e ≡ may.entry
@@ -167,7 +173,7 @@ module _ (old seen : Known) (may : MayRemove old) (told : IsTold old) (e : Entry
           (r.carries.at ∙ (again.carries.at ∙ (held_at ∙ (here ∙ head_is))), refl) (tt, tt, tt)
           (unlock_looks taken new back.is)
 
-      pub removed_own : HasRemovedOwn old new
+      removed_own : HasRemovedOwn old new
       removed_own = record {
         runs = subst (λ (k : Known). Runs f k new (next.Go (at.Remove removing.Lock)) (next.Ends zero_answer)) same
             (runs_on f seen held new (next.Go (at.Remove removing.Lock))
@@ -176,13 +182,16 @@ module _ (old seen : Known) (may : MayRemove old) (told : IsTold old) (e : Entry
             (next.Go (at.Remove (removing.Unlock (plain_cond e.watch)))) (next.Ends zero_answer) takes unlocks));
       }
 
-      pub removed_out : IsOut new
+      removed_out : IsOut new
       removed_out = ap (λ (m : ℕ). (told_of new).bits.stored (index m 0))
           (three.number ∙ (r.carries.number ∙ (again.carries.number ∙ (one.number ∙ sym mine))))
           ∙ (three.stored (index n 0) refl refl ∙ r.out)
 
-      pub removed_carried : Carries (remove_change (own_of old) new.at) old new
+      removed_carried : Carries (remove_change (own_of old) new.at) old new
       removed_carried = subst (λ (k : Known). Carries (remove_change (own_of old) new.at) k new) same
           (hold_carried (with_entry i) (λ y. y) (only i) true seen held taken new seen_free seen_none h one
           (looked_carried (with_entry i) (λ y. y) (only i) false (λ m. m) held looked taken again.carries
           (subst (λ (m : ℕ). Carries (take_off_change (index m 0)) looked taken) n_is r.carries)) three)
+
+      pub removes : Removes old new
+      removes = record { removed = removed_own; out = removed_out; carries = removed_carried }

@@ -13,7 +13,7 @@ use Rattle.wait_rule.specs.Known.{Known}
 use Rattle.wait_rule.specs.Queues.{IsIdle, IsTold, index}
 use Rattle.wait_rule.specs.Says.{IsClean, IsUp, told_of}
 use Rattle.wait_rule.specs.Stays.{Carries}
-use Rattle.wait_class.specs.Posts.{IsOut, Keeps}
+use Rattle.wait_class.specs.Posts.{Keeps}
 use Rattle.wait_class.specs.declared.stages.Doing.TheVariants as doing
 use Rattle.wait_class.specs.declared.stages.Run.{Run}
 use Rattle.wait_class.specs.declared.stages.Turn.{Turn}
@@ -33,8 +33,9 @@ use Rattle.wait_event.specs.declared.waits.WaitOutcome.{WaitOutcome}
 use Rattle.wait_event.specs.declared.waits.WaitOutcome.TheVariants as outcome
 use Rattle.wait_event.specs.declared.waits.WaitStage.{WaitStage}
 use Rattle.wait_event.specs.declared.waits.WaitStage.TheVariants as stage
-use Rattle.wait_event.proofs.Behind.{IsBehind, carried_behind, clean_behind, idle_behind, owes_behind}
-use Rattle.wait_event.proofs.Endings.{over_behind}
+use Rattle.wait_event.proofs.Behind.{IsBehind, StandsOver, carried_behind, clean_behind, idle_behind, over_behind}
+use Rattle.wait_event.proofs.Behind.{owes_behind}
+use Rattle.wait_event.proofs.Endings.{wait_behind}
 use Rattle.wait_event.proofs.Tellings.{or_assoc, or_none}
 use Rattle.wait_event.proofs.WaitLaws.{wait_lawful}
 
@@ -150,16 +151,16 @@ module _ (A : Type 0) (old new : Known) (r q : Run WaitCall) (s : WaitStage) (o 
   left_kept = way_keeps A wait_table wait_exits wait_may_leave wait_lawful old r s new q (turn.Done o) came
 
   behind : IsBehind (λ x. x) old new
-  behind = over_behind old new q o over left_kept
+  behind = wait_behind old new q o over left_kept
+
+  pub left_over : StandsOver old new
+  left_over = over_behind old new behind
 
   pub left_up : IsUp new
   left_up = over.up
 
   pub left_idle : (told_of old).mark ≡ None → IsIdle new
   left_idle = idle_behind old new behind
-
-  pub left_out : IsOut new
-  left_out = behind.out
 
   pub left_carried : IsUp old → IsIdle old → (told_of old).hold.head ≡ None
       → Carries (wait_change (index old.view.number 0) new.at) old new

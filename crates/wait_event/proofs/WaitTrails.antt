@@ -243,18 +243,7 @@ trail_still old new r stage.LeaveQueue calm u = goes_still old new r r.asked (un
 trail_still old new r stage.LeaveUnlock calm u = takes_still old new r r.asked (unmoved_by old new calm) u
 trail_still old new r (stage.LeaveLoad found) calm u = left_still old new r r.asked found (unmoved_by old new calm) u
 trail_still old new r stage.Worn calm u = found_still old new (head_of_wait r) r.place (unmoved_by old new calm) u
-trail_still old new r stage.First calm u = u
-trail_still old new r stage.PrepareLock calm u = u
-trail_still old new r stage.PrepareTurn calm u = u
-trail_still old new r stage.PrepareLook calm u = u
-trail_still old new r stage.PrepareQueue calm u = u
-trail_still old new r stage.Sleep calm u = u
-trail_still old new r stage.FinishState calm u = u
-trail_still old new r stage.FinishLook calm u = u
-trail_still old new r stage.FinishLock calm u = u
-trail_still old new r stage.FinishTurn calm u = u
-trail_still old new r stage.FinishQueue calm u = u
-trail_still old new r stage.FinishUnlock calm u = u
+trail_still old new r s calm u = u
 
 pub trail_rises : (old new : Known) (r : WaitCall) (s : WaitStage) → is_slept s ≡ true → Unmoved old new
     → WaitTrailAt old r s → WaitTrailAt new r s

@@ -1,6 +1,6 @@
 -- The events of a wait for a flag.
 use Rattle.std.proofs.Common.{◌∙◌, ap, sym, refl, subst, inl, inr, append_assoc}
-use Rattle.std.specs.Prelude.{ℕ, ◌≡◌, ◌⊎◌, Bool, true, false, None, List, [], ◌∷◌, ◌++◌}
+use Rattle.std.specs.Prelude.{ℕ, ◌≡◌, ◌⊎◌, Bool, true, false, if◌then◌else◌, None, List, [], ◌∷◌, ◌++◌}
 use Rattle.wait_model.specs.declared.points.Point.TheVariants as at
 use Rattle.wait_model.specs.declared.points.WokenPoint.TheVariants as hearing
 use Rattle.wait_model.specs.declared.points.Next.TheVariants as next
@@ -25,8 +25,9 @@ use Rattle.wait_rule.proofs.KnownLaws.Transitions.{only_none}
 use Rattle.wait_class.specs.Posts.{IsStateFor, Post, Stands}
 use Rattle.wait_class.specs.Posts.{EndsWith, own_of}
 use Rattle.wait_class.specs.Findings.{saw_nothing, with_own}
-use Rattle.wait_event.specs.WokenWaits.{HasHeardSo, Hears, IsHearing, heard_post, heard_steps, unless_set, woken_point}
-use Rattle.wait_event.specs.WokenWaits.{woken_post, woken_program}
+use Rattle.wait_event.specs.WokenWaits.{HasHeardSo, Hears, IsHearing, KeepsEntries, WentHearing, WokenTrail, heard_post}
+use Rattle.wait_event.specs.WokenWaits.{heard_steps, unless_set, woken_point, woken_post, woken_program}
+use Rattle.wait_event.specs.declared.woken_waits.WokenStage.{WokenStage}
 use Rattle.wait_event.specs.declared.woken_waits.WokenStage.TheVariants as stage
 use Rattle.wait_event.specs.declared.woken_waits.WokenTurn.TheVariants as turn
 use Rattle.wait_class.proofs.Ground.Standing.{stands_on}
@@ -91,52 +92,47 @@ module _ (old : Known) (st : SleepState) where
     abbrev loaded : Known
     loaded = added old (item.Made (step.Flag (own_of old) w))
 
-    flag_stands : (p : Post) → p ≡ woken_post st stage.Run → Stands loaded p
-    flag_stands p is = subst (λ (q : Post). Stands loaded q) (sym is)
-        (stands_on old (step.Flag (own_of old) w) (woken_post st stage.Flag) (woken_post st stage.Run) a.stands
-        a.stands.head refl a.stands.told a.stands.ticket a.stands.state a.stands.home)
+    flag_keeps : KeepsEntries old loaded
+    flag_keeps = keeps_by (λ σ. σ) old loaded carries
+
+    flag_went : (b : Bool) → b ≡ flag_of w → WentHearing old loaded st (next.Go (at.Woken hearing.Flag))
+        (next.Go (at.Woken (if b then hearing.Run else hearing.Sleep)))
+    flag_went b is = record {
+      runs = runs_one (woken_program old.view.number st) (at.Woken hearing.Flag) old old loaded (with_flag b)
+          (by_step (step.Flag (own_of old) w)) (only_none old) refl (is, tt, tt) (only_none loaded);
+      keeps = flag_keeps;
+    }
+
+    flag_lands : (s : WokenStage) → woken_post st s ≡ woken_post st stage.Run
+        → WokenTrail loaded st (woken_point s) → IsHearing loaded st s
+    flag_lands s post trail = record {
+      up = carries.awake ∙ a.up;
+      stands = subst (λ (q : Post). Stands loaded q) (sym post)
+          (stands_on old (step.Flag (own_of old) w) (woken_post st stage.Flag) (woken_post st stage.Run) a.stands
+          a.stands.head refl a.stands.told a.stands.ticket a.stands.state a.stands.home);
+      entry = woken_stays old loaded flag_keeps a.entry;
+      trail = trail;
+    }
+
+    flag_ends : EndsWith loaded (step.State (state_mask st) ∷ step.Flag (own_of old) w ∷ [])
+    flag_ends = ends_more old (step.Flag (own_of old) w) (step.State (state_mask st) ∷ []) a.trail
 
     flag_set : true ≡ flag_of w → Hears old loaded st stage.Flag (turn.Again stage.Run)
-    flag_set is =
-        let keeps = keeps_by (λ σ. σ) old loaded carries in record {
-          went = record {
-            runs = runs_one (woken_program old.view.number st) (at.Woken hearing.Flag) old old loaded (with_flag true)
-                (by_step (step.Flag (own_of old) w)) (only_none old) refl (is, tt, tt) (only_none loaded);
-            keeps = keeps;
-          };
-          lands = record {
-            up = carries.awake ∙ a.up;
-            stands = flag_stands (woken_post st stage.Run) refl;
-            entry = woken_stays old loaded keeps a.entry;
-            trail = (
-              w,
-              0,
-              subst (λ (b : Bool). EndsWith loaded (step.State (state_mask st) ∷ step.Flag (own_of old) w
-                  ∷ unless_set b 0 [])) is
-                  (ends_more old (step.Flag (own_of old) w) (step.State (state_mask st) ∷ []) a.trail),
-            );
-          };
-        }
+    flag_set is = record {
+      went = flag_went true is;
+      lands = flag_lands stage.Run refl (
+        w,
+        0,
+        subst (λ (b : Bool). EndsWith loaded (step.State (state_mask st) ∷ step.Flag (own_of old) w
+            ∷ unless_set b 0 [])) is flag_ends,
+      );
+    }
 
     flag_clear : false ≡ flag_of w → Hears old loaded st stage.Flag (turn.Again stage.Sleep)
-    flag_clear is =
-        let keeps = keeps_by (λ σ. σ) old loaded carries in record {
-          went = record {
-            runs = runs_one (woken_program old.view.number st) (at.Woken hearing.Flag) old old loaded (with_flag false)
-                (by_step (step.Flag (own_of old) w)) (only_none old) refl (is, tt, tt) (only_none loaded);
-            keeps = keeps;
-          };
-          lands = record {
-            up = carries.awake ∙ a.up;
-            stands = flag_stands (woken_post st stage.Sleep) refl;
-            entry = woken_stays old loaded keeps a.entry;
-            trail = (
-              w,
-              sym is,
-              ends_more old (step.Flag (own_of old) w) (step.State (state_mask st) ∷ []) a.trail,
-            );
-          };
-        }
+    flag_clear is = record {
+      went = flag_went false is;
+      lands = flag_lands stage.Sleep refl (w, sym is, flag_ends);
+    }
 
   -- one try to sleep, by what it leaves of the book
   module _ (w : ℕ) (a : IsHearing old st stage.Sleep) where
@@ -161,21 +157,26 @@ module _ (old : Known) (st : SleepState) where
           (step.State (state_mask st) ∷ step.Flag (own_of old) a.trail.0 ∷ []) a.trail.2),
     )
 
+    sleep_keeps : KeepsEntries old slept
+    sleep_keeps = keeps_told old slept refl refl refl (told_added old (item.Made (step.Sleep w)))
+        (added_debts old slept (item.Made (step.Sleep w)) refl refl)
+
+    sleep_went : WentHearing old slept st (next.Go (at.Woken hearing.Sleep)) (next.Go (at.Woken hearing.Run))
+    sleep_went = record {
+      runs = runs_one (woken_program old.view.number st) (at.Woken hearing.Sleep) old old slept
+          (with_own (task_of w)) (by_step (step.Sleep w)) (only_none old) tt (refl, tt, tt) (only_none slept);
+      keeps = sleep_keeps;
+    }
+
     sleep_up : (sleep_of (task_of w) ≡ sleeping.Stay) ⊎ (sleep_of (task_of w) ≡ sleeping.Signal)
         → Hears old slept st stage.Sleep (turn.Again stage.Run)
     sleep_up stays =
-        let is = stays_book (sleep_of (task_of w)) stays in
-        let keeps = keeps_told old slept refl refl refl (told_added old (item.Made (step.Sleep w)))
-        (added_debts old slept (item.Made (step.Sleep w)) refl refl) in record {
-          went = record {
-            runs = runs_one (woken_program old.view.number st) (at.Woken hearing.Sleep) old old slept
-                (with_own (task_of w)) (by_step (step.Sleep w)) (only_none old) tt (refl, tt, tt) (only_none slept);
-            keeps = keeps;
-          };
+        let is = stays_book (sleep_of (task_of w)) stays in record {
+          went = sleep_went;
           lands = record {
             up = ap (λ (b : Book). b.awake) is ∙ a.up;
             stands = sleep_stands (with_state 0 old.book) is refl refl (inl refl);
-            entry = woken_stays old slept keeps a.entry;
+            entry = woken_stays old slept sleep_keeps a.entry;
             trail = sleep_trail;
           };
         }
@@ -188,18 +189,12 @@ module _ (old : Known) (st : SleepState) where
     sleep_down : sleep_of (task_of w) ≡ sleeping.Asleep → Hears old slept st stage.Sleep turn.Asleep
     sleep_down asleep =
         let is : after_sleep (sleep_of (task_of w)) old.book ≡ after_sleep sleeping.Asleep old.book =
-        ap (λ (y : Sleep). after_sleep y old.book) asleep in
-        let keeps = keeps_told old slept refl refl refl (told_added old (item.Made (step.Sleep w)))
-        (added_debts old slept (item.Made (step.Sleep w)) refl refl) in record {
-          went = record {
-            runs = runs_one (woken_program old.view.number st) (at.Woken hearing.Sleep) old old slept
-                (with_own (task_of w)) (by_step (step.Sleep w)) (only_none old) tt (refl, tt, tt) (only_none slept);
-            keeps = keeps;
-          };
+        ap (λ (y : Sleep). after_sleep y old.book) asleep in record {
+          went = sleep_went;
           lands = record {
             down = ap (λ (b : Book). b.awake) is;
             stands = sleep_stands (after_sleep sleeping.Asleep old.book) is refl refl a.stands.state;
-            entry = woken_stays old slept keeps a.entry;
+            entry = woken_stays old slept sleep_keeps a.entry;
             trail = sleep_trail;
           };
         }

@@ -1,32 +1,18 @@
 use Rattle.std.proofs.Common.{◌∙◌, subst, sym}
-use Rattle.wait_event.specs.declared.waits.WaitStage.TheVariants as stage
-use Rattle.wait_event.proofs.Endings.{ends_carried, ends_idle, ends_out, ends_up}
+use Rattle.wait_event.proofs.Endings.{ends_carried, ends_over}
 use Rattle.var_wait.specs.VarWaits.{EndsVarWait}
 use Rattle.var_wait.proofs.VarEnds.{ends_var}
 use Rattle.var_wait.proofs.waits.wait_var.Goals as goal
 
-pub returns-clause-waited : goal.returns-clause-waited
-returns-clause-waited g c = subst
-    (EndsVarWait c.args.task.now c.run-outcome.new.task c.args.var c.args.old c.args.state)
-    (sym c.end_of_var.ensures)
-    (ends_var c.args.task.now c.run-outcome.new.task c.begin_var-wait.result c.run-outcome.new.run
-    c.args.var c.args.old c.args.state c.begin_var-wait.ensures.fresh c.begin_var-wait.ensures.at.fits c.run-outcome.result
-    c.run-outcome.ensures)
-
-pub returns-clause-up : goal.returns-clause-up
-returns-clause-up g c = ends_up c.args.task.now c.run-outcome.new.task c.begin_var-wait.result
-    c.run-outcome.new.run stage.First c.run-outcome.result c.run-outcome.ensures
-
-pub returns-clause-idle : goal.returns-clause-idle
-returns-clause-idle g c = ends_idle c.args.task.now c.run-outcome.new.task c.begin_var-wait.result
-    c.run-outcome.new.run stage.First c.run-outcome.result c.run-outcome.ensures
-    c.requires.idle.unmarked
-
-pub returns-clause-out : goal.returns-clause-out
-returns-clause-out g c = ends_out c.args.task.now c.run-outcome.new.task c.begin_var-wait.result
-    c.run-outcome.new.run stage.First c.run-outcome.result c.run-outcome.ensures
-
-pub returns-clause-carries : goal.returns-clause-carries
-returns-clause-carries g c = ends_carried c.args.task.now c.run-outcome.new.task c.begin_var-wait.result
-    c.run-outcome.new.run stage.First c.run-outcome.result c.run-outcome.ensures c.requires.up
-    c.requires.idle (c.begin_var-wait.ensures.told.head ∙ c.requires.idle.free.head)
+pub returns : goal.returns
+returns g c =
+    let w = c.begin_var-wait.ensures in
+    let e = ends_over _ _ _ _ _ _ c.run-outcome.ensures in record {
+      waited = subst (EndsVarWait c.args.task.now c.run-outcome.new.task c.args.var c.args.old c.args.state)
+          (sym c.end_of_var.ensures) (ends_var _ _ _ _ _ _ _ w.fresh w.at.fits _ c.run-outcome.ensures);
+      up = e.up;
+      idle = e.idle c.requires.idle.unmarked;
+      out = e.out;
+      carries = ends_carried _ _ _ _ _ _ c.run-outcome.ensures c.requires.up c.requires.idle
+          (w.told.head ∙ c.requires.idle.free.head);
+    }

@@ -1,4 +1,4 @@
-use Rattle.std.proofs.Common.{◌∙◌, ◌<◌, ℕ, ap, refl, sym, subst, arith}
+use Rattle.std.proofs.Common.{◌∙◌, ◌<◌, ℕ, ap, refl, sym, subst, arith, rules}
 use Rattle.wait_model.specs.declared.layout.TheConstants.{HEADS, PRIORITY_TASKS}
 use Rattle.wait_model.specs.Watches.{head_of}
 use Rattle.wait_rule.specs.Queues.{index}
@@ -8,8 +8,7 @@ use Rattle.wq_head.proofs.AskedHolds.{stays_unasked}
 use Rattle.wq_head.proofs.LockWaits.{locked_stays}
 use Rattle.wq_head.proofs.PermitHeads.{owes_low}
 use Rattle.wait_event.proofs.PermitHeads.{cond_low}
-use Rattle.wait_event.proofs.Entering.{add_carries, add_stands, add_woken, ends_add, lock_at, lock_carries, own_for}
-use Rattle.wait_event.proofs.Entering.{worn_carries}
+use Rattle.wait_event.proofs.Entering.{enters, lock_at, lock_carries, own_for}
 use Rattle.wait_class.proofs.EntryForms.{for_by}
 use Rattle.wait_class.proofs.WatchHeads.{head_fits}
 use Rattle.wait_model.specs.declared.watches.Watch.TheVariants as watch
@@ -40,46 +39,21 @@ pub add_by-added-requires-clause-out : goal.add_by-added-requires-clause-out
 add_by-added-requires-clause-out g c = c.lock.ensures.carries.out (index c.lock.new.task.view.number 0) refl
     (ap (λ (n : ℕ). (told_of c.args.task.now).bits.stored (index n 0)) c.lock.ensures.carries.number ∙ c.requires.out)
 
-pub returns-clause-added : goal.returns-clause-added
-returns-clause-added g c = ends_add c.args.task.now c.lock.new.task c.add_by-added.new.task c.unlock.new.task
-    c.args.cond c.args.kind c.args.form c.requires.own
-    (lock_at c.args.task.now c.lock.new.task c.args.cond c.head_of.result c.head_of.ensures c.lock.ensures.locked)
-    c.unlock.ensures.unlocked c.requires.free c.told.ensures
-    (lock_carries c.args.task.now c.lock.new.task c.args.cond c.head_of.result c.head_of.ensures c.lock.ensures.carries)
-    c.unlock.ensures.carries c.add_by-added.result c.add_by-added.ensures.queued c.add_by-added.ensures.worn
-    c.add_by-added.ensures.noted
-
-pub returns-clause-stands : goal.returns-clause-stands
-returns-clause-stands g c = add_stands c.args.task.now c.lock.new.task c.add_by-added.new.task c.unlock.new.task
-    c.args.cond c.args.kind c.args.form c.requires.own
-    (lock_at c.args.task.now c.lock.new.task c.args.cond c.head_of.result c.head_of.ensures c.lock.ensures.locked)
-    c.unlock.ensures.unlocked c.requires.free c.told.ensures
-    (lock_carries c.args.task.now c.lock.new.task c.args.cond c.head_of.result c.head_of.ensures c.lock.ensures.carries)
-    c.unlock.ensures.carries c.requires.up c.requires.full c.add_by-added.result c.add_by-added.ensures.queued
-
-pub returns-clause-woken : goal.returns-clause-woken
-returns-clause-woken g c = add_woken c.args.task.now c.lock.new.task c.add_by-added.new.task c.unlock.new.task
-    c.args.cond c.args.kind c.args.form c.requires.own
-    (lock_at c.args.task.now c.lock.new.task c.args.cond c.head_of.result c.head_of.ensures c.lock.ensures.locked)
-    c.unlock.ensures.unlocked c.requires.free c.told.ensures
-    (lock_carries c.args.task.now c.lock.new.task c.args.cond c.head_of.result c.head_of.ensures c.lock.ensures.carries)
-    c.unlock.ensures.carries c.requires.full c.add_by-added.result c.add_by-added.ensures.queued
-
-pub returns-clause-carries : goal.returns-clause-carries
-returns-clause-carries g c = add_carries c.args.task.now c.lock.new.task c.add_by-added.new.task c.unlock.new.task
-    c.args.cond c.args.kind c.args.form c.requires.own
-    (lock_at c.args.task.now c.lock.new.task c.args.cond c.head_of.result c.head_of.ensures c.lock.ensures.locked)
-    c.unlock.ensures.unlocked c.requires.free c.told.ensures
-    (lock_carries c.args.task.now c.lock.new.task c.args.cond c.head_of.result c.head_of.ensures c.lock.ensures.carries)
-    c.unlock.ensures.carries c.add_by-added.result c.add_by-added.ensures.queued
-
-pub returns-clause-same : goal.returns-clause-same
-returns-clause-same g c = worn_carries c.args.task.now c.lock.new.task c.add_by-added.new.task c.unlock.new.task
-    c.args.cond c.args.kind c.args.form c.requires.own
-    (lock_at c.args.task.now c.lock.new.task c.args.cond c.head_of.result c.head_of.ensures c.lock.ensures.locked)
-    c.unlock.ensures.unlocked c.requires.free c.told.ensures
-    (lock_carries c.args.task.now c.lock.new.task c.args.cond c.head_of.result c.head_of.ensures c.lock.ensures.carries)
-    c.unlock.ensures.carries c.add_by-added.result c.add_by-added.ensures.same
+pub returns : goal.returns
+returns g c =
+    let e = enters _ _ _ _ c.args.cond c.args.kind c.args.form c.requires.own
+    (lock_at _ _ c.args.cond _ c.head_of.ensures c.lock.ensures.locked) c.unlock.ensures.unlocked c.requires.free
+    c.told.ensures (lock_carries _ _ c.args.cond _ c.head_of.ensures c.lock.ensures.carries) c.unlock.ensures.carries
+    c.requires.up c.requires.full c.add_by-added.result c.add_by-added.ensures.queued c.add_by-added.ensures.worn
+    c.add_by-added.ensures.noted c.add_by-added.ensures.same in record {
+      added = e.added;
+      up = search rules;
+      free = search rules;
+      stands = e.stands;
+      woken = e.woken;
+      carries = e.carries;
+      same = e.same;
+    }
 
 pub add_by-added-requires-clause-low : goal.add_by-added-requires-clause-low
 add_by-added-requires-clause-low g c = cond_low c.args.cond c.requires.full

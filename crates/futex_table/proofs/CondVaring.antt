@@ -14,6 +14,7 @@ use Rattle.wq_head.specs.declared.adds.Worn.{Worn}
 use Rattle.wait_class.specs.Posts.{IsOut}
 use Rattle.wait_event.specs.Conds.{set_change}
 use Rattle.wait_event.specs.Ends.{wait_change}
+use Rattle.wait_event.proofs.Changes.{carried_on, carried_wider, out_on}
 use Rattle.futex_table.specs.declared.cond_vars.CondEnd.{CondEnd}
 use Rattle.futex_table.specs.declared.futexes.FutexEnd.{FutexEnd}
 use Rattle.futex_table.specs.declared.futexes.FutexEnd.TheVariants as futex_end
@@ -30,117 +31,23 @@ pub load_held : (c v : ℕ) (old new : Known) → new ≡ added old (item.Made (
     → StayHeld old new
 load_held c v old new is m = one_holds m old new (step.Load (watch.Plain c) v) is
 
--- what changes nothing, and then a wake
-pub still_sets : (c : Watch) (x y z : Known) → Carries unchanged x y → Carries (set_change c mode.Normal z.at) y z
-    → Carries (set_change c mode.Normal z.at) x z
-still_sets c x y z a b = record {
-  domain = b.domain ∙ a.domain;
-  number = b.number ∙ a.number;
-  awake = b.awake ∙ a.awake;
-  state = b.state ∙ a.state;
-  head = b.head ∙ a.head;
-  ticket = b.ticket ∙ a.ticket;
-  hold = b.hold ∙ a.hold;
-  at = refl;
-  mark = b.mark ∙ a.mark;
-  fewer = λ w σ p is. b.fewer w σ p (a.fewer w σ refl is);
-  stored = λ j blind p. absurd (cc);
-  out = λ j p is. b.out j p (a.out j p is);
-  stands = λ slot few p e is own.
-      subst (λ (m : ℕ). (told_of z).bits.stored (index m slot) ≡ Some e) a.number
-      (b.stands slot few refl e
-      (subst (λ (m : ℕ). (told_of y).bits.stored (index m slot) ≡ Some e) (sym a.number)
-      (a.stands slot few p e is own)) own);
-  keeps = λ d p. b.keeps d p ∙ a.keeps d refl;
-  owes = λ f o. b.owes f (a.owes f o);
-}
-
 -- over the wake that gives the mutex back
 pub sets_out : (c : Watch) (old new : Known) → Carries (set_change c mode.Normal new.at) old new → IsOut old → IsOut new
-sets_out c old new a out = subst (λ (n : ℕ). (told_of new).bits.stored (index n 0) ≡ None) (sym a.number)
-    (a.out (index old.view.number 0) refl out)
+sets_out c old new a = out_on a refl
 
 module _ (m i : ℕ) (old new : Known) where
   pub of_unchanged : Carries unchanged old new → Carries (cond_change m i new.at) old new
-  of_unchanged c = record {
-    domain = c.domain;
-    number = c.number;
-    awake = c.awake;
-    state = c.state;
-    head = c.head;
-    ticket = c.ticket;
-    hold = c.hold;
-    at = refl;
-    mark = c.mark;
-    fewer = λ w σ p is. c.fewer w σ refl is;
-    stored = λ x blind p. absurd (cc);
-    out = λ x p none. c.out x refl none;
-    stands = λ slot few p e is own. c.stands slot few refl e is own;
-    keeps = λ d p. c.keeps d refl;
-    owes = c.owes;
-  }
+  of_unchanged c = carried_wider (cond_change m i new.at) c (λ x p. refl) (λ w p. refl) c.owes
 
   pub of_set : Carries (set_change (watch.Plain m) mode.Normal new.at) old new → Carries (cond_change m i new.at) old new
-  of_set c = record {
-    domain = c.domain;
-    number = c.number;
-    awake = c.awake;
-    state = c.state;
-    head = c.head;
-    ticket = c.ticket;
-    hold = c.hold;
-    at = refl;
-    mark = c.mark;
-    fewer = λ w σ p is. c.fewer w σ p is;
-    stored = λ x blind p. absurd (cc);
-    out = λ x p none. c.out x refl none;
-    stands = λ slot few p e is own. c.stands slot few refl e is own;
-    keeps = λ d p. c.keeps d p;
-    owes = c.owes;
-  }
+  of_set c = carried_wider (cond_change m i new.at) c (λ x p. refl) (λ w p. p) c.owes
 
   pub of_wait : Carries (wait_change i new.at) old new → Carries (cond_change m i new.at) old new
-  of_wait c = record {
-    domain = c.domain;
-    number = c.number;
-    awake = c.awake;
-    state = c.state;
-    head = c.head;
-    ticket = c.ticket;
-    hold = c.hold;
-    at = refl;
-    mark = c.mark;
-    fewer = λ w σ p is. c.fewer w σ refl is;
-    stored = λ x blind p. absurd (cc);
-    out = λ x p none. c.out x p none;
-    stands = λ slot few p e is own. c.stands slot few p e is own;
-    keeps = λ d p. c.keeps d refl;
-    owes = c.owes;
-  }
+  of_wait c = carried_wider (cond_change m i new.at) c (λ x p. p) (λ w p. refl) c.owes
 
 pub cond_on : (m i : ℕ) (x y z : Known) → Carries (cond_change m i y.at) x y → Carries (cond_change m i z.at) y z
     → Carries (cond_change m i z.at) x z
-cond_on m i x y z a b = record {
-  domain = b.domain ∙ a.domain;
-  number = b.number ∙ a.number;
-  awake = b.awake ∙ a.awake;
-  state = b.state ∙ a.state;
-  head = b.head ∙ a.head;
-  ticket = b.ticket ∙ a.ticket;
-  hold = b.hold ∙ a.hold;
-  at = refl;
-  mark = b.mark ∙ a.mark;
-  fewer = λ w σ p is. b.fewer w σ p (a.fewer w σ p is);
-  stored = λ j blind p. absurd (cc);
-  out = λ j p is. b.out j p (a.out j p is);
-  stands = λ slot few p e is own.
-      subst (λ (n : ℕ). (told_of z).bits.stored (index n slot) ≡ Some e) a.number
-      (b.stands slot few (ap (λ (n : ℕ). index n slot == i) a.number ∙ p) e
-      (subst (λ (n : ℕ). (told_of y).bits.stored (index n slot) ≡ Some e) (sym a.number)
-      (a.stands slot few p e is own)) own);
-  keeps = λ d p. b.keeps d p ∙ a.keeps d p;
-  owes = λ f o. b.owes f (a.owes f o);
-}
+cond_on m i x y z a b = carried_on (cond_change m i z.at) a b
 
 -- the four parts of a wait, one behind the other
 pub cond_carries : (m : ℕ) (old loaded unlocked waited new : Known) → Carries unchanged old loaded

@@ -26,6 +26,7 @@ use Rattle.wait_class.proofs.Histories.{ends_calm, ends_still, stored_history, u
 use Rattle.wait_class.proofs.Turns.{looks_history}
 use Rattle.wait_rule.proofs.TableSteps.ItemLists.{steps_append}
 use Rattle.wq_head.specs.Looks.{Looks}
+use Rattle.wait_event.proofs.LookedSteps.{looks_all}
 use Rattle.futex_table.specs.FutexTables.{AreSaws, FoundOff, FutexTrail, HasLoadedWord, HasQueuedBy, LeftAtOnce, LeftByValue, LeftForSignal, ShowsSignal, StandsByValue, TakenAtOnce, futex_head, futex_table, futex_word, is_behind_futex_sleep, is_word_load}
 use Rattle.futex_table.specs.declared.waits.FutexStage.{FutexStage}
 use Rattle.futex_table.specs.declared.waits.FutexStage.TheVariants as stage
@@ -105,18 +106,7 @@ saws_on (step.Saw x w ∷ es) fs one two = saws_on es fs one two
 saws_on (e ∷ es) fs one two = absurd one
 
 saws_of : (xs : List Item) → AreLooks xs → AreSaws (steps_of xs)
-saws_of [] l = tt
-saws_of (item.Made (step.Saw x w) ∷ xs) l = saws_of xs l.1
-saws_of (item.Made e ∷ xs) l = absurd l.0
-saws_of (item.Awake w ∷ xs) l = saws_of xs l.1
-saws_of (item.Bookmark t w ∷ xs) l = saws_of xs l.1
-saws_of (item.Member ∷ xs) l = saws_of xs l.1
-saws_of (item.Word w ∷ xs) l = saws_of xs l.1
-saws_of (item.Drawn h w ∷ xs) l = saws_of xs l.1
-saws_of (item.Serving h w ∷ xs) l = saws_of xs l.1
-saws_of (item.Served ∷ xs) l = saws_of xs l.1
-saws_of (item.Tally p n w ∷ xs) l = absurd l.0
-saws_of (item.Piped k a w ∷ xs) l = absurd l.0
+saws_of = looks_all AreSaws tt (λ x w es saws. saws)
 
 looked_history : (old new : Known) (l : Looks old new) → history_of new ≡ history_of old ++ steps_of l.items
 looked_history old new l = ap history_of l.is ∙ steps_append old.view.items l.items

@@ -23,6 +23,7 @@ use Rattle.wq_head.specs.declared.adds.Worn.{Worn}
 use Rattle.wq_head.specs.Walks.{HasWoken}
 use Rattle.wait_class.specs.Posts.{IsOut}
 use Rattle.wait_event.specs.Ends.{wait_change}
+use Rattle.wait_event.proofs.Changes.{carried_on, carried_wider, idle_on, out_on}
 use Rattle.wait_event.proofs.Setting.{takes}
 use Rattle.futex_table.specs.declared.futexes.FutexEnd.{FutexEnd}
 use Rattle.futex_table.specs.FutexEnds.{EndsFutexWait}
@@ -95,59 +96,18 @@ module _ (c r : ℕ) (old new : Known) (is : new ≡ added old (item.Made (step.
 -- over a call that changes nothing
 module _ (old new : Known) (c : Carries unchanged old new) where
   pub idle_still : IsIdle old → IsIdle new
-  idle_still idle = record {
-    running = c.state ∙ idle.running;
-    free = record { head = c.head ∙ idle.free.head; ticket = c.ticket ∙ idle.free.ticket };
-    unmarked = c.mark ∙ idle.unmarked;
-  }
+  idle_still = idle_on unchanged c
 
   pub out_still : IsOut old → IsOut new
-  out_still out = subst (λ (n : ℕ). (told_of new).bits.stored (index n 0) ≡ None) (sym c.number)
-      (c.out (index old.view.number 0) refl out)
+  out_still = out_on c refl
 
   pub still_waits : (i : ℕ) → Carries (wait_change i new.at) old new
-  still_waits i = record {
-    domain = c.domain;
-    number = c.number;
-    awake = c.awake;
-    state = c.state;
-    head = c.head;
-    ticket = c.ticket;
-    hold = c.hold;
-    at = refl;
-    mark = c.mark;
-    fewer = λ w σ p is. c.fewer w σ refl is;
-    stored = λ x blind p. absurd (cc);
-    out = λ x p none. c.out x refl none;
-    stands = λ slot few p e is own. c.stands slot few refl e is own;
-    keeps = λ d p. c.keeps d refl;
-    owes = c.owes;
-  }
+  still_waits i = carried_wider (wait_change i new.at) c (λ x p. refl) (λ w p. refl) c.owes
 
 -- one part behind another
 pub waits_on : (i : ℕ) (x y z : Known) → Carries (wait_change i y.at) x y → Carries (wait_change i z.at) y z
     → Carries (wait_change i z.at) x z
-waits_on i x y z a b = record {
-  domain = b.domain ∙ a.domain;
-  number = b.number ∙ a.number;
-  awake = b.awake ∙ a.awake;
-  state = b.state ∙ a.state;
-  head = b.head ∙ a.head;
-  ticket = b.ticket ∙ a.ticket;
-  hold = b.hold ∙ a.hold;
-  at = refl;
-  mark = b.mark ∙ a.mark;
-  fewer = λ w σ p is. b.fewer w σ p (a.fewer w σ p is);
-  stored = λ j blind p. absurd (cc);
-  out = λ j p is. b.out j p (a.out j p is);
-  stands = λ slot few p e is own.
-      subst (λ (m : ℕ). (told_of z).bits.stored (index m slot) ≡ Some e) a.number
-      (b.stands slot few (ap (λ (m : ℕ). index m slot == i) a.number ∙ p) e
-      (subst (λ (m : ℕ). (told_of y).bits.stored (index m slot) ≡ Some e) (sym a.number)
-      (a.stands slot few p e is own)) own);
-  keeps = λ d p. b.keeps d p ∙ a.keeps d p;
-  owes = λ f o. b.owes f (a.owes f o);
-}
+waits_on i x y z a b = carried_on (wait_change i z.at) a b
 
 -- What a task is between the rounds of a lock: as it began.
 pub record IsBetween (old now : Known) : Type 0 where

@@ -37,6 +37,7 @@ use Rattle.wq_head.specs.Walks.{HasWoken}
 use Rattle.wait_class.specs.Posts.{Runs}
 use Rattle.wait_class.specs.Tables.{plan_program}
 use Rattle.wait_class.proofs.Turns.{looks_history}
+use Rattle.wait_event.proofs.LookedSteps.{looks_all}
 use Rattle.futex_table.specs.declared.futexes.FutexEnd.{FutexEnd}
 use Rattle.futex_table.specs.FutexEnds.{EndsFutexWait}
 use Rattle.futex_table.specs.FutexTables.{futex_plan}
@@ -66,24 +67,10 @@ adds_append c (e ∷ es) fs = let ih = adds_append c es fs in omega (arith, ih)
 
 -- more items of the own list
 pushed_none : (v : Journal) → v ≡ pushed v []
-pushed_none v = ap (λ (xs : List Item). record {
-  lives = v.lives;
-  number = v.number;
-  next = v.next;
-  spare = v.spare;
-  items = xs;
-  joined = v.joined;
-}) (sym (append-nil v.items))
+pushed_none v = ap (λ (xs : List Item). record v { items = xs }) (sym (append-nil v.items))
 
 pushed_on : (v : Journal) (xs ys : List Item) → pushed (pushed v xs) ys ≡ pushed v (xs ++ ys)
-pushed_on v xs ys = ap (λ (zs : List Item). record {
-  lives = v.lives;
-  number = v.number;
-  next = v.next;
-  spare = v.spare;
-  items = zs;
-  joined = v.joined;
-}) (append_assoc v.items xs ys)
+pushed_on v xs ys = ap (λ (zs : List Item). record v { items = zs }) (append_assoc v.items xs ys)
 
 grows_none : (k : Known) → Grows k k
 grows_none k = record { items = []; view = pushed_none k.view }
@@ -160,18 +147,7 @@ looks_are m c (item.Tally p n w ∷ xs) op h r l = absurd l.0
 looks_are m c (item.Piped k a w ∷ xs) op h r l = absurd l.0
 
 looks_add : (c : ℕ) (xs : List Item) → AreLooks xs → total (tally_adds c) (steps_of xs) ≡ 0
-looks_add c [] l = refl
-looks_add c (item.Made (step.Saw x w) ∷ xs) l = let ih = looks_add c xs l.1 in omega (arith, ih)
-looks_add c (item.Made e ∷ xs) l = absurd l.0
-looks_add c (item.Awake w ∷ xs) l = looks_add c xs l.1
-looks_add c (item.Bookmark t w ∷ xs) l = looks_add c xs l.1
-looks_add c (item.Member ∷ xs) l = looks_add c xs l.1
-looks_add c (item.Word w ∷ xs) l = looks_add c xs l.1
-looks_add c (item.Drawn g w ∷ xs) l = looks_add c xs l.1
-looks_add c (item.Serving g w ∷ xs) l = looks_add c xs l.1
-looks_add c (item.Served ∷ xs) l = looks_add c xs l.1
-looks_add c (item.Tally p n w ∷ xs) l = absurd l.0
-looks_add c (item.Piped k a w ∷ xs) l = absurd l.0
+looks_add c = looks_all (λ es. total (tally_adds c) es ≡ 0) refl (λ x w es none. omega (arith, none))
 
 only_adds : (m c : ℕ) (old new : Known) → OnlyLooks old new → AddsToTally old new m c 0
 only_adds m c old new l = record {

@@ -38,6 +38,7 @@ use Rattle.wait_rule.specs.Transitions.{Transition, after_step_or_look, after_tr
 use Rattle.wait_rule.specs.Transitions.{walk_program, with_lock}
 use Rattle.wait_rule.proofs.TableSteps.ItemLists.{steps_append}
 use Rattle.wait_class.specs.Posts.{Runs}
+use Rattle.wait_event.proofs.LookedSteps.{looks_all}
 use Rattle.wait_class.specs.Tables.{plan_program}
 use Rattle.wait_class.proofs.Turns.{looks_history}
 use Rattle.futex_table.specs.FutexTables.{futex_makes, futex_plan}
@@ -77,24 +78,13 @@ pub holds_on : (m : ℕ) (es fs : List Step) (b : Bool) → holds_from m (es ++ 
 holds_on m [] fs b = refl
 holds_on m (e ∷ es) fs b = holds_on m es fs (holds_after m e b)
 
-looks_hold : (m : ℕ) (xs : List Item) (b : Bool) → AreLooks xs → holds_from m (steps_of xs) b ≡ b
-looks_hold m [] b l = refl
-looks_hold m (item.Made (step.Saw x w) ∷ xs) b l = looks_hold m xs b l.1
-looks_hold m (item.Made e ∷ xs) b l = absurd l.0
-looks_hold m (item.Awake w ∷ xs) b l = looks_hold m xs b l.1
-looks_hold m (item.Bookmark t w ∷ xs) b l = looks_hold m xs b l.1
-looks_hold m (item.Member ∷ xs) b l = looks_hold m xs b l.1
-looks_hold m (item.Word w ∷ xs) b l = looks_hold m xs b l.1
-looks_hold m (item.Drawn h w ∷ xs) b l = looks_hold m xs b l.1
-looks_hold m (item.Serving h w ∷ xs) b l = looks_hold m xs b l.1
-looks_hold m (item.Served ∷ xs) b l = looks_hold m xs b l.1
-looks_hold m (item.Tally p n w ∷ xs) b l = absurd l.0
-looks_hold m (item.Piped k a w ∷ xs) b l = absurd l.0
+looks_hold : (m : ℕ) (xs : List Item) → AreLooks xs → (b : Bool) → holds_from m (steps_of xs) b ≡ b
+looks_hold m = looks_all (λ es. (b : Bool) → holds_from m es b ≡ b) (λ b. refl) (λ x w es stays. stays)
 
 only_hold : (old new : Known) → OnlyLooks old new → StayHeld old new
 only_hold old new l m = ap (holds_in m) (looks_history old new l)
     ∙ (holds_on m (history_of old) (steps_of l.items) false
-    ∙ looks_hold m l.items (holds_in m (history_of old)) l.looks)
+    ∙ looks_hold m l.items l.looks (holds_in m (history_of old)))
 
 locked_history : (e : Step) (k : Known) → history_of (with_lock e k) ≡ history_of k
 locked_history (step.Lock h aim w) k = refl

@@ -121,8 +121,7 @@ pub fn cond_signal<R: Wait>(rt: &R, domain: &Domain, task: &mut Task, cond: u8, 
     ensures adds { AddsToTally task.old task.new lock cond 1 }
     ensures counted { CountsAdd lock cond task.old task.new }
 {
-    let _ = lock;
-    change_and_wake(rt, domain, task, cond, 1)
+    change_and_wake(rt, domain, task, cond, lock, 1)
 }
 
 /// Wakes all tasks that wait for condition variable `cond`. The rest is as in `cond_signal`.
@@ -143,23 +142,34 @@ pub fn cond_broadcast<R: Wait>(rt: &R, domain: &Domain, task: &mut Task, cond: u
     ensures adds { AddsToTally task.old task.new lock cond 1 }
     ensures counted { CountsAdd lock cond task.old task.new }
 {
-    let _ = lock;
-    change_and_wake(rt, domain, task, cond, 0)
+    change_and_wake(rt, domain, task, cond, lock, 0)
 }
 
-/// Stores one more in a word, and wakes this many who wait for it, or all for 0.
-fn change_and_wake<R: Wait>(rt: &R, domain: &Domain, task: &mut Task, cond: u8, count: u32) -> u32
+/// Stores one more in a condition's word, and wakes this many who wait for it, or all for 0.
+fn change_and_wake<R: Wait>(
+    rt: &R,
+    domain: &Domain,
+    task: &mut Task,
+    cond: u8,
+    lock: u8,
+    count: u32,
+) -> u32
     requires of { task.old.domain ≡ domain.now }
     requires up { IsUp task.old }
     requires idle { IsIdle task.old }
     requires cond { cond < FIRST_SIMPLE }
+    requires apart { cond ≢ lock }
+    requires held { HoldsMutex task.old lock }
     ensures signals { SignalsCond task.old task.new cond count result }
     ensures up { IsUp task.new }
     ensures idle { IsIdle task.new }
     ensures carries { Carries (set_change (watch.Plain cond) mode.Normal task.new.at) task.old task.new }
+    ensures held { HoldsMutex task.new lock }
     ensures others { OthersStayHeld cond task.old task.new }
-    ensures adds { (m : _) → m ≢ cond → HoldsMutex task.old m → AddsToTally task.old task.new m cond 1 }
+    ensures adds { AddsToTally task.old task.new lock cond 1 }
+    ensures counted { CountsAdd lock cond task.old task.new }
 {
+    let _ = lock;
     let watch = Watch::Plain { cond };
     let seen = cond_load(domain, task, watch);
     store_and_wake(rt, domain, task, cond, seen.wrapping_add(1), count).selected

@@ -10,6 +10,8 @@ pub mod Behind
 pub mod Endings
 pub mod WaitLeaving
 pub mod Hearing
+pub mod Changes
+pub mod LookedSteps
 pub mod Setting
 pub mod PartSteps
 pub mod Preparing

@@ -28,6 +28,7 @@ use Rattle.wait_rule.proofs.KnownLaws.AsideCalls.{walks_grow_aside}
 use Rattle.wait_rule.proofs.KnownLaws.OtherCalls.{others_stay_off}
 use Rattle.wait_rule.proofs.KnownLaws.PipeItems.{end_append}
 use Rattle.wait_rule.proofs.KnownLaws.TallySteps.{amounts_append}
+use Rattle.wait_rule.proofs.KnownLaws.Transitions.{grown_more, grown_none}
 use Rattle.wait_event.specs.declared.wait_events.WaitEnd.{WaitEnd}
 use Rattle.wq_head.proofs.FullHeads.{hashed_low}
 use Rattle.wq_head.specs.Scanned.{HasScanned}
@@ -39,26 +40,10 @@ use Rattle.wait_pipe.specs.Pieces.{LeavesAside}
 pub quiet_on : (x y z : Known) → LeavesAside x y → LeavesAside y z → LeavesAside x z
 quiet_on x y z a b = record { aside = aside_join x y z a.aside b.aside; off = λ d left. b.off d (a.off d left) }
 
--- nothing: the list is as it was
-pub none_more : (k : Known) → k ≡ grown k [] k.book
-none_more k = ap (λ (l : List Item). record {
-  domain = k.domain;
-  view = record {
-    lives = k.view.lives;
-    number = k.view.number;
-    next = k.view.next;
-    spare = k.view.spare;
-    items = l;
-    joined = k.view.joined;
-  };
-  book = k.book;
-  at = k.at;
-}) (sym (append-nil k.view.items))
-
 pub quiet_none : (k : Known) → LeavesAside k k
 quiet_none k = record {
   aside = record {
-    grows = record { items = []; view = ap (λ (j : Known). j.view) (none_more k) };
+    grows = record { items = []; view = ap (λ (j : Known). j.view) (grown_none k) };
     sums = λ p. refl;
     signals = refl;
     claims = λ e. refl;
@@ -102,29 +87,13 @@ quiet_publish old v o n r = quiet_item old (item.Made (step.Publish (watch.Var v
     (λ k e. step_mine k (step.Publish (watch.Var v o) n r) e)
 
 -- a look at the members of a head
-scan_first : (k : Known) (h i w : ℕ) (xs : List Item)
-    → grown (added k (item.Made (step.Scan h i w))) xs k.book ≡ grown k (item.Made (step.Scan h i w) ∷ xs) k.book
-scan_first k h i w xs = ap (λ (l : List Item). record {
-  domain = k.domain;
-  view = record {
-    lives = k.view.lives;
-    number = k.view.number;
-    next = k.view.next;
-    spare = k.view.spare;
-    items = l;
-    joined = k.view.joined;
-  };
-  book = k.book;
-  at = k.at;
-}) (append_assoc k.view.items (item.Made (step.Scan h i w) ∷ []) xs)
-
 scans_quiet : (k : Known) (h : ℕ) (xs : List Item) → AreScansOf h xs → LeavesAside k (grown k xs k.book)
-scans_quiet k h [] l = subst (LeavesAside k) (none_more k) (quiet_none k)
+scans_quiet k h [] l = subst (LeavesAside k) (grown_none k) (quiet_none k)
 scans_quiet k h (item.Made (step.Scan g i w) ∷ xs) l =
     let one = added k (item.Made (step.Scan g i w)) in
     quiet_on k one (grown k (item.Made (step.Scan g i w) ∷ xs) k.book)
     (quiet_item k (item.Made (step.Scan g i w)) tt (λ p. refl) refl (λ j e. refl))
-    (subst (LeavesAside one) (scan_first k g i w xs) (scans_quiet one h xs l.1))
+    (subst (LeavesAside one) (grown_more k (item.Made (step.Scan g i w) ∷ []) xs one.book k.book) (scans_quiet one h xs l.1))
 scans_quiet k h (x ∷ xs) l = absurd l.0
 
 pub scanned_quiet : (old new : Known) (h : ℕ) (hit : Bool) → HasScanned old new h hit → LeavesAside old new

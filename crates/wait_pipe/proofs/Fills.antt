@@ -25,7 +25,8 @@ use Rattle.wait_pipe.specs.Pieces.{HasSeen, IsAtEnd, IsSettled, Moved, OtherPipe
 use Rattle.wait_pipe.specs.Pieces.{WaitsAtPipe}
 use Rattle.wait_pipe.specs.Trails.{LoadsCells, LoadsOther, LooksOver, PassesCells, StoresCells, WakesAfter, cell_items}
 use Rattle.wait_pipe.specs.declared.looks.Look.{Look}
-use Rattle.wait_pipe.proofs.Asides.{none_more, quiet_cell, quiet_none, quiet_on}
+use Rattle.wait_rule.proofs.KnownLaws.Transitions.{grown_more, grown_none}
+use Rattle.wait_pipe.proofs.Asides.{quiet_cell, quiet_none, quiet_on}
 use Rattle.wait_pipe.proofs.PieceChanges.{others_becomes, others_on, settled_still}
 
 -- all the bytes of an end that has nothing outstanding
@@ -85,7 +86,7 @@ pub record HasCells (k : ℕ) (old now : Known) : Type 0 where
   pub grew : (end_at k now).cells ≡ (end_at k old).cells ++ cells
 
 cells_none : (k : ℕ) (j : Known) → HasCells k j j
-cells_none k j = record { cells = []; is = none_more j; grew = sym (append-nil (end_at k j).cells) }
+cells_none k j = record { cells = []; is = grown_none j; grew = sym (append-nil (end_at k j).cells) }
 
 cells_append : (k w : ℕ) (ws : List ℕ)
     → cell_items k ws ++ item.Piped k act.Cell w ∷ [] ≡ cell_items k (ws ++ w ∷ [])
@@ -97,20 +98,8 @@ cells_on : (k w : ℕ) (old now next : Known) → HasCells k old now → next �
 cells_on k w old now next h made own = record {
   cells = h.cells ++ w ∷ [];
   is = made ∙ (ap (λ (j : Known). added j (item.Piped k act.Cell w)) h.is
-      ∙ ap (λ (l : List Item). record {
-        domain = old.domain;
-        view = record {
-          lives = old.view.lives;
-          number = old.view.number;
-          next = old.view.next;
-          spare = old.view.spare;
-          items = l;
-          joined = old.view.joined;
-        };
-        book = old.book;
-        at = old.at;
-      }) (append_assoc old.view.items (cell_items k h.cells) (item.Piped k act.Cell w ∷ [])
-      ∙ ap (λ (l : List Item). old.view.items ++ l) (cells_append k w h.cells)));
+      ∙ (grown_more old (cell_items k h.cells) (item.Piped k act.Cell w ∷ []) old.book old.book
+      ∙ ap (λ (l : List Item). grown old l old.book) (cells_append k w h.cells)));
   grew = ap (λ (e : End). e.cells) own
       ∙ (ap (λ (l : List ℕ). l ++ w ∷ []) h.grew ∙ append_assoc (end_at k old).cells h.cells (w ∷ []));
 }
@@ -370,7 +359,7 @@ drain_all p old now next last size buf at left done f step same none =
 bytes_still : (e f : End) → KeepsEnd e f → moved_bytes f ≡ moved_bytes e
 bytes_still e f k = (λ i. bytes_in (take (k.count i) (k.cells i)))
 
-module _ (k : ℕ) (old now : Known) (w : WaitsAtPipe k old now) (s : IsSettled (end_at k old)) where
+module _ {k : ℕ} {old now : Known} (w : WaitsAtPipe k old now) (s : IsSettled (end_at k old)) where
   pub waited_settled : IsSettled (end_at k now)
   waited_settled = settled_still (end_at k old) (end_at k now) w.keeps s
 
@@ -388,22 +377,42 @@ module _ (k : ℕ) (old now : Known) (w : WaitsAtPipe k old now) (s : IsSettled 
     bytes = m.bytes ∙ ap (λ l. l ++ text) (bytes_still (end_at k old) (end_at k now) w.keeps);
   }
 
--- the counts that a look shows, of an end that has nothing outstanding
-module _ (p : ℕ) (now : Known) (l : Look) where
-  pub own_below : (k : ℕ) → HasSeen k now l → l.own < word_counts
-  own_below k h = let o = h.own in omega arith
+-- what a look shows: counts, and a word, which is what the task goes on by
+module _ {k : ℕ} {now : Known} {l : Look} (h : HasSeen k now l) where
+  pub own_below : l.own < word_counts
+  own_below = let o = h.own in omega arith
 
-  pub other_below : (k : ℕ) → HasSeen k now l → l.other < word_counts
-  other_below k h = let o = h.other in omega arith
+  pub other_below : l.other < word_counts
+  other_below = let o = h.other in omega arith
 
-  pub count_place : (k : ℕ) → HasSeen k now l → IsSettled (end_at k now)
-      → l.own ≡ length (end_at k now).cells % word_counts
-  count_place k h s = h.own ∙ ap (λ n. n % word_counts) s.passed
+  pub count_place : IsSettled (end_at k now) → l.own ≡ length (end_at k now).cells % word_counts
+  count_place s = h.own ∙ ap (λ n. n % word_counts) s.passed
 
-  pub free_is : HasSeen (write_end p) now l → IsSettled (writing p now) → (used : ℕ)
-      → used ≡ (l.own + word_counts - l.other) % word_counts
-      → (PIPE_CELLS - used) + length (writing p now).cells ≡ (writing p now).seen + PIPE_CELLS
-  free_is h s used is =
+  pub word_open : l.closed ≡ false → l.word % 2 ≡ 0
+  word_open is = let test : (l.word % 2 == 1) ≡ false = sym h.closes ∙ is in grind (arith, nat_tests)
+
+  pub word_ended : l.closed ≡ true → l.word % 2 ≡ 1
+  word_ended is = let test : (l.word % 2 == 1) ≡ true = sym h.closes ∙ is in grind (arith, nat_tests)
+
+  abbrev pub look_shows : (old : Known) → LoadsOther k l.word old now → LooksOver k old now
+  look_shows old loads = record { word = l.word; loads = loads; shown = sym h.shows ∙ h.other }
+
+  -- and that there is no cell for the end, for it is open
+  shows_none : l.closed ≡ false → (k % PIPE_ENDS ≡ 0 → (end_at k now).count ≡ (end_at k now).seen + PIPE_CELLS)
+      → (k % PIPE_ENDS ≡ 1 → (end_at k now).count ≡ (end_at k now).seen) → ShowsNoCell k (end_at k now) l.word
+  shows_none unended full empty = record {
+    unended = word_open unended;
+    count = (end_at k now).seen;
+    shown = sym h.shows ∙ h.other;
+    full = full;
+    empty = empty;
+  }
+
+-- of a write end that has nothing outstanding
+module _ (p : ℕ) {now : Known} {l : Look} (h : HasSeen (write_end p) now l) (s : IsSettled (writing p now)) {used : ℕ}
+    (is : used ≡ (l.own + word_counts - l.other) % word_counts) where
+  pub free_is : (PIPE_CELLS - used) + length (writing p now).cells ≡ (writing p now).seen + PIPE_CELLS
+  free_is =
       let sound = h.sound.write (omega arith) in
       let a = sound.seen in
       let b = sound.room in
@@ -412,10 +421,17 @@ module _ (p : ℕ) (now : Known) (l : Look) where
       let e = s.passed in
       omega arith
 
-  pub there_is : HasSeen (read_end p) now l → IsSettled (reading p now) → (there : ℕ)
-      → there ≡ (l.other + word_counts - l.own) % word_counts
-      → there + length (reading p now).cells ≡ (reading p now).seen
-  there_is h s there is =
+  pub none_free : PIPE_CELLS ≤ used → l.closed ≡ false → ShowsNoCell (write_end p) (writing p now) l.word
+  none_free most unended =
+      let free = free_is in
+      let settled = s.passed in
+      shows_none h unended (λ write. omega arith) (λ read. absurd (omega arith))
+
+-- and of such a read end
+module _ (p : ℕ) {now : Known} {l : Look} (h : HasSeen (read_end p) now l) (s : IsSettled (reading p now)) {there : ℕ}
+    (is : there ≡ (l.other + word_counts - l.own) % word_counts) where
+  pub there_is : there + length (reading p now).cells ≡ (reading p now).seen
+  there_is =
       let sound = h.sound.read (omega arith) in
       let a = sound.there in
       let b = sound.room in
@@ -424,46 +440,14 @@ module _ (p : ℕ) (now : Known) (l : Look) where
       let e = s.passed in
       omega arith
 
-  pub at_end : HasSeen (read_end p) now l → IsSettled (reading p now) → (there : ℕ)
-      → there ≡ (l.other + word_counts - l.own) % word_counts → there ≡ 0 → l.closed ≡ true
-      → IsAtEnd (reading p now)
-  at_end h s there is none shut =
-      let all = there_is h s there is in
+  pub at_end : there ≡ 0 → l.closed ≡ true → IsAtEnd (reading p now)
+  at_end none shut =
+      let all = there_is in
       let e = s.passed in
       record { ended = h.ended ∙ shut; all = omega arith }
 
-  -- what its word shows, which is what the task goes on by
-  pub word_open : (k : ℕ) → HasSeen k now l → l.closed ≡ false → l.word % 2 ≡ 0
-  word_open k h is = let test : (l.word % 2 == 1) ≡ false = sym h.closes ∙ is in grind (arith, nat_tests)
-
-  pub word_ended : (k : ℕ) → HasSeen k now l → l.closed ≡ true → l.word % 2 ≡ 1
-  word_ended k h is = let test : (l.word % 2 == 1) ≡ true = sym h.closes ∙ is in grind (arith, nat_tests)
-
-  abbrev pub look_shows : (k : ℕ) (old : Known) → HasSeen k now l → LoadsOther k l.word old now → LooksOver k old now
-  look_shows k old h loads = record { word = l.word; loads = loads; shown = sym h.shows ∙ h.other }
-
-  pub none_free : HasSeen (write_end p) now l → IsSettled (writing p now) → (used : ℕ)
-      → used ≡ (l.own + word_counts - l.other) % word_counts → PIPE_CELLS ≤ used → l.closed ≡ false
-      → ShowsNoCell (write_end p) (writing p now) l.word
-  none_free h s used is most unended =
-      let free = free_is h s used is in
-      let settled = s.passed in record {
-        unended = word_open (write_end p) h unended;
-        count = (writing p now).seen;
-        shown = sym h.shows ∙ h.other;
-        full = λ write. omega arith;
-        empty = λ read. absurd (omega arith);
-      }
-
-  pub none_there : HasSeen (read_end p) now l → IsSettled (reading p now) → (there : ℕ)
-      → there ≡ (l.other + word_counts - l.own) % word_counts → there ≡ 0 → l.closed ≡ false
-      → ShowsNoCell (read_end p) (reading p now) l.word
-  none_there h s there is none unended =
-      let all = there_is h s there is in
-      let settled = s.passed in record {
-        unended = word_open (read_end p) h unended;
-        count = (reading p now).seen;
-        shown = sym h.shows ∙ h.other;
-        full = λ write. absurd (omega arith);
-        empty = λ read. omega arith;
-      }
+  pub none_there : there ≡ 0 → l.closed ≡ false → ShowsNoCell (read_end p) (reading p now) l.word
+  none_there none unended =
+      let all = there_is in
+      let settled = s.passed in
+      shows_none h unended (λ write. absurd (omega arith)) (λ read. omega arith)

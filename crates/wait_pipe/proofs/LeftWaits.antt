@@ -59,8 +59,8 @@ use Rattle.var_wait.specs.VarWaits.{shared_in}
 use Rattle.wait_pipe.specs.PieceLeaves.{AwaitsUntil, IsPieceUntil, end_of_until}
 use Rattle.wait_pipe.specs.Pieces.{ShowsNoCell, WaitsAtPipe}
 use Rattle.wait_pipe.proofs.Asides.{quiet_none, var_low}
-use Rattle.wait_pipe.proofs.Looking.{end_cause, none_kept}
-use Rattle.wait_pipe.proofs.PieceChanges.{keeps_none, keeps_on, of_wait}
+use Rattle.wait_pipe.proofs.Looking.{end_cause, none_kept, waits_by}
+use Rattle.wait_event.proofs.Changes.{keeps_join, keeps_same}
 
 -- An entry at no completion, and steps that queue no other.
 abbrev IsLow : Entry → Type 0
@@ -87,7 +87,7 @@ pub record Stills (v : ℕ) (old new : Known) : Type 0 where
 stills_on : (v : ℕ) (x y z : Known) → Stills v x y → Stills v y z → Stills v x z
 stills_on v x y z a b = record {
   ends = record {
-    keeps = λ k ne. keeps_on (end_at k x) (end_at k y) (end_at k z) (a.ends.keeps k ne) (b.ends.keeps k ne);
+    keeps = λ k ne. keeps_join (a.ends.keeps k ne) (b.ends.keeps k ne);
     others = λ k ne. b.ends.others k ne ∙ a.ends.others k ne;
   };
   aside = aside_join x y z a.aside b.aside;
@@ -102,7 +102,7 @@ stills_on v x y z a b = record {
 
 stills_none : (v : ℕ) (k : Known) → Stills v k k
 stills_none v k = record {
-  ends = record { keeps = λ j ne. keeps_none (end_at j k); others = λ j ne. refl };
+  ends = record { keeps = λ j ne. keeps_same refl; others = λ j ne. refl };
   aside = (quiet_none k).aside;
   adds = record { made = []; is = sym (append-nil (history_of k)); adds = tt; number = refl };
 }
@@ -115,7 +115,7 @@ stills_state : (v : ℕ) (k : Known) → Stills v k (added k stored_state)
 stills_state v k = record {
   ends = record {
     keeps = λ j ne. subst (KeepsEnd (end_at j k)) (sym (end_append j no_end k.view.items (stored_state ∷ [])))
-        (keeps_none (end_at j k));
+        (keeps_same refl);
     others = λ j ne. end_append j no_end k.view.items (stored_state ∷ []);
   };
   aside = more_aside k (added k stored_state) (stored_state ∷ []) refl (tt, tt) refl (λ j e. refl);
@@ -249,18 +249,11 @@ until_waits A k v word st old new result apart pipe w free up idle out carries =
       front = ap (λ (h : How). h.exclusive) w.waited.fresh.how_is;
     } in
     let l = w.waited.leaves in
-    let s = way_stills v word A old first stage.First is new l.at (turn.Done l.outcome) l.came in record {
-      others = λ j ne. s.ends.others j (λ q. ne (q ∙ pipe));
-      keeps = s.ends.keeps k (λ q. apart (sym q));
-      rests = record {
-        up = up;
-        idle = idle;
-        out = out;
-        carries = of_wait k (index old.view.number 0) old new carries;
-        aside = s.aside;
-        off = left_on old new s.adds.made s.adds.number s.adds.is (low_steps s.adds.made s.adds.adds) free;
-      };
-    }
+    let s = way_stills v word A old first stage.First is new l.at (turn.Done l.outcome) l.came in
+    waits_by apart pipe s.ends (record {
+      aside = s.aside;
+      off = left_on old new s.adds.made s.adds.number s.adds.is (low_steps s.adds.made s.adds.adds) free;
+    }) up idle out carries
 
 -- why it ended
 module _ (A : Type 0) (k word : ℕ) (new : Known) (none : ShowsNoCell k (end_at k new) word) where

@@ -18,7 +18,7 @@ use Rattle.wait_rule.specs.declared.journal.Item.TheVariants as item
 use Rattle.wait_rule.specs.Known.{Known}
 use Rattle.wait_rule.specs.Pipes.{End, after_end_look, count_on, end_item, end_word, if_unclosed, no_end, other_end}
 use Rattle.wait_rule.specs.Pipes.{read_end, word_counts, write_end}
-use Rattle.wait_rule.specs.PipeSays.{IsOpen, IsSoundEnd, KeepsEnd, end_at}
+use Rattle.wait_rule.specs.PipeSays.{EndsKept, IsOpen, IsSoundEnd, KeepsEnd, end_at}
 use Rattle.wait_rule.specs.Queues.{IsAgreedHold, IsIdle, index}
 use Rattle.wait_rule.specs.Says.{IsFree, IsUp, added, told_of}
 use Rattle.wait_rule.specs.Stays.{Carries, unchanged}
@@ -106,9 +106,9 @@ module _ (k v r : ℕ) (old new : Known) (other : v ≡ other_end k) (pipe : v /
       (record { mine = refl; shut = refl; count = refl; before = refl; cells = refl }) in
       let quiet = subst (LeavesAside old) (sym is) (quiet_load old v 0 r) in record {
         up = carries.awake ∙ up;
-        free = free_still k old new carries free;
-        idle = idle_still k old new carries;
-        out = out_still k old new carries;
+        free = free_still carries free;
+        idle = idle_still carries;
+        out = out_still carries;
         others = loaded_others;
         keeps = kept;
         settled = settled_still (end_at k old) (end_at k new) kept;
@@ -146,24 +146,29 @@ only_waits k old new l up idle out = record {
 }
 
 -- a wait for the other end's word
+pub waits_by : {k v : ℕ} {old new : Known} → v ≢ k → v / PIPE_ENDS ≡ k / PIPE_ENDS → EndsKept v old new
+    → LeavesAside old new → IsUp new → IsIdle new → IsOut new
+    → Carries (wait_change (index old.view.number 0) new.at) old new → WaitsAtPipe k old new
+waits_by {k = k} {old = old} {new = new} apart pipe kept quiet up idle out carries = record {
+  others = λ j ne. kept.others j (λ q. ne (q ∙ pipe));
+  keeps = kept.keeps k (λ q. apart (sym q));
+  rests = record {
+    up = up;
+    idle = idle;
+    out = out;
+    carries = of_wait k (index old.view.number 0) old new carries;
+    aside = quiet.aside;
+    off = quiet.off;
+  };
+}
+
 pub wait_waits : (k v word : ℕ) (st : SleepState) (old new : Known) (result : Result ℕ WaitEnd) → v ≢ k
     → v / PIPE_ENDS ≡ k / PIPE_ENDS → EndsVarWait old new v word st result → (told_of old).hold.head ≡ None → IsUp new
     → IsIdle new → IsOut new → Carries (wait_change (index old.view.number 0) new.at) old new → WaitsAtPipe k old new
-wait_waits k v word st old new result apart pipe w free up idle out carries =
-    let quiet = waited_quiet v word st old new result free w in
-    let kept = programs_keep_ends (call_program old.view.number 0 (calls.WaitVar v word st)) v (λ p. (word, refl)) old
-    (next.Go at.First) w.runs.transitions new (next.Ends (answer_of_var_end result)) w.runs.goes in record {
-      others = λ j ne. kept.others j (λ q. ne (q ∙ pipe));
-      keeps = kept.keeps k (λ q. apart (sym q));
-      rests = record {
-        up = up;
-        idle = idle;
-        out = out;
-        carries = of_wait k (index old.view.number 0) old new carries;
-        aside = quiet.aside;
-        off = quiet.off;
-      };
-    }
+wait_waits k v word st old new result apart pipe w free up idle out carries = waits_by apart pipe
+    (programs_keep_ends (call_program old.view.number 0 (calls.WaitVar v word st)) v (λ p. (word, refl)) old
+    (next.Go at.First) w.runs.transitions new (next.Ends (answer_of_var_end result)) w.runs.goes)
+    (waited_quiet v word st old new result free w) up idle out carries
 
 -- and why it ended, if it gave nothing
 interrupted : (k : Known) (v word seen : ℕ) (selected queued : Bool)

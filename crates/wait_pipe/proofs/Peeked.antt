@@ -18,7 +18,7 @@ module _ (p : ℕ) (old new : Known) (l : Look) (seen : HasSeen (read_end p) new
   state = record { word = l.word; cells = there; closed = l.closed }
 
   counted : there + (reading p new).count ≡ (reading p new).seen
-  counted = let all = there_is p new l seen settled there is in let passed = settled.passed in omega arith
+  counted = let all = there_is p seen settled is in let passed = settled.passed in omega arith
 
   fits : there ≤ PIPE_CELLS
   fits =
@@ -32,13 +32,13 @@ module _ (p : ℕ) (old new : Known) (l : Look) (seen : HasSeen (read_end p) new
     cells = counted;
     room = fits;
     closed = sym seen.ended;
-    at_end = at_end p new l seen settled there is;
-    none = none_there p new l seen settled there is;
+    at_end = at_end p seen settled is;
+    none = none_there p seen settled is;
   }
 
   pub peeks_so : LoadsOther (read_end p) l.word old new → PeeksRead (read_end p) old new state
   peeks_so loads = record {
-    looks = look_shows p new l (read_end p) old seen loads;
+    looks = look_shows seen old loads;
     word = refl;
     cells = counted;
     room = fits;

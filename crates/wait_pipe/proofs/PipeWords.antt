@@ -41,9 +41,10 @@ use Rattle.wait_pipe.specs.Trails.{LooksOver, PassesCells, ReadEnds, WaitingTurn
 use Rattle.wait_pipe.specs.PipeWords.{ClosesFollow, Deed, LastReads, LastWrites, PeeksFollow, ReadsFollow, TurnPasses}
 use Rattle.wait_pipe.specs.PipeWords.{TurnWaits, TurnsHeed, TurnsWait, WritesFollow, all_cells, all_events, loads_other}
 use Rattle.wait_pipe.specs.PipeWords.{read_said, turn_said, turns_said, wait_answer, write_said}
-use Rattle.wait_pipe.proofs.Asides.{none_more, quiet_cell, quiet_load, quiet_none}
+use Rattle.wait_rule.proofs.KnownLaws.Transitions.{grown_more, grown_none}
+use Rattle.wait_pipe.proofs.Asides.{quiet_cell, quiet_load, quiet_none}
 use Rattle.wait_pipe.proofs.Looking.{none_kept, other_apart}
-use Rattle.wait_pipe.proofs.PieceChanges.{keeps_none, keeps_on}
+use Rattle.wait_event.proofs.Changes.{keeps_join, keeps_same}
 
 -- The list grows over a look and over a turn that waits.
 looked_aside : (k w : ℕ) (old looked : Known) → looked ≡ added old (item.Made (step.Load (watch.Var (other_end k) 0) w))
@@ -62,12 +63,12 @@ turns_aside k old (t ∷ ts) new w = aside_join old t new (turn_aside k old t (O
 
 -- The end stays over them, but for what was seen.
 if_keeps : (b : Bool) (r : ℕ) (e : End) → KeepsEnd e (if b then if_unclosed (after_end_look r) e else e)
-if_keeps false r e = keeps_none e
+if_keeps false r e = keeps_same refl
 if_keeps true r e = by (e.mine && not e.shut)
   where
     by : (b : Bool) → KeepsEnd e (if b then after_end_look r e else e)
     by true = record { mine = refl; shut = refl; count = refl; before = refl; cells = refl }
-    by false = keeps_none e
+    by false = keeps_same refl
 
 looked_keeps : (k w : ℕ) (old looked : Known) → looked ≡ added old (item.Made (step.Load (watch.Var (other_end k) 0) w))
     → KeepsEnd (end_at k old) (end_at k looked)
@@ -82,13 +83,13 @@ turn_keeps k old new r t =
     (calls.WaitVar (other_end k) t.word state.Interruptible)) (other_end k) (λ p. (t.word, refl)) t.looked
     (next.Go at.First) t.waits.waits.runs.transitions new (next.Ends (answer_of_var_end t.waits.outcome))
     t.waits.waits.runs.goes in
-    keeps_on (end_at k old) (end_at k t.looked) (end_at k new) (looked_keeps k t.word old t.looked t.looks)
+    keeps_join (looked_keeps k t.word old t.looked t.looks)
     (kept.keeps k (λ q. other_apart k (sym q)))
 
 turns_keep : (k : ℕ) (old : Known) (ts : List Known) (new : Known) → WaitingTurns k old ts new
     → KeepsEnd (end_at k old) (end_at k new)
-turns_keep k old [] new w = subst (λ (j : Known). KeepsEnd (end_at k old) (end_at k j)) (sym w) (keeps_none (end_at k old))
-turns_keep k old (t ∷ ts) new w = keeps_on (end_at k old) (end_at k t) (end_at k new) (turn_keeps k old t (Ok tt) w.0)
+turns_keep k old [] new w = subst (λ (j : Known). KeepsEnd (end_at k old) (end_at k j)) (sym w) (keeps_same refl)
+turns_keep k old (t ∷ ts) new w = keeps_join (turn_keeps k old t (Ok tt) w.0)
     (turns_keep k t ts new w.1)
 
 keeps_back : (e f : End) → KeepsEnd e f → KeepsEnd f e
@@ -126,8 +127,7 @@ module _ (new : Known) (law : MeetsLaw new.view) where
       let looked = t.looked in
       let runs = t.waits.waits.runs in record {
         word = t.word;
-        none = none_kept k t.word (end_at k looked) own (keeps_back own (end_at k looked) (keeps_on own (end_at k old)
-            (end_at k looked) keeps (looked_keeps k t.word old looked t.looks))) t.waits.none;
+        none = none_kept k t.word (end_at k looked) own (keeps_back own (end_at k looked) (keeps_join keeps (looked_keeps k t.word old looked t.looks))) t.waits.none;
         waited = call_says looked.view.number (calls.WaitVar (other_end k) t.word state.Interruptible)
             runs.transitions;
         follows = runs_follow law.table law.items law.ruled (calls.WaitVar (other_end k) t.word state.Interruptible) 0
@@ -158,7 +158,7 @@ module _ (new : Known) (law : MeetsLaw new.view) where
         (aside_join t last new (turns_aside k t ts last w.1) g).grows keeps number
         (ok_answers w.0.waits.outcome w.0.waits.answers),
     turns_follow me k own t ts last w.1 g
-        (keeps_on own (end_at k old) (end_at k t) keeps (turn_keeps k old t (Ok tt) w.0))
+        (keeps_join keeps (turn_keeps k old t (Ok tt) w.0))
         (ap (λ (v : Journal). v.number) (turn_aside k old t (Ok tt) w.0).grows.view ∙ number),
   )
 
@@ -264,28 +264,12 @@ module _ (new : Known) (law : MeetsLaw new.view) where
       (err_answers e t.waits.outcome t.waits.answers)
 
 -- Cells grow the list too.
-cells_first : (j : Known) (k w : ℕ) (ws : List ℕ) → grown (added j (item.Piped k act.Cell w)) (cell_items k ws) j.book
-    ≡ grown j (cell_items k (w ∷ ws)) j.book
-cells_first j k w ws = ap (λ (l : List Item). record {
-  domain = j.domain;
-  view = record {
-    lives = j.view.lives;
-    number = j.view.number;
-    next = j.view.next;
-    spare = j.view.spare;
-    items = l;
-    joined = j.view.joined;
-  };
-  book = j.book;
-  at = j.at;
-}) (append_assoc j.view.items (item.Piped k act.Cell w ∷ []) (cell_items k ws))
-
 cells_aside : (k : ℕ) (j : Known) (ws : List ℕ) → GrowsAside j (grown j (cell_items k ws) j.book)
-cells_aside k j [] = subst (GrowsAside j) (none_more j) (quiet_none j).aside
+cells_aside k j [] = subst (GrowsAside j) (grown_none j) (quiet_none j).aside
 cells_aside k j (w ∷ ws) =
     let one = added j (item.Piped k act.Cell w) in
     aside_join j one (grown j (cell_items k (w ∷ ws)) j.book) (quiet_cell j k w).aside
-    (subst (GrowsAside one) (cells_first j k w ws) (cells_aside k one ws))
+    (subst (GrowsAside one) (grown_more j (item.Piped k act.Cell w ∷ []) (cell_items k ws) j.book j.book) (cells_aside k one ws))
 
 -- the list grows over the last turn
 passed_aside : (k : ℕ) (old looked new : Known) (text : List ℕ) → LooksOver k old looked
@@ -322,7 +306,7 @@ writes_follow k old new text r law w =
       turns = turns_said k old w.turns w.last w.waits;
       last = write_said k w.last new text r w.ends;
       waits = turns_follow new law old.view.number k (end_at k old) old w.turns w.last w.waits
-          (last_write_aside k w.last new text r w.ends) (keeps_none (end_at k old)) refl;
+          (last_write_aside k w.last new text r w.ends) (keeps_same refl) refl;
       ends = last_writes new law old.view.number k (end_at k old) w.last text r w.ends
           (turns_keep k old w.turns w.last w.waits) (number_on old w.last waited);
       is = refl;
@@ -334,7 +318,7 @@ reads_follow k old new buf r law w =
       turns = turns_said k old w.turns w.last w.waits;
       last = read_said k w.last new buf r w.ends;
       waits = turns_follow new law old.view.number k (end_at k old) old w.turns w.last w.waits
-          (last_read_aside k w.last new buf r w.ends) (keeps_none (end_at k old)) refl;
+          (last_read_aside k w.last new buf r w.ends) (keeps_same refl) refl;
       ends = last_reads new law old.view.number k (end_at k old) w.last buf r w.ends
           (turns_keep k old w.turns w.last w.waits) (number_on old w.last waited);
       is = refl;

@@ -17,6 +17,7 @@ use Rattle.wait_rule.specs.Queues.{IsIdle, index}
 use Rattle.wait_rule.specs.Says.{IsUp, told_of}
 use Rattle.wait_rule.specs.Stays.{Carries, unchanged, wake_all_change, with_wakes}
 use Rattle.wait_rule.specs.Transitions.{walk_program}
+use Rattle.wait_rule.proofs.KnownLaws.CarriedTasks.{unchanged_first}
 use Rattle.wait_rule.proofs.KnownLaws.PipeItems.{end_append}
 use Rattle.wait_rule.proofs.KnownLaws.CarriedEnds.{programs_keep_ends, scans_ends, walks_keep_ends}
 use Rattle.wq_head.specs.Scanned.{HasEndedAt, HasScanned, unmade}
@@ -41,31 +42,6 @@ module _ (v : ℕ) (old new : Known) (walked : Walked) (w : HasWoken old new (ai
   pub woken_own : end_at v new ≡ end_at v old
   woken_own = walks_keep_ends (aim_of v) v 0 refl old (next.Go (at.Walk walking.Lock)) w.transitions new
       (next.Ends (answer.Walk w.walked)) w.goes
-
--- what a look leaves, and then a wake
-pub still_wakes : (c : Watch) (x y z : Known) → Carries unchanged x y
-    → Carries (wake_all_change c mode.Normal z.at) y z → Carries (wake_all_change c mode.Normal z.at) x z
-still_wakes c x y z a b = record {
-  domain = b.domain ∙ a.domain;
-  number = b.number ∙ a.number;
-  awake = b.awake ∙ a.awake;
-  state = b.state ∙ a.state;
-  head = b.head;
-  ticket = b.ticket;
-  hold = b.hold;
-  at = refl;
-  mark = b.mark ∙ a.mark;
-  fewer = λ w σ p is. b.fewer w σ p (a.fewer w σ refl is);
-  stored = λ i blind p. absurd (cc);
-  out = λ i p is. b.out i p (a.out i p is);
-  stands = λ slot few p e is own.
-      subst (λ (m : ℕ). (told_of z).bits.stored (index m slot) ≡ Some e) a.number
-      (b.stands slot few refl e
-      (subst (λ (m : ℕ). (told_of y).bits.stored (index m slot) ≡ Some e) (sym a.number)
-      (a.stands slot few p e is own)) own);
-  keeps = λ d p. b.keeps d p ∙ a.keeps d refl;
-  owes = λ f o. b.owes f (a.owes (with_wakes c mode.Normal f) o);
-}
 
 -- a look for who waits for variable v, behind its publish
 module _ (v : ℕ) (old mid : Known) (h : ℕ) (hit : Bool) (is : h ≡ head_of (watch.Var v 0)) (idle : IsIdle old)
@@ -97,7 +73,7 @@ module _ (v : ℕ) (old mid : Known) (h : ℕ) (hit : Bool) (is : h ≡ head_of 
     own = woken_own v mid new walked woken ∙ scanned_ends old mid h hit s v;
     up = up;
     idle = behind;
-    carries = still_wakes (watch.Var v 0) old mid new still wakes;
+    carries = unchanged_first (wake_all_change (watch.Var v 0) mode.Normal new.at) old mid new still wakes;
     quiet = quiet_on old mid new (scanned_quiet old mid h hit s)
         (woken_quiet v mid new walked (still.hold ∙ held) woken);
     walked = walked;

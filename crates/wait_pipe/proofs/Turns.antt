@@ -9,12 +9,13 @@ use Rattle.wait_pipe.specs.declared.looks.Look.{Look}
 use Rattle.wait_pipe.specs.declared.pieces.PipeEnd.{PipeEnd}
 use Rattle.wait_pipe.specs.declared.pieces.PipeEnd.TheVariants as pipe_end
 use Rattle.wait_pipe.specs.PassedOn.{Drained, Filled}
-use Rattle.wait_pipe.specs.Pieces.{Got, GotNone, HasSeen, IsPipeCause, IsReadCause, IsSettled, Put, PutNone}
+use Rattle.wait_pipe.specs.Pieces.{Got, GotNone, IsAtEnd, IsPipeCause, IsReadCause, IsReady, IsSettled, Put, PutNone}
+use Rattle.wait_pipe.specs.PieceLeaves.{SeesNoCell}
 use Rattle.wait_pipe.specs.Pieces.{RestsBehindPiece, WaitsAtPipe}
-use Rattle.wait_pipe.specs.Trails.{AwaitsOther, FillsCells, LoadsCells, LoadsOther, LooksOver, ReadEnds, ReadsPiece}
+use Rattle.wait_pipe.specs.Trails.{AwaitsOther, FillsCells, LoadsCells, LooksOver, ReadEnds, ReadsPiece}
 use Rattle.wait_pipe.specs.Trails.{SeesClosed, StoresCells, WaitingTurn, WaitingTurns, WriteEnds, WritesPiece}
-use Rattle.wait_pipe.proofs.PieceChanges.{rests_on, waits_on}
-use Rattle.wait_pipe.proofs.Fills.{at_end, waited_none, waited_settled, waited_then}
+use Rattle.wait_pipe.proofs.PieceChanges.{rests_on, waits_none, waits_on}
+use Rattle.wait_pipe.proofs.Fills.{waited_none, waited_then}
 
 -- why a wait ended is also why nothing was written
 pub wait_cause : (k : ℕ) (new : Known) (e : PipeEnd) → IsReadCause k new e → IsPipeCause k new e
@@ -23,26 +24,19 @@ wait_cause k new (pipe_end.Interrupted seen) is = is
 wait_cause k new (pipe_end.Worn head place) is = is
 
 -- A task that writes, over turns that only wait.
-module _ (p : ℕ) (old now : Known) (w : WaitsAtPipe (write_end p) old now) (s : IsSettled (writing p old)) where
+module _ (p : ℕ) {old now : Known} (w : WaitsAtPipe (write_end p) old now) (s : IsSettled (writing p old)) where
   pub put_broken : (writing p now).ended ≡ true → PutNone p old now pipe_end.Broken
-  put_broken ended = record { moved = waited_none (write_end p) old now w s; cause = ended }
+  put_broken ended = record { moved = waited_none w s; cause = ended }
 
-  pub put_filled : (new : Known) (text : List ℕ) (n : ℕ) → 0 < n → n ≤ length text → Filled p now new text n
+  pub put_filled : {new : Known} {text : List ℕ} {n : ℕ} → Filled p now new text n → 0 < n → n ≤ length text
       → (writing p now).ended ≡ false → Put p old new text n
-  put_filled new text n some most f unended = record {
+  put_filled {new = new} {text = text} {n = n} f some most unended = record {
     some = some;
     most = most;
-    moved = waited_then (write_end p) old now w s new (take n text) f.moved;
+    moved = waited_then w s new (take n text) f.moved;
     unended = f.ended ∙ unended;
     cells = f.cells ∙ ap (λ m. m + (n + 6) / 7) w.keeps.count;
     full = f.full;
-  }
-
-  pub put_stopped : (new : Known) (e : PipeEnd) → WaitsAtPipe (write_end p) now new → IsReadCause (write_end p) new e
-      → PutNone p old new e
-  put_stopped new e v cause = record {
-    moved = waited_none (write_end p) old new (waits_on (write_end p) old now new w v) s;
-    cause = wait_cause (write_end p) new e cause;
   }
 
   pub put_then : (new : Known) (text : List ℕ) (r : Result ℕ PipeEnd)
@@ -50,67 +44,57 @@ module _ (p : ℕ) (old now : Known) (w : WaitsAtPipe (write_end p) old now) (s 
   put_then new text (Ok n) put = record {
     some = put.some;
     most = put.most;
-    moved = waited_then (write_end p) old now w s new (take n text) put.moved;
+    moved = waited_then w s new (take n text) put.moved;
     unended = put.unended;
     cells = put.cells ∙ ap (λ m. m + (n + 6) / 7) w.keeps.count;
     full = put.full;
   }
   put_then new text (Err e) put = record {
-    moved = waited_then (write_end p) old now w s new [] put.moved;
+    moved = waited_then w s new [] put.moved;
     cause = put.cause;
   }
 
 -- A task that reads, over such turns.
-module _ (p : ℕ) (old now : Known) (w : WaitsAtPipe (read_end p) old now) (s : IsSettled (reading p old)) where
-  pub got_drained : (new : Known) (buf : List ℕ) (n : ℕ) → 0 < n → n ≤ length buf → Drained p now new buf n
+module _ (p : ℕ) {old now : Known} (w : WaitsAtPipe (read_end p) old now) (s : IsSettled (reading p old)) where
+  pub got_drained : {new : Known} {buf : List ℕ} {n : ℕ} → Drained p now new buf n → 0 < n → n ≤ length buf
       → Got p old new buf n
-  got_drained new buf n some most d = record {
+  got_drained {new = new} {buf = buf} {n = n} d some most = record {
     most = most;
-    moved = waited_then (read_end p) old now w s new (take n buf) d.moved;
+    moved = waited_then w s new (take n buf) d.moved;
     some = λ there. some;
     none = λ none. absurd (omega arith);
     all = d.all;
   }
 
-  pub got_end : (l : Look) (buf : List ℕ) (there : ℕ) → HasSeen (read_end p) now l
-      → there ≡ (l.other + word_counts - l.own) % word_counts → there ≡ 0 → l.closed ≡ true → Got p old now buf 0
-  got_end l buf there seen is none shut =
-      let still = waited_settled (read_end p) old now w s in
-      let end = at_end p now l seen still there is none shut in
+  pub got_end : (buf : List ℕ) → IsAtEnd (reading p now) → Got p old now buf 0
+  got_end buf end =
       let all = end.all in
       let count = w.keeps.count in record {
         most = omega arith;
-        moved = waited_none (read_end p) old now w s;
+        moved = waited_none w s;
         some = λ there. absurd (omega arith);
         none = λ none. end;
         all = λ room. end.all;
       }
-
-  pub got_stopped : (new : Known) (e : PipeEnd) → WaitsAtPipe (read_end p) now new → IsReadCause (read_end p) new e
-      → GotNone p old new e
-  got_stopped new e v cause = record {
-    moved = waited_none (read_end p) old new (waits_on (read_end p) old now new w v) s;
-    cause = cause;
-  }
 
   pub got_then : (new : Known) (buf : List ℕ) (r : Result ℕ PipeEnd)
       → MatchResult r (Got p now new buf) (GotNone p now new) → MatchResult r (Got p old new buf) (GotNone p old new)
   got_then new buf (Ok n) got =
       let count = w.keeps.count in record {
         most = got.most;
-        moved = waited_then (read_end p) old now w s new (take n buf) got.moved;
+        moved = waited_then w s new (take n buf) got.moved;
         some = λ there. got.some (let few : (reading p now).count < (reading p new).seen = omega arith in few);
         none = got.none;
         all = got.all;
       }
   got_then new buf (Err e) got = record {
-    moved = waited_then (read_end p) old now w s new [] got.moved;
+    moved = waited_then w s new [] got.moved;
     cause = got.cause;
   }
 
 -- what it leaves of the task
-pub then_rests : (k : ℕ) (old now new : Known) → WaitsAtPipe k old now → RestsBehindPiece k now new → RestsBehindPiece k old new
-then_rests k old now new w r = rests_on k old now new w.rests r
+pub then_rests : {k : ℕ} {old now new : Known} → WaitsAtPipe k old now → RestsBehindPiece k now new → RestsBehindPiece k old new
+then_rests {k = k} {old = old} {now = now} {new = new} w r = rests_on k old now new w.rests r
 
 -- Turns that wait, one after the other.
 turns_more : (k : ℕ) (old : Known) (ts : List Known) (now new : Known) → WaitingTurns k old ts now
@@ -124,29 +108,29 @@ pub record Turning (k : ℕ) (old now : Known) : Type 0 where
   pub turns : List Known
   pub goes : WaitingTurns k old turns now
 
-pub turning_none : (k : ℕ) (j : Known) → WaitsAtPipe k j j → Turning k j j
-turning_none k j w = record { waits = w; turns = []; goes = refl }
+pub turning_none : {domain : _} {k : ℕ} {j : Known} → IsReady domain j → Turning k j j
+turning_none {k = k} {j = j} ready = record { waits = waits_none k j ready; turns = []; goes = refl }
 
-pub turning_on : (k : ℕ) (old now new : Known) → Turning k old now → WaitsAtPipe k now new → WaitingTurn k now new (Ok tt)
+pub turning_on : {k : ℕ} {old now new : Known} → Turning k old now → WaitsAtPipe k now new → WaitingTurn k now new (Ok tt)
     → Turning k old new
-turning_on k old now new t w turn = record {
-  waits = waits_on k old now new t.waits w;
+turning_on {k = k} {old = old} {now = now} {new = new} t w turn = record {
+  waits = waits_on t.waits w;
   turns = t.turns ++ new ∷ [];
   goes = turns_more k old t.turns now new t.goes turn;
 }
 
-pub wrote_piece : (k : ℕ) (old now new : Known) (text : List ℕ) (r : Result ℕ PipeEnd) → Turning k old now
+pub wrote_piece : {k : ℕ} {old now new : Known} {text : List ℕ} {r : Result ℕ PipeEnd} → Turning k old now
     → WriteEnds k now new text r → WritesPiece k old new text r
-wrote_piece k old now new text r t ends = record { turns = t.turns; last = now; waits = t.goes; ends = ends }
+wrote_piece {now = now} t ends = record { turns = t.turns; last = now; waits = t.goes; ends = ends }
 
-pub got_piece : (k : ℕ) (old now new : Known) (buf : List ℕ) (r : Result ℕ PipeEnd) → Turning k old now
+pub got_piece : {k : ℕ} {old now new : Known} {buf : List ℕ} {r : Result ℕ PipeEnd} → Turning k old now
     → ReadEnds k now new buf r → ReadsPiece k old new buf r
-got_piece k old now new buf r t ends = record { turns = t.turns; last = now; waits = t.goes; ends = ends }
+got_piece {now = now} t ends = record { turns = t.turns; last = now; waits = t.goes; ends = ends }
 
 -- the last one
-pub turn_of : (k w : ℕ) (old looked new : Known) (r : Result (Unit {0}) PipeEnd) → LoadsOther k w old looked
+pub turn_of : {k w : ℕ} {old looked new : Known} {r : Result (Unit {0}) PipeEnd} → SeesNoCell k old looked w
     → AwaitsOther k w looked new r → WaitingTurn k old new r
-turn_of k w old looked new r looks waits = record { word = w; looked = looked; looks = looks; waits = waits }
+turn_of {w = w} {looked = looked} looks waits = record { word = w; looked = looked; looks = looks.loads; waits = waits }
 
 pub write_stops : (k : ℕ) (old new : Known) (text : List ℕ) (e : PipeEnd) → IsReadCause k new e
     → WaitingTurn k old new (Err e) → WriteEnds k old new text (Err e)
@@ -154,48 +138,36 @@ write_stops k old new text pipe_end.Broken cause turn = absurd cause
 write_stops k old new text (pipe_end.Interrupted seen) cause turn = turn
 write_stops k old new text (pipe_end.Worn head place) cause turn = turn
 
-pub wrote_some : (k n : ℕ) (old looked new : Known) (text : List ℕ) (l : LooksOver k old looked) → l.word % 2 ≡ 0
+pub wrote_some : {k n : ℕ} {old looked new : Known} {text : List ℕ} (l : LooksOver k old looked) → l.word % 2 ≡ 0
     → StoresCells k looked new text n → FillsCells k old new text n
-wrote_some k n old looked new text l unended stores = record {
-  looked = looked;
-  looks = l;
-  unended = unended;
-  stores = stores;
-}
+wrote_some {looked = looked} l unended stores = record { looked = looked; looks = l; unended = unended; stores = stores }
 
-pub saw_closed : (k : ℕ) (old new : Known) (l : LooksOver k old new) → l.word % 2 ≡ 1 → SeesClosed k old new
-saw_closed k old new l ended = record { looks = l; ended = ended }
-
-pub read_some : (k n : ℕ) (old looked new : Known) (buf : List ℕ) → LooksOver k old looked → 0 < n
+pub read_some : {k n : ℕ} {old looked new : Known} {buf : List ℕ} → LooksOver k old looked → 0 < n
     → LoadsCells k looked new buf n → ReadEnds k old new buf (Ok n)
-read_some k zero old looked new buf l some loads = absurd (omega arith)
-read_some k (suc n) old looked new buf l some loads = record { looked = looked; looks = l; loads = loads }
-
-pub read_none : (k : ℕ) (old looked : Known) (buf : List ℕ) → SeesClosed k old looked
-    → (end_at k looked).count ≡ (end_at k looked).seen → ReadEnds k old looked buf (Ok 0)
-read_none k old looked buf closed all = record { closed = closed; all = all }
+read_some {n = zero} l some loads = absurd (omega arith)
+read_some {n = suc n} {looked = looked} l some loads = record { looked = looked; looks = l; loads = loads }
 
 -- a call whose first turn ends it, and one whose first turn waits
-pub wrote_first : (k : ℕ) (old new : Known) (text : List ℕ) (r : Result ℕ PipeEnd) → WriteEnds k old new text r
+pub wrote_first : {k : ℕ} {old new : Known} {text : List ℕ} {r : Result ℕ PipeEnd} → WriteEnds k old new text r
     → WritesPiece k old new text r
-wrote_first k old new text r ends = record { turns = []; last = old; waits = refl; ends = ends }
+wrote_first {old = old} ends = record { turns = []; last = old; waits = refl; ends = ends }
 
-pub wrote_later : (k : ℕ) (old now new : Known) (text : List ℕ) (r : Result ℕ PipeEnd) → WaitingTurn k old now (Ok tt)
+pub wrote_later : {k : ℕ} {old now new : Known} {text : List ℕ} {r : Result ℕ PipeEnd} → WaitingTurn k old now (Ok tt)
     → WritesPiece k now new text r → WritesPiece k old new text r
-wrote_later k old now new text r turn w = record {
+wrote_later {now = now} turn w = record {
   turns = now ∷ w.turns;
   last = w.last;
   waits = (turn, w.waits);
   ends = w.ends;
 }
 
-pub got_first : (k : ℕ) (old new : Known) (buf : List ℕ) (r : Result ℕ PipeEnd) → ReadEnds k old new buf r
+pub got_first : {k : ℕ} {old new : Known} {buf : List ℕ} {r : Result ℕ PipeEnd} → ReadEnds k old new buf r
     → ReadsPiece k old new buf r
-got_first k old new buf r ends = record { turns = []; last = old; waits = refl; ends = ends }
+got_first {old = old} ends = record { turns = []; last = old; waits = refl; ends = ends }
 
-pub got_later : (k : ℕ) (old now new : Known) (buf : List ℕ) (r : Result ℕ PipeEnd) → WaitingTurn k old now (Ok tt)
+pub got_later : {k : ℕ} {old now new : Known} {buf : List ℕ} {r : Result ℕ PipeEnd} → WaitingTurn k old now (Ok tt)
     → ReadsPiece k now new buf r → ReadsPiece k old new buf r
-got_later k old now new buf r turn w = record {
+got_later {now = now} turn w = record {
   turns = now ∷ w.turns;
   last = w.last;
   waits = (turn, w.waits);

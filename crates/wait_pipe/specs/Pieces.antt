@@ -23,6 +23,13 @@ use Rattle.wait_pipe.specs.declared.pieces.PipeEnd.{PipeEnd}
 use Rattle.wait_pipe.specs.declared.pieces.PipeEnd.TheVariants as pipe_end
 use Rattle.wait_pipe.specs.declared.looks.Look.{Look}
 
+-- A task of this Domain is ready for a call: it is awake and idle, with no entry queued.
+pub record IsReady (domain : _) (k : Known) : Type 0 where
+  pub of : k.domain ≡ domain
+  pub up : IsUp k
+  pub idle : IsIdle k
+  pub out : IsOut k
+
 -- The task has the end, it is not closed, and every cell that was stored or loaded there was passed on.
 pub record IsSettled (e : End) : Type 0 where
   pub still : IsOpen e

@@ -15,7 +15,7 @@ ghost use Rattle.wait_class.specs.Posts.{IsOut};
 ghost use Rattle.wq_head.specs.Walks.{HasEnded, HasWoken};
 ghost use Rattle.var_wait.specs.VarPublishes.{aim_of};
 ghost use Rattle.wait_pipe.specs.PassedOn.{WokeWaiters};
-ghost use Rattle.wait_pipe.specs.Pieces.{EndsPipe, IsPipeOpened, OtherPipesStay};
+ghost use Rattle.wait_pipe.specs.Pieces.{EndsPipe, IsPipeOpened, IsReady, OtherPipesStay};
 ghost use Rattle.wait_pipe.specs.Trails.{ClosesEnd};
 
 use std::sync::Wait;
@@ -68,7 +68,8 @@ pub fn open_read(domain: &Domain, task: &mut Task, pipe: u8) -> bool
 /// Wakes those who wait for variable `var`, below `CLAIMS`, which is the word of an end that its task has published: a
 /// look without the lock whether the variable's head has members, and where it has any a walk over its queue with
 /// NORMAL: with the publish, what `publish_var_and_wake` makes. The task is idle, and so it is afterwards.
-fn rouse<R: Wait>(rt: &R, domain: &Domain, task: &mut Task, var: u8)
+#[inline(always)]
+pub(crate) fn rouse<R: Wait>(rt: &R, domain: &Domain, task: &mut Task, var: u8)
     requires of { task.old.domain ≡ domain.now }
     requires up { IsUp task.old }
     requires idle { IsIdle task.old }
@@ -82,7 +83,7 @@ fn rouse<R: Wait>(rt: &R, domain: &Domain, task: &mut Task, var: u8)
 }
 
 /// Wakes those who wait for variable `var`, below `CLAIMS`, by a walk over the queue of its head with NORMAL.
-pub(crate) fn wake_end<R: Wait>(rt: &R, domain: &Domain, task: &mut Task, var: u8) -> Walked
+fn wake_end<R: Wait>(rt: &R, domain: &Domain, task: &mut Task, var: u8) -> Walked
     requires of { task.old.domain ≡ domain.now }
     requires up { IsUp task.old }
     requires idle { IsIdle task.old }
@@ -139,10 +140,7 @@ pub fn close_read<R: Wait>(rt: &R, domain: &Domain, task: &mut Task, pipe: u8)
 
 /// Closes an end and wakes who waits for it.
 fn close_end<R: Wait>(rt: &R, domain: &Domain, task: &mut Task, pipe: u8, end: u8)
-    requires of { task.old.domain ≡ domain.now }
-    requires up { IsUp task.old }
-    requires idle { IsIdle task.old }
-    requires out { IsOut task.old }
+    requires ready { IsReady domain.now task.old }
     requires pipe { pipe < PIPES }
     requires end { end < PIPE_ENDS }
     requires still { IsOpen (end_at (PIPE_ENDS * pipe + end) task.old) }

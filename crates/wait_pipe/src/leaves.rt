@@ -17,7 +17,7 @@ ghost use Rattle.wait_pipe.specs.PieceLeaves.{
   WriteEndsUntil,
   WritesUntil,
 };
-ghost use Rattle.wait_pipe.specs.Pieces.{IsSettled, RestsBehindPiece, WaitsAtPipe};
+ghost use Rattle.wait_pipe.specs.Pieces.{IsReady, IsSettled, RestsBehindPiece, WaitsAtPipe};
 
 use crate::ends::READ;
 use crate::looks::wait_for_until;
@@ -72,10 +72,7 @@ fn write_turn_until<R: Wait, Q: Fn() -> bool>(
     bytes: &[u8],
     asks: Q,
 ) -> Option<Until<Result<usize, PipeEnd>>>
-    requires of { task.old.domain ≡ domain.now }
-    requires up { IsUp task.old }
-    requires idle { IsIdle task.old }
-    requires out { IsOut task.old }
+    requires ready { IsReady domain.now task.old }
     requires pipe { pipe < PIPES }
     requires settled { IsSettled (writing pipe task.old) }
     requires bytes { 0 < length bytes.now }
@@ -143,10 +140,7 @@ fn read_turn_until<R: Wait, Q: Fn() -> bool>(
     buf: &mut [u8],
     asks: Q,
 ) -> Option<Until<Result<usize, PipeEnd>>>
-    requires of { task.old.domain ≡ domain.now }
-    requires up { IsUp task.old }
-    requires idle { IsIdle task.old }
-    requires out { IsOut task.old }
+    requires ready { IsReady domain.now task.old }
     requires pipe { pipe < PIPES }
     requires settled { IsSettled (reading pipe task.old) }
     requires buf { 7 ≤ length buf.old }

@@ -10,7 +10,7 @@ ghost use Rattle.wait_rule.specs.Queues.{IsIdle};
 ghost use Rattle.wait_rule.specs.Says.{IsUp};
 ghost use Rattle.wait_class.specs.Posts.{IsOut};
 ghost use Rattle.wait_pipe.specs.PassedOn.{Drained, Filled, WokeWaiters};
-ghost use Rattle.wait_pipe.specs.Pieces.{Got, GotNone, IsSettled, Put, PutNone, RestsBehindPiece, WaitsAtPipe};
+ghost use Rattle.wait_pipe.specs.Pieces.{Got, GotNone, IsReady, IsSettled, Put, PutNone, RestsBehindPiece, WaitsAtPipe};
 ghost use Rattle.wait_pipe.specs.PieceLeaves.{SeesNoCell};
 ghost use Rattle.wait_pipe.specs.Trails.{
   FillsCells,
@@ -24,16 +24,13 @@ ghost use Rattle.wait_pipe.specs.Trails.{
 ghost use Rattle.wait_pipe.specs.declared.pieces.PipeEnd.TheVariants as end;
 
 use crate::cells::{pack, unpack};
-use crate::ends::{READ, WRITE, wake_end};
+use crate::ends::{READ, WRITE, rouse};
 use crate::looks::{COUNTS, between, look_over, look_to_write, wait_for};
 use std::sync::Wait;
 use thiserror::Error;
-use wait_model::heads::head_of;
 use wait_model::layout::{PIPE_CELLS, PIPE_ENDS};
-use wait_model::watches::Watch;
 use wait_rule::pipes::{advance, cell_load, cell_store};
 use wait_rule::{Domain, Task};
-use wq_head::active;
 
 /// Why no bytes went into a pipe, or came out of it. Broken: the read end was seen closed, so nothing can be sent any
 /// more; only a write answers this. Interrupted: a signal ended the wait for the other end, and the load after it found
@@ -73,13 +70,9 @@ pub fn write_piece<R: Wait>(
     ensures rests { RestsBehindPiece (write_end pipe) task.old task.new }
     ensures goes { WritesPiece (write_end pipe) task.old task.new bytes.now result }
 {
-    match write_now(rt, domain, task, pipe, bytes) {
-        Ok(Some(put)) => Ok(put),
-        Ok(None) => Err(PipeEnd::Broken),
-        Err(found) => match wait_for(rt, domain, task, PIPE_ENDS as u8 * pipe, found) {
-            Ok(()) => write_on(rt, domain, task, pipe, bytes),
-            Err(end) => Err(end),
-        },
+    match write_turn(rt, domain, task, pipe, bytes) {
+        Some(end) => end,
+        None => write_on(rt, domain, task, pipe, bytes),
     }
 }
 
@@ -91,10 +84,7 @@ fn write_on<R: Wait>(
     pipe: u8,
     bytes: &[u8],
 ) -> Result<usize, PipeEnd>
-    requires of { task.old.domain ≡ domain.now }
-    requires up { IsUp task.old }
-    requires idle { IsIdle task.old }
-    requires out { IsOut task.old }
+    requires ready { IsReady domain.now task.old }
     requires pipe { pipe < PIPES }
     requires settled { IsSettled (writing pipe task.old) }
     requires bytes { 0 < length bytes.now }
@@ -111,8 +101,9 @@ fn write_on<R: Wait>(
     unreachable!()
 }
 
-/// A further turn of a task that writes a piece: a look at the reader's word, and then the free cells are filled, or it
-/// waits for that word to change. None: it has waited, and goes on.
+/// A turn of a task that writes a piece: a look at the reader's word, and then the free cells are filled, or it waits for
+/// that word to change. None: it has waited, and goes on.
+#[inline(always)]
 fn write_turn<R: Wait>(
     rt: &R,
     domain: &Domain,
@@ -120,10 +111,7 @@ fn write_turn<R: Wait>(
     pipe: u8,
     bytes: &[u8],
 ) -> Option<Result<usize, PipeEnd>>
-    requires of { task.old.domain ≡ domain.now }
-    requires up { IsUp task.old }
-    requires idle { IsIdle task.old }
-    requires out { IsOut task.old }
+    requires ready { IsReady domain.now task.old }
     requires pipe { pipe < PIPES }
     requires settled { IsSettled (writing pipe task.old) }
     requires bytes { 0 < length bytes.now }
@@ -153,10 +141,7 @@ pub(crate) fn write_now<R: Wait>(
     pipe: u8,
     bytes: &[u8],
 ) -> Result<Option<usize>, u64>
-    requires of { task.old.domain ≡ domain.now }
-    requires up { IsUp task.old }
-    requires idle { IsIdle task.old }
-    requires out { IsOut task.old }
+    requires ready { IsReady domain.now task.old }
     requires pipe { pipe < PIPES }
     requires settled { IsSettled (writing pipe task.old) }
     requires bytes { 0 < length bytes.now }
@@ -176,22 +161,14 @@ pub(crate) fn write_now<R: Wait>(
         return Err(look.word);
     }
     let put = fill(domain, task, pipe, look.own, PIPE_CELLS - used, bytes);
-    task.told();
-    let var = PIPE_ENDS as u8 * pipe;
-    if active(domain, task, head_of(Watch::Var { var, old: 0 })) {
-        wake_end(rt, domain, task, var);
-        return Ok(Some(put));
-    }
+    rouse(rt, domain, task, PIPE_ENDS as u8 * pipe);
     Ok(Some(put))
 }
 
 /// Fills free cells with as many of the bytes as fit, and passes them on; who waits for them is not woken yet. `count`
 /// is the number of cells that the task has stored, modulo `COUNTS`, and `free` that of the free ones.
 fn fill(domain: &Domain, task: &mut Task, pipe: u8, count: u16, free: u16, bytes: &[u8]) -> usize
-    requires of { task.old.domain ≡ domain.now }
-    requires up { IsUp task.old }
-    requires idle { IsIdle task.old }
-    requires out { IsOut task.old }
+    requires ready { IsReady domain.now task.old }
     requires pipe { pipe < PIPES }
     requires settled { IsSettled (writing pipe task.old) }
     requires count { count ≡ length (writing pipe task.old).cells % word_counts }
@@ -250,12 +227,9 @@ pub fn read_piece<R: Wait>(
     ensures rests { RestsBehindPiece (read_end pipe) task.old task.new }
     ensures goes { ReadsPiece (read_end pipe) task.old task.new buf.new result }
 {
-    match read_now(rt, domain, task, pipe, buf) {
-        Ok(got) => Ok(got),
-        Err(found) => match wait_for(rt, domain, task, PIPE_ENDS as u8 * pipe + READ, found) {
-            Ok(()) => read_on(rt, domain, task, pipe, buf),
-            Err(end) => Err(end),
-        },
+    match read_turn(rt, domain, task, pipe, buf) {
+        Some(end) => end,
+        None => read_on(rt, domain, task, pipe, buf),
     }
 }
 
@@ -267,10 +241,7 @@ fn read_on<R: Wait>(
     pipe: u8,
     buf: &mut [u8],
 ) -> Result<usize, PipeEnd>
-    requires of { task.old.domain ≡ domain.now }
-    requires up { IsUp task.old }
-    requires idle { IsIdle task.old }
-    requires out { IsOut task.old }
+    requires ready { IsReady domain.now task.old }
     requires pipe { pipe < PIPES }
     requires settled { IsSettled (reading pipe task.old) }
     requires buf { 7 ≤ length buf.old }
@@ -288,8 +259,9 @@ fn read_on<R: Wait>(
     unreachable!()
 }
 
-/// A further turn of a task that reads a piece: a look at the writer's word, and then cells are taken, or it waits for
-/// that word to change. None: it has waited, and goes on.
+/// A turn of a task that reads a piece: a look at the writer's word, and then cells are taken, or it waits for that word
+/// to change. None: it has waited, and goes on.
+#[inline(always)]
 fn read_turn<R: Wait>(
     rt: &R,
     domain: &Domain,
@@ -297,10 +269,7 @@ fn read_turn<R: Wait>(
     pipe: u8,
     buf: &mut [u8],
 ) -> Option<Result<usize, PipeEnd>>
-    requires of { task.old.domain ≡ domain.now }
-    requires up { IsUp task.old }
-    requires idle { IsIdle task.old }
-    requires out { IsOut task.old }
+    requires ready { IsReady domain.now task.old }
     requires pipe { pipe < PIPES }
     requires settled { IsSettled (reading pipe task.old) }
     requires buf { 7 ≤ length buf.old }
@@ -330,10 +299,7 @@ pub(crate) fn read_now<R: Wait>(
     pipe: u8,
     buf: &mut [u8],
 ) -> Result<usize, u64>
-    requires of { task.old.domain ≡ domain.now }
-    requires up { IsUp task.old }
-    requires idle { IsIdle task.old }
-    requires out { IsOut task.old }
+    requires ready { IsReady domain.now task.old }
     requires pipe { pipe < PIPES }
     requires settled { IsSettled (reading pipe task.old) }
     requires buf { 7 ≤ length buf.old }
@@ -352,12 +318,7 @@ pub(crate) fn read_now<R: Wait>(
         return Err(look.word);
     }
     let got = drain(domain, task, pipe, look.own, there, buf);
-    task.told();
-    let var = PIPE_ENDS as u8 * pipe + READ;
-    if active(domain, task, head_of(Watch::Var { var, old: 0 })) {
-        wake_end(rt, domain, task, var);
-        return Ok(got);
-    }
+    rouse(rt, domain, task, PIPE_ENDS as u8 * pipe + READ);
     Ok(got)
 }
 
@@ -372,10 +333,7 @@ fn drain(
     there: u16,
     buf: &mut [u8],
 ) -> usize
-    requires of { task.old.domain ≡ domain.now }
-    requires up { IsUp task.old }
-    requires idle { IsIdle task.old }
-    requires out { IsOut task.old }
+    requires ready { IsReady domain.now task.old }
     requires pipe { pipe < PIPES }
     requires settled { IsSettled (reading pipe task.old) }
     requires count { count ≡ length (reading pipe task.old).cells % word_counts }

@@ -30,12 +30,7 @@ returns-in-First-clause-came c b start x = c.store_back.ensures.came b start
 
 pub returns-in-First-clause-stands : goal.returns-in-First-clause-stands
 returns-in-First-clause-stands c =
-    let x = c.requires.at in (
-      x.0,
-      x.1,
-      c.store_back.ensures.came x.0 x.1
-          (subst (IsCondAt (AskedIf x.0) c.args.wait x.1 c.args.task.now) c.in-First.is x.2),
-    )
+    let x = c.requires.at in (x.0, x.1, returns-in-First-clause-came c x.0 x.1 x.2)
 
 pub returns-in-Give-clause-came : goal.returns-in-Give-clause-came
 returns-in-Give-clause-came c b start x = c.give_back.ensures.came b start
@@ -43,9 +38,4 @@ returns-in-Give-clause-came c b start x = c.give_back.ensures.came b start
 
 pub returns-in-Give-clause-stands : goal.returns-in-Give-clause-stands
 returns-in-Give-clause-stands c =
-    let x = c.requires.at in (
-      x.0,
-      x.1,
-      c.give_back.ensures.came x.0 x.1
-          (subst (IsCondAt (AskedIf x.0) c.args.wait x.1 c.args.task.now) c.in-Give.is x.2),
-    )
+    let x = c.requires.at in (x.0, x.1, returns-in-Give-clause-came c x.0 x.1 x.2)

@@ -15,7 +15,7 @@ returns-clause-waits g c = wait_waits c.args.own c.other_of-var.result c.args.wo
     c.wait_var-waited.new.task c.wait_var-waited.result
     (λ q. other_apart c.args.own (sym c.other_of-var.ensures ∙ q))
     (ap (λ (v : ℕ). v / PIPE_ENDS) c.other_of-var.ensures ∙ other_pipe c.args.own)
-    c.wait_var-waited.ensures.waited (c.told.ensures.head ∙ c.requires.idle.free.head)
+    c.wait_var-waited.ensures.waited (c.told.ensures.head ∙ c.requires.ready.idle.free.head)
     c.wait_var-waited.ensures.up c.wait_var-waited.ensures.idle
     c.wait_var-waited.ensures.out c.wait_var-waited.ensures.carries
 
@@ -30,4 +30,4 @@ returns-clause-cause g c = subst (λ (r : Result (Unit {0}) PipeEnd). IfErr r (I
 pub returns-clause-awaits : goal.returns-clause-awaits
 returns-clause-awaits g c = wait_awaits c.args.own c.other_of-var.result c.args.word c.args.task.now
     c.wait_var-waited.new.task c.wait_var-waited.result _ c.other_of-var.ensures c.wait_var-waited.ensures.waited
-    c.answer_of.ensures c.requires.none c.requires.out
+    c.answer_of.ensures c.requires.none c.requires.ready.out

@@ -17,7 +17,7 @@ returns-clause-waits g c = until_waits (g.Q.Fn.post c.args.asks tt true) c.args.
     c.args.task.now c.wait_var_until-waited.new.task c.wait_var_until-waited.result
     (λ q. other_apart c.args.own (sym c.other_of-var.ensures ∙ q))
     (ap (λ (v : ℕ). v / PIPE_ENDS) c.other_of-var.ensures ∙ other_pipe c.args.own)
-    c.wait_var_until-waited.ensures.waited (c.told.ensures.head ∙ c.requires.idle.free.head)
+    c.wait_var_until-waited.ensures.waited (c.told.ensures.head ∙ c.requires.ready.idle.free.head)
     c.wait_var_until-waited.ensures.up c.wait_var_until-waited.ensures.idle
     c.wait_var_until-waited.ensures.out c.wait_var_until-waited.ensures.carries
 
@@ -36,4 +36,4 @@ returns-clause-awaits g c = subst (λ (r : Until (Result (Unit {0}) PipeEnd)).
     c.wait_var_until-waited.new.task r) (sym c.until_of.ensures)
     (until_awaits (g.Q.Fn.post c.args.asks tt true) c.args.own c.other_of-var.result c.args.word c.args.task.now
     c.wait_var_until-waited.new.task c.wait_var_until-waited.result c.other_of-var.ensures
-    c.wait_var_until-waited.ensures.waited c.requires.none c.requires.out)
+    c.wait_var_until-waited.ensures.waited c.requires.none c.requires.ready.out)

@@ -1,4 +1,3 @@
-use Rattle.wait_rule.specs.Pipes.{read_end}
 use Rattle.wait_pipe.proofs.Fills.{other_below, own_below}
 use Rattle.wait_pipe.proofs.Peeked.{peeks_so, tells_so}
 use Rattle.wait_pipe.proofs.peeks.peek_read.Goals as goal
@@ -7,12 +6,10 @@ pub load_over-look-requires-clause-still : goal.load_over-look-requires-clause-s
 load_over-look-requires-clause-still c = c.requires.settled.still
 
 pub between-cells-requires-clause-from : goal.between-cells-requires-clause-from
-between-cells-requires-clause-from c = own_below c.args.pipe c.load_over-look.new.task c.load_over-look.result
-    (read_end c.args.pipe) c.load_over-look.ensures.seen
+between-cells-requires-clause-from c = own_below c.load_over-look.ensures.seen
 
 pub between-cells-requires-clause-to : goal.between-cells-requires-clause-to
-between-cells-requires-clause-to c = other_below c.args.pipe c.load_over-look.new.task c.load_over-look.result
-    (read_end c.args.pipe) c.load_over-look.ensures.seen
+between-cells-requires-clause-to c = other_below c.load_over-look.ensures.seen
 
 pub returns-clause-state : goal.returns-clause-state
 returns-clause-state c = tells_so c.args.pipe c.args.task.now c.load_over-look.new.task c.load_over-look.result

@@ -2,11 +2,13 @@ use Rattle.std.proofs.Common.{◌≡◌, ◌≤◌, ◌+◌, ◌∙◌, arith, l
 use Rattle.std.specs.Prelude.{◌*◌}
 use Rattle.wait_model.specs.declared.watches.Watch.TheVariants as watch
 use Rattle.wait_rule.specs.Pipes.{read_end}
+use Rattle.wait_rule.specs.Stays.{publish_change}
+use Rattle.wait_rule.proofs.KnownLaws.CarriedTasks.{unchanged_first}
 use Rattle.wait_event.proofs.Setting.{set_idle}
 use Rattle.wait_pipe.specs.Pieces.{LeavesAside}
 use Rattle.wait_pipe.proofs.Asides.{quiet_on, quiet_publish}
 use Rattle.wait_pipe.proofs.Fills.{drain_all, drain_begins, drain_ends, drain_goes, drain_loads}
-use Rattle.wait_pipe.proofs.PieceChanges.{idle_still, leaves_made, still_publishes}
+use Rattle.wait_pipe.proofs.PieceChanges.{idle_still, leaves_made}
 use Rattle.wait_pipe.proofs.pieces.drain.Goals.{then-loop-left-test+else-done-buf, else-loop-left-test}
 use Rattle.wait_pipe.proofs.pieces.drain.Goals as goal
 
@@ -27,12 +29,11 @@ loop-left-preserved c =
     c.cell_load-word.ensures.carries
 
 pub advance-requires-clause-idle : goal.advance-requires-clause-idle
-advance-requires-clause-idle c = idle_still (read_end c.args.pipe) c.args.task.now c.loop-left.task
-    c.loop-left.invariant.same c.requires.idle
+advance-requires-clause-idle c = idle_still c.loop-left.invariant.same c.requires.ready.idle
 
 pub returns-clause-idle : goal.returns-clause-idle
 returns-clause-idle c = set_idle (watch.Var (read_end c.args.pipe) 0) c.loop-left.task c.advance.new.task
-    (idle_still (read_end c.args.pipe) c.args.task.now c.loop-left.task c.loop-left.invariant.same c.requires.idle)
+    (idle_still c.loop-left.invariant.same c.requires.ready.idle)
     c.advance.ensures.carries
 
 pub returns-clause-drained : goal.returns-clause-drained
@@ -53,8 +54,9 @@ returns-clause-drained c = λ last r.
           (length c.args.buf.now) c.loop-left.buf c.loop-left.at c.loop-left.left c.loop-left.done
           c.loop-left.invariant c.advance.ensures.becomes r.own (none room);
       rests = leaves_made (λ x. x) (read_end c.args.pipe) c.args.task.now c.advance.new.task last
-          r.up c.requires.idle r.idle c.requires.out (c.told.ensures.head ∙ c.requires.idle.free.head)
-          (still_publishes (watch.Var (read_end c.args.pipe) 0) c.args.task.now c.loop-left.task c.advance.new.task
+          r.up c.requires.ready.idle r.idle c.requires.ready.out
+          (c.told.ensures.head ∙ c.requires.ready.idle.free.head)
+          (unchanged_first (publish_change (watch.Var (read_end c.args.pipe) 0)) c.args.task.now c.loop-left.task c.advance.new.task
           c.loop-left.invariant.same c.advance.ensures.carries) r.carries
           (quiet_on c.args.task.now c.loop-left.task last c.loop-left.invariant.quiet
           (quiet_on c.loop-left.task c.advance.new.task last passes r.quiet));

@@ -5,12 +5,13 @@ use Rattle.wait_model.specs.declared.watches.Watch.TheVariants as watch
 use Rattle.wait_rule.specs.Pipes.{word_counts, write_end}
 use Rattle.wait_rule.specs.PipeSays.{IsOpen, end_at}
 use Rattle.wait_rule.specs.Stays.{Carries, publish_change}
+use Rattle.wait_rule.proofs.KnownLaws.CarriedTasks.{unchanged_first}
 use Rattle.wait_event.proofs.Setting.{set_idle}
 use Rattle.wait_pipe.specs.Pieces.{LeavesAside}
 use Rattle.wait_pipe.proofs.Asides.{quiet_on, quiet_publish}
 use Rattle.wait_pipe.proofs.Fills.{advanced_write, fill_begins, fill_cells, fill_ended, fill_ends, fill_full, fill_goes}
 use Rattle.wait_pipe.proofs.Fills.{fill_stores}
-use Rattle.wait_pipe.proofs.PieceChanges.{idle_still, leaves_made, still_publishes}
+use Rattle.wait_pipe.proofs.PieceChanges.{idle_still, leaves_made}
 use Rattle.wait_pipe.proofs.pieces.fill.Goals.{then-bytes-done-lt7, else-bytes-done-lt7}
 use Rattle.wait_pipe.proofs.pieces.fill.Goals.{then-loop-left-test+else-done-bytes, else-loop-left-test}
 use Rattle.wait_pipe.proofs.pieces.fill.Goals as goal
@@ -45,8 +46,7 @@ loop-left-preserved c =
     c.cell_store.ensures.becomes c.cell_store.ensures.carries
 
 pub advance-requires-clause-idle : goal.advance-requires-clause-idle
-advance-requires-clause-idle c = idle_still (write_end c.args.pipe) c.args.task.now c.loop-left.task
-    c.loop-left.invariant.same c.requires.idle
+advance-requires-clause-idle c = idle_still c.loop-left.invariant.same c.requires.ready.idle
 
 pub advance-requires-clause-still : goal.advance-requires-clause-still
 advance-requires-clause-still c = subst (λ (k : ℕ). IsOpen (end_at k c.loop-left.task))
@@ -58,8 +58,7 @@ advance-requires-clause-count c = subst (λ (k : ℕ). c.loop-left.at ≡ length
 
 pub returns-clause-idle : goal.returns-clause-idle
 returns-clause-idle c = set_idle (watch.Var (PIPE_ENDS * c.args.pipe + 0) 0) c.loop-left.task
-    c.advance.new.task (idle_still (write_end c.args.pipe) c.args.task.now c.loop-left.task
-    c.loop-left.invariant.same c.requires.idle) c.advance.ensures.carries
+    c.advance.new.task (idle_still c.loop-left.invariant.same c.requires.ready.idle) c.advance.ensures.carries
 
 pub returns-clause-filled : goal.returns-clause-filled
 returns-clause-filled c = λ last r.
@@ -87,8 +86,9 @@ returns-clause-filled c = λ last r.
       full = λ few. fill_full c.args.pipe c.args.task.now c.loop-left.task c.advance.new.task last c.args.bytes.now
           c.loop-left.at c.loop-left.left c.loop-left.done c.loop-left.invariant step r.own (none few);
       rests = leaves_made (λ x. x) (write_end c.args.pipe) c.args.task.now c.advance.new.task last
-          r.up c.requires.idle r.idle c.requires.out (c.told.ensures.head ∙ c.requires.idle.free.head)
-          (still_publishes (watch.Var (write_end c.args.pipe) 0) c.args.task.now c.loop-left.task c.advance.new.task
+          r.up c.requires.ready.idle r.idle c.requires.ready.out
+          (c.told.ensures.head ∙ c.requires.ready.idle.free.head)
+          (unchanged_first (publish_change (watch.Var (write_end c.args.pipe) 0)) c.args.task.now c.loop-left.task c.advance.new.task
           c.loop-left.invariant.same (subst (λ (k : ℕ). Carries (publish_change (watch.Var k 0)) c.loop-left.task
           c.advance.new.task) (add-zero (PIPE_ENDS * c.args.pipe)) c.advance.ensures.carries)) r.carries
           (quiet_on c.args.task.now c.loop-left.task last c.loop-left.invariant.quiet

@@ -1,27 +1,16 @@
-use Rattle.std.proofs.Common.{◌∙◌, arith}
-use Rattle.std.specs.Prelude.{Ok, Err}
+use Rattle.std.proofs.Common.{arith}
 use Rattle.wait_rule.specs.Pipes.{write_end}
-use Rattle.wait_pipe.proofs.PieceChanges.{waits_on}
-use Rattle.wait_pipe.proofs.Turns.{put_stopped, turn_of, write_stops}
+use Rattle.wait_pipe.proofs.Fills.{waited_none}
+use Rattle.wait_pipe.proofs.PieceChanges.{ready_on, waits_on}
+use Rattle.wait_pipe.proofs.Turns.{turn_of, wait_cause, write_stops}
 use Rattle.wait_pipe.proofs.pieces.write_turn.Goals as goal
 
-pub wait_for-requires-clause-of : goal.wait_for-requires-clause-of
-wait_for-requires-clause-of g c = c.write_now.ensures.rests.carries.domain ∙ c.requires.of
-
-pub wait_for-requires-clause-up : goal.wait_for-requires-clause-up
-wait_for-requires-clause-up g c = c.write_now.ensures.rests.up
-
-pub wait_for-requires-clause-idle : goal.wait_for-requires-clause-idle
-wait_for-requires-clause-idle g c = c.write_now.ensures.rests.idle
-
-pub wait_for-requires-clause-out : goal.wait_for-requires-clause-out
-wait_for-requires-clause-out g c = c.write_now.ensures.rests.out
-
-pub wait_for-requires-clause-own : goal.wait_for-requires-clause-own
-wait_for-requires-clause-own g c = let few = c.requires.pipe in omega arith
-
-pub wait_for-requires-clause-none : goal.wait_for-requires-clause-none
-wait_for-requires-clause-none g c = c.in-Err.ensures.look.none
+pub wait_for-requires : goal.wait_for-requires
+wait_for-requires g c = record {
+  ready = ready_on c.write_now.ensures.rests c.requires.ready;
+  own = let few = c.requires.pipe in omega arith;
+  none = c.in-Err.ensures.look.none;
+}
 
 pub returns-in-Ok-Some-clause-turn : goal.returns-in-Ok-Some-clause-turn
 returns-in-Ok-Some-clause-turn g c = rw c.in-Ok-Some.field-0-is at c.in-Ok-Some.ensures.look
@@ -35,33 +24,20 @@ returns-in-Ok-Some-clause-goes g c = rw c.in-Ok-Some.field-0-is at c.in-Ok-Some.
 pub returns-in-Ok-None-clause-goes : goal.returns-in-Ok-None-clause-goes
 returns-in-Ok-None-clause-goes g c = rw c.in-Ok-None.field-0-is at c.in-Ok-None.ensures.goes
 
-pub returns-in-Ok-clause-turn : goal.returns-in-Ok-clause-turn
-returns-in-Ok-clause-turn g c = waits_on (write_end c.args.pipe) c.args.task.now c.write_now.new.task
-    c.wait_for.new.task c.in-Err.ensures.look.waits
-    c.wait_for.ensures.waits
+pub returns-in-Ok : goal.returns-in-Ok
+returns-in-Ok g c =
+    let w = waits_on c.in-Err.ensures.look.waits c.wait_for.ensures.waits in
+    record { turn = w; rests = w.rests; goes = turn_of c.in-Err.ensures.look c.in-Ok.ensures.awaits }
 
-pub returns-in-Ok-clause-rests : goal.returns-in-Ok-clause-rests
-returns-in-Ok-clause-rests g c = (waits_on (write_end c.args.pipe) c.args.task.now c.write_now.new.task
-    c.wait_for.new.task c.in-Err.ensures.look.waits
-    c.wait_for.ensures.waits).rests
-
-pub returns-in-Ok-clause-goes : goal.returns-in-Ok-clause-goes
-returns-in-Ok-clause-goes g c = turn_of (write_end c.args.pipe) c.in-Err.word c.args.task.now c.write_now.new.task
-    c.wait_for.new.task (Ok tt) c.in-Err.ensures.look.loads c.in-Ok.ensures.awaits
-
-pub returns-in-Err-wait_for-clause-turn : goal.returns-in-Err-wait_for-clause-turn
-returns-in-Err-wait_for-clause-turn g c = put_stopped c.args.pipe c.args.task.now c.write_now.new.task
-    c.in-Err.ensures.look.waits c.requires.settled c.wait_for.new.task c.in-Err-wait_for.end c.wait_for.ensures.waits
-    c.in-Err-wait_for.ensures.cause
-
-pub returns-in-Err-wait_for-clause-rests : goal.returns-in-Err-wait_for-clause-rests
-returns-in-Err-wait_for-clause-rests g c = (waits_on (write_end c.args.pipe) c.args.task.now c.write_now.new.task
-    c.wait_for.new.task c.in-Err.ensures.look.waits
-    c.wait_for.ensures.waits).rests
-
-pub returns-in-Err-wait_for-clause-goes : goal.returns-in-Err-wait_for-clause-goes
-returns-in-Err-wait_for-clause-goes g c = write_stops (write_end c.args.pipe) c.args.task.now c.wait_for.new.task
-    c.args.bytes.now
-    c.in-Err-wait_for.end c.in-Err-wait_for.ensures.cause
-    (turn_of (write_end c.args.pipe) c.in-Err.word c.args.task.now c.write_now.new.task
-    c.wait_for.new.task (Err c.in-Err-wait_for.end) c.in-Err.ensures.look.loads c.in-Err-wait_for.ensures.awaits)
+pub returns-in-Err-wait_for : goal.returns-in-Err-wait_for
+returns-in-Err-wait_for g c =
+    let w = waits_on c.in-Err.ensures.look.waits c.wait_for.ensures.waits in
+    let cause = c.in-Err-wait_for.ensures.cause in record {
+      turn = record {
+        moved = waited_none w c.requires.settled;
+        cause = wait_cause (write_end c.args.pipe) c.wait_for.new.task c.in-Err-wait_for.end cause;
+      };
+      rests = w.rests;
+      goes = write_stops (write_end c.args.pipe) c.args.task.now c.wait_for.new.task c.args.bytes.now
+          c.in-Err-wait_for.end cause (turn_of c.in-Err.ensures.look c.in-Err-wait_for.ensures.awaits);
+    }

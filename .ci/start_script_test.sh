@@ -290,7 +290,7 @@ expect "a library changes and changes back" 1 "" "a source was changed in the me
 run "$stand_in"
 expect "it is proved once more" 0 "stand-in 5" "waitq: 2 of 4 proved, under way: left"
 
-# While fewer crates are ready than there are jobs, one has a second job, if it is large; the program is not.
+# One large crate has all four jobs, and of two that do not stand on one another the first has three; the program is small.
 for name in lower left right; do
     mkdir -p -- "$toy/crates/$name/specs"
     seq 6000 >"$toy/crates/$name/specs/Many.antt"
@@ -298,7 +298,7 @@ done
 : >"$work/calls"
 WAITQ_LANES=4 run "$stand_in"
 expect "four jobs" 0 "stand-in 5" "waitq: 1 of 4 proved, under way: left, right"
-expect_number "jobs" "$(sed -n 's/.* by //p' "$work/calls" | sort | xargs)" "1 1 2 2"
+expect_number "jobs" "$(sed -n 's/.* by //p' "$work/calls" | sort | xargs)" "1 1 3 4"
 
 write_program 6 7
 WAITQ_LANES=none run "$stand_in"

@@ -16,10 +16,10 @@ use Rattle.wait_model.specs.Tables.{Table}
 use Rattle.wait_model.specs.Views.{View, Hold, Look, off, elsewhere, shown, look_at, blank}
 use Rattle.wait_model.specs.Watches.{head_of, stands_at}
 use Rattle.wait_model.specs.Words.{entry_of}
-use Rattle.wait_model.proofs.Functions.{put_at, put_case}
+use Rattle.wait_model.proofs.Functions.{put_at, put_case, both_left, both_right}
 use Rattle.wait_model.proofs.HistoryLaws.HoldLooks.{after_snoc}
 use Rattle.wait_model.proofs.PermitLaws.OwnTurns.{clash, deals_snoc, in_is}
-use Rattle.wait_model.proofs.PermitLaws.PermitTurns.{and_left, and_right, not_unseen, seen_shows}
+use Rattle.wait_model.proofs.PermitLaws.PermitTurns.{not_unseen, seen_shows}
 use Rattle.wait_model.proofs.StepLaws.UnlockSteps.{unlock_hold}
 use Rattle.wait_model.proofs.WordLaws.DecodedWords.{owner_own}
 use Rattle.wait_rule.specs.LeftEntries.{Order}
@@ -91,9 +91,9 @@ off_there d a front o w = by (stands_at (s.entry (own a)) (done_head d)) refl
 
     settled : is_settled d (own a) (s.view a) ≡ true → stands_at (s.entry (own a)) (done_head d) ≡ true → ⊥
     settled is st =
-        let held = in_is (s.view a).hold.head (done_head d) (and_left (is_in d (s.view a))
+        let held = in_is (s.view a).hold.head (done_head d) (both_left (is_in d (s.view a))
         (is_seen ((s.view a).hold.book (own a))) is) in
-        let seen = not_unseen ((s.view a).hold.book (own a)) (and_right (is_in d (s.view a))
+        let seen = not_unseen ((s.view a).hold.book (own a)) (both_right (is_in d (s.view a))
         (is_seen ((s.view a).hold.book (own a))) is) in
         let shows = seen_shows (done_head d) ((s.view a).hold.book (own a)) (s.entry (own a))
         (((kept_of o.steps o.may).facts.views a).hold.agrees (done_head d) (own a) held) seen st in

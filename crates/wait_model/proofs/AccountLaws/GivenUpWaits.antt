@@ -104,7 +104,6 @@ pub bit_misses : (call : Call) (r : ℕ) → is_bit_wait call ≡ true
     → misses (call_watch call) r ≡ bit_at r (bit_of (call_watch call))
 bit_misses (calls.WaitBit w b st) r h = refl
 bit_misses (calls.LockBit w b st) r h = refl
-bit_misses calls.Remove r h = absurd (cc)
 bit_misses call r h = absurd (cc)
 
 module _ (s : State) (me : ℕ) (call : Call) (trail : List Event) where
@@ -127,19 +126,15 @@ module _ (s : State) (me : ℕ) (call : Call) (trail : List Event) where
 
   broken_signalled : (c : Call) (l : List Event) → IsBroken c (signalled_at c) l
   broken_signalled (calls.WaitFor d st) l = tt
-  broken_signalled calls.Remove l = tt
   broken_signalled c l = tt
 
   broken_prepared : (c : Call) → IsBroken c (prepared_at c) (event.Unlock (call_head c) false ∷ trail)
-  broken_prepared (calls.WaitFor d st) = tt
   broken_prepared (calls.WaitBit w b st) = (trail, refl)
   broken_prepared (calls.LockBit w b st) = (trail, refl)
-  broken_prepared calls.Remove = tt
   broken_prepared c = tt
 
   broken_slept : (c : Call) (l : List Event) → IsBroken c (slept_at c) l
   broken_slept (calls.WaitFor d st) l = tt
-  broken_slept calls.Remove l = tt
   broken_slept c l = tt
 
   broken_await : (waited zero : Bool) (l : List Event) → IsBroken call (await_after call waited zero) l

@@ -500,7 +500,6 @@ lent_of run r few = lent_after start_state run 0 r start_sound start_lent (omega
 locking : (call : Call) (p : PagePoint) (w : ℕ) → is_page_lock call ≡ true → call_watch call ≡ page w
     → IsLocking (now.Open call (at.Page p)) w
 locking (calls.LockPage k st) p w l is = cc
-locking calls.Remove p w l is = absurd (cc)
 locking call p w l is = absurd (cc)
 
 lent_lock : (n : ℕ) (q : Progress) (w : ℕ) → FitsStage q → IsSoundCall n q → LocksPage q w → IsLocking q w

@@ -103,10 +103,6 @@ goes_on x w h e = absurd (both_ways false refl (sym h ∙ ap is_walk_end e))
 entry_goes_on : (call : Call) (w : Walking) (c : CalledEntry) (j : Kind) (seen : Seen) (hit : Bool)
     → is_walk_end (call_entry (call_aim call) w c j seen hit).next ≡ false
 entry_goes_on call w c kind.Autoremove seen hit = refl
-entry_goes_on call w c kind.Woken seen hit = refl
-entry_goes_on call w c kind.Bit seen hit = refl
-entry_goes_on call w c kind.Var seen hit = refl
-entry_goes_on call w c kind.Page seen hit = refl
 entry_goes_on call w c j seen hit = refl
 
 next_told : (call : Call) (w : Walking) (o : Option CalledEntry) (seen : Seen) (hit : Bool) (x : Walked)

@@ -112,7 +112,6 @@ tas_event c w v is m = subst (λ (d : Watch). misses d v ≡ true
 
 at_tail : (call : Call) → is_page_lock call ≡ true → form_of call ≡ forms.Tail
 at_tail (calls.LockPage w st) l = refl
-at_tail calls.Remove l = absurd (cc)
 at_tail call l = absurd (cc)
 
 module _ (s : State) (me : ℕ) (call : Call) (runs : (s.table.task me).runnable ≡ true) (trail : List Event)
@@ -211,7 +210,6 @@ away_trail now.Fresh set l h = tt
 
 start_trail : (call : Call) (set : Bool) (l : List Event) → PageTrailAt (now.Open call (program_start call)) set l
 start_trail (calls.LockPage w st) set l = tt
-start_trail calls.Remove set l = tt
 start_trail call set l = tt
 
 -- a flag that is set in between

@@ -64,10 +64,6 @@ module _ (s : State) (me : ℕ) (call : Call) where
   other_entry : (w : Walking) (c : CalledEntry) (j : Kind) (seen : Seen) (hit : Bool)
       → Other (call_entry (call_aim call) w c j seen hit)
   other_entry w c kind.Autoremove seen hit = refl
-  other_entry w c kind.Woken seen hit = refl
-  other_entry w c kind.Bit seen hit = refl
-  other_entry w c kind.Var seen hit = refl
-  other_entry w c kind.Page seen hit = refl
   other_entry w c j seen hit = refl
 
   other_next : (w : Walking) (o : Option CalledEntry) (seen : Seen) (hit : Bool)
@@ -82,7 +78,6 @@ module _ (s : State) (me : ℕ) (call : Call) where
 
   other_selected : (c : Call) (n : ℕ) → refusal (next.Ends (selected_answer c n)) ≡ 0
   other_selected (calls.SimpleWake c all) n = refl
-  other_selected calls.Remove n = refl
   other_selected c n = refl
 
   other_select : (n : ℕ) (o : Option CalledEntry) (hit : Bool) → Other (select_next call n o hit)

@@ -105,14 +105,10 @@ module _ (s : State) (me : ℕ) (call : Call) (trail : List Event) where
 
   turn_prepared : (c : Call) (l : List Event) → IsTurn c (prepared_at c) me l
   turn_prepared (calls.WaitFor d st) l = tt
-  turn_prepared (calls.WaitBit w b st) l = tt
-  turn_prepared (calls.LockBit w b st) l = tt
-  turn_prepared calls.Remove l = tt
   turn_prepared c l = tt
 
   turn_slept : (c : Call) (l : List Event) → IsTurn c (slept_at c) me l
   turn_slept (calls.WaitFor d st) l = tt
-  turn_slept calls.Remove l = tt
   turn_slept c l = tt
 
   -- the places aside of a wait's turns say nothing of them
@@ -451,19 +447,14 @@ module _ (s : State) (n me : ℕ) (call : Call) (k : ℕ) (sound : IsSound s n) 
 
   chosen_signalled : (c : Call) (j : ℕ) → IsChosen c (signalled_at c) j
   chosen_signalled (calls.WaitFor d st) j = tt
-  chosen_signalled calls.Remove j = tt
   chosen_signalled c j = tt
 
   chosen_prepared : (c : Call) (j : ℕ) → IsChosen c (prepared_at c) j
   chosen_prepared (calls.WaitFor d st) j = tt
-  chosen_prepared (calls.WaitBit w b st) j = tt
-  chosen_prepared (calls.LockBit w b st) j = tt
-  chosen_prepared calls.Remove j = tt
   chosen_prepared c j = tt
 
   chosen_slept : (c : Call) (j : ℕ) → IsChosen c (slept_at c) j
   chosen_slept (calls.WaitFor d st) j = tt
-  chosen_slept calls.Remove j = tt
   chosen_slept c j = tt
 
   chosen_select : (i : ℕ) (o : Option CalledEntry) (hit : Bool) → C (select_next call i o hit)
@@ -485,7 +476,6 @@ module _ (s : State) (n me : ℕ) (call : Call) (k : ℕ) (sound : IsSound s n) 
 
   published_selects : (c : Call) → event_selects s (publishing_event c) ≡ 0
   published_selects (calls.ClearBit w b) = refl
-  published_selects calls.Remove = refl
   published_selects c = refl
 
   page_chosen : (p : PagePoint) → C (planned s me call (at.Page p))
@@ -507,7 +497,6 @@ module _ (s : State) (n me : ℕ) (call : Call) (k : ℕ) (sound : IsSound s n) 
       (pending (state_mask (state_in call)) (s.table.task me)) (chosen_signalled call _) tt
   chosen_step (at.Prepare preparing.Queue) pl h = either C (is_some (s.table.entry (own me))) _ _ tt tt
   chosen_step (at.Prepare preparing.Unlock) pl h = chosen_prepared call _
-  chosen_step (at.Prepare p) pl h = tt
   chosen_step at.Sleep pl h = chosen_slept call _
   chosen_step at.Test pl h = either (λ q. IsChosen call q (k + 0)) (unset s call) _ _ tt tt
   chosen_step (at.Leave leaving.Queue) pl h = either C (is_some (s.table.entry (own me))) _ _ tt tt
@@ -527,7 +516,6 @@ module _ (s : State) (n me : ℕ) (call : Call) (k : ℕ) (sound : IsSound s n) 
       (λ q. IsChosen call q (k + event_selects s (ask call (seen_by s me call (at.Bit (biting.Again failed))))))
       (unset s call && not failed) _ _ tt tt
   chosen_step (at.Bit biting.First) pl h = either C (unset s call) _ _ tt tt
-  chosen_step (at.Bit p) pl h = tt
   chosen_step at.Worn pl h = either C (unset s call) _ _ tt (either C (is_lock call) _ _ tt tt)
   chosen_step at.Publish pl h = omega (arith, h, published_selects call)
   chosen_step at.Active pl h = chosen_active (seen_by s me call at.Active).members h
@@ -538,7 +526,6 @@ module _ (s : State) (n me : ℕ) (call : Call) (k : ℕ) (sound : IsSound s n) 
   chosen_step (at.Remove (removing.Queue c)) pl h = tt
   chosen_step (at.Remove (removing.Unlock c)) pl h = tt
   chosen_step (at.Woken hearing.State) pl h = tt
-  chosen_step (at.Woken p) pl h = tt
   chosen_step (at.Select selecting.Lock) pl h = tt
   chosen_step (at.Select selecting.Load) pl h = tt
   chosen_step (at.Select selecting.Store) pl h = tt
@@ -568,7 +555,6 @@ start_turn calls.Remove me trail = tt
 start_turn call me trail = tt
 
 pub start_chosen : (call : Call) → IsChosen call (program_start call) 0
-start_chosen calls.Remove = tt
 start_chosen (calls.Wake c m n) = refl
 start_chosen (calls.ClearBit w b) = refl
 start_chosen (calls.SetVar v x) = refl

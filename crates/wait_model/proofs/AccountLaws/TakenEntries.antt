@@ -268,9 +268,6 @@ answered (next.Go p) b = b
 
 pub start_off : (call : Call) → TookOff call (program_start call) 0
 start_off (calls.SimpleWake c all) = refl
-start_off (calls.Complete d) = refl
-start_off (calls.CompleteAll d) = refl
-start_off calls.Remove = refl
 start_off call = refl
 
 module _ (s : State) (me c : ℕ) (all : Bool) (k : ℕ) where

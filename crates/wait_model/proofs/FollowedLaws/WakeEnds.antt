@@ -87,9 +87,6 @@ walking_call : (call : Call) (p : WalkPoint) → is_wake call ≡ true → is_at
 walking_call (calls.Wake c mode.Normal n) p w h = refl
 walking_call (calls.ClearBit i b) p w h = refl
 walking_call (calls.SetVar v x) p w h = refl
-walking_call (calls.SimpleWake c all) p w h = absurd (cc)
-walking_call (calls.Complete d) p w h = absurd (cc)
-walking_call (calls.CompleteAll d) p w h = absurd (cc)
 walking_call call p w h = absurd (cc)
 
 -- a call that goes on does not end

@@ -66,7 +66,6 @@ IsAtHome now.Fresh = Unit {0}
 
 pub start_home : (call : Call) → is_at_home call (program_start call) ≡ true
 start_home (calls.Wake c m n) = refl
-start_home (calls.SimpleWake c all) = refl
 start_home call = refl
 
 -- the events of walks

@@ -124,7 +124,6 @@ module _ (gone_at stop : ℕ → Type 0) (until : ℕ → Bool) (es : List Step)
 -- where the bookmark stands by the view it was put by the history
 marks_of : (e : Step) (v : View) (q : ℕ) → is_mark e ≡ true → (after e v).mark ≡ Some q → marks q e ≡ true
 marks_of (step.Mark h p) v q i m = let z : p ≡ q = cc in rw z (grind arith)
-marks_of step.Unmark v q i m = absurd (cc)
 marks_of e v q i m = absurd (cc)
 
 mark_in : (es : List Step) (v : View) (q : ℕ) → (after_all v es).mark ≡ Some q

@@ -90,7 +90,6 @@ low_after : (e : Step) (v : View) (x : ℕ) (c : Watch)
     (cond (fails e c) (Some (v.checks.found (head_of c))) (v.checks.low x c))
 low_after (step.Queue y d) v x c = grind arith
 low_after (step.Unflag y o) v x c = grind arith
-low_after (step.Load l r) v x c = refl
 low_after (step.Unlock h sp) v x c = ap (λ (k : Checks). k.low x c) (unlock_checks v v.walk sp)
 low_after e v x c = refl
 

@@ -72,7 +72,6 @@ flipped false h = refl
 await_points : (call : Call) → is_await call ≡ true → (signalled_at call ≡ at.Await (awaiting.Run true))
     × (prepared_at call ≡ at.Sleep) × (slept_at call ≡ at.Await (awaiting.Lock true))
 await_points (calls.WaitFor d st) h = (refl, refl, refl)
-await_points calls.Remove h = absurd (cc)
 await_points call h = absurd (cc)
 
 -- how many entries a call about a completion selects

@@ -223,7 +223,6 @@ start_place (calls.Reinit c) d w h = refl
 start_place (calls.WaitFor c st) d w h = tt
 start_place (calls.TryWait c) d w h = refl
 start_place (calls.IsDone c) d w h = refl
-start_place calls.Remove d w h = absurd (cc)
 start_place call d w h = absurd (cc)
 
 closed_dealt : (d : ℕ) (entry : ℕ → Option Entry) (t : ℕ) (q : Progress) (w : Dealt) → is_open q ≡ false

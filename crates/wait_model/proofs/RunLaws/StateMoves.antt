@@ -81,14 +81,10 @@ signalled_new c = refl
 
 prepared_new : (c : Call) → publishes_next (next.Go (prepared_at c)) ≡ false
 prepared_new (calls.WaitFor d st) = refl
-prepared_new (calls.WaitBit w b st) = refl
-prepared_new (calls.LockBit w b st) = refl
 prepared_new c = refl
 
 prepared_stirs : (c : Call) → stirs c (prepared_at c) ≡ true
 prepared_stirs (calls.WaitFor d st) = refl
-prepared_stirs (calls.WaitBit w b st) = refl
-prepared_stirs (calls.LockBit w b st) = refl
 prepared_stirs c = refl
 
 worn_new : (c : Call) → publishes_next (worn_next c) ≡ false

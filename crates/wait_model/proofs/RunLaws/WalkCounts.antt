@@ -121,9 +121,6 @@ kind_counted _ _ k s h i = absurd (cc)
 
 pub one_of_bits : (c d : Watch) → same c d ≡ true → is_bit c ≡ true → is_bit d ≡ true
 one_of_bits (watch.Bit w b) (watch.Bit v a) s h = refl
-one_of_bits (watch.Plain c) d s h = absurd (cc)
-one_of_bits (watch.Done c) d s h = absurd (cc)
-one_of_bits (watch.Var v o) d s h = absurd (cc)
 one_of_bits _ _ s h = absurd (cc)
 
 one_of_vars : (c d : Watch) → same c d ≡ true → is_var d ≡ true → is_var c ≡ true

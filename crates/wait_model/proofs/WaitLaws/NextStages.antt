@@ -126,23 +126,18 @@ load_failed es x c v h = record {
 -- a publish takes nobody off and stores no state
 published_awake : (s : State) (me : ℕ) (g : Given) (c : Call) → IsAwake s me g (publishing_event c)
 published_awake s me g (calls.ClearBit w b) = tt
-published_awake s me g calls.Remove = tt
 published_awake s me g c = tt
 
 published_takes : (s : State) (me : ℕ) (call : Call) (p : Point) (c : Call) → Takes s me call p (publishing_event c)
 published_takes s me call p (calls.ClearBit w b) = tt
-published_takes s me call p calls.Remove = tt
 published_takes s me call p c = tt
 
 published_stores : (s : State) (me : ℕ) (call : Call) (p : Point) (c : Call) → Stores s me call p (publishing_event c)
 published_stores s me call p (calls.ClearBit w b) = tt
-published_stores s me call p calls.Remove = tt
 published_stores s me call p c = tt
 
 select_takes : (c : Call) → taken_off (at.Select (select_from c)) ≡ None
 select_takes (calls.Complete d) = refl
-select_takes (calls.CompleteAll d) = refl
-select_takes calls.Remove = refl
 select_takes c = refl
 
 module _ (s : State) (me : ℕ) (call : Call) where

@@ -282,7 +282,6 @@ pub unlocked_paged : (call : Call) (p : Point) → is_paging (now.Open call p) �
     → is_page_lock call ≡ true → ⊥
 unlocked_paged (calls.LockPage w st) (at.Page p) o g l = cc
 unlocked_paged (calls.LockPage w st) p o g l = g
-unlocked_paged calls.Remove p o g l = cc
 unlocked_paged call p o g l = cc
 
 -- a test-and-set that found the page set

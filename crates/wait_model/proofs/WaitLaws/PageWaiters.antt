@@ -355,7 +355,6 @@ module _ (s : State) (n me : ℕ) (e : Event) (found : ℕ) (sound : IsSound s n
 -- a call that is opened, and a whole run
 opened_at_page : (call : Call) → IsPaged (now.Open call (program_start call))
 opened_at_page (calls.LockPage w st) = tt
-opened_at_page calls.Remove = tt
 opened_at_page call = tt
 
 opened_untold : (call : Call) (v : ℕ) → told_by (now.Open call (program_start call)) ≡ Some v → ⊥

@@ -69,12 +69,10 @@ done_await (calls.WaitBit i b st) w = refl
 done_await (calls.LockBit i b st) w = refl
 done_await (calls.LockPage i st) w = refl
 done_await (calls.WaitVar v old st) w = refl
-done_await calls.Remove w = absurd (cc)
 done_await call w = absurd (cc)
 
 not_both : (call : Call) {A : Type 0} → is_bit_wait call ≡ true → is_await call ≡ true → A
 not_both (calls.WaitFor d st) b a = absurd (cc)
-not_both calls.Remove b a = absurd (cc)
 not_both call b a = absurd (cc)
 
 pub never_woken : (c : Watch) → is_woken (kind_for c) ≡ false
@@ -173,7 +171,6 @@ lock_pages : (call : Call) (p : Point) → is_page_lock call ≡ true → IsPage
     → is_paging (now.Open call p) ≡ true
 lock_pages (calls.LockPage w st) (at.Page p) l g = refl
 lock_pages (calls.LockPage w st) p l g = absurd g
-lock_pages calls.Remove p l g = absurd (cc)
 lock_pages call p l g = absurd (cc)
 
 turning_home : (call : Call) (p : Point) (e : Entry) → is_turning (now.Open call p) ≡ true

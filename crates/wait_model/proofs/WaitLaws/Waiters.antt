@@ -377,7 +377,6 @@ start_stage call = refl
 
 start_fits : (call : Call) → FitsStage (now.Open call (program_start call))
 start_fits (calls.Woken st) = tt
-start_fits (calls.LockPage w st) = tt
 start_fits call = tt
 
 start_takes : (call : Call) → taken_by (now.Open call (program_start call)) ≡ None

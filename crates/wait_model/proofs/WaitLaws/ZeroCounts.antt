@@ -66,7 +66,6 @@ ZeroAt now.Fresh v x = Unit {0}
 -- such a wait loads a count, and fails where that is 0
 await_misses : (call : Call) (r : ℕ) → is_await call ≡ true → (r == 0) ≡ true → misses (call_watch call) r ≡ true
 await_misses (calls.WaitFor d st) r w z = z
-await_misses calls.Remove r w z = absurd (cc)
 await_misses call r w z = absurd (cc)
 
 module _ (s : State) (me : ℕ) (call : Call) where
@@ -101,19 +100,16 @@ module _ (s : State) (me : ℕ) (call : Call) where
 
   zero_signalled : (c : Call) (u : View) (x : ℕ) → IsZero c (signalled_at c) u x
   zero_signalled (calls.WaitFor d st) u x = tt
-  zero_signalled calls.Remove u x = tt
   zero_signalled c u x = tt
 
   zero_prepared : (c : Call) (u : View) (x : ℕ) → ZeroKept c u x → IsZero c (prepared_at c) u x
   zero_prepared (calls.WaitFor d st) u x h = h
   zero_prepared (calls.WaitBit w b st) u x h = tt
   zero_prepared (calls.LockBit w b st) u x h = tt
-  zero_prepared calls.Remove u x h = refl
   zero_prepared c u x h = refl
 
   zero_slept : (c : Call) (u : View) (x : ℕ) → ZeroKept c u x → IsZero c (slept_at c) u x
   zero_slept (calls.WaitFor d st) u x h = h
-  zero_slept calls.Remove u x h = tt
   zero_slept c u x h = tt
 
   -- the load of the count in the hold

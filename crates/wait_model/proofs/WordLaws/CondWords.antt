@@ -127,7 +127,6 @@ head_counted (watch.Var v o) (watch.Var j a) h k e = absurd (cc)
 pub var_shared : (call : Call) → is_var (call_watch call) ≡ true → is_exclusive (form_of call) ≡ false
 var_shared (calls.WaitVar v old st) h = refl
 var_shared (calls.SetVar v x) h = refl
-var_shared calls.Remove h = absurd (cc)
 var_shared call h = absurd (cc)
 
 -- a selection is from the queue of a watch with a spent count
@@ -145,7 +144,6 @@ done_simple (watch.Var v o) h = absurd (cc)
 
 pub await_done : (call : Call) → is_await call ≡ true → is_done (call_watch call) ≡ true
 await_done (calls.WaitFor d st) h = refl
-await_done calls.Remove h = absurd (cc)
 await_done call h = absurd (cc)
 
 -- an entry by which a call waits suits what it waits for, and goes when it is woken

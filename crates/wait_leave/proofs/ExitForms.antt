@@ -54,45 +54,40 @@ pub record AskLaw {C S O : Type 0} (t : CallTable C S O) (x : Exits C S O) : Typ
   pub fits : (r : C) → t.Fits r → t.Fits (x.asks r)
 
 module _ {C S O : Type 0} {t : CallTable C S O} {x : Exits C S O} (law : AskLaw t x) {r : C} {s : S} {to : Turn S O} where
-  -- out where it stands, with no event
-  pub out_at_once : face_at t r s to ≡ face_to t (x.asks r) to → IsPlainTurn t to → StateGoes t r s (x.asks r) to
+  -- out, behind RUNNING or not
+  out_by : (b : Bool) → face_at t r s to ≡ face_to t (x.asks r) to → IsPlainTurn t to
+      → (b ≡ true → holds (t.point_of s) ≡ false) → (b ≡ false → StateGoes t r s (x.asks r) to)
       → HomeGoes t r s (x.asks r) to
-      → ((old new : Known) → Calm (rest_steps false) old new → t.Trail old r s → TurnTrail t new (x.asks r) to)
-      → ExitLaw t x r s (record { to = to; rests = false })
-  out_at_once is plain state home trail = record {
+      → ((old new : Known) → Calm (rest_steps b) old new → t.Trail old r s → TurnTrail t new (x.asks r) to)
+      → ExitLaw t x r s (record { to = to; rests = b })
+  out_by b is plain free state home trail = record {
     fresh = ap (λ (f : Face). f.drawn) is;
     plain = plain;
     falls = ap (λ (f : Face). f.falls) is;
-    free = λ rests. absurd (cc);
+    free = free;
     head = sym (ap (λ (f : Face). f.head) is);
     ticket = sym (ap (λ (f : Face). f.ticket) is);
     same = law.same r;
     fits = law.fits r;
     took = ap (λ (f : Face). f.took) is;
-    state = λ still. state;
+    state = state;
     home = home;
     trail = trail;
   }
+
+  -- out where it stands, with no event
+  pub out_at_once : face_at t r s to ≡ face_to t (x.asks r) to → IsPlainTurn t to → StateGoes t r s (x.asks r) to
+      → HomeGoes t r s (x.asks r) to
+      → ((old new : Known) → Calm (rest_steps false) old new → t.Trail old r s → TurnTrail t new (x.asks r) to)
+      → ExitLaw t x r s (record { to = to; rests = false })
+  out_at_once is plain state = out_by false is plain (λ rests. absurd (cc)) (λ still. state)
 
   -- out behind RUNNING, where no head is held
   pub out_rested : face_at t r s to ≡ face_to t (x.asks r) to → IsPlainTurn t to → holds (t.point_of s) ≡ false
       → HomeGoes t r s (x.asks r) to
       → ((old new : Known) → Calm (rest_steps true) old new → t.Trail old r s → TurnTrail t new (x.asks r) to)
       → ExitLaw t x r s (record { to = to; rests = true })
-  out_rested is plain free home trail = record {
-    fresh = ap (λ (f : Face). f.drawn) is;
-    plain = plain;
-    falls = ap (λ (f : Face). f.falls) is;
-    free = λ rests. free;
-    head = sym (ap (λ (f : Face). f.head) is);
-    ticket = sym (ap (λ (f : Face). f.ticket) is);
-    same = law.same r;
-    fits = law.fits r;
-    took = ap (λ (f : Face). f.took) is;
-    state = λ still. absurd (cc);
-    home = home;
-    trail = trail;
-  }
+  out_rested is plain free = out_by true is plain (λ rests. free) (λ still. absurd (cc))
 
 -- what is said of each stage by its exit, of those with none nothing
 abbrev pub LawAt : {C S O : Type 0} → CallTable C S O → Exits C S O → C → S → Type 0

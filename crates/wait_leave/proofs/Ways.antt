@@ -14,7 +14,7 @@ use Rattle.wait_class.specs.Tables.{Advances, CallTable, IsAt, Lands, Plan, Slee
 use Rattle.wait_class.specs.Wholes.{HasRested}
 use Rattle.wait_class.specs.UnderWay.{IsUnderWay, going}
 use Rattle.wait_class.proofs.Turns.{advances_none, advances_on, again}
-use Rattle.wait_class.proofs.UnderWay.{woke_on}
+use Rattle.wait_class.proofs.UnderWay.{come_on, woke_on}
 use Rattle.wait_leave.specs.ExitLaws.{AreLawfulExits}
 use Rattle.wait_leave.specs.declared.exits.Exit.{Exit}
 use Rattle.wait_leave.specs.Leaves.{Exits, GoesOut, Leaves, asked_run, stays_awake, with_asked}
@@ -195,28 +195,10 @@ awake_since t x awake old r s _ _ _ (left_at mid m n new q u cause w l) = l.awak
 pub on_way_then : {C S O A : Type 0} {t : CallTable C S O} {x : Exits C S O} (law : AreLawfulExits t x)
     (lawful : IsLawfulCallTable t) {c : Plan} {mid new : Known} {m q : Run C} {n : S} {u : Turn S O}
     → IsOnWay A t x c mid m (turn.Again n) → OnTheWay A t x mid m n new q u → IsOnWay A t x c new q u
-on_way_then law lawful i w = record {
-  old = i.old;
-  began = i.began;
-  start = i.start;
-  clean = i.clean;
-  told = i.told;
-  nothing = i.nothing;
-  plan = i.plan;
-  came = way_going _ _ _ law lawful i.old i.began i.start _ _ _
-      (way_then _ _ _ law lawful i.old i.began i.start _ _ _ _ _ _ i.came w);
-}
+on_way_then law lawful i w = come_on i (λ old began start came. way_going _ _ _ law lawful old began start _ _ _
+    (way_then _ _ _ law lawful old began start _ _ _ _ _ _ came w))
 
 -- a call that nobody asked to leave yet is on its way
 pub under_way_is : {C S O : Type 0} (A : Type 0) (t : CallTable C S O) (x : Exits C S O) (c : Plan) (k : Known) (r : Run C)
     (u : Turn S O) → IsUnderWay t c k r u → IsOnWay A t x c k r u
-under_way_is A t x c k r u i = record {
-  old = i.old;
-  began = i.began;
-  start = i.start;
-  clean = i.clean;
-  told = i.told;
-  nothing = i.nothing;
-  plan = i.plan;
-  came = straight k r (going u) i.came;
-}
+under_way_is A t x c k r u i = come_on i (λ old began start came. straight k r (going u) came)

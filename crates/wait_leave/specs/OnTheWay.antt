@@ -1,14 +1,12 @@
 -- To be believed.
 -- A wait under way that may have been asked to leave, more than once.
-use Rattle.std.specs.Prelude.{◌≡◌, false, Option, Some, None}
+use Rattle.std.specs.Prelude.{◌≡◌, Option, Some, None}
 use Rattle.wait_rule.specs.Known.{Known}
-use Rattle.wait_rule.specs.Queues.{IsTold}
-use Rattle.wait_rule.specs.Says.{IsClean}
 use Rattle.wait_class.specs.declared.stages.Run.{Run}
 use Rattle.wait_class.specs.declared.stages.Turn.{Turn}
 use Rattle.wait_class.specs.declared.stages.Turn.TheVariants as turn
 use Rattle.wait_class.specs.Tables.{Advances, CallTable, Plan, SleepsNot}
-use Rattle.wait_class.specs.UnderWay.{going}
+use Rattle.wait_class.specs.UnderWay.{HasCome, going}
 use Rattle.wait_leave.specs.Leaves.{Exits, Leaves}
 
 -- It went straight by its program; or it was on its way to a stage, was asked to leave there, for this cause, and went
@@ -31,20 +29,7 @@ abbrev pub IsAsked : {C S O : Type 0} → CallTable C S O → Exits C S O → Kn
 IsAsked t x old new r q s (Some u) = Leaves t x old new r q s u
 IsAsked t x old new r q s None = (x.exit r.of s ≡ None) × (new ≡ old) × (q ≡ r)
 
--- A task that owed nothing began the call of this plan, at a stage at which it had taken nothing, and came there, asked
--- to leave on its way or not.
-pub record HasComeOut {C S O : Type 0} (A : Type 0) (t : CallTable C S O) (x : Exits C S O) (c : Plan) (k : Known)
-    (r : Run C) (u : Turn S O) : Type 0 where
-  pub old : Known
-  pub began : Run C
-  pub start : S
-  pub clean : IsClean old
-  pub told : IsTold old
-  pub nothing : t.took start ≡ false
-  pub plan : t.plan_of began.of ≡ c
-  pub came : OnTheWay A t x old began start k r u
-
--- the call of this plan is on its way, and goes on behind what a turn answered
+-- the call of this plan is on its way, asked to leave or not, and goes on behind what a turn answered
 abbrev pub IsOnWay : {C S O : Type 0} → Type 0 → CallTable C S O → Exits C S O → Plan → Known → Run C → Turn S O
     → Type 0
-IsOnWay A t x c k r u = HasComeOut A t x c k r (going u)
+IsOnWay A t x c k r u = HasCome t c (λ old began start. OnTheWay A t x old began start k r (going u))

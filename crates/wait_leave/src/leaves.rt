@@ -4,7 +4,7 @@ ghost use Rattle.std.specs.Prelude.{◌≡◌, ◌⊎◌, Some, true};
 ghost use Rattle.wait_model.specs.declared.layout.TheConstants.{HEADS};
 ghost use Rattle.wait_rule.specs.PassedLocks.{PassesNone};
 ghost use Rattle.wait_class.specs.Handing.{LastGiven};
-ghost use Rattle.wait_class.specs.Tables.{Advances, IsAsleepAt, IsAt, IsStop, Lands, SleepsNot, falls};
+ghost use Rattle.wait_class.specs.Tables.{IsAt, IsStop, Lands, SleepsNot, falls};
 ghost use Rattle.wait_class.specs.declared.stages.Turn.TheVariants as turn;
 ghost use Rattle.wait_leave.specs.Leaves.{Leaves, StaysUp};
 ghost use Rattle.wait_leave.specs.OnTheWay.{IsAsked, IsOnWay, OnTheWay};
@@ -13,12 +13,12 @@ use crate::exits::Exit;
 use crate::leavable::Leavable;
 use std::sync::Wait;
 use wait_class::events::advance;
-use wait_class::runs::{event, pause};
+use wait_class::runs::{event, pause, rise};
 use wait_class::stages::{Run, Turn};
 use wait_model::layout::RUNNING;
 use wait_rule::queues::Passing;
 use wait_rule::tasks::set_state;
-use wait_rule::{Domain, Task, wait_up};
+use wait_rule::{Domain, Task};
 
 /// More turns than a stretch has: at most six events are left before its first turn, and fewer after each.
 const STRETCH: u8 = 7;
@@ -137,9 +137,7 @@ pub fn stretch_out<C: Leavable>(
                 }
                 at = next;
             }
-            Turn::Asleep(next) => return Turn::Asleep(next),
-            Turn::Locked(next) => return Turn::Locked(next),
-            Turn::Done(outcome) => return Turn::Done(outcome),
+            turn => return turn,
         }
     }
     unreachable!()
@@ -166,26 +164,6 @@ fn event_out<C: Leavable>(
     passing.wake(domain);
     passing.end();
     turn
-}
-
-/// Waits until a wait that was put asleep was woken.
-fn rise<R: Wait, C: Leavable>(
-    rt: &R,
-    domain: &Domain,
-    task: &mut Task,
-    call: &Run<C>,
-    stage: C::Stage,
-)
-    requires of { task.old.domain ≡ domain.now }
-    requires asleep { IsAsleepAt C.table task.old call.now stage }
-    ensures of { task.new.domain ≡ domain.now }
-    ensures rises { Advances C.table task.old task.new call.now call.now stage (turn.Again stage) }
-{
-    C::lawful();
-    let _ = (*call, stage);
-    task.told();
-    wait_up(rt, domain, task);
-    task.told();
 }
 
 /// Leaves a wait, from a stage at which its task is awake: goes on to the first stage that has an exit, and out of it, to

@@ -471,7 +471,7 @@ module _ (seen new : Known) (x : ℕ) (e : Entry) (is : new ≡ stored_with seen
       (λ d. entries_debts (with_left_entry f) (with_entry x (with_left_entry f)) new refl refl refl refl
       (queued_debts seen new x e (not_paged (is_page e.kind) shared.1) is f o.debts)) (owes_left f seen o)
 
-  queue_carried : (old : Known) (to : Excuse → Excuse) → Carries only_looks old seen
+  pub queue_carried : (old : Known) (to : Excuse → Excuse) → Carries only_looks old seen
       → ((f : Excuse) → OwesBut f seen → OwesBut (to f) new)
       → Carries (record (queue_change x) { to = to }) old new
   queue_carried old to l owing = record {
@@ -569,9 +569,7 @@ module _ (old new : Known) (who slot : ℕ) (is : new ≡ stored_with old (step.
       still = λ y away. inl (remove_other y away);
       stands = λ n few away d at own. remove_other (index old.view.number n) away ∙ at;
       keeps = λ c. ap (λ (v : Told). v.bits.keeps c) remove_told;
-      tries_none = λ none y c. ap (λ (v : Told). is_trying_for (v.bits.stored y) c) remove_told
-          ∙ put_at (λ (s : Option Entry). is_trying_for s c ≡ false) (told_of old).bits.stored (index who slot) None y
-          (λ _. refl) (λ _. none y c);
+      tries_none = remove_none;
       tries = λ none c out. ap (λ (v : Told). v.bits.pending c) remove_told ∙ out;
       debts = remove_debts;
     };

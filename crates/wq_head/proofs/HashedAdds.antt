@@ -29,7 +29,7 @@ use Rattle.wq_head.proofs.CarriedHolds.{looks_carried}
 use Rattle.wq_head.specs.Adds.{IsFor, IsForBit, IsForVar, HasAddedForBit, HasAddedForPage, HasPut, front_entry}
 use Rattle.wq_head.specs.Adds.{page_change, tail_entry}
 use Rattle.wq_head.proofs.AddedEntries.{IsAfter, TriesNo, full_unpaged, no_paged, plain_stands, put_counts, put_is}
-use Rattle.wq_head.proofs.AddedEntries.{put_looks, put_off, put_sort, queue_memberd, queue_other, queue_told}
+use Rattle.wq_head.proofs.AddedEntries.{put_looks, put_off, put_sort, queue_carried, queue_memberd, queue_other, queue_told}
 use Rattle.wq_head.proofs.PermitHeads.{page_low}
 
 bit_unpaged : (k : Kind) → k ≡ kind.Bit → is_page k ≡ true → ⊥
@@ -164,24 +164,7 @@ module _ (seen new : Known) (x w p : ℕ)
   }
 
   pub page_carried : (old : Known) → Carries only_looks old seen → Carries (page_change x) old new
-  page_carried old l = record {
-    domain = ap (λ (k : Known). k.domain) is ∙ l.domain;
-    number = ap (λ (k : Known). k.view.number) is ∙ l.number;
-    awake = ap (λ (k : Known). k.book.awake) is ∙ l.awake;
-    state = ap (λ (k : Known). k.book.state) is ∙ l.state;
-    head = ap (λ (k : Known). k.book.head) is ∙ l.head;
-    ticket = ap (λ (k : Known). k.book.ticket) is ∙ l.ticket;
-    hold = ap (λ (v : Told). v.hold.head) told ∙ l.hold;
-    at = ap (λ (k : Known). k.at) is ∙ l.at;
-    mark = ap (λ (v : Told). v.mark) told ∙ l.mark;
-    fewer = λ d σ p none. ap (λ (v : Told). v.duty.owes d σ) told ∙ l.fewer d σ p none;
-    stored = λ y none _. absurd (cc);
-    out = λ y away none. queue_other seen new x e is y away ∙ l.out y refl none;
-    stands = λ slot few away d at own. queue_other seen new x e is (index old.view.number slot) away
-        ∙ l.stands slot few refl d at own;
-    keeps = λ d _. ap (λ (v : Told). v.bits.keeps d) told ∙ l.keeps d refl;
-    owes = λ f o. page_owing f (l.owes f o);
-  }
+  page_carried old l = queue_carried seen new x e is old (λ f. with_page (with_entry x f)) l page_owing
 
 -- the whole add of an entry for a page
 pub added_for_page : (old new : Known) (w : ℕ) → HasPut forms.Tail old new 0 (tail_entry true (page w) kind.Page)

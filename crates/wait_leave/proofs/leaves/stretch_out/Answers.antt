@@ -2,7 +2,7 @@ use Rattle.std.proofs.Common.{◌∙◌, arith, refl, sym}
 use Rattle.wait_model.specs.declared.layout.TheConstants.{HEADS}
 use Rattle.wait_model.specs.PointFacts.{holds}
 use Rattle.wait_class.specs.declared.stages.Turn.TheVariants as turn
-use Rattle.wait_class.proofs.Falling.{falls_by, falls_still, held_yes, unheld}
+use Rattle.wait_class.proofs.Falling.{falls_by, held_yes, other_stops, unheld}
 use Rattle.wait_class.proofs.Handed.{given_as, given_on, given_still}
 use Rattle.wq_head.proofs.PassedOn.{none_yet}
 use Rattle.wait_leave.proofs.Ways.{on_way_then, way_domain, way_lands, way_none, way_then}
@@ -56,13 +56,9 @@ pub returns-then-is_free-clause-stops : goal.returns-then-is_free-clause-stops
 returns-then-is_free-clause-stops g c = unheld (holds (g.C.Machine.table.point_of c.in-Again.next)) c.is_free.result
     c.is_free.ensures c.if-is_free.true
 
-pub returns-in-Asleep-clause-stops : goal.returns-in-Asleep-clause-stops
-returns-in-Asleep-clause-stops g c = falls_still (holds (g.C.Machine.table.point_of c.in-Asleep.next))
-    c.in-Asleep.ensures.falls
-
-pub returns-in-Locked-clause-stops : goal.returns-in-Locked-clause-stops
-returns-in-Locked-clause-stops g c = falls_still (holds (g.C.Machine.table.point_of c.in-Locked.next))
-    c.in-Locked.ensures.falls
+pub returns-in_default-clause-stops : goal.returns-in_default-clause-stops
+returns-in_default-clause-stops g c = other_stops g.C.Machine.table c.loop-turn.at c.turn_out.result
+    c.in_default.not-Again c.turn_out.ensures.falls
 
 pub unreachable-requires : goal.unreachable-requires
 unreachable-requires g c = let low = c.loop-turn.invariant.0.low in absurd (omega (arith, low))
@@ -77,48 +73,19 @@ returns-then-is_free-clause-given g c = given_on _ _ _ _ c.loop-turn.invariant.0
 pub returns-then-is_free-clause-under : goal.returns-then-is_free-clause-under
 returns-then-is_free-clause-under g c p i = on_way_then c.may_leave.ensures c.lawful.ensures i (returns-then-is_free-clause-way g c)
 
-pub returns-in-Asleep-clause-way : goal.returns-in-Asleep-clause-way
-returns-in-Asleep-clause-way g c = way_then _ _ _ c.may_leave.ensures c.lawful.ensures _ _ _ _ _ _ _ _ _
-    c.loop-turn.invariant.0.way c.in-Asleep.ensures.way
+pub returns-in_default-clause-way : goal.returns-in_default-clause-way
+returns-in_default-clause-way g c = way_then _ _ _ c.may_leave.ensures c.lawful.ensures _ _ _ _ _ _ _ _ _
+    c.loop-turn.invariant.0.way c.turn_out.ensures.way
 
-pub returns-in-Asleep-clause-given : goal.returns-in-Asleep-clause-given
-returns-in-Asleep-clause-given g c = given_on _ _ _ _ c.loop-turn.invariant.0.given c.in-Asleep.ensures.given
+pub returns-in_default-clause-given : goal.returns-in_default-clause-given
+returns-in_default-clause-given g c = given_on _ _ _ _ c.loop-turn.invariant.0.given c.turn_out.ensures.given
 
-pub returns-in-Asleep-clause-under : goal.returns-in-Asleep-clause-under
-returns-in-Asleep-clause-under g c p i = on_way_then c.may_leave.ensures c.lawful.ensures i (returns-in-Asleep-clause-way g c)
-
-pub returns-in-Locked-clause-way : goal.returns-in-Locked-clause-way
-returns-in-Locked-clause-way g c = way_then _ _ _ c.may_leave.ensures c.lawful.ensures _ _ _ _ _ _ _ _ _
-    c.loop-turn.invariant.0.way c.in-Locked.ensures.way
-
-pub returns-in-Locked-clause-given : goal.returns-in-Locked-clause-given
-returns-in-Locked-clause-given g c = given_on _ _ _ _ c.loop-turn.invariant.0.given c.in-Locked.ensures.given
-
-pub returns-in-Locked-clause-under : goal.returns-in-Locked-clause-under
-returns-in-Locked-clause-under g c p i = on_way_then c.may_leave.ensures c.lawful.ensures i (returns-in-Locked-clause-way g c)
-
-pub returns-in-Done-clause-way : goal.returns-in-Done-clause-way
-returns-in-Done-clause-way g c = way_then _ _ _ c.may_leave.ensures c.lawful.ensures _ _ _ _ _ _ _ _ _
-    c.loop-turn.invariant.0.way c.in-Done.ensures.way
-
-pub returns-in-Done-clause-given : goal.returns-in-Done-clause-given
-returns-in-Done-clause-given g c = given_on _ _ _ _ c.loop-turn.invariant.0.given c.in-Done.ensures.given
-
-pub returns-in-Done-clause-under : goal.returns-in-Done-clause-under
-returns-in-Done-clause-under g c p i = on_way_then c.may_leave.ensures c.lawful.ensures i (returns-in-Done-clause-way g c)
+pub returns-in_default-clause-under : goal.returns-in_default-clause-under
+returns-in_default-clause-under g c p i = on_way_then c.may_leave.ensures c.lawful.ensures i (returns-in_default-clause-way g c)
 
 pub returns-then-is_free-clause-awake : goal.returns-then-is_free-clause-awake
 returns-then-is_free-clause-awake g c = sleeps_not_on _ _ _ c.loop-turn.invariant.0.awake
     c.in-Again.ensures.awake
 
-pub returns-in-Asleep-clause-awake : goal.returns-in-Asleep-clause-awake
-returns-in-Asleep-clause-awake g c = sleeps_not_on _ _ _ c.loop-turn.invariant.0.awake
-    c.in-Asleep.ensures.awake
-
-pub returns-in-Locked-clause-awake : goal.returns-in-Locked-clause-awake
-returns-in-Locked-clause-awake g c = sleeps_not_on _ _ _ c.loop-turn.invariant.0.awake
-    c.in-Locked.ensures.awake
-
-pub returns-in-Done-clause-awake : goal.returns-in-Done-clause-awake
-returns-in-Done-clause-awake g c = sleeps_not_on _ _ _ c.loop-turn.invariant.0.awake
-    c.in-Done.ensures.awake
+pub returns-in_default-clause-awake : goal.returns-in_default-clause-awake
+returns-in_default-clause-awake g c = sleeps_not_on _ _ _ c.loop-turn.invariant.0.awake c.turn_out.ensures.awake

@@ -164,9 +164,10 @@ module _ (me : ℕ) (call : Call) (d : ℕ) (about : watch.Done d ≡ call_watch
       (by_step (step.Unlock old.at false)) (only_none old) (there ∙ here, refl) (tt, tt, tt)
       (unlock_looks old new is)
 
--- what changes nothing looks, and takes no lock
-pub as_looks : (old new : Known) → Carries unchanged old new → Carries only_looks old new
-as_looks old new k = record {
+-- what changes nothing looks, at this head
+quiet_at : (at : ℕ → ℕ) (old new : Known) → new.at ≡ at old.at → Carries unchanged old new
+    → Carries (record unchanged { looks = true; at = at }) old new
+quiet_at at old new here k = record {
   domain = k.domain;
   number = k.number;
   awake = k.awake;
@@ -174,7 +175,7 @@ as_looks old new k = record {
   head = k.head;
   ticket = k.ticket;
   hold = k.hold;
-  at = k.at;
+  at = here;
   mark = k.mark;
   fewer = k.fewer;
   stored = λ x none _. absurd (cc);
@@ -184,24 +185,12 @@ as_looks old new k = record {
   keeps = k.keeps;
 }
 
+-- and takes no lock
+pub as_looks : (old new : Known) → Carries unchanged old new → Carries only_looks old new
+as_looks old new k = quiet_at (λ h. h) old new k.at k
+
 pub as_hold : (old new : Known) → Carries unchanged old new → Carries (hold_change new.at) old new
-as_hold old new k = record {
-  domain = k.domain;
-  number = k.number;
-  awake = k.awake;
-  state = k.state;
-  head = k.head;
-  ticket = k.ticket;
-  hold = k.hold;
-  at = refl;
-  mark = k.mark;
-  fewer = k.fewer;
-  stored = λ x none _. absurd (cc);
-  out = k.out;
-  stands = k.stands;
-  owes = k.owes;
-  keeps = k.keeps;
-}
+as_hold old new k = quiet_at (λ _. new.at) old new refl k
 
 -- looks say nothing of a count
 pub value_append : (c : Watch) (o : Option ℕ) (es fs : List Step)

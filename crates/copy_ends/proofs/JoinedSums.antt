@@ -64,14 +64,7 @@ abbrev pub Later : Journal → Known → Type 0
 Later v k = (xs : List Item) × (k.view ≡ pushed v xs)
 
 pushed_on : (v : Journal) (xs ys : List Item) → pushed (pushed v xs) ys ≡ pushed v (xs ++ ys)
-pushed_on v xs ys = ap (λ (zs : List Item). record {
-  lives = v.lives;
-  number = v.number;
-  next = v.next;
-  spare = v.spare;
-  items = zs;
-  joined = v.joined;
-}) (append_assoc v.items xs ys)
+pushed_on v xs ys = ap (λ (zs : List Item). record v { items = zs }) (append_assoc v.items xs ys)
 
 added_none : (p : ℕ) (v : Journal) (xs : List Item) → amounts_of p (pushed v xs).items ≡ amounts_of p v.items
     → amounts_of p xs ≡ 0

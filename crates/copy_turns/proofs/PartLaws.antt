@@ -21,14 +21,7 @@ use Rattle.wait_rule.proofs.TableSteps.ItemLists.{steps_append}
 
 -- the journal with other items of its own
 abbrev with_items : Journal → List Item → Journal
-with_items v xs = record {
-  lives = v.lives;
-  number = v.number;
-  next = v.next;
-  spare = v.spare;
-  items = xs;
-  joined = v.joined;
-}
+with_items v xs = record v { items = xs }
 
 pub grows_same : (k : Known) → Grows k k
 grows_same k = record { items = []; view = sym (ap (with_items k.view) (append-nil k.view.items)) }

@@ -26,6 +26,8 @@ use Rattle.wait_rule.proofs.KnownLaws.CarriedEnds.{looks_ends}
 use Rattle.wait_rule.proofs.KnownLaws.HandedSteps.{AddsLow, AllAddLow}
 use Rattle.wait_rule.proofs.KnownLaws.PipeItems.{end_append}
 use Rattle.wait_rule.proofs.TableSteps.ItemLists.{steps_append}
+use Rattle.wait_event.proofs.Changes.{keeps_join, keeps_same}
+use Rattle.wait_event.proofs.LookedSteps.{looks_all}
 use Rattle.poll_wait.proofs.Near.{IsNearStep}
 
 -- Such a part: what it adds to the journal, what it tells of ends, and its steps, of which none queues at a completion.
@@ -36,28 +38,10 @@ pub record Beside (a b : Known) : Type 0 where
   pub history : history_of b ≡ history_of a ++ steps
   pub low : AllAddLow steps
 
-ends_same : (e f : End) → f ≡ e → KeepsEnd e f
-ends_same e f is = record {
-  mine = ap (λ (x : End). x.mine) is;
-  shut = ap (λ (x : End). x.shut) is;
-  count = ap (λ (x : End). x.count) is;
-  before = ap (λ (x : End). x.before) is;
-  cells = ap (λ (x : End). x.cells) is;
-}
-
-ends_join : (e f g : End) → KeepsEnd e f → KeepsEnd f g → KeepsEnd e g
-ends_join e f g one two = record {
-  mine = two.mine ∙ one.mine;
-  shut = two.shut ∙ one.shut;
-  count = two.count ∙ one.count;
-  before = two.before ∙ one.before;
-  cells = two.cells ∙ one.cells;
-}
-
 pub beside_join : (a b c : Known) → Beside a b → Beside b c → Beside a c
 beside_join a b c one two = record {
   aside = aside_join a b c one.aside two.aside;
-  ends = λ k. ends_join (end_at k a) (end_at k b) (end_at k c) (one.ends k) (two.ends k);
+  ends = λ k. keeps_join (one.ends k) (two.ends k);
   steps = one.steps ++ two.steps;
   history = two.history ∙ (ap (λ (l : List Step). l ++ two.steps) one.history
       ∙ append_assoc (history_of a) one.steps two.steps);
@@ -66,18 +50,7 @@ beside_join a b c one two = record {
 
 -- looks
 looks_low : (xs : List Item) → AreLooks xs → AllAddLow (steps_of xs)
-looks_low [] l = tt
-looks_low (item.Made (step.Saw x w) ∷ xs) l = (tt, looks_low xs l.1)
-looks_low (item.Made e ∷ xs) l = absurd l.0
-looks_low (item.Awake w ∷ xs) l = looks_low xs l.1
-looks_low (item.Bookmark t w ∷ xs) l = looks_low xs l.1
-looks_low (item.Member ∷ xs) l = looks_low xs l.1
-looks_low (item.Word w ∷ xs) l = looks_low xs l.1
-looks_low (item.Drawn h w ∷ xs) l = looks_low xs l.1
-looks_low (item.Serving h w ∷ xs) l = looks_low xs l.1
-looks_low (item.Served ∷ xs) l = looks_low xs l.1
-looks_low (item.Tally p n w ∷ xs) l = absurd l.0
-looks_low (item.Piped k a w ∷ xs) l = absurd l.0
+looks_low = looks_all AllAddLow tt (λ x w es low. (tt, low))
 
 abbrev nowhere : Next
 nowhere = next.Ends zero_answer
@@ -85,7 +58,7 @@ nowhere = next.Ends zero_answer
 pub looks_beside : (a b : Known) → OnlyLooks a b → Beside a b
 looks_beside a b l = record {
   aside = calls_grow_aside 0 0 (calls.Take 0) a b nowhere nowhere [] tt (λ is. absurd (cc)) (l, refl);
-  ends = λ k. ends_same (end_at k a) (end_at k b) (ap (end_at k) l.is
+  ends = λ k. keeps_same (ap (end_at k) l.is
       ∙ (end_append k no_end a.view.items l.items ∙ looks_ends k (end_at k a) l.items l.looks));
   steps = steps_of l.items;
   history = ap history_of l.is ∙ steps_append a.view.items l.items;
@@ -123,17 +96,17 @@ step_low (step.Queue x e) is = is
 step_low e is = tt
 
 load_ends : (b : Bool) (r : ℕ) (e : End) → KeepsEnd e (if b then if_unclosed (after_end_look r) e else e)
-load_ends false r e = ends_same e e refl
+load_ends false r e = keeps_same refl
 load_ends true r e = by (e.mine && not e.shut)
   where
     by : (b : Bool) → KeepsEnd e (if b then after_end_look r e else e)
     by true = record { mine = refl; shut = refl; count = refl; before = refl; cells = refl }
-    by false = ends_same e e refl
+    by false = keeps_same refl
 
 step_ends : (k : ℕ) (s : Step) → IsBeside s → (e : End) → KeepsEnd e (end_step k s e)
 step_ends k (step.Load (watch.Var v o) r) is e = load_ends (v == other_end k) r e
 step_ends k (step.Publish l n r) is e = absurd is
-step_ends k s is e = ends_same e e refl
+step_ends k s is e = keeps_same refl
 
 pub step_beside : (k : Known) (e : Step) → IsBeside e → Beside k (added k (item.Made e))
 step_beside k e is = record {

@@ -7,6 +7,7 @@ use Rattle.wait_rule.specs.Queues.{index}
 use Rattle.wait_rule.specs.Says.{Excuse, IsOutBut, OwesBut, told_of}
 use Rattle.wait_rule.specs.Stays.{Carries, Change, unchanged, with_entry}
 use Rattle.wait_rule.proofs.KnownLaws.Debts.{entries_debts}
+use Rattle.wait_event.proofs.Changes.{carried_on, carried_wider}
 
 -- a change of what it owes, of some entries, of the state and of the head that was locked last, with looks at others
 abbrev pub changes : (from to : Excuse → Excuse) (but : ℕ → Bool) (state at : ℕ → ℕ) → Change
@@ -25,47 +26,13 @@ pub carries_more : (f g : Excuse → Excuse) (less : ℕ → Bool) (looks : Bool
     → Carries (record unchanged { from = f; to = g; but = less; looks = looks; state = s; at = at }) a b
     → ((x : ℕ) → but x ≡ false → less x ≡ false) → ((x : Excuse) → OwesBut (from x) a → OwesBut (to x) b)
     → Carries (changes from to but s (λ _. b.at)) a b
-carries_more f g less looks s at from to but a b c away owes = record {
-  domain = c.domain;
-  number = c.number;
-  awake = c.awake;
-  state = c.state;
-  head = c.head;
-  ticket = c.ticket;
-  hold = c.hold;
-  at = refl;
-  mark = c.mark;
-  fewer = c.fewer;
-  stored = λ x none is. absurd (cc);
-  out = λ x other is. c.out x (away x other) is;
-  stands = λ slot few other e is own. c.stands slot few (away (index a.view.number slot) other) e is own;
-  keeps = c.keeps;
-  owes = owes;
-}
+carries_more f g less looks s at from to but a b c away owes = carried_wider (changes from to but s (λ _. b.at)) c away
+    (λ w p. refl) owes
 
 pub carries_on : (f g e : Excuse → Excuse) (but : ℕ → Bool) (s t p q : ℕ → ℕ) (a b c : Known)
     → Carries (changes f g but s p) a b → Carries (changes g e but t q) b c
     → Carries (changes f e but (λ σ. t (s σ)) (λ h. q (p h))) a c
-carries_on f g e but s t p q a b c one two = record {
-  domain = two.domain ∙ one.domain;
-  number = two.number ∙ one.number;
-  awake = two.awake ∙ one.awake;
-  state = two.state ∙ ap t one.state;
-  head = two.head ∙ one.head;
-  ticket = two.ticket ∙ one.ticket;
-  hold = two.hold ∙ one.hold;
-  at = two.at ∙ ap q one.at;
-  mark = two.mark ∙ one.mark;
-  fewer = λ w σ none is. two.fewer w σ refl (one.fewer w σ refl is);
-  stored = λ x none is. absurd (cc);
-  out = λ x other is. two.out x other (one.out x other is);
-  stands = λ slot few other d is own. subst (λ (n : ℕ). (told_of c).bits.stored (index n slot) ≡ Some d) one.number
-      (two.stands slot few (ap (λ (n : ℕ). but (index n slot)) one.number ∙ other) d
-      (subst (λ (n : ℕ). (told_of b).bits.stored (index n slot) ≡ Some d) (sym one.number)
-      (one.stands slot few other d is own)) own);
-  keeps = λ d none. two.keeps d refl ∙ one.keeps d refl;
-  owes = λ x o. two.owes x (one.owes x o);
-}
+carries_on f g e but s t p q a b c one two = carried_on (changes g e but t q) one two
 
 -- two entries of which it is excused, in either order
 out_swap : (a b c : Bool) (s : Option Entry) → IsOutBut (a || (b || c)) s → IsOutBut (b || (a || c)) s

@@ -5,9 +5,11 @@ use Rattle.wait_rule.specs.Known.{Known}
 use Rattle.wait_rule.specs.Queues.{IsIdle, index}
 use Rattle.wait_rule.specs.Says.{IsUp, told_of}
 use Rattle.wait_rule.specs.Stays.{Carries, no_entries, unchanged, with_entry}
+use Rattle.wait_rule.proofs.KnownLaws.CarriedTasks.{unchanged_none}
 use Rattle.wait_rule.proofs.KnownLaws.StayingParts.{owes_also}
 use Rattle.wait_class.specs.Posts.{IsOut, own_of}
 use Rattle.wait_event.specs.Prepares.{IsPart}
+use Rattle.wait_event.proofs.Changes.{idle_on, out_on}
 use Rattle.wait_model.specs.Watches.{kind_for}
 use Rattle.poll_wait.specs.declared.turns.Loads.{Loads}
 use Rattle.poll_wait.specs.declared.turns.Poll.{Poll}
@@ -28,23 +30,7 @@ pub record Polling (p : Poll) (start now : Known) : Type 0 where
   pub carries : PairCarries (λ _. 0) start now
 
 pub same_carries : (k : Known) → Carries unchanged k k
-same_carries k = record {
-  domain = refl;
-  number = refl;
-  awake = refl;
-  state = refl;
-  head = refl;
-  ticket = refl;
-  hold = refl;
-  at = refl;
-  mark = refl;
-  fewer = λ w σ none is. is;
-  stored = λ x blind away. refl;
-  out = λ x away none. none;
-  stands = λ slot few away e is own. is;
-  keeps = λ d none. refl;
-  owes = λ x o. o;
-}
+same_carries = unchanged_none
 
 pub polling_none : (p : Poll) (k : Known) → MayTurn p k → Polling p k k
 polling_none p k may = record {
@@ -52,7 +38,7 @@ polling_none p k may = record {
   sleeps = refl;
   may = may;
   carries = state_as (with_both k.view.number) (with_both k.view.number) k.view.number (λ σ. σ) (λ _. 0) k k
-      (sym may.running) (still_pair (λ σ. σ) k k (same_carries k));
+      (sym may.running) (still_pair (λ σ. σ) k k (unchanged_none k));
 }
 
 sleeps_more : (p : Poll) (turns : List Known) (start now new : Known) → SleepsTurns p start turns now
@@ -105,14 +91,10 @@ module _ (p : Poll) (is : IsPoll p) (old mid : Known) (c : Carries unchanged old
 
   -- over the loads alone
   pub loads_idle : IsIdle mid
-  loads_idle = record {
-    running = c.state ∙ idle.running;
-    free = record { head = c.head ∙ idle.free.head; ticket = c.ticket ∙ idle.free.ticket };
-    unmarked = c.mark ∙ idle.unmarked;
-  }
+  loads_idle = idle_on unchanged c idle
 
   pub loads_out : IsOut mid
-  loads_out = ap (λ (n : ℕ). (told_of mid).bits.stored (index n 0)) c.number ∙ c.out (own_of old) refl out
+  loads_out = out_on c refl out
 
   pub loads_second : IsSecondOut mid
   loads_second = ap (λ (n : ℕ). (told_of mid).bits.stored (index n 1)) c.number ∙ c.out (second_of old) refl out_second

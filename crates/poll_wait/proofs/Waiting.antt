@@ -37,6 +37,7 @@ use Rattle.wait_rule.proofs.KnownLaws.Moments.{kept_of, views_of}
 use Rattle.wait_rule.proofs.TableSteps.ItemLists.{steps_append}
 use Rattle.wait_rule.proofs.TableSteps.MemberMoves.{own_index}
 use Rattle.wait_event.specs.Prepares.{IsPart}
+use Rattle.wait_event.proofs.LookedSteps.{looks_all}
 use Rattle.order_laws.specs.SafeSleep.{SleepsSafely}
 use Rattle.poll_wait.specs.declared.turns.Poll.{Poll}
 use Rattle.poll_wait.specs.declared.turns.Ready.{Ready}
@@ -82,46 +83,30 @@ idle_join [] fs one two = two
 idle_join (e ∷ es) fs one two = (one.0, idle_join es fs one.1 two)
 
 looks_idle : (xs : List Item) → AreLooks xs → AreIdle (steps_of xs)
-looks_idle [] l = tt
-looks_idle (item.Made (step.Saw x w) ∷ xs) l = (tt, looks_idle xs l.1)
-looks_idle (item.Made e ∷ xs) l = absurd l.0
-looks_idle (item.Awake w ∷ xs) l = looks_idle xs l.1
-looks_idle (item.Bookmark t w ∷ xs) l = looks_idle xs l.1
-looks_idle (item.Member ∷ xs) l = looks_idle xs l.1
-looks_idle (item.Word w ∷ xs) l = looks_idle xs l.1
-looks_idle (item.Drawn h w ∷ xs) l = looks_idle xs l.1
-looks_idle (item.Serving h w ∷ xs) l = looks_idle xs l.1
-looks_idle (item.Served ∷ xs) l = looks_idle xs l.1
-looks_idle (item.Tally p n w ∷ xs) l = absurd l.0
-looks_idle (item.Piped k a w ∷ xs) l = absurd l.0
+looks_idle = looks_all AreIdle tt (λ x w es idle. (tt, idle))
 
 -- two loads that failed, and then nothing that counts: both watches have failed
 module _ (es before rest : List Step) (c d : Watch) (x y : ℕ)
     (split : es ≡ before ++ step.Load c x ∷ step.Load d y ∷ rest) (idle : AreIdle rest) where
-  pub second_failed : (i : ℕ) → failing d y d ≡ true → FailedLoad es i d
-  second_failed i miss = record {
+  later_failed : (i : ℕ) (e : Watch) → failing d y e ≡ true → FailedLoad es i e
+  later_failed i e miss = record {
     before = before ++ step.Load c x ∷ [];
     load = step.Load d y;
     later = rest;
     split = split ∙ sym (append_assoc before (step.Load c x ∷ []) (step.Load d y ∷ rest));
     is_load = miss;
     is_no_store = refl;
-    quiet = idle_quiet i d rest idle;
+    quiet = idle_quiet i e rest idle;
   }
+
+  pub second_failed : (i : ℕ) → failing d y d ≡ true → FailedLoad es i d
+  second_failed i = later_failed i d
 
   pub first_failed : (i : ℕ) → failing c x c ≡ true → FailedLoad es i c
   first_failed i miss = by (failing d y c) refl
     where
       by : (b : Bool) → failing d y c ≡ b → FailedLoad es i c
-      by true is = record {
-        before = before ++ step.Load c x ∷ [];
-        load = step.Load d y;
-        later = rest;
-        split = split ∙ sym (append_assoc before (step.Load c x ∷ []) (step.Load d y ∷ rest));
-        is_load = is;
-        is_no_store = refl;
-        quiet = idle_quiet i c rest idle;
-      }
+      by true is = later_failed i c is
       by false is = record {
         before = before;
         load = step.Load c x;

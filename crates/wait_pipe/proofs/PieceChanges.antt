@@ -3,7 +3,6 @@ use Rattle.std.proofs.Common.{refl, sym, ◌∙◌, ap, subst}
 use Rattle.std.specs.Prelude.{ℕ, ◌≡◌, ◌/◌, if◌then◌else◌, Bool, true, Some, None, length}
 use Rattle.wait_model.specs.declared.layout.TheConstants.{PIPE_ENDS}
 use Rattle.wait_model.specs.declared.watches.Mode.TheVariants as mode
-use Rattle.wait_model.specs.declared.watches.Watch.{Watch}
 use Rattle.wait_model.specs.declared.watches.Watch.TheVariants as watch
 use Rattle.wait_rule.specs.Known.{Known}
 use Rattle.wait_rule.specs.Pipes.{End, new_end}
@@ -15,7 +14,7 @@ use Rattle.wait_rule.proofs.KnownLaws.CarriedTasks.{unchanged_none}
 use Rattle.wait_class.specs.Posts.{IsOut}
 use Rattle.wait_event.specs.Ends.{wait_change}
 use Rattle.wait_event.proofs.Changes.{carried_on, carried_wider, free_on, idle_on, keeps_join, keeps_same, out_on}
-use Rattle.wait_pipe.specs.Pieces.{IsPipeOpened, IsReady, IsSettled, LeavesIdle, OtherPipesStay, LeavesAside, RestsBehindPiece, WaitsAtPipe, piece_change}
+use Rattle.wait_pipe.specs.Pieces.{IsPipeOpened, IsReadyAtPipe, IsSettled, LeavesIdle, OtherPipesStay, LeavesAside, RestsBehindPiece, WaitsAtPipe, piece_change}
 use Rattle.wait_pipe.proofs.Asides.{quiet_none, quiet_on}
 
 module _ (k i : ℕ) (old new : Known) where
@@ -70,7 +69,7 @@ pub rests_none : (k : ℕ) (j : Known) → IsUp j → IsIdle j → IsOut j → R
 rests_none k j = rests_still k j j (unchanged_none j) (quiet_none j)
 
 -- a task that was ready is so behind a call
-pub ready_on : {domain : _} {c : Change} {old new : Known} → LeavesIdle c old new → IsReady domain old → IsReady domain new
+pub ready_on : {domain : _} {c : Change} {old new : Known} → LeavesIdle c old new → IsReadyAtPipe domain old → IsReadyAtPipe domain new
 ready_on l r = record { of = l.carries.domain ∙ r.of; up = l.up; idle = l.idle; out = l.out }
 
 -- over a publish of the own end and its wake, which ends what the task owed more before the publish
@@ -127,7 +126,7 @@ others_becomes k old new e b j ne = b.others j (λ q. ne (ap (λ (i : ℕ). i / 
 pub others_on : (k : ℕ) (x y z : Known) → OtherPipesStay k x y → OtherPipesStay k y z → OtherPipesStay k x z
 others_on k x y z a b j ne = b j ne ∙ a j ne
 
-pub waits_none : {domain : _} (k : ℕ) (j : Known) → IsReady domain j → WaitsAtPipe k j j
+pub waits_none : {domain : _} (k : ℕ) (j : Known) → IsReadyAtPipe domain j → WaitsAtPipe k j j
 waits_none k j ready = record {
   others = λ i ne. refl;
   keeps = keeps_same refl;

@@ -1,21 +1,20 @@
 -- What a look at a variable's head, and the wake behind it, leave of a task.
-use Rattle.std.proofs.Common.{refl, sym, ◌∙◌, ap, subst}
-use Rattle.std.specs.Prelude.{ℕ, ◌≡◌, Bool, true, false, Some, None}
+use Rattle.std.proofs.Common.{refl, ◌∙◌, ap, subst}
+use Rattle.std.specs.Prelude.{ℕ, ◌≡◌, Bool, true, false, None}
 use Rattle.wait_model.specs.declared.points.Point.TheVariants as at
 use Rattle.wait_model.specs.declared.points.Next.TheVariants as next
 use Rattle.wait_model.specs.declared.points.WalkPoint.TheVariants as walking
 use Rattle.wait_model.specs.declared.calls.Answer.TheVariants as answer
 use Rattle.wait_model.specs.declared.queues.Walked.{Walked}
 use Rattle.wait_model.specs.declared.watches.Mode.TheVariants as mode
-use Rattle.wait_model.specs.declared.watches.Watch.{Watch}
 use Rattle.wait_model.specs.declared.watches.Watch.TheVariants as watch
 use Rattle.wait_model.specs.Watches.{head_of}
 use Rattle.wait_rule.specs.Known.{Known}
 use Rattle.wait_rule.specs.Pipes.{no_end}
 use Rattle.wait_rule.specs.PipeSays.{end_at}
-use Rattle.wait_rule.specs.Queues.{IsIdle, index}
+use Rattle.wait_rule.specs.Queues.{IsIdle}
 use Rattle.wait_rule.specs.Says.{IsUp, told_of}
-use Rattle.wait_rule.specs.Stays.{Carries, unchanged, wake_all_change, with_wakes}
+use Rattle.wait_rule.specs.Stays.{Carries, unchanged, wake_all_change}
 use Rattle.wait_rule.specs.Transitions.{walk_program}
 use Rattle.wait_rule.proofs.KnownLaws.CarriedTasks.{unchanged_first}
 use Rattle.wait_rule.proofs.KnownLaws.PipeItems.{end_append}

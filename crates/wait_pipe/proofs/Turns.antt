@@ -1,19 +1,18 @@
 -- The turns of a task that writes a piece or reads one: it looks, and then passes on or waits.
 use Rattle.std.proofs.Common.{◌∙◌, ap, arith, refl, subst}
-use Rattle.std.specs.Prelude.{ℕ, zero, suc, ◌≡◌, ◌<◌, ◌≤◌, ◌+◌, ◌-◌, ◌/◌, ◌%◌, true, false, List, [], ◌∷◌, ◌++◌, length}
+use Rattle.std.specs.Prelude.{ℕ, zero, suc, ◌≡◌, ◌<◌, ◌≤◌, ◌+◌, ◌/◌, ◌%◌, true, false, List, [], ◌∷◌, ◌++◌, length}
 use Rattle.std.specs.Prelude.{take, Result, Ok, Err, MatchResult}
 use Rattle.wait_rule.specs.Known.{Known}
-use Rattle.wait_rule.specs.Pipes.{read_end, word_counts, write_end}
-use Rattle.wait_rule.specs.PipeSays.{end_at, reading, writing}
-use Rattle.wait_pipe.specs.declared.looks.Look.{Look}
+use Rattle.wait_rule.specs.Pipes.{read_end, write_end}
+use Rattle.wait_rule.specs.PipeSays.{reading, writing}
 use Rattle.wait_pipe.specs.declared.pieces.PipeEnd.{PipeEnd}
 use Rattle.wait_pipe.specs.declared.pieces.PipeEnd.TheVariants as pipe_end
 use Rattle.wait_pipe.specs.PassedOn.{Drained, Filled}
-use Rattle.wait_pipe.specs.Pieces.{Got, GotNone, IsAtEnd, IsPipeCause, IsReadCause, IsReady, IsSettled, Put, PutNone}
+use Rattle.wait_pipe.specs.Pieces.{Got, GotNone, IsAtEnd, IsPipeCause, IsReadCause, IsReadyAtPipe, IsSettled, Put, PutNone}
 use Rattle.wait_pipe.specs.PieceLeaves.{SeesNoCell}
 use Rattle.wait_pipe.specs.Pieces.{RestsBehindPiece, WaitsAtPipe}
 use Rattle.wait_pipe.specs.Trails.{AwaitsOther, FillsCells, LoadsCells, LooksOver, ReadEnds, ReadsPiece}
-use Rattle.wait_pipe.specs.Trails.{SeesClosed, StoresCells, WaitingTurn, WaitingTurns, WriteEnds, WritesPiece}
+use Rattle.wait_pipe.specs.Trails.{StoresCells, WaitingTurn, WaitingTurns, WriteEnds, WritesPiece}
 use Rattle.wait_pipe.proofs.PieceChanges.{rests_on, waits_none, waits_on}
 use Rattle.wait_pipe.proofs.Fills.{waited_none, waited_then}
 
@@ -108,7 +107,7 @@ pub record Turning (k : ℕ) (old now : Known) : Type 0 where
   pub turns : List Known
   pub goes : WaitingTurns k old turns now
 
-pub turning_none : {domain : _} {k : ℕ} {j : Known} → IsReady domain j → Turning k j j
+pub turning_none : {domain : _} {k : ℕ} {j : Known} → IsReadyAtPipe domain j → Turning k j j
 turning_none {k = k} {j = j} ready = record { waits = waits_none k j ready; turns = []; goes = refl }
 
 pub turning_on : {k : ℕ} {old now new : Known} → Turning k old now → WaitsAtPipe k now new → WaitingTurn k now new (Ok tt)

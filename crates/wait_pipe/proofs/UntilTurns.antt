@@ -11,7 +11,7 @@ use Rattle.wait_pipe.specs.declared.pieces.PipeEnd.TheVariants as pipe_end
 use Rattle.wait_pipe.specs.PieceLeaves.{AwaitsUntil, GotUntil, LeftNone, PutUntil, ReadEndsUntil, ReadsUntil}
 use Rattle.wait_pipe.specs.PieceLeaves.{SeesNoCell, TurnGoesOn, UntilTurn, UntilTurns, WasPieceLeft, WriteEndsUntil}
 use Rattle.wait_pipe.specs.PieceLeaves.{WritesUntil}
-use Rattle.wait_pipe.specs.Pieces.{IsReadCause, IsReady, IsSettled, WaitsAtPipe}
+use Rattle.wait_pipe.specs.Pieces.{IsReadCause, IsReadyAtPipe, IsSettled, WaitsAtPipe}
 use Rattle.wait_pipe.proofs.Fills.{waited_none, waited_then}
 use Rattle.wait_pipe.proofs.PieceChanges.{waits_none, waits_on}
 use Rattle.wait_pipe.proofs.Turns.{got_then, put_then}
@@ -50,7 +50,7 @@ pub record UntilTurning (A : Type 0) (k : ℕ) (old now : Known) : Type 0 where
   pub turns : List Known
   pub goes : UntilTurns A k old turns now
 
-pub until_none : {A : Type 0} {domain : _} {k : ℕ} {j : Known} → IsReady domain j → UntilTurning A k j j
+pub until_none : {A : Type 0} {domain : _} {k : ℕ} {j : Known} → IsReadyAtPipe domain j → UntilTurning A k j j
 until_none {k = k} {j = j} ready = record { waits = waits_none k j ready; turns = []; goes = refl }
 
 pub until_on : {A : Type 0} {k : ℕ} {old now new : Known} → UntilTurning A k old now → WaitsAtPipe k now new

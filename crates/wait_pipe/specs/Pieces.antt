@@ -24,7 +24,7 @@ use Rattle.wait_pipe.specs.declared.pieces.PipeEnd.TheVariants as pipe_end
 use Rattle.wait_pipe.specs.declared.looks.Look.{Look}
 
 -- A task of this Domain is ready for a call: it is awake and idle, with no entry queued.
-pub record IsReady (domain : _) (k : Known) : Type 0 where
+pub record IsReadyAtPipe (domain : _) (k : Known) : Type 0 where
   pub of : k.domain ≡ domain
   pub up : IsUp k
   pub idle : IsIdle k

@@ -15,7 +15,7 @@ ghost use Rattle.wait_class.specs.Posts.{IsOut};
 ghost use Rattle.wq_head.specs.Walks.{HasEnded, HasWoken};
 ghost use Rattle.var_wait.specs.VarPublishes.{aim_of};
 ghost use Rattle.wait_pipe.specs.PassedOn.{WokeWaiters};
-ghost use Rattle.wait_pipe.specs.Pieces.{EndsPipe, IsPipeOpened, IsReady, OtherPipesStay};
+ghost use Rattle.wait_pipe.specs.Pieces.{EndsPipe, IsPipeOpened, IsReadyAtPipe, OtherPipesStay};
 ghost use Rattle.wait_pipe.specs.Trails.{ClosesEnd};
 
 use std::sync::Wait;
@@ -140,7 +140,7 @@ pub fn close_read<R: Wait>(rt: &R, domain: &Domain, task: &mut Task, pipe: u8)
 
 /// Closes an end and wakes who waits for it.
 fn close_end<R: Wait>(rt: &R, domain: &Domain, task: &mut Task, pipe: u8, end: u8)
-    requires ready { IsReady domain.now task.old }
+    requires ready { IsReadyAtPipe domain.now task.old }
     requires pipe { pipe < PIPES }
     requires end { end < PIPE_ENDS }
     requires still { IsOpen (end_at (PIPE_ENDS * pipe + end) task.old) }

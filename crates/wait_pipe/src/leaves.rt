@@ -17,7 +17,7 @@ ghost use Rattle.wait_pipe.specs.PieceLeaves.{
   WriteEndsUntil,
   WritesUntil,
 };
-ghost use Rattle.wait_pipe.specs.Pieces.{IsReady, IsSettled, RestsBehindPiece, WaitsAtPipe};
+ghost use Rattle.wait_pipe.specs.Pieces.{IsReadyAtPipe, IsSettled, RestsBehindPiece, WaitsAtPipe};
 
 use crate::ends::READ;
 use crate::looks::wait_for_until;
@@ -72,7 +72,7 @@ fn write_turn_until<R: Wait, Q: Fn() -> bool>(
     bytes: &[u8],
     asks: Q,
 ) -> Option<Until<Result<usize, PipeEnd>>>
-    requires ready { IsReady domain.now task.old }
+    requires ready { IsReadyAtPipe domain.now task.old }
     requires pipe { pipe < PIPES }
     requires settled { IsSettled (writing pipe task.old) }
     requires bytes { 0 < length bytes.now }
@@ -140,7 +140,7 @@ fn read_turn_until<R: Wait, Q: Fn() -> bool>(
     buf: &mut [u8],
     asks: Q,
 ) -> Option<Until<Result<usize, PipeEnd>>>
-    requires ready { IsReady domain.now task.old }
+    requires ready { IsReadyAtPipe domain.now task.old }
     requires pipe { pipe < PIPES }
     requires settled { IsSettled (reading pipe task.old) }
     requires buf { 7 ≤ length buf.old }

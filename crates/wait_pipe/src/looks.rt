@@ -7,7 +7,7 @@ ghost use Rattle.wait_rule.specs.Pipes.{other_end, word_counts, write_end};
 ghost use Rattle.wait_rule.specs.PipeSays.{IsOpen, end_at, writing};
 ghost use Rattle.wait_rule.specs.Says.{IsFree, IsUp};
 ghost use Rattle.wait_pipe.specs.PieceLeaves.{AwaitsUntil, IsPieceUntil, end_of_until};
-ghost use Rattle.wait_pipe.specs.Pieces.{HasSeen, IsReadCause, IsReady, ShowsNoCell, WaitsAtPipe, end_of_wait};
+ghost use Rattle.wait_pipe.specs.Pieces.{HasSeen, IsReadCause, IsReadyAtPipe, ShowsNoCell, WaitsAtPipe, end_of_wait};
 ghost use Rattle.wait_pipe.specs.PipeStates.{OnlyLooked};
 ghost use Rattle.wait_pipe.specs.Trails.{AwaitsOther, LoadsOther};
 
@@ -66,7 +66,7 @@ pub fn load_over(domain: &Domain, task: &mut Task, pipe: u8, end: u8) -> Look
 /// The same of an idle task with no entry queued, as a turn of a call begins.
 #[inline(always)]
 pub fn look_over(domain: &Domain, task: &mut Task, pipe: u8, end: u8) -> Look
-    requires ready { IsReady domain.now task.old }
+    requires ready { IsReadyAtPipe domain.now task.old }
     requires pipe { pipe < PIPES }
     requires end { end < PIPE_ENDS }
     requires still { IsOpen (end_at (PIPE_ENDS * pipe + end) task.old) }
@@ -79,7 +79,7 @@ pub fn look_over(domain: &Domain, task: &mut Task, pipe: u8, end: u8) -> Look
 
 /// A look from the write end of pipe `pipe`.
 pub fn look_to_write(domain: &Domain, task: &mut Task, pipe: u8) -> Look
-    requires ready { IsReady domain.now task.old }
+    requires ready { IsReadyAtPipe domain.now task.old }
     requires pipe { pipe < PIPES }
     requires still { IsOpen (writing pipe task.old) }
     ensures waits { WaitsAtPipe (write_end pipe) task.old task.new }
@@ -116,7 +116,7 @@ pub fn wait_for<R: Wait>(
     own: u8,
     word: u64,
 ) -> Result<(), PipeEnd>
-    requires ready { IsReady domain.now task.old }
+    requires ready { IsReadyAtPipe domain.now task.old }
     requires own { own < CLAIMS }
     requires none { ShowsNoCell own (end_at own task.old) word }
     ensures waits { WaitsAtPipe own task.old task.new }
@@ -149,7 +149,7 @@ pub(crate) fn wait_for_until<R: Wait, Q: Fn() -> bool>(
     word: u64,
     asks: Q,
 ) -> Until<Result<(), PipeEnd>>
-    requires ready { IsReady domain.now task.old }
+    requires ready { IsReadyAtPipe domain.now task.old }
     requires own { own < CLAIMS }
     requires none { ShowsNoCell own (end_at own task.old) word }
     requires asks { Q.IsAlwaysCallable asks }

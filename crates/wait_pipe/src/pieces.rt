@@ -10,7 +10,7 @@ ghost use Rattle.wait_rule.specs.Queues.{IsIdle};
 ghost use Rattle.wait_rule.specs.Says.{IsUp};
 ghost use Rattle.wait_class.specs.Posts.{IsOut};
 ghost use Rattle.wait_pipe.specs.PassedOn.{Drained, Filled, WokeWaiters};
-ghost use Rattle.wait_pipe.specs.Pieces.{Got, GotNone, IsReady, IsSettled, Put, PutNone, RestsBehindPiece, WaitsAtPipe};
+ghost use Rattle.wait_pipe.specs.Pieces.{Got, GotNone, IsReadyAtPipe, IsSettled, Put, PutNone, RestsBehindPiece, WaitsAtPipe};
 ghost use Rattle.wait_pipe.specs.PieceLeaves.{SeesNoCell};
 ghost use Rattle.wait_pipe.specs.Trails.{
   FillsCells,
@@ -84,7 +84,7 @@ fn write_on<R: Wait>(
     pipe: u8,
     bytes: &[u8],
 ) -> Result<usize, PipeEnd>
-    requires ready { IsReady domain.now task.old }
+    requires ready { IsReadyAtPipe domain.now task.old }
     requires pipe { pipe < PIPES }
     requires settled { IsSettled (writing pipe task.old) }
     requires bytes { 0 < length bytes.now }
@@ -111,7 +111,7 @@ fn write_turn<R: Wait>(
     pipe: u8,
     bytes: &[u8],
 ) -> Option<Result<usize, PipeEnd>>
-    requires ready { IsReady domain.now task.old }
+    requires ready { IsReadyAtPipe domain.now task.old }
     requires pipe { pipe < PIPES }
     requires settled { IsSettled (writing pipe task.old) }
     requires bytes { 0 < length bytes.now }
@@ -141,7 +141,7 @@ pub(crate) fn write_now<R: Wait>(
     pipe: u8,
     bytes: &[u8],
 ) -> Result<Option<usize>, u64>
-    requires ready { IsReady domain.now task.old }
+    requires ready { IsReadyAtPipe domain.now task.old }
     requires pipe { pipe < PIPES }
     requires settled { IsSettled (writing pipe task.old) }
     requires bytes { 0 < length bytes.now }
@@ -168,7 +168,7 @@ pub(crate) fn write_now<R: Wait>(
 /// Fills free cells with as many of the bytes as fit, and passes them on; who waits for them is not woken yet. `count`
 /// is the number of cells that the task has stored, modulo `COUNTS`, and `free` that of the free ones.
 fn fill(domain: &Domain, task: &mut Task, pipe: u8, count: u16, free: u16, bytes: &[u8]) -> usize
-    requires ready { IsReady domain.now task.old }
+    requires ready { IsReadyAtPipe domain.now task.old }
     requires pipe { pipe < PIPES }
     requires settled { IsSettled (writing pipe task.old) }
     requires count { count ≡ length (writing pipe task.old).cells % word_counts }
@@ -241,7 +241,7 @@ fn read_on<R: Wait>(
     pipe: u8,
     buf: &mut [u8],
 ) -> Result<usize, PipeEnd>
-    requires ready { IsReady domain.now task.old }
+    requires ready { IsReadyAtPipe domain.now task.old }
     requires pipe { pipe < PIPES }
     requires settled { IsSettled (reading pipe task.old) }
     requires buf { 7 ≤ length buf.old }
@@ -269,7 +269,7 @@ fn read_turn<R: Wait>(
     pipe: u8,
     buf: &mut [u8],
 ) -> Option<Result<usize, PipeEnd>>
-    requires ready { IsReady domain.now task.old }
+    requires ready { IsReadyAtPipe domain.now task.old }
     requires pipe { pipe < PIPES }
     requires settled { IsSettled (reading pipe task.old) }
     requires buf { 7 ≤ length buf.old }
@@ -299,7 +299,7 @@ pub(crate) fn read_now<R: Wait>(
     pipe: u8,
     buf: &mut [u8],
 ) -> Result<usize, u64>
-    requires ready { IsReady domain.now task.old }
+    requires ready { IsReadyAtPipe domain.now task.old }
     requires pipe { pipe < PIPES }
     requires settled { IsSettled (reading pipe task.old) }
     requires buf { 7 ≤ length buf.old }
@@ -333,7 +333,7 @@ fn drain(
     there: u16,
     buf: &mut [u8],
 ) -> usize
-    requires ready { IsReady domain.now task.old }
+    requires ready { IsReadyAtPipe domain.now task.old }
     requires pipe { pipe < PIPES }
     requires settled { IsSettled (reading pipe task.old) }
     requires count { count ≡ length (reading pipe task.old).cells % word_counts }

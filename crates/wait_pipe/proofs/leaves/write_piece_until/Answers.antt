@@ -1,5 +1,5 @@
 use Rattle.std.specs.Prelude.{true}
-use Rattle.wait_pipe.specs.Pieces.{IsReady}
+use Rattle.wait_pipe.specs.Pieces.{IsReadyAtPipe}
 use Rattle.wait_pipe.proofs.Fills.{waited_settled}
 use Rattle.wait_pipe.proofs.PieceChanges.{ready_on}
 use Rattle.wait_pipe.proofs.Turns.{then_rests}
@@ -8,7 +8,7 @@ use Rattle.wait_pipe.proofs.leaves.write_piece_until.Goals as goal
 
 pub loop-init : goal.loop-init
 loop-init g c =
-    let ready : IsReady c.args.domain.now c.args.task.now
+    let ready : IsReadyAtPipe c.args.domain.now c.args.task.now
     = record { of = c.requires.of; up = c.requires.up; idle = c.requires.idle; out = c.requires.out } in
     until_none ready
 

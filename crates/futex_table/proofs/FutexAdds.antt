@@ -11,11 +11,11 @@ use Rattle.wait_rule.specs.Ends.{WasWorn}
 use Rattle.wait_rule.specs.Known.{Known}
 use Rattle.wait_rule.specs.Queues.{index}
 use Rattle.wq_head.specs.declared.adds.Worn.{Worn}
-use Rattle.wq_head.specs.Adds.{HasAdded}
+use Rattle.wq_head.specs.Adds.{HasAdded, IsFormPlace, IsFormWorn}
 use Rattle.wq_head.specs.Holds.{IsHolding}
 use Rattle.wait_class.specs.declared.stages.Doing.TheVariants as doing
 use Rattle.wait_class.specs.Laws.{AddsOwn, HasJoined, IsWornFor}
-use Rattle.wait_class.specs.Queueing.{IsForBy, IsFormPlace, IsFormWorn, form_entry}
+use Rattle.wait_class.specs.Queueing.{IsForBy, form_entry}
 use Rattle.wait_class.proofs.FormPlaces.{form_is, form_left, form_worn}
 use Rattle.wait_class.proofs.Ground.Keeping.{keeps_queued}
 use Rattle.futex_table.specs.FutexTables.{futex_doing, futex_table, futex_word}

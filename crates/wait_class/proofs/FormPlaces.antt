@@ -20,7 +20,8 @@ use Rattle.wq_head.specs.Looks.{AreLow, HasMember, IsEmpty, Looks}
 use Rattle.wq_head.proofs.AddedEntries.{priority_below, tail_after}
 use Rattle.wq_head.proofs.ShownPlaces.{tail_place_is, within_is}
 use Rattle.wq_head.proofs.ShownQueue.{queue_in_order, queue_has, queue_of}
-use Rattle.wait_class.specs.Queueing.{IsFormPlace, IsFormWorn, TellsFirst, is_none}
+use Rattle.wq_head.specs.Adds.{IsFormPlace, IsFormWorn}
+use Rattle.wait_class.specs.Queueing.{TellsFirst, is_none}
 use Rattle.wait_class.proofs.WornPlaces.{front_is, front_left, front_worn, left_within, queue_same, whole_seen, worn_within}
 
 -- the last member of those that stand in a range is the one at the highest place

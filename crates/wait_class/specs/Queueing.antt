@@ -11,18 +11,11 @@ use Rattle.wait_model.specs.declared.watches.Watch.{Watch}
 use Rattle.wait_model.specs.Queues.{is_exclusive, is_priority}
 use Rattle.wait_model.specs.Watches.{is_simple}
 use Rattle.wait_rule.specs.Known.{Known}
-use Rattle.wait_rule.specs.Queues.{IsFrontPlace, IsTailPlace, IsPriorityPlace, IsWholeBook}
+use Rattle.wait_rule.specs.Queues.{IsWholeBook}
 use Rattle.wait_rule.specs.Shown.{shown_queue}
-use Rattle.wq_head.specs.declared.adds.Worn.{Worn}
-use Rattle.wq_head.specs.Adds.{IsFor, IsForPlain, IsForTail, IsFrontWorn, IsTailWorn, IsPriorityWorn}
+use Rattle.wq_head.specs.Adds.{IsFor, IsForPlain, IsForTail}
 
--- the place that an add of a form takes, the entry that stands there, and where it finds no place; a simple entry is
--- not exclusive
-abbrev pub IsFormPlace : Form → Known → ℕ → Type 0
-IsFormPlace forms.Front k place = IsFrontPlace k place
-IsFormPlace forms.Tail k place = IsTailPlace k place
-IsFormPlace forms.Priority k place = IsPriorityPlace k place
-
+-- the entry that an add of a form queues; a simple entry is not exclusive
 abbrev pub form_entry : Form → Watch → Kind → ℕ → Entry
 form_entry form w k place = record {
   watch = w;
@@ -31,11 +24,6 @@ form_entry form w k place = record {
   priority = is_priority form;
   kind = k;
 }
-
-abbrev pub IsFormWorn : Form → Known → Known → Worn → Type 0
-IsFormWorn forms.Front old new w = IsFrontWorn old new w
-IsFormWorn forms.Tail old new w = IsTailWorn old new w
-IsFormWorn forms.Priority old new w = IsPriorityWorn old new w
 
 -- what an add of a form may queue: an entry for a simple head is added at the tail
 abbrev pub IsForBy : Form → Watch → Kind → Type 0

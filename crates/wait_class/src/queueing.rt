@@ -9,11 +9,11 @@ ghost use Rattle.wait_rule.specs.Ends.{WasWorn};
 ghost use Rattle.wait_rule.specs.Queues.{index};
 ghost use Rattle.wait_rule.specs.Says.{AsksNoPage, IsUp, told_of};
 ghost use Rattle.wait_rule.specs.Stays.{Carries, only_looks};
-ghost use Rattle.wq_head.specs.Adds.{HasAdded};
+ghost use Rattle.wq_head.specs.Adds.{HasAdded, IsFormPlace, IsFormWorn};
 ghost use Rattle.wq_head.specs.Holds.{IsHolding};
 ghost use Rattle.wq_head.specs.Looks.{Looks};
 ghost use Rattle.wait_class.specs.Posts.{HasSeenOwn};
-ghost use Rattle.wait_class.specs.Queueing.{IsForBy, IsFormPlace, IsFormWorn, TellsFirst, form_entry, wait_form};
+ghost use Rattle.wait_class.specs.Queueing.{IsForBy, TellsFirst, form_entry, wait_form};
 
 use wait_model::queues::Form;
 use wait_model::tasks::How;

@@ -34,12 +34,12 @@ use Rattle.wait_rule.proofs.KnownLaws.Transitions.{only_none, only_looked}
 use Rattle.wait_rule.proofs.KnownLaws.Turns.{serve_looks}
 use Rattle.wait_rule.proofs.WornHeads.WornNotes.{notes_stay}
 use Rattle.wq_head.specs.declared.adds.Worn.{Worn}
-use Rattle.wq_head.specs.Adds.{HasAdded, IsForPlain}
+use Rattle.wq_head.specs.Adds.{HasAdded, IsForPlain, IsFormPlace, IsFormWorn}
 use Rattle.wq_head.specs.Holds.{HasLocked, HasUnlocked}
 use Rattle.wq_head.proofs.LockWaits.{turn_looks, turn_of}
 use Rattle.wait_event.specs.Entries.{EndsAdd, HasWokenEntry, MayRemove, add_change, hold_change}
 use Rattle.wait_class.specs.Posts.{Runs}
-use Rattle.wait_class.specs.Queueing.{IsFormPlace, IsFormWorn, form_entry}
+use Rattle.wait_class.specs.Queueing.{form_entry}
 use Rattle.wait_class.specs.Findings.{saw_nothing, with_worn}
 use Rattle.wait_class.specs.Posts.{own_of}
 use Rattle.wait_class.proofs.Ground.Going.{runs_on, runs_one}

@@ -33,14 +33,14 @@ use Rattle.wait_rule.proofs.KnownLaws.StayingParts.{owes_also}
 use Rattle.wait_rule.proofs.KnownLaws.Transitions.{goes_none, only_looked, only_none, only_on}
 use Rattle.wait_rule.proofs.WornHeads.WornNotes.{notes_stay}
 use Rattle.wq_head.specs.declared.adds.Worn.{Worn}
-use Rattle.wq_head.specs.Adds.{HasAdded, HasRemoved}
+use Rattle.wq_head.specs.Adds.{HasAdded, HasRemoved, IsFormPlace, IsFormWorn}
 use Rattle.wq_head.specs.Holds.{IsHolding}
 use Rattle.wq_head.specs.Looks.{Looks}
 use Rattle.wq_head.proofs.CarriedHolds.{looks_carried}
 use Rattle.wq_head.proofs.OneMoreLook.{saw_looks, whole_of}
 use Rattle.wait_class.specs.Findings.{saw_nothing, with_own, saw_entry as finds}
 use Rattle.wait_class.specs.Posts.{HasSeenOwn, Keeps, Runs, own_of}
-use Rattle.wait_class.specs.Queueing.{IsFormPlace, IsFormWorn, TellsFirst, form_entry, wait_form}
+use Rattle.wait_class.specs.Queueing.{TellsFirst, form_entry, wait_form}
 use Rattle.wait_class.proofs.FormPlaces.{first_later, form_is, form_left, form_worn}
 use Rattle.wait_class.proofs.Ground.Going.{runs_on, runs_one}
 use Rattle.wait_class.proofs.Ground.Keeping.{keeps_of, once}

@@ -12,11 +12,11 @@ use Rattle.wait_rule.specs.Ends.{WasWorn}
 use Rattle.wait_rule.specs.Known.{Known}
 use Rattle.wait_rule.specs.Queues.{index}
 use Rattle.wq_head.specs.declared.adds.Worn.{Worn}
-use Rattle.wq_head.specs.Adds.{HasAdded}
+use Rattle.wq_head.specs.Adds.{HasAdded, IsFormPlace, IsFormWorn}
 use Rattle.wq_head.specs.Holds.{IsHolding}
 use Rattle.wait_class.specs.declared.stages.Doing.TheVariants as doing
 use Rattle.wait_class.specs.Laws.{AddsOwn, HasJoined, IsWornFor}
-use Rattle.wait_class.specs.Queueing.{IsFormPlace, IsFormWorn, form_entry, wait_form}
+use Rattle.wait_class.specs.Queueing.{form_entry, wait_form}
 use Rattle.wait_class.proofs.FormPlaces.{form_is, form_left, form_worn}
 use Rattle.wait_class.proofs.Ground.Keeping.{keeps_queued}
 use Rattle.wait_event.specs.Waits.{wait_doing, wait_table}

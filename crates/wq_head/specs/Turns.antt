@@ -37,7 +37,7 @@ walk_start = next.Go (at.Walk walking.Lock)
 
 -- What the walk has done from its beginning, where its real counts are such; up to the beginning of a hold, and up to
 -- any place in it.
-pub record HasComeBy (a : Aim) (start now : Known) (IsReal : Walking → Type 0) : Type 0 where
+pub record WalkHasCome (a : Aim) (start now : Known) (IsReal : Walking → Type 0) : Type 0 where
   pub real : Walking
   pub transitions : List Transition
   pub counts : IsReal real
@@ -45,10 +45,10 @@ pub record HasComeBy (a : Aim) (start now : Known) (IsReal : Walking → Type 0)
   pub goes : Goes (walk_program a) start walk_start transitions now (next_in_walk real)
 
 abbrev pub HasComeTo : Aim → Known → Known → Walking → Type 0
-HasComeTo a start now w = HasComeBy a start now (λ real. Counts w real)
+HasComeTo a start now w = WalkHasCome a start now (λ real. Counts w real)
 
 abbrev pub HasComeOn : Aim → Known → Known → Walking → Type 0
-HasComeOn a start now w = HasComeBy a start now (λ real. IsAhead a now w real)
+HasComeOn a start now w = WalkHasCome a start now (λ real. IsAhead a now w real)
 
 -- the task has taken the lock of one of the walk's holds, and has called no entry in it
 pub record InWalk (a : Aim) (start now : Known) (w : Walking) : Type 0 where

@@ -3,9 +3,9 @@ use Rattle.wait_model.specs.declared.layout.TheConstants.{FIRST_DONE_HEAD}
 use Rattle.wait_model.specs.declared.watches.Kind.{Kind}
 use Rattle.wait_model.specs.Watches.{head_of, kind_for}
 use Rattle.wait_rule.specs.Known.{Known}
-use Rattle.wq_head.specs.Adds.{HasAdded}
+use Rattle.wq_head.specs.Adds.{HasAdded, IsFormPlace}
 use Rattle.wq_head.proofs.OneMoreLook.{holding_on}
-use Rattle.wait_class.specs.Queueing.{IsForBy, IsFormPlace, form_entry}
+use Rattle.wait_class.specs.Queueing.{IsForBy, form_entry}
 use Rattle.wait_class.proofs.Ground.Standing.{bare_head}
 use Rattle.wait_event.proofs.Conditions.{suits_for}
 use Rattle.wait_event.proofs.PartSteps.{joins_by, off_later, own_looks, stays_by, wears_by}

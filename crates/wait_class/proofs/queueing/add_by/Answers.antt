@@ -8,8 +8,8 @@ use Rattle.wq_head.specs.declared.adds.Worn.{Worn}
 use Rattle.wait_model.specs.declared.layout.TheConstants.{FIRST_DONE_HEAD}
 use Rattle.wait_model.specs.declared.queues.Form.{Form}
 use Rattle.wait_rule.specs.Queues.{IsPriorityPlace, IsTailPlace}
-use Rattle.wq_head.specs.Adds.{HasAdded, HasAddedTail, tail_entry}
-use Rattle.wait_class.specs.Queueing.{IsForBy, IsFormPlace, form_entry}
+use Rattle.wq_head.specs.Adds.{HasAdded, HasAddedTail, tail_entry, IsFormPlace}
+use Rattle.wait_class.specs.Queueing.{IsForBy, form_entry}
 use Rattle.wq_head.proofs.PermitHeads.{found_low}
 use Rattle.wait_class.proofs.EntryForms.{for_flags}
 use Rattle.wait_class.proofs.queueing.add_by.Goals as goal

@@ -1,6 +1,6 @@
 -- What calls on condition variables leave of a task.
 use Rattle.std.proofs.Common.{◌∙◌, ap, refl, sym, subst}
-use Rattle.std.specs.Prelude.{ℕ, ◌≡◌, ◌==◌, ◌||◌, Bool, false, Some, None, Result, Ok, Err, IfOk}
+use Rattle.std.specs.Prelude.{ℕ, ◌≡◌, ◌||◌, Bool, false, Some, None, Result, Ok, Err, IfOk}
 use Rattle.wait_model.specs.declared.steps.Step.TheVariants as step
 use Rattle.wait_model.specs.declared.watches.Mode.TheVariants as mode
 use Rattle.wait_model.specs.declared.watches.Watch.{Watch}
@@ -8,7 +8,7 @@ use Rattle.wait_model.specs.declared.watches.Watch.TheVariants as watch
 use Rattle.wait_rule.specs.declared.journal.Item.TheVariants as item
 use Rattle.wait_rule.specs.Known.{Known}
 use Rattle.wait_rule.specs.Queues.{IsAgreedHold, IsIdle, index}
-use Rattle.wait_rule.specs.Says.{added, told_of}
+use Rattle.wait_rule.specs.Says.{added}
 use Rattle.wait_rule.specs.Stays.{Carries, unchanged}
 use Rattle.wq_head.specs.declared.adds.Worn.{Worn}
 use Rattle.wait_class.specs.Posts.{IsOut}

@@ -14,10 +14,10 @@ use Rattle.wait_class.specs.Wholes.{HasRested}
 use Rattle.wait_leave.specs.ExitLaws.{AreLawfulExits}
 use Rattle.wait_leave.specs.Leaves.{Exits}
 use Rattle.wait_leave.proofs.Ways.{way_lands, way_plan}
-use Rattle.wq_checked.specs.Advancing.{WaitKind, left_by, shown_by, took_by, worn_by}
+use Rattle.wq_checked.specs.Advancing.{WaitKind, left_by, kind_shown, took_by, worn_by}
 use Rattle.wq_checked.specs.Calls.{Began, CameFrom, Ended, FitsProgress, IsCallUnderWay, IsRunningSound, StandsOn, WentOn, turn_told}
 use Rattle.wq_checked.specs.Kept.{IsReadyWith, keeps_in}
-use Rattle.wq_checked.specs.Kinds.{IsLawfulKind, Notes}
+use Rattle.wq_checked.specs.Kinds.{IsLawfulKind, KeepsTaken}
 use Rattle.wq_checked.specs.Locks.{awaited_in}
 use Rattle.wq_checked.specs.Outs.{OutStretch, WentOut}
 use Rattle.wq_checked.specs.Stages.{HasComeBy, StandsBy, StretchesOn}
@@ -40,7 +40,7 @@ pub record Origin {C S O : Type 0} (t : CallTable C S O) (x : Exits C S O) (n : 
   pub ends : (may : Bool) (mid new : Known) (q : Run C) (o : O) → HasComeBy may t x start mid f q s (turn.Done o)
       → HasRested mid new (n.worn q.of o) → Ended may start first new (n.answer q.of o)
   pub leaves : (ks more : KeptBits) (old mid new : Known) (run q : Run C) (last : Turn S O) (o : O)
-      → StandsBy t old run last → HasComeBy true t x start old f run s last → Notes t n f.of (turn.Done o) ks more
+      → StandsBy t old run last → HasComeBy true t x start old f run s last → KeepsTaken t n f.of (turn.Done o) ks more
       → IsReadyWith ks start → HasComeBy true t x start mid f q s (turn.Done o) → HasRested mid new (n.worn q.of o)
       → IsReadyWith more new
 
@@ -57,7 +57,7 @@ abbrev pub bare_origin : {C S O : Type 0} (t : CallTable C S O) (x : Exits C S O
     → CameFrom may start first k (n.now q u))
     → ((may : Bool) (mid new : Known) (q : Run C) (o : O) → HasComeBy may t x start mid f q s (turn.Done o)
     → HasRested mid new (n.worn q.of o) → Ended may start first new (n.answer q.of o))
-    → ((ks more : KeptBits) (mid new : Known) (q : Run C) (o : O) → Notes t n f.of (turn.Done o) ks more
+    → ((ks more : KeptBits) (mid new : Known) (q : Run C) (o : O) → KeepsTaken t n f.of (turn.Done o) ks more
     → IsReadyWith ks start → HasComeBy true t x start mid f q s (turn.Done o) → HasRested mid new (n.worn q.of o)
     → IsReadyWith more new) → Origin t x n s start first
 bare_origin t x n s start first f ready begins on ends leaves = record {
@@ -107,7 +107,7 @@ module _ {C S O : Type 0} (t : CallTable C S O) (x : Exits C S O) (law : AreLawf
   -- what it tells, by where it stands
   tells : (may : Bool) (start : Known) (first : Running) (mid new : Known) (q : Run C) (u : Turn S O)
       (g : Origin t x n s start first) → HasComeBy may t x start mid g.f q s u → HasRested mid new (worn_by n q u)
-      → WentOn may start first new (left_by n q u) (shown_by n q u)
+      → WentOn may start first new (left_by n q u) (kind_shown n q u)
   tells may start first mid new q (turn.Again m) g a h = (
     g.on may new q (turn.Again m) (come_stayed t x may start mid new g.f q s (turn.Again m) h a),
     told q (turn.Again m),
@@ -125,7 +125,7 @@ module _ {C S O : Type 0} (t : CallTable C S O) (x : Exits C S O) (law : AreLawf
   goes : (asks may : Bool) (start : Known) (first : Running) (old mid new : Known) (run q : Run C)
       (last u : Turn S O) → StandsBy t old run last → CameFrom may start first old (n.now run last)
       → StretchesOn asks t x old mid run q last u → HasRested mid new (worn_by n q u)
-      → WentOn (asks || may) start first new (left_by n q u) (shown_by n q u)
+      → WentOn (asks || may) start first new (left_by n q u) (kind_shown n q u)
   goes asks may start first old mid new run q last u stands came a h =
       let c = comes may start first old run last came in
       tells (asks || may) start first mid new q u c.0
@@ -145,7 +145,7 @@ module _ {C S O : Type 0} (t : CallTable C S O) (x : Exits C S O) (law : AreLawf
     })
 
     keeps : (old mid new : Known) (run q : Run C) (last u : Turn S O) → StandsBy t old run last
-        → HasComeBy true t x start old g.f run s last → Notes t n g.f.of u ks more → IsReadyWith ks start
+        → HasComeBy true t x start old g.f run s last → KeepsTaken t n g.f.of u ks more → IsReadyWith ks start
         → HasComeBy true t x start mid g.f q s u → HasRested mid new (worn_by n q u)
         → IsRunningSound (left_by n q u) more new
     keeps old mid new run q last (turn.Again m) stands came notes ready a h =
@@ -166,7 +166,7 @@ module _ {C S O : Type 0} (t : CallTable C S O) (x : Exits C S O) (law : AreLawf
   same_watch start k f q u c = ap (λ (p : Plan). p.watch) (way_plan (true ≡ true) t x law lawful start f s k q u c.way)
 
   sound : (ks more : KeptBits) (asks : Bool) (old mid new : Known) (run q : Run C) (last u : Turn S O)
-      → Notes t n run.of u ks more → IsRunningSound (n.now run last) ks old
+      → KeepsTaken t n run.of u ks more → IsRunningSound (n.now run last) ks old
       → StretchesOn asks t x old mid run q last u → HasRested mid new (worn_by n q u)
       → IsRunningSound (left_by n q u) more new
   sound ks more asks old mid new run q last u notes w a h =

@@ -10,9 +10,9 @@ ghost use Rattle.wait_model.specs.declared.watches.Watch.TheVariants as watch;
 ghost use Rattle.wait_rule.specs.Bits.{taken_bits};
 ghost use Rattle.wq_checked.specs.Kept.{keeps_in};
 ghost use Rattle.wq_checked.specs.Calls.{CameFrom, IsRunningSound, Rouses, WentOn};
-ghost use Rattle.wq_checked.specs.Advancing.{cell_left, cell_shown, left_by, shown_by, swake_left, swake_shown};
+ghost use Rattle.wq_checked.specs.Advancing.{cell_left, cell_shown, left_by, kind_shown, swake_left, swake_shown};
 ghost use Rattle.wq_checked.specs.Advancing.{wake_left, wake_shown, worn_by};
-ghost use Rattle.wq_checked.specs.Kinds.{Notes};
+ghost use Rattle.wq_checked.specs.Kinds.{KeepsTaken};
 ghost use Rattle.wq_checked.specs.Outs.{WentOut};
 ghost use Rattle.wq_checked.specs.Reasons.{stopped_reason};
 ghost use Rattle.wq_checked.specs.declared.calls.Running.{Running as TheRunning};
@@ -32,7 +32,7 @@ use wait_rule::{Domain, Task};
 use wq_head::Rousing;
 use wq_head::wakes::{WakeRun, WakeStage, WakeTurn, wake_stretch};
 
-/// Notes a bit that was taken.
+/// KeepsTaken a bit that was taken.
 pub(crate) fn note(kept: &mut KeptBits, word: u8, bit: u8, took: bool)
     requires word { word < BIT_WORDS }
     requires bit { bit < WORD_BITS }
@@ -54,10 +54,10 @@ fn is_worn<C: Kind>(run: Run<C>, turn: Turn<C::Stage, C::Outcome>) -> bool
     }
 }
 
-/// Notes the bit or the page that a wait has got.
+/// KeepsTaken the bit or the page that a wait has got.
 fn note_end<C: Kind>(call: C, turn: Turn<C::Stage, C::Outcome>, kept: &mut KeptBits)
     requires fits { C.table.Fits call }
-    ensures { Notes C.table C.kind call turn kept.old kept.new }
+    ensures { KeepsTaken C.table C.kind call turn kept.old kept.new }
 {
     if let Turn::Done(outcome) = turn {
         call.note_taken(outcome, kept);
@@ -67,7 +67,7 @@ fn note_end<C: Kind>(call: C, turn: Turn<C::Stage, C::Outcome>, kept: &mut KeptB
 /// What a stretch of a wait leaves under way, and what it tells.
 fn wait_leaves<C: Kind>(run: Run<C>, turn: Turn<C::Stage, C::Outcome>) -> (Running, Progress)
     ensures left { result.0 ≡ left_by C.kind run turn }
-    ensures shown { result.1 ≡ shown_by C.kind run turn }
+    ensures shown { result.1 ≡ kind_shown C.kind run turn }
 {
     match turn {
         Turn::Again(_) => (C::now(run, turn), Progress::Again),

@@ -14,7 +14,7 @@ use Rattle.wait_class.specs.Wholes.{HasRested}
 use Rattle.wait_leave.specs.ExitLaws.{AreLawfulExits}
 use Rattle.wait_leave.specs.Leaves.{Exits}
 use Rattle.wait_leave.proofs.Ways.{way_lands, way_plan}
-use Rattle.wq_checked.specs.Advancing.{WaitKind, left_by, kind_shown, took_by, worn_by}
+use Rattle.wq_checked.specs.Advancing.{WaitKind, left_by, shown_of_wait, took_by, worn_by}
 use Rattle.wq_checked.specs.Calls.{Began, CameFrom, Ended, FitsProgress, IsCallUnderWay, IsRunningSound, StandsOn, WentOn, turn_told}
 use Rattle.wq_checked.specs.Kept.{IsReadyWith, keeps_in}
 use Rattle.wq_checked.specs.Kinds.{IsLawfulKind, KeepsTaken}
@@ -107,7 +107,7 @@ module _ {C S O : Type 0} (t : CallTable C S O) (x : Exits C S O) (law : AreLawf
   -- what it tells, by where it stands
   tells : (may : Bool) (start : Known) (first : Running) (mid new : Known) (q : Run C) (u : Turn S O)
       (g : Origin t x n s start first) → HasComeBy may t x start mid g.f q s u → HasRested mid new (worn_by n q u)
-      → WentOn may start first new (left_by n q u) (kind_shown n q u)
+      → WentOn may start first new (left_by n q u) (shown_of_wait n q u)
   tells may start first mid new q (turn.Again m) g a h = (
     g.on may new q (turn.Again m) (come_stayed t x may start mid new g.f q s (turn.Again m) h a),
     told q (turn.Again m),
@@ -125,7 +125,7 @@ module _ {C S O : Type 0} (t : CallTable C S O) (x : Exits C S O) (law : AreLawf
   goes : (asks may : Bool) (start : Known) (first : Running) (old mid new : Known) (run q : Run C)
       (last u : Turn S O) → StandsBy t old run last → CameFrom may start first old (n.now run last)
       → StretchesOn asks t x old mid run q last u → HasRested mid new (worn_by n q u)
-      → WentOn (asks || may) start first new (left_by n q u) (kind_shown n q u)
+      → WentOn (asks || may) start first new (left_by n q u) (shown_of_wait n q u)
   goes asks may start first old mid new run q last u stands came a h =
       let c = comes may start first old run last came in
       tells (asks || may) start first mid new q u c.0

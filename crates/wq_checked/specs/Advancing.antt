@@ -76,9 +76,9 @@ abbrev pub left_by : {C S O : Type 0} → WaitKind C S O → Run C → Turn S O 
 left_by n r (turn.Done o) = running.Idle
 left_by n r u = n.now r u
 
-abbrev pub kind_shown : {C S O : Type 0} → WaitKind C S O → Run C → Turn S O → Progress
-kind_shown n r (turn.Done o) = progress.Done (n.answer r.of o)
-kind_shown n r u = turn_told (n.now r u) u
+abbrev pub shown_of_wait : {C S O : Type 0} → WaitKind C S O → Run C → Turn S O → Progress
+shown_of_wait n r (turn.Done o) = progress.Done (n.answer r.of o)
+shown_of_wait n r u = turn_told (n.now r u) u
 
 abbrev pub worn_by : {C S O : Type 0} → WaitKind C S O → Run C → Turn S O → Bool
 worn_by n r (turn.Done o) = n.worn r.of o

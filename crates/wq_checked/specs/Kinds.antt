@@ -10,7 +10,7 @@ use Rattle.wait_class.specs.declared.stages.Turn.{Turn}
 use Rattle.wait_class.specs.Tables.{CallTable, watch_in}
 use Rattle.wait_class.specs.Wholes.{HasRested}
 use Rattle.wait_leave.specs.Leaves.{Exits}
-use Rattle.wq_checked.specs.Advancing.{WaitKind, left_by, kind_shown, took_by, worn_by}
+use Rattle.wq_checked.specs.Advancing.{WaitKind, left_by, shown_of_wait, took_by, worn_by}
 use Rattle.wq_checked.specs.Calls.{CameFrom, IsRunningSound, WentOn}
 use Rattle.wq_checked.specs.Kept.{keeps_in}
 use Rattle.wq_checked.specs.Outs.{OutStretch, WentOut}
@@ -34,7 +34,7 @@ pub record IsLawfulKind {C S O : Type 0} (t : CallTable C S O) (x : Exits C S O)
   pub goes : (asks may : Bool) (start : Known) (first : Running) (old mid new : Known) (run q : Run C)
       (last u : Turn S O) → StandsBy t old run last → CameFrom may start first old (n.now run last)
       → StretchesOn asks t x old mid run q last u → HasRested mid new (worn_by n q u)
-      → WentOn (asks || may) start first new (left_by n q u) (kind_shown n q u)
+      → WentOn (asks || may) start first new (left_by n q u) (shown_of_wait n q u)
   pub sound : (ks more : KeptBits) (asks : Bool) (old mid new : Known) (run q : Run C) (last u : Turn S O)
       → KeepsTaken t n run.of u ks more → IsRunningSound (n.now run last) ks old
       → StretchesOn asks t x old mid run q last u → HasRested mid new (worn_by n q u)

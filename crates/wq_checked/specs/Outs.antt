@@ -21,7 +21,7 @@ use Rattle.page_lock.specs.PageLeaves as page_leaves
 use Rattle.completion_cell.specs.Awaits as awaits
 use Rattle.completion_cell.specs.AwaitLeaves as await_leaves
 use Rattle.wq_checked.specs.Advancing.{WaitKind, await_kind, bit_kind, event_kind, left_by, lock_kind, page_kind}
-use Rattle.wq_checked.specs.Advancing.{kind_shown, worn_by}
+use Rattle.wq_checked.specs.Advancing.{shown_of_wait, worn_by}
 use Rattle.wq_checked.specs.declared.calls.Progress.{Progress}
 use Rattle.wq_checked.specs.declared.calls.Running.{Running}
 use Rattle.wq_checked.specs.declared.calls.Running.TheVariants as running
@@ -63,7 +63,7 @@ pub record OutStretch {C S O : Type 0} (t : CallTable C S O) (x : Exits C S O) (
   pub out : WentOutBehind t x old ended r run last to
   pub rests : HasRested ended new (worn_by n run to)
   pub is : now ≡ left_by n run to
-  pub tells : told ≡ kind_shown n run to
+  pub tells : told ≡ shown_of_wait n run to
 
 -- A call under way that is asked to leave by a stretch: where it is a wait at a stage that has an exit, it went out there
 -- first.

@@ -10,7 +10,7 @@ ghost use Rattle.wait_model.specs.declared.watches.Watch.TheVariants as watch;
 ghost use Rattle.wait_rule.specs.Bits.{taken_bits};
 ghost use Rattle.wq_checked.specs.Kept.{keeps_in};
 ghost use Rattle.wq_checked.specs.Calls.{CameFrom, IsRunningSound, Rouses, WentOn};
-ghost use Rattle.wq_checked.specs.Advancing.{cell_left, cell_shown, left_by, kind_shown, swake_left, swake_shown};
+ghost use Rattle.wq_checked.specs.Advancing.{cell_left, cell_shown, left_by, shown_of_wait, swake_left, swake_shown};
 ghost use Rattle.wq_checked.specs.Advancing.{wake_left, wake_shown, worn_by};
 ghost use Rattle.wq_checked.specs.Kinds.{KeepsTaken};
 ghost use Rattle.wq_checked.specs.Outs.{WentOut};
@@ -67,7 +67,7 @@ fn note_end<C: Kind>(call: C, turn: Turn<C::Stage, C::Outcome>, kept: &mut KeptB
 /// What a stretch of a wait leaves under way, and what it tells.
 fn wait_leaves<C: Kind>(run: Run<C>, turn: Turn<C::Stage, C::Outcome>) -> (Running, Progress)
     ensures left { result.0 ≡ left_by C.kind run turn }
-    ensures shown { result.1 ≡ kind_shown C.kind run turn }
+    ensures shown { result.1 ≡ shown_of_wait C.kind run turn }
 {
     match turn {
         Turn::Again(_) => (C::now(run, turn), Progress::Again),

@@ -1,7 +1,7 @@
 use Rattle.std.proofs.Common.{◌∙◌, subst, sym}
 use Rattle.std.specs.Prelude.{◌||◌, Bool}
 use Rattle.wait_class.specs.Wholes.{HasRested}
-use Rattle.wq_checked.specs.Advancing.{left_by, kind_shown}
+use Rattle.wq_checked.specs.Advancing.{left_by, shown_of_wait}
 use Rattle.wq_checked.specs.Calls.{IsRunningSound}
 use Rattle.wq_checked.specs.declared.calls.Running.{Running}
 use Rattle.wq_checked.proofs.Going.{went_as}
@@ -35,7 +35,7 @@ pub returns-clause-goes : goal.returns-clause-goes
 returns-clause-goes g c may start first came =
     let t = c.ground_turn-turn in
     went_as (c.args.asks || may) start first c.rest.new.task c.wait_leaves.result.0
-    (left_by g.C.Kind.kind t.new.run t.result) c.wait_leaves.result.1 (kind_shown g.C.Kind.kind t.new.run t.result)
+    (left_by g.C.Kind.kind t.new.run t.result) c.wait_leaves.result.1 (shown_of_wait g.C.Kind.kind t.new.run t.result)
     c.wait_leaves.ensures.left c.wait_leaves.ensures.shown
     (c.is_kind.ensures.goes c.args.asks may start first c.args.task.now t.new.task c.rest.new.task c.args.run t.new.run
     c.args.last t.result

@@ -20,23 +20,14 @@ use Rattle.completion_cell.specs.declared.cell_turns.CellTurn.{CellTurn}
 use Rattle.completion_cell.specs.declared.cell_turns.CellTurn.TheVariants as turn
 use Rattle.completion_cell.specs.CellTurns.{HasCellTurned, IsAtCell, IsCellOver}
 use Rattle.wq_checked.specs.Kept.{IsReadyWith, but_kept, keeps_in}
-use Rattle.wq_checked.specs.Calls.{Began, CameFrom, CellCame, IsRunningSound, WentOn}
+use Rattle.wq_checked.specs.Calls.{CameFrom, CellCame, IsRunningSound, WentOn}
 use Rattle.wq_checked.specs.Advancing.{cell_left, cell_shown}
 use Rattle.wq_checked.specs.declared.calls.Running.{Running}
 use Rattle.wq_checked.specs.declared.calls.Running.TheVariants as running
 use Rattle.wq_checked.specs.declared.kept_bits.KeptBits.{KeptBits}
+use Rattle.wq_checked.proofs.HoldTurns.{HoldComes, IsLawfulHold, lawful_hold}
 use Rattle.wq_checked.proofs.Publishing.{bits_hold, no_bit}
 use Rattle.wq_checked.proofs.WakeTurns.{owes_wider}
-
--- where it stands, by where it began
-at_from : (may : Bool) (start : Known) (first : Running) (k : Known) (run : CellRun) (s : CellStage)
-    → CameFrom may start first k (running.Cell run s) → IsAtCell start k run s
-at_from may start (running.Cell f from) k run s came = came.at
-at_from may start first k run s came = absurd came
-
-pub cell_at : (ks : KeptBits) (k : Known) (run : CellRun) (s : CellStage) → IsRunningSound (running.Cell run s) ks k
-    → (start : Known) × IsAtCell start k run s
-cell_at ks k run s u = (u.start, at_from true u.start u.first k run s u.came)
 
 -- what is over leaves a ready task: one that sets the completion, and one that does not
 module _ (ks : KeptBits) (start new : Known) (d : ℕ) (r : IsReadyWith ks start) (up : IsUp new) (free : IsFree new)
@@ -106,22 +97,14 @@ module _ (start old new : Known) (f run q : CellRun) (s : CellStage) (came : Cel
   left_sound ks r from (turn.Done hit) h = over_ready ks start new f.call f.cell hit r (over_as hit h)
   left_sound ks r from (turn.Starved n) h = tt
 
-pub cell_goes : (may now : Bool) (start : Known) (first : Running) (old new : Known) (run q : CellRun) (s : CellStage) (t : CellTurn)
-    → CameFrom may start first old (running.Cell run s)
-    → ((start : Known) → IsAtCell start old run s → HasCellTurned start new run q t)
-    → WentOn now start first new (cell_left q t) (cell_shown q t)
-cell_goes may now start (running.Cell f from) old new run q s t came turned = tells start old new f run q s came now from t
-    (turned start came.at)
-cell_goes may now start first old new run q s t came turned = absurd came
+cell_comes : (may : Bool) (start : Known) (first : Running) (k : Known) (run : CellRun) (s : CellStage)
+    → CameFrom may start first k (running.Cell run s) → HoldComes cell_left cell_shown IsAtCell HasCellTurned start first k run s
+cell_comes may start (running.Cell f from) k run s came = record {
+  at = came.at;
+  tells = λ by new q t h. tells start k new f run q s came by from t h;
+  sound = λ ks new q t began h. left_sound start k new f run q s came ks began from t h;
+}
+cell_comes may start first k run s came = absurd came
 
-sound_from : (ks : KeptBits) (start : Known) (first : Running) (old new : Known) (run q : CellRun) (s : CellStage)
-    (t : CellTurn) → Began ks start first → CameFrom true start first old (running.Cell run s)
-    → ((start : Known) → IsAtCell start old run s → HasCellTurned start new run q t) → IsRunningSound (cell_left q t) ks new
-sound_from ks start (running.Cell f from) old new run q s t began came turned =
-    left_sound start old new f run q s came ks began from t (turned start came.at)
-sound_from ks start first old new run q s t began came turned = absurd came
-
-pub cell_sound : (ks : KeptBits) (old new : Known) (run q : CellRun) (s : CellStage) (t : CellTurn)
-    → IsRunningSound (running.Cell run s) ks old → ((start : Known) → IsAtCell start old run s → HasCellTurned start new run q t)
-    → IsRunningSound (cell_left q t) ks new
-cell_sound ks old new run q s t u turned = sound_from ks u.start u.first old new run q s t u.began u.came turned
+pub cell_turns : IsLawfulHold (λ r s. running.Cell r s) cell_left cell_shown IsAtCell HasCellTurned
+cell_turns = lawful_hold (λ r s. running.Cell r s) cell_left cell_shown IsAtCell HasCellTurned cell_comes (λ ks k run s u. u)

@@ -50,7 +50,7 @@ use Rattle.wq_head.specs.Turns as wakes
 use Rattle.wq_head.specs.declared.wakes.WakeRun.{WakeRun}
 use Rattle.wq_head.specs.declared.wakes.WakeStage.{WakeStage}
 use Rattle.wq_head.specs.declared.wakes.WakeStage.TheVariants as wake_stage
-use Rattle.wq_checked.specs.Calls.{CameFrom, FitsProgress, IsRunningSound, WentOn}
+use Rattle.wq_checked.specs.Calls.{CameFrom, FitsProgress, IsCallUnderWay, IsRunningSound, WentOn}
 use Rattle.wq_checked.specs.Calls.{turn_told}
 use Rattle.wq_checked.specs.Locks.{IsDrawn, awaited_in, lock_at, lock_with, refused_with, turn_ticket, wake_ticket}
 use Rattle.wq_checked.specs.Reasons.{stopped_reason}
@@ -108,13 +108,15 @@ wake_out start now r wake_stage.FirstTurn at = waited_out _ now at.stands
 wake_out start now r wake_stage.Next at = tt
 wake_out start now r wake_stage.NextTurn at = waited_out _ now at.stands.2
 
-swake_out : (start now : Known) (r : SwakeRun) → swakes.IsAtSwake start now r swake_stage.Turn
-    → IsOut now (awaited_in (running.Swake r swake_stage.Turn))
-swake_out start now r at = waited_out _ now at.stands.waits
+swake_out : (start now : Known) (r : SwakeRun) (s : SwakeStage) → swakes.IsAtSwake start now r s
+    → IsOut now (awaited_in (running.Swake r s))
+swake_out start now r swake_stage.First at = tt
+swake_out start now r swake_stage.Turn at = waited_out _ now at.stands.waits
 
-cell_out : (start now : Known) (r : CellRun) → cells.IsAtCell start now r cell_stage.Turn
-    → IsOut now (awaited_in (running.Cell r cell_stage.Turn))
-cell_out start now r at = waited_out _ now at.stands.awaits.waits
+cell_out : (start now : Known) (r : CellRun) (s : CellStage) → cells.IsAtCell start now r s
+    → IsOut now (awaited_in (running.Cell r s))
+cell_out start now r cell_stage.First at = tt
+cell_out start now r cell_stage.Turn at = waited_out _ now at.stands.awaits.waits
 
 -- what is told by an equation
 told_by : (k : Known) (p q : Progress) → p ≡ q → IsDrawn k q → IsDrawn k p
@@ -130,32 +132,14 @@ ground_drawn t law k r now here (turn.Again s) p a is = told_by k p _ is tt
 ground_drawn t law k r now here (turn.Asleep s) p a is = told_by k p _ is tt
 ground_drawn t law k r now here (turn.Done o) p a is = told_by k p _ is tt
 
-swake_drawn : (start k : Known) (r : SwakeRun) (s : SwakeStage) (p : Progress) → swakes.IsAtSwake start k r s
-    → FitsProgress (running.Swake r s) p → IsDrawn k p
-swake_drawn start k r swake_stage.Turn (progress.Locked a) at fits =
-    awaited_drawn k _ a fits (swake_out start k r at)
-swake_drawn start k r swake_stage.First (progress.Locked a) at fits = absurd (cc)
-swake_drawn start k r s progress.Again at fits = tt
-swake_drawn start k r s progress.Park at fits = tt
-swake_drawn start k r s (progress.Done a) at fits = tt
-swake_drawn start k r s progress.Starved at fits = tt
-
-cell_drawn : (start k : Known) (r : CellRun) (s : CellStage) (p : Progress) → cells.IsAtCell start k r s
-    → FitsProgress (running.Cell r s) p → IsDrawn k p
-cell_drawn start k r cell_stage.Turn (progress.Locked a) at fits = awaited_drawn k _ a fits (cell_out start k r at)
-cell_drawn start k r cell_stage.First (progress.Locked a) at fits = absurd (cc)
-cell_drawn start k r s progress.Again at fits = tt
-cell_drawn start k r s progress.Park at fits = tt
-cell_drawn start k r s (progress.Done a) at fits = tt
-cell_drawn start k r s progress.Starved at fits = tt
-
-wake_drawn : (start k : Known) (r : WakeRun) (s : WakeStage) (p : Progress) → wakes.IsAtWake start k r s
-    → FitsProgress (running.Wake r s) p → IsDrawn k p
-wake_drawn start k r s (progress.Locked a) at fits = awaited_drawn k _ a fits (wake_out start k r s at)
-wake_drawn start k r s progress.Again at fits = tt
-wake_drawn start k r s progress.Park at fits = tt
-wake_drawn start k r s (progress.Done a) at fits = tt
-wake_drawn start k r s progress.Starved at fits = tt
+-- a call of one hold at most, which tells its lock alone
+hold_drawn : (k : Known) (now : Running) (p : Progress) → ((a : Awaited) → p ≡ progress.Locked a → awaited_in now ≡ Some a)
+    → IsOut k (awaited_in now) → IsDrawn k p
+hold_drawn k now (progress.Locked a) fits out = awaited_drawn k _ a (fits a refl) out
+hold_drawn k now progress.Again fits out = tt
+hold_drawn k now progress.Park fits out = tt
+hold_drawn k now (progress.Done a) fits out = tt
+hold_drawn k now progress.Starved fits out = tt
 
 -- what an advance tells is drawn
 came_drawn : (may : Bool) (start : Known) (first : Running) (k : Known) (now : Running) (p : Progress)
@@ -178,9 +162,12 @@ came_drawn may start (running.Await f from) k (running.Await r t) p came fits = 
     k r (running.Await r) (λ s. refl) t p
     (come_lands awaits.await_table await_exits await_may_leave await_lawful may start k f r await_stage.First t came.came)
     fits
-came_drawn may start (running.Wake f from) k (running.Wake r s) p came fits = wake_drawn start k r s p came.0 fits
-came_drawn may start (running.Swake f from) k (running.Swake r s) p came fits = swake_drawn start k r s p came.at fits
-came_drawn may start (running.Cell f from) k (running.Cell r s) p came fits = cell_drawn start k r s p came.at fits
+came_drawn may start (running.Wake f from) k (running.Wake r s) p came fits = hold_drawn k (running.Wake r s) p
+    (λ a is. subst (FitsProgress (running.Wake r s)) is fits) (wake_out start k r s came.0)
+came_drawn may start (running.Swake f from) k (running.Swake r s) p came fits = hold_drawn k (running.Swake r s) p
+    (λ a is. subst (FitsProgress (running.Swake r s)) is fits) (swake_out start k r s came.at)
+came_drawn may start (running.Cell f from) k (running.Cell r s) p came fits = hold_drawn k (running.Cell r s) p
+    (λ a is. subst (FitsProgress (running.Cell r s)) is fits) (cell_out start k r s came.at)
 came_drawn may start first k now p came fits = absurd came
 
 went_drawn : (may : Bool) (start : Known) (first : Running) (k : Known) (now : Running) (p : Progress) → WentOn may start first k now p
@@ -192,24 +179,21 @@ went_drawn may start first k now (progress.Done a) went = tt
 went_drawn may start first k now progress.Starved went = tt
 
 -- of a call that is under way
+under_way : (ks : KeptBits) (k : Known) (r : Running) → stopped_reason r ≡ None → IsRunningSound r ks k
+    → IsCallUnderWay ks k r
+under_way ks k running.Idle under sound = absurd (cc)
+under_way ks k running.Starved under sound = absurd (cc)
+under_way ks k (running.Event r t) under sound = sound
+under_way ks k (running.Bit r t) under sound = sound
+under_way ks k (running.Lock r t) under sound = sound
+under_way ks k (running.Page r t) under sound = sound
+under_way ks k (running.Await r t) under sound = sound
+under_way ks k (running.Wake r s) under sound = sound
+under_way ks k (running.Swake r s) under sound = sound
+under_way ks k (running.Cell r s) under sound = sound
+
 pub goes_drawn : (may : Bool) (ks : KeptBits) (old : Known) (running : Running) (k : Known) (now : Running) (p : Progress)
     → stopped_reason running ≡ None → IsRunningSound running ks old
     → ((start : Known) (first : Running) → CameFrom true start first old running → WentOn may start first k now p) → IsDrawn k p
-goes_drawn may ks old running.Idle k now p under sound goes = absurd (cc)
-goes_drawn may ks old running.Starved k now p under sound goes = absurd (cc)
-goes_drawn may ks old (running.Event r t) k now p under sound goes =
-    went_drawn may sound.start sound.first k now p (goes sound.start sound.first sound.came)
-goes_drawn may ks old (running.Bit r t) k now p under sound goes =
-    went_drawn may sound.start sound.first k now p (goes sound.start sound.first sound.came)
-goes_drawn may ks old (running.Lock r t) k now p under sound goes =
-    went_drawn may sound.start sound.first k now p (goes sound.start sound.first sound.came)
-goes_drawn may ks old (running.Page r t) k now p under sound goes =
-    went_drawn may sound.start sound.first k now p (goes sound.start sound.first sound.came)
-goes_drawn may ks old (running.Await r t) k now p under sound goes =
-    went_drawn may sound.start sound.first k now p (goes sound.start sound.first sound.came)
-goes_drawn may ks old (running.Wake r s) k now p under sound goes =
-    went_drawn may sound.start sound.first k now p (goes sound.start sound.first sound.came)
-goes_drawn may ks old (running.Swake r s) k now p under sound goes =
-    went_drawn may sound.start sound.first k now p (goes sound.start sound.first sound.came)
-goes_drawn may ks old (running.Cell r s) k now p under sound goes =
-    went_drawn may sound.start sound.first k now p (goes sound.start sound.first sound.came)
+goes_drawn may ks old running k now p under sound goes =
+    let u = under_way ks old running under sound in went_drawn may u.start u.first k now p (goes u.start u.first u.came)

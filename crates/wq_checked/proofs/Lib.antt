@@ -5,6 +5,8 @@ pub mod Resting
 pub mod Begun
 pub mod Once
 pub mod Elsewhere
+pub mod KindTurns
+pub mod HoldTurns
 pub mod EventTurns
 pub mod GroundTurns
 pub mod WayTurns

@@ -126,31 +126,25 @@ owes_given ks less w b k notes kept o = owes_by (λ d. keeps_in ks d || false)
     by d false at = sym (ap (λ (t : Bool). t || (keeps_in less d || false)) at
         ∙ ap (λ (u : Bool). u || false) (notes d ∙ ap (λ (t : Bool). not t && keeps_in ks d) at))
 
--- where no call is under way the task is ready
-pub ready_of : (ks : KeptBits) (k : Known) (r : Running) → busy_reason r ≡ None → IsRunningSound r ks k → IsReadyWith ks k
-ready_of ks k running.Idle is s = s
-ready_of ks k (running.Event run last) is s = absurd (cc)
-ready_of ks k (running.Bit run last) is s = absurd (cc)
-ready_of ks k (running.Lock run last) is s = absurd (cc)
-ready_of ks k (running.Page run last) is s = absurd (cc)
-ready_of ks k (running.Await run last) is s = absurd (cc)
-ready_of ks k (running.Swake run last) is s = absurd (cc)
-ready_of ks k (running.Cell run last) is s = absurd (cc)
-ready_of ks k (running.Wake run last) is s = absurd (cc)
-ready_of ks k running.Starved is s = absurd (cc)
+-- where no call is under way
+idle_is : (r : Running) → busy_reason r ≡ None → r ≡ running.Idle
+idle_is running.Idle is = refl
+idle_is (running.Event run last) is = absurd (cc)
+idle_is (running.Bit run last) is = absurd (cc)
+idle_is (running.Lock run last) is = absurd (cc)
+idle_is (running.Page run last) is = absurd (cc)
+idle_is (running.Await run last) is = absurd (cc)
+idle_is (running.Swake run last) is = absurd (cc)
+idle_is (running.Cell run last) is = absurd (cc)
+idle_is (running.Wake run last) is = absurd (cc)
+idle_is running.Starved is = absurd (cc)
 
--- and the other way
+-- there the task is ready, and the other way
+pub ready_of : (ks : KeptBits) (k : Known) (r : Running) → busy_reason r ≡ None → IsRunningSound r ks k → IsReadyWith ks k
+ready_of ks k r is s = subst (λ (q : Running). IsRunningSound q ks k) (idle_is r is) s
+
 pub sound_idle : (ks : KeptBits) (k : Known) (r : Running) → busy_reason r ≡ None → IsReadyWith ks k → IsRunningSound r ks k
-sound_idle ks k running.Idle is ready = ready
-sound_idle ks k (running.Event run last) is ready = absurd (cc)
-sound_idle ks k (running.Bit run last) is ready = absurd (cc)
-sound_idle ks k (running.Lock run last) is ready = absurd (cc)
-sound_idle ks k (running.Page run last) is ready = absurd (cc)
-sound_idle ks k (running.Await run last) is ready = absurd (cc)
-sound_idle ks k (running.Swake run last) is ready = absurd (cc)
-sound_idle ks k (running.Cell run last) is ready = absurd (cc)
-sound_idle ks k (running.Wake run last) is ready = absurd (cc)
-sound_idle ks k running.Starved is ready = absurd (cc)
+sound_idle ks k r is ready = subst (λ (q : Running). IsRunningSound q ks k) (sym (idle_is r is)) ready
 
 -- a call that changes nothing of it, and one that takes a bit where it is clear
 pub ready_carried : (ks : KeptBits) (old new : Known) → Carries unchanged old new → StaysOff old new → IsReadyWith ks old

@@ -1,6 +1,6 @@
 -- A stretch of a wake of a simple queue: it has come on from where it began, or it is over, and its task ready.
 use Rattle.std.proofs.Common.{◌∙◌, refl, subst}
-use Rattle.std.specs.Prelude.{ℕ, ◌≡◌, ◌<◌, Bool, true}
+use Rattle.std.specs.Prelude.{ℕ, ◌≡◌, ◌<◌, Bool}
 use Rattle.wait_model.specs.declared.calls.Call.TheVariants as calls
 use Rattle.wait_model.specs.declared.layout.TheConstants.{PLAIN_CONDITIONS}
 use Rattle.wait_rule.specs.Known.{Known}
@@ -11,22 +11,13 @@ use Rattle.swait_queue.specs.declared.swake_turns.SwakeTurn.{SwakeTurn}
 use Rattle.swait_queue.specs.declared.swake_turns.SwakeTurn.TheVariants as turn
 use Rattle.swait_queue.specs.SwakeTurns.{HasSwakeTurned, IsAtSwake, IsSwakeOver}
 use Rattle.wq_checked.specs.Kept.{IsReadyWith, but_kept}
-use Rattle.wq_checked.specs.Calls.{Began, CameFrom, IsRunningSound, IsSwaking, SwakeCame, WentOn}
+use Rattle.wq_checked.specs.Calls.{CameFrom, IsRunningSound, IsSwaking, SwakeCame, WentOn}
 use Rattle.wq_checked.specs.Advancing.{swake_left, swake_shown}
 use Rattle.wq_checked.specs.declared.calls.Running.{Running}
 use Rattle.wq_checked.specs.declared.calls.Running.TheVariants as running
 use Rattle.wq_checked.specs.declared.kept_bits.KeptBits.{KeptBits}
 use Rattle.wq_checked.proofs.Elsewhere.{calls_off, plain_low}
-
--- where it stands, by where it began
-at_from : (may : Bool) (start : Known) (first : Running) (k : Known) (run : SwakeRun) (s : SwakeStage)
-    → CameFrom may start first k (running.Swake run s) → IsAtSwake start k run s
-at_from may start (running.Swake f from) k run s came = came.at
-at_from may start first k run s came = absurd came
-
-pub swake_at : (ks : KeptBits) (k : Known) (run : SwakeRun) (s : SwakeStage) → IsRunningSound (running.Swake run s) ks k
-    → (start : Known) × IsAtSwake start k run s
-swake_at ks k run s u = (u.start, at_from true u.start u.first k run s u.came)
+use Rattle.wq_checked.proofs.HoldTurns.{HoldComes, IsLawfulHold, lawful_hold}
 
 -- a stretch from where it has come to
 module _ (start old new : Known) (f run q : SwakeRun) (s : SwakeStage) (came : SwakeCame start old f run s) where
@@ -70,22 +61,14 @@ module _ (start old new : Known) (f run q : SwakeRun) (s : SwakeStage) (came : S
     left_sound from (turn.Done n) h = over_ready n (over_as n h)
     left_sound from (turn.Starved n) h = tt
 
-pub swake_goes : (may now : Bool) (start : Known) (first : Running) (old new : Known) (run q : SwakeRun) (s : SwakeStage)
-    (t : SwakeTurn) → CameFrom may start first old (running.Swake run s)
-    → ((start : Known) → IsAtSwake start old run s → HasSwakeTurned start new run q t)
-    → WentOn now start first new (swake_left q t) (swake_shown q t)
-swake_goes may now start (running.Swake f from) old new run q s t came turned = tells start old new f run q s came now from t
-    (turned start came.at)
-swake_goes may now start first old new run q s t came turned = absurd came
+swake_comes : (may : Bool) (start : Known) (first : Running) (k : Known) (run : SwakeRun) (s : SwakeStage)
+    → CameFrom may start first k (running.Swake run s) → HoldComes swake_left swake_shown IsAtSwake HasSwakeTurned start first k run s
+swake_comes may start (running.Swake f from) k run s came = record {
+  at = came.at;
+  tells = λ by new q t h. tells start k new f run q s came by from t h;
+  sound = λ ks new q t began h. left_sound start k new f run q s came ks began from t h;
+}
+swake_comes may start first k run s came = absurd came
 
-sound_from : (ks : KeptBits) (start : Known) (first : Running) (old new : Known) (run q : SwakeRun) (s : SwakeStage)
-    (t : SwakeTurn) → Began ks start first → CameFrom true start first old (running.Swake run s)
-    → ((start : Known) → IsAtSwake start old run s → HasSwakeTurned start new run q t) → IsRunningSound (swake_left q t) ks new
-sound_from ks start (running.Swake f from) old new run q s t began came turned =
-    left_sound start old new f run q s came ks began from t (turned start came.at)
-sound_from ks start first old new run q s t began came turned = absurd came
-
-pub swake_sound : (ks : KeptBits) (old new : Known) (run q : SwakeRun) (s : SwakeStage) (t : SwakeTurn)
-    → IsRunningSound (running.Swake run s) ks old → ((start : Known) → IsAtSwake start old run s → HasSwakeTurned start new run q t)
-    → IsRunningSound (swake_left q t) ks new
-swake_sound ks old new run q s t u turned = sound_from ks u.start u.first old new run q s t u.began u.came turned
+pub swake_turns : IsLawfulHold (λ r s. running.Swake r s) swake_left swake_shown IsAtSwake HasSwakeTurned
+swake_turns = lawful_hold (λ r s. running.Swake r s) swake_left swake_shown IsAtSwake HasSwakeTurned swake_comes (λ ks k run s u. u)

@@ -21,22 +21,13 @@ use Rattle.wq_head.specs.declared.wakes.WakeTurn.TheVariants as turn
 use Rattle.wq_checked.specs.Kept.{IsReadyWith, but_kept}
 use Rattle.wq_checked.specs.Begins.{HasJustBegun, BeginsAs}
 use Rattle.wq_checked.specs.declared.calls.Call.{Call}
-use Rattle.wq_checked.specs.Calls.{Began, CameFrom, IsRunningSound, IsWaking, WakesFirst, WentOn}
+use Rattle.wq_checked.specs.Calls.{CameFrom, IsRunningSound, IsWaking, WakesFirst, WentOn}
 use Rattle.wq_checked.specs.Advancing.{Waking, WakesAs, wake_left, wake_shown}
 use Rattle.wq_checked.proofs.Elsewhere.{wakes_off}
+use Rattle.wq_checked.proofs.HoldTurns.{HoldComes, IsLawfulHold, lawful_hold}
 use Rattle.wq_checked.specs.declared.calls.Running.{Running}
 use Rattle.wq_checked.specs.declared.calls.Running.TheVariants as running
 use Rattle.wq_checked.specs.declared.kept_bits.KeptBits.{KeptBits}
-
--- where it stands, by where it began
-at_from : (ks : KeptBits) (may : Bool) (start : Known) (first : Running) (k : Known) (run : WakeRun) (s : WakeStage)
-    → CameFrom may start first k (running.Wake run s) → IsAtWake start k run s
-at_from ks may start (running.Wake f from) k run s came = came.0
-at_from ks may start first k run s came = absurd came
-
-pub wake_at : (ks : KeptBits) (k : Known) (run : WakeRun) (s : WakeStage) → IsRunningSound (running.Wake run s) ks k
-    → (start : Known) × IsAtWake start k run s
-wake_at ks k run s u = (u.start, at_from ks true u.start u.first k run s u.came)
 
 -- what a turn tells
 tells : (may : Bool) (start new : Known) (f : WakeRun) (from : WakeStage) (run q : WakeRun) (t : WakeTurn) → run.aim ≡ f.aim
@@ -51,14 +42,6 @@ tells may start new f from run q (turn.Done w) is h = (
   subst (λ (a : Aim). IsWakeOver a start new w) (h.aim ∙ is) h.turns,
 )
 tells may start new f from run q (turn.Starved n) is h = refl
-
-pub wake_goes : (may now : Bool) (start : Known) (first : Running) (old new : Known) (run q : WakeRun) (s : WakeStage) (t : WakeTurn)
-    → CameFrom may start first old (running.Wake run s)
-    → ((start : Known) → IsAtWake start old run s → HasTurned start new run q t)
-    → WentOn now start first new (wake_left q t) (wake_shown q t)
-wake_goes may now start (running.Wake f from) old new run q s t came turned = tells now start new f from run q t came.1
-    (turned start came.0)
-wake_goes may now start first old new run q s t came turned = absurd came
 
 -- what is kept of the task then
 over_ready : (ks : KeptBits) (start new : Known) (f : WakeRun) (w : Walked) → IsWaking ks start f
@@ -92,17 +75,17 @@ left_sound ks start new f from run q (turn.Done w) b is h = over_ready ks start 
     (subst (λ (a : Aim). IsWakeOver a start new w) (h.aim ∙ is) h.turns)
 left_sound ks start new f from run q (turn.Starved n) b is h = tt
 
-sound_from : (ks : KeptBits) (start : Known) (first : Running) (old new : Known) (run q : WakeRun) (s : WakeStage)
-    (t : WakeTurn) → Began ks start first → CameFrom true start first old (running.Wake run s)
-    → ((start : Known) → IsAtWake start old run s → HasTurned start new run q t) → IsRunningSound (wake_left q t) ks new
-sound_from ks start (running.Wake f from) old new run q s t began came turned = left_sound ks start new f from run q t
-    began came.1 (turned start came.0)
-sound_from ks start first old new run q s t began came turned = absurd came
+wake_comes : (may : Bool) (start : Known) (first : Running) (k : Known) (run : WakeRun) (s : WakeStage)
+    → CameFrom may start first k (running.Wake run s) → HoldComes wake_left wake_shown IsAtWake HasTurned start first k run s
+wake_comes may start (running.Wake f from) k run s came = record {
+  at = came.0;
+  tells = λ by new q t h. tells by start new f from run q t came.1 h;
+  sound = λ ks new q t began h. left_sound ks start new f from run q t began came.1 h;
+}
+wake_comes may start first k run s came = absurd came
 
-pub wake_sound : (ks : KeptBits) (old new : Known) (run q : WakeRun) (s : WakeStage) (t : WakeTurn)
-    → IsRunningSound (running.Wake run s) ks old → ((start : Known) → IsAtWake start old run s → HasTurned start new run q t)
-    → IsRunningSound (wake_left q t) ks new
-wake_sound ks old new run q s t u turned = sound_from ks u.start u.first old new run q s t u.began u.came turned
+pub wake_turns : IsLawfulHold (λ r s. running.Wake r s) wake_left wake_shown IsAtWake HasTurned
+wake_turns = lawful_hold (λ r s. running.Wake r s) wake_left wake_shown IsAtWake HasTurned wake_comes (λ ks k run s u. u)
 
 module _ (ks : KeptBits) (k : Known) (aim : Aim) (now : Running) (m : Waking ks k aim) (w : WakesFirst aim now) where
   first_at : IsAtWake k k w.run stage.First

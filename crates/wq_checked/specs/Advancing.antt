@@ -1,6 +1,6 @@
 -- For proofs alone.
 -- What a stretch of a call leaves under way and tells, and what holds where a wake begins.
-use Rattle.std.specs.Prelude.{◌≡◌, Bool, true, false, None}
+use Rattle.std.specs.Prelude.{◌≡◌, Bool, false, None}
 use Rattle.wait_model.specs.declared.watches.Aim.{Aim}
 use Rattle.wait_model.specs.declared.watches.Mode.TheVariants as mode
 use Rattle.wait_model.specs.declared.watches.Watch.{Watch}
@@ -13,15 +13,31 @@ use Rattle.wq_head.specs.Walks.{IsFull}
 use Rattle.bit_wait.specs.BitTables.{is_bit_worn}
 use Rattle.bit_wait.specs.BitLeaves.{bit_until_in}
 use Rattle.bit_wait.specs.LockLeaves.{until_in}
+use Rattle.bit_wait.specs.LockTables.{is_lock_over}
 use Rattle.page_lock.specs.PageLeaves.{page_until}
+use Rattle.page_lock.specs.PageTables.{is_page_over}
+use Rattle.wait_class.specs.declared.frame_stages.Framed.{Framed}
+use Rattle.wait_class.specs.declared.frame_stages.Stage.{Stage}
+use Rattle.wait_class.specs.declared.stages.Run.{Run}
+use Rattle.wait_class.specs.declared.stages.Turn.{Turn}
 use Rattle.wait_class.specs.declared.stages.Turn.TheVariants as turn
+use Rattle.bit_wait.specs.declared.waits.BitOutcome.{BitOutcome}
+use Rattle.bit_wait.specs.declared.waits.BitTest.{BitTest}
+use Rattle.bit_wait.specs.declared.waits.WaitBit.{WaitBit}
+use Rattle.bit_wait.specs.declared.lock_runs.LockBit.{LockBit}
+use Rattle.bit_wait.specs.declared.lock_runs.LockTest.{LockTest}
 use Rattle.bit_wait.specs.declared.lock_runs.LockOutcome.{LockOutcome}
-use Rattle.bit_wait.specs.declared.lock_runs.LockOutcome.TheVariants as lock_outcome
+use Rattle.page_lock.specs.declared.waits.LockPage.{LockPage}
+use Rattle.page_lock.specs.declared.waits.PageStage.{PageStage}
 use Rattle.page_lock.specs.declared.waits.PageOutcome.{PageOutcome}
-use Rattle.page_lock.specs.declared.waits.PageOutcome.TheVariants as page_outcome
 use Rattle.completion_cell.specs.AwaitLeaves.{await_until}
 use Rattle.wait_event.specs.WaitLeaves.{wait_until_in}
-use Rattle.completion_cell.specs.Awaits.{AwaitTurn}
+use Rattle.wait_event.specs.declared.waits.WaitCall.{WaitCall}
+use Rattle.wait_event.specs.declared.waits.WaitOutcome.{WaitOutcome}
+use Rattle.wait_event.specs.declared.waits.WaitStage.{WaitStage}
+use Rattle.completion_cell.specs.declared.awaits.AwaitCall.{AwaitCall}
+use Rattle.completion_cell.specs.declared.awaits.AwaitOutcome.{AwaitOutcome}
+use Rattle.completion_cell.specs.declared.awaits.AwaitStage.{AwaitStage}
 use Rattle.completion_cell.specs.declared.cell_turns.CellRun.{CellRun}
 use Rattle.completion_cell.specs.declared.cell_turns.CellStage.TheVariants as cell_stage
 use Rattle.completion_cell.specs.declared.cell_turns.CellTurn.{CellTurn}
@@ -34,52 +50,84 @@ use Rattle.wq_head.specs.declared.wakes.WakeRun.{WakeRun}
 use Rattle.wq_head.specs.declared.wakes.WakeStage.TheVariants as wake_stage
 use Rattle.wq_head.specs.declared.wakes.WakeTurn.{WakeTurn}
 use Rattle.wq_head.specs.declared.wakes.WakeTurn.TheVariants as wake_turn
-use Rattle.bit_wait.specs.LockTables.{LockTurn}
-use Rattle.page_lock.specs.PageTables.{PageTurn}
 use Rattle.wq_checked.specs.Begins.{BeginsAs}
 use Rattle.wq_checked.specs.Kept.{but_kept, keeps_in}
 use Rattle.wq_checked.specs.declared.calls.Call.{Call}
 use Rattle.wq_checked.specs.declared.kept_bits.KeptBits.{KeptBits}
 use Rattle.wq_checked.specs.Calls.{await_answer, bit_answer, event_answer, turn_told}
 use Rattle.wq_checked.specs.Locks.{refusal_told}
-use Rattle.wq_checked.specs.Stages.{AwaitRun, BitRun, BitTurn, LockRun, PageRun, WaitRun, WaitTurn}
+use Rattle.wq_checked.specs.declared.calls.Answer.{Answer}
 use Rattle.wq_checked.specs.declared.calls.Answer.TheVariants as answer
 use Rattle.wq_checked.specs.declared.calls.Progress.{Progress}
 use Rattle.wq_checked.specs.declared.calls.Progress.TheVariants as progress
 use Rattle.wq_checked.specs.declared.calls.Running.{Running}
 use Rattle.wq_checked.specs.declared.calls.Running.TheVariants as running
 
-abbrev pub event_left : WaitRun → WaitTurn → Running
-event_left r (turn.Done o) = running.Idle
-event_left r t = running.Event r t
+-- A kind of wait as a call that is under way: how it stands there, what it answers at its end, whether RUNNING is stored
+-- then, since no place was left for its entry, and whether it has taken what it waited for.
+pub record WaitKind (C S O : Type 0) : Type 0 where
+  pub now : Run C → Turn S O → Running
+  pub answer : C → O → Answer
+  pub worn : C → O → Bool
+  pub took : O → Bool
 
-abbrev pub event_shown : WaitRun → WaitTurn → Progress
-event_shown r (turn.Done o) = progress.Done (event_answer r.of.watch r.of.seen (wait_until_in r.of o))
-event_shown r t = turn_told (running.Event r t) t
+-- what a stretch of such a wait leaves under way and tells, and what of its end
+abbrev pub left_by : {C S O : Type 0} → WaitKind C S O → Run C → Turn S O → Running
+left_by n r (turn.Done o) = running.Idle
+left_by n r u = n.now r u
 
-abbrev pub bit_left : BitRun → BitTurn → Running
-bit_left r (turn.Done o) = running.Idle
-bit_left r t = running.Bit r t
+abbrev pub shown_of_wait : {C S O : Type 0} → WaitKind C S O → Run C → Turn S O → Progress
+shown_of_wait n r (turn.Done o) = progress.Done (n.answer r.of o)
+shown_of_wait n r u = turn_told (n.now r u) u
 
-abbrev pub bit_shown : BitRun → BitTurn → Progress
-bit_shown r (turn.Done o) = progress.Done (bit_answer (bit_until_in r.of.wait o))
-bit_shown r t = turn_told (running.Bit r t) t
+abbrev pub worn_by : {C S O : Type 0} → WaitKind C S O → Run C → Turn S O → Bool
+worn_by n r (turn.Done o) = n.worn r.of o
+worn_by n r u = false
 
-abbrev pub lock_left : LockRun → LockTurn → Running
-lock_left r (turn.Done o) = running.Idle
-lock_left r t = running.Lock r t
+abbrev pub took_by : {C S O : Type 0} → WaitKind C S O → Turn S O → Bool
+took_by n (turn.Done o) = n.took o
+took_by n u = false
 
-abbrev pub lock_shown : LockRun → LockTurn → Progress
-lock_shown r (turn.Done o) = progress.Done (bit_answer (until_in r.of.wait o))
-lock_shown r t = turn_told (running.Lock r t) t
+-- the waits for a plain condition or a variable, for a bit, to take a bit, for a page, and for a completion
+abbrev pub event_kind : WaitKind WaitCall WaitStage WaitOutcome
+event_kind = record {
+  now = λ r u. running.Event r u;
+  answer = λ c o. event_answer c.watch c.seen (wait_until_in c o);
+  worn = λ c o. false;
+  took = λ o. false;
+}
 
-abbrev pub page_left : PageRun → PageTurn → Running
-page_left r (turn.Done o) = running.Idle
-page_left r t = running.Page r t
+abbrev pub bit_kind : WaitKind (Framed WaitBit) (Stage BitTest) BitOutcome
+bit_kind = record {
+  now = λ r u. running.Bit r u;
+  answer = λ c o. bit_answer (bit_until_in c.wait o);
+  worn = λ c o. is_bit_worn o;
+  took = λ o. false;
+}
 
-abbrev pub page_shown : PageRun → PageTurn → Progress
-page_shown r (turn.Done o) = progress.Done (bit_answer (page_until r.of o))
-page_shown r t = turn_told (running.Page r t) t
+abbrev pub lock_kind : WaitKind (Framed LockBit) (Stage LockTest) LockOutcome
+lock_kind = record {
+  now = λ r u. running.Lock r u;
+  answer = λ c o. bit_answer (until_in c.wait o);
+  worn = λ c o. c.wait.worn;
+  took = is_lock_over;
+}
+
+abbrev pub page_kind : WaitKind LockPage PageStage PageOutcome
+page_kind = record {
+  now = λ r u. running.Page r u;
+  answer = λ c o. bit_answer (page_until c o);
+  worn = λ c o. false;
+  took = is_page_over;
+}
+
+abbrev pub await_kind : WaitKind AwaitCall AwaitStage AwaitOutcome
+await_kind = record {
+  now = λ r u. running.Await r u;
+  answer = λ c o. await_answer (await_until c o);
+  worn = λ c o. false;
+  took = λ o. false;
+}
 
 abbrev pub wake_left : WakeRun → WakeTurn → Running
 wake_left r (wake_turn.Locked s) = running.Wake r s
@@ -92,14 +140,6 @@ wake_shown r (wake_turn.Locked s) = refusal_told (running.Wake r s)
 wake_shown r wake_turn.Broken = progress.Again
 wake_shown r (wake_turn.Done w) = progress.Done (answer.Walked w)
 wake_shown r (wake_turn.Starved n) = progress.Starved
-
-abbrev pub await_left : AwaitRun → AwaitTurn → Running
-await_left r (turn.Done o) = running.Idle
-await_left r t = running.Await r t
-
-abbrev pub await_shown : AwaitRun → AwaitTurn → Progress
-await_shown r (turn.Done o) = progress.Done (await_answer (await_until r.of o))
-await_shown r t = turn_told (running.Await r t) t
 
 abbrev pub swake_left : SwakeRun → SwakeTurn → Running
 swake_left r swake_turn.Locked = running.Swake r swake_stage.Turn
@@ -120,32 +160,6 @@ abbrev pub cell_shown : CellRun → CellTurn → Progress
 cell_shown r cell_turn.Locked = refusal_told (running.Cell r cell_stage.Turn)
 cell_shown r (cell_turn.Done hit) = progress.Done (answer.Cell hit)
 cell_shown r (cell_turn.Starved n) = progress.Starved
-
--- no place was left for the entry of a wait that ended so
-abbrev pub bit_worn : BitTurn → Bool
-bit_worn (turn.Done o) = is_bit_worn o
-bit_worn _ = false
-
-abbrev pub lock_worn : LockRun → LockTurn → Bool
-lock_worn r (turn.Done o) = r.of.wait.worn
-lock_worn r _ = false
-
--- the call took the bit or the page
-abbrev pub lock_over : LockOutcome → Bool
-lock_over lock_outcome.Over = true
-lock_over _ = false
-
-abbrev pub page_over : PageOutcome → Bool
-page_over page_outcome.Over = true
-page_over _ = false
-
-abbrev pub lock_took : LockTurn → Bool
-lock_took (turn.Done o) = lock_over o
-lock_took _ = false
-
-abbrev pub turn_took_page : PageTurn → Bool
-turn_took_page (turn.Done o) = page_over o
-turn_took_page _ = false
 
 -- A task that may begin a wake with this aim: it may owe the wakes that this one makes.
 pub record Waking (ks : KeptBits) (k : Known) (aim : Aim) : Type 0 where

@@ -8,3 +8,4 @@ pub mod Signals
 pub mod Begins
 pub mod Advancing
 pub mod Outs
+pub mod Kinds

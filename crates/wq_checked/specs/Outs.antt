@@ -1,6 +1,6 @@
 -- To be believed.
 -- A wait under way that is asked to leave: it goes out of the stage at which it stands, where that has an exit.
-use Rattle.std.specs.Prelude.{◌≡◌, Bool, false, Some}
+use Rattle.std.specs.Prelude.{◌≡◌, Some}
 use Rattle.wait_rule.specs.Known.{Known}
 use Rattle.wait_class.specs.declared.stages.Run.{Run}
 use Rattle.wait_class.specs.declared.stages.Turn.{Turn}
@@ -20,8 +20,8 @@ use Rattle.page_lock.specs.PageTables as pages
 use Rattle.page_lock.specs.PageLeaves as page_leaves
 use Rattle.completion_cell.specs.Awaits as awaits
 use Rattle.completion_cell.specs.AwaitLeaves as await_leaves
-use Rattle.wq_checked.specs.Advancing.{await_left, await_shown, bit_left, bit_shown, bit_worn, event_left, event_shown}
-use Rattle.wq_checked.specs.Advancing.{lock_left, lock_shown, lock_worn, page_left, page_shown}
+use Rattle.wq_checked.specs.Advancing.{WaitKind, await_kind, bit_kind, event_kind, left_by, lock_kind, page_kind}
+use Rattle.wq_checked.specs.Advancing.{shown_of_wait, worn_by}
 use Rattle.wq_checked.specs.declared.calls.Progress.{Progress}
 use Rattle.wq_checked.specs.declared.calls.Running.{Running}
 use Rattle.wq_checked.specs.declared.calls.Running.TheVariants as running
@@ -55,28 +55,27 @@ WentOutBehind t x old new r q _ u = Unit {0}
 
 -- A stretch of such a wait, with what it leaves under way and tells. One for a bit whose queue is worn stores RUNNING at
 -- last.
-pub record OutStretch {C S O : Type 0} (t : CallTable C S O) (x : Exits C S O) (worn : Run C → Turn S O → Bool)
-    (left : Run C → Turn S O → Running) (shown : Run C → Turn S O → Progress) (old new : Known) (r : Run C)
-    (last : Turn S O) (now : Running) (told : Progress) : Type 0 where
+pub record OutStretch {C S O : Type 0} (t : CallTable C S O) (x : Exits C S O) (n : WaitKind C S O) (old new : Known)
+    (r : Run C) (last : Turn S O) (now : Running) (told : Progress) : Type 0 where
   pub ended : Known
   pub run : Run C
   pub to : Turn S O
   pub out : WentOutBehind t x old ended r run last to
-  pub rests : HasRested ended new (worn run to)
-  pub is : now ≡ left run to
-  pub tells : told ≡ shown run to
+  pub rests : HasRested ended new (worn_by n run to)
+  pub is : now ≡ left_by n run to
+  pub tells : told ≡ shown_of_wait n run to
 
 -- A call under way that is asked to leave by a stretch: where it is a wait at a stage that has an exit, it went out there
 -- first.
 abbrev pub WentOut : Known → Running → Known → Running → Progress → Type 0
-WentOut old (running.Event r last) new now told = OutStretch events.wait_table event_leaves.wait_exits (λ q u. false)
-    event_left event_shown old new r last now told
-WentOut old (running.Bit r last) new now told = OutStretch bits.bit_table bit_leaves.bit_exits (λ q u. bit_worn u)
-    bit_left bit_shown old new r last now told
-WentOut old (running.Lock r last) new now told = OutStretch locks.lock_table lock_leaves.lock_exits lock_worn
-    lock_left lock_shown old new r last now told
-WentOut old (running.Page r last) new now told = OutStretch pages.page_table page_leaves.page_exits (λ q u. false)
-    page_left page_shown old new r last now told
-WentOut old (running.Await r last) new now told = OutStretch awaits.await_table await_leaves.await_exits (λ q u. false)
-    await_left await_shown old new r last now told
+WentOut old (running.Event r last) new now told =
+    OutStretch events.wait_table event_leaves.wait_exits event_kind old new r last now told
+WentOut old (running.Bit r last) new now told =
+    OutStretch bits.bit_table bit_leaves.bit_exits bit_kind old new r last now told
+WentOut old (running.Lock r last) new now told =
+    OutStretch locks.lock_table lock_leaves.lock_exits lock_kind old new r last now told
+WentOut old (running.Page r last) new now told =
+    OutStretch pages.page_table page_leaves.page_exits page_kind old new r last now told
+WentOut old (running.Await r last) new now told =
+    OutStretch awaits.await_table await_leaves.await_exits await_kind old new r last now told
 WentOut _ _ _ _ _ = Unit {0}

@@ -7,15 +7,13 @@
 mod admission;
 mod advances;
 mod at_once;
-mod await_turns;
 pub mod beginnings;
 pub mod calls;
-mod cells;
 pub mod kept_bits;
+mod kinds;
 mod locks;
 pub mod owners;
 pub mod reasons;
-mod simple_wakes;
 mod stretches;
 pub mod tasks;
 mod wakings;

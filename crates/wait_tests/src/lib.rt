@@ -26,5 +26,3 @@ mod simple_queues;
 mod turns;
 #[cfg(test)]
 mod variables;
-#[cfg(test)]
-mod wants;

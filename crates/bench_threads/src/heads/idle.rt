@@ -1,8 +1,7 @@
 //! Waits of a second: a task sleeps until it is woken, and another one waits for the lock of a head. Their threads park
 //! meanwhile, so the program uses next to no processor.
 
-ghost use Rattle.std.specs.Prelude.{◌≡◌};
-ghost use Rattle.wait_rule.specs.Says.{IsClean};
+ghost use Rattle.test_tasks.specs.Resting.{RestsIn};
 
 use crate::heads::HEAD;
 use crate::tasks::{Retry, wake_up};
@@ -23,8 +22,7 @@ const LATER: u64 = 100;
 
 /// Holds the lock of the head for a while, and then wakes task `sleeper`.
 fn hold_and_wake<R: Clock + Wait>(rt: &R, domain: &Domain, mut task: Task, sleeper: u8)
-    requires of { task.domain ≡ domain.now }
-    requires clean { IsClean task }
+    requires rests { RestsIn domain.now task }
 {
     lock(rt, domain, &mut task, HEAD);
     thread::sleep(rt, Duration::from_millis(HELD));
@@ -34,8 +32,7 @@ fn hold_and_wake<R: Clock + Wait>(rt: &R, domain: &Domain, mut task: Task, sleep
 
 /// Sleeps until it is woken.
 fn sleep<R: Wait>(rt: &R, domain: &Domain, mut task: Task)
-    requires of { task.domain ≡ domain.now }
-    requires clean { IsClean task }
+    requires rests { RestsIn domain.now task }
 {
     set_state(domain, &mut task, UNINTERRUPTIBLE);
     schedule(rt, domain, &mut task);
@@ -43,8 +40,7 @@ fn sleep<R: Wait>(rt: &R, domain: &Domain, mut task: Task)
 
 /// Asks for the lock while another task holds it.
 fn ask<R: Clock + Wait>(rt: &R, domain: &Domain, mut task: Task)
-    requires of { task.domain ≡ domain.now }
-    requires clean { IsClean task }
+    requires rests { RestsIn domain.now task }
 {
     thread::sleep(rt, Duration::from_millis(LATER));
     lock(rt, domain, &mut task, HEAD);
@@ -53,16 +49,15 @@ fn ask<R: Clock + Wait>(rt: &R, domain: &Domain, mut task: Task)
 
 /// One that sleeps and one that asks, each in a thread of its own.
 fn two_wait<R: Clock + Threads + Wait + Sync>(rt: &R, domain: &Domain, sleeper: Task, asker: Task)
-    requires of { (sleeper.domain ≡ domain.now) × (asker.domain ≡ domain.now) }
-    requires clean { IsClean sleeper × IsClean asker }
+    requires rest { RestsIn domain.now sleeper × RestsIn domain.now asker }
 {
     thread::join(
         rt,
         move ||
-            requires { (sleeper.domain ≡ domain.now) × IsClean sleeper }
+            requires { RestsIn domain.now sleeper }
         { sleep(rt, domain, sleeper) },
         move ||
-            requires { (asker.domain ≡ domain.now) × IsClean asker }
+            requires { RestsIn domain.now asker }
         { ask(rt, domain, asker) },
     );
 }
@@ -76,18 +71,17 @@ pub(crate) fn wait_a_second<R: Clock + Threads + Wait + Sync>(
     sleeper: Task,
     asker: Task,
 )
-    requires of { (task.domain ≡ domain.now) × (sleeper.domain ≡ domain.now) × (asker.domain ≡ domain.now) }
-    requires clean { IsClean task × IsClean sleeper × IsClean asker }
+    requires rest { RestsIn domain.now task × RestsIn domain.now sleeper
+        × RestsIn domain.now asker }
 {
     let who = sleeper.number();
     thread::join(
         rt,
         move ||
-            requires { (task.domain ≡ domain.now) × IsClean task }
+            requires { RestsIn domain.now task }
         { hold_and_wake(rt, domain, task, who) },
         move ||
-            requires of { (sleeper.domain ≡ domain.now) × (asker.domain ≡ domain.now) }
-            requires clean { IsClean sleeper × IsClean asker }
+            requires rest { RestsIn domain.now sleeper × RestsIn domain.now asker }
         { two_wait(rt, domain, sleeper, asker) },
     );
 }

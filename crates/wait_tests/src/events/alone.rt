@@ -39,7 +39,7 @@ pub(crate) enum Prepares {
 }
 
 /// A prepare and its finish: true where the entry was queued, an exclusive one as the first, and no signal was found.
-pub(crate) fn prepares<R: Wait>(
+pub(crate) fn prepare_and_finish<R: Wait>(
     rt: &R,
     domain: &Domain,
     task: &mut Task,
@@ -97,9 +97,9 @@ fn prepares_of_one_task(rt: HostRuntime) -> Result<(), Fail> {
         exclusive: true,
     };
     let seen = [
-        prepares(&rt, &domain, &mut task, 0, Prepares::Shared(how.state)),
-        prepares(&rt, &domain, &mut task, 0, Prepares::First),
-        prepares(&rt, &domain, &mut task, 0, Prepares::Asking(how)),
+        prepare_and_finish(&rt, &domain, &mut task, 0, Prepares::Shared(how.state)),
+        prepare_and_finish(&rt, &domain, &mut task, 0, Prepares::First),
+        prepare_and_finish(&rt, &domain, &mut task, 0, Prepares::Asking(how)),
     ];
     all_so(&rt, &seen);
     Ok(())

@@ -4,7 +4,7 @@ ghost use Rattle.std.specs.Prelude.{◌≡◌};
 ghost use Rattle.wait_tests.specs.EventTasks.{IsReadyForEvent};
 
 use super::met_nobody;
-use crate::events::alone::{Prepares, prepares};
+use crate::events::alone::{Prepares, prepare_and_finish};
 use std::sync::Wait;
 use std::test::Fail;
 use test_tasks::stops::all_so;
@@ -58,9 +58,9 @@ fn enter_and_leave<R: Wait>(rt: &R, domain: &Domain, task: &mut Task) -> bool
 fn parts_then_a_wait_then_an_entry(rt: HostRuntime) -> Result<(), Fail> {
     let (domain, mut task) = Domain::new(rt.alloc())?;
     let seen = [
-        prepares(&rt, &domain, &mut task, 0, Prepares::Shared(SHARED.state)),
-        prepares(&rt, &domain, &mut task, 0, Prepares::First),
-        prepares(&rt, &domain, &mut task, 0, Prepares::Asking(SHARED)),
+        prepare_and_finish(&rt, &domain, &mut task, 0, Prepares::Shared(SHARED.state)),
+        prepare_and_finish(&rt, &domain, &mut task, 0, Prepares::First),
+        prepare_and_finish(&rt, &domain, &mut task, 0, Prepares::Asking(SHARED)),
     ];
     all_so(&rt, &seen);
     let walked = set_one(&rt, &domain, &mut task);

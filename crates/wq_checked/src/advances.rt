@@ -32,7 +32,7 @@ use wait_rule::{Domain, Task};
 use wq_head::Rousing;
 use wq_head::wakes::{WakeRun, WakeStage, WakeTurn, wake_stretch};
 
-/// KeepsTaken a bit that was taken.
+/// Notes a bit that was taken.
 pub(crate) fn note(kept: &mut KeptBits, word: u8, bit: u8, took: bool)
     requires word { word < BIT_WORDS }
     requires bit { bit < WORD_BITS }
@@ -54,7 +54,7 @@ fn is_worn<C: Kind>(run: Run<C>, turn: Turn<C::Stage, C::Outcome>) -> bool
     }
 }
 
-/// KeepsTaken the bit or the page that a wait has got.
+/// Notes the bit or the page that a wait has got.
 fn note_end<C: Kind>(call: C, turn: Turn<C::Stage, C::Outcome>, kept: &mut KeptBits)
     requires fits { C.table.Fits call }
     ensures { KeepsTaken C.table C.kind call turn kept.old kept.new }

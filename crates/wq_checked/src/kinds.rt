@@ -44,7 +44,7 @@ pub(crate) trait Kind: Leavable {
     fn is_worn(self, outcome: Self::Outcome) -> bool
         ensures { result ≡ kind.worn self outcome };
 
-    /// KeepsTaken the bit or the page with which a wait ended.
+    /// Notes the bit or the page with which a wait ended.
     fn note_taken(self, outcome: Self::Outcome, kept: &mut KeptBits)
         requires fits { Self.table.Fits self }
         ensures { (c : Watch) → keeps_in kept.new c

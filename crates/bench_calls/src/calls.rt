@@ -1,8 +1,8 @@
 //! Calls by a task that owes nothing before and after each.
 
-ghost use Rattle.std.specs.Prelude.{◌<◌};
+ghost use Rattle.std.specs.Prelude.{◌≡◌, ◌<◌};
 ghost use Rattle.wait_model.specs.declared.layout.TheConstants.{FIRST_SIMPLE, WORD_BITS};
-ghost use Rattle.test_tasks.specs.Resting.{RestsIn};
+ghost use Rattle.wait_rule.specs.Says.{IsClean};
 
 use crate::cells::repeat_cell;
 use crate::names::Call;
@@ -48,8 +48,10 @@ const VAR: u8 = 20;
 
 /// Takes the lock of a head, and gives it back.
 fn pass<R: Wait>(rt: &R, domain: &Domain, task: &mut Task)
-    requires rests { RestsIn domain.now task.old }
-    ensures rests { RestsIn domain.now task.new }
+    requires of { task.old.domain ≡ domain.now }
+    requires clean { IsClean task.old }
+    ensures of { task.new.domain ≡ domain.now }
+    ensures clean { IsClean task.new }
 {
     lock(rt, domain, task, FIRST_PLAIN_HEAD);
     unlock(rt, domain, task, false);
@@ -57,9 +59,11 @@ fn pass<R: Wait>(rt: &R, domain: &Domain, task: &mut Task)
 
 /// Waits for a condition: true where it was set.
 fn wait_for<R: Wait>(rt: &R, domain: &Domain, task: &mut Task, of: (u8, SleepState)) -> bool
-    requires rests { RestsIn domain.now task.old }
+    requires of { task.old.domain ≡ domain.now }
+    requires clean { IsClean task.old }
     requires full { of.0 < FIRST_SIMPLE }
-    ensures rests { RestsIn domain.now task.new }
+    ensures of { task.new.domain ≡ domain.now }
+    ensures clean { IsClean task.new }
 {
     let how = How {
         state: of.1,
@@ -70,8 +74,10 @@ fn wait_for<R: Wait>(rt: &R, domain: &Domain, task: &mut Task, of: (u8, SleepSta
 
 /// Takes the bit and gives it back: true where it was clear.
 fn set_and_clear<R: Wait>(rt: &R, domain: &Domain, task: &mut Task) -> bool
-    requires rests { RestsIn domain.now task.old }
-    ensures rests { RestsIn domain.now task.new }
+    requires of { task.old.domain ≡ domain.now }
+    requires clean { IsClean task.old }
+    ensures of { task.new.domain ≡ domain.now }
+    ensures clean { IsClean task.new }
 {
     if !test_and_set(domain, task, WORD, OWN) {
         return false;
@@ -82,8 +88,10 @@ fn set_and_clear<R: Wait>(rt: &R, domain: &Domain, task: &mut Task) -> bool
 
 /// Waits until it has the bit, and gives it back: true where it had it.
 fn lock_bit<R: Wait>(rt: &R, domain: &Domain, task: &mut Task) -> bool
-    requires rests { RestsIn domain.now task.old }
-    ensures rests { RestsIn domain.now task.new }
+    requires of { task.old.domain ≡ domain.now }
+    requires clean { IsClean task.old }
+    ensures of { task.new.domain ≡ domain.now }
+    ensures clean { IsClean task.new }
 {
     if wait_on_bit_lock(rt, domain, task, WORD, OWN, SleepState::Uninterruptible).is_err() {
         return false;
@@ -100,9 +108,11 @@ fn wait_for_bit<R: Wait>(
     bit: u8,
     state: SleepState,
 ) -> bool
-    requires rests { RestsIn domain.now task.old }
+    requires of { task.old.domain ≡ domain.now }
+    requires clean { IsClean task.old }
     requires bit { bit < WORD_BITS }
-    ensures rests { RestsIn domain.now task.new }
+    ensures of { task.new.domain ≡ domain.now }
+    ensures clean { IsClean task.new }
 {
     let over = wait_on_bit(rt, domain, task, WORD, bit, state).is_ok();
     if !over {
@@ -113,8 +123,10 @@ fn wait_for_bit<R: Wait>(
 
 /// Takes the page and gives it back: true where it had it.
 fn take_page<R: Wait>(rt: &R, domain: &Domain, task: &mut Task) -> bool
-    requires rests { RestsIn domain.now task.old }
-    ensures rests { RestsIn domain.now task.new }
+    requires of { task.old.domain ≡ domain.now }
+    requires clean { IsClean task.old }
+    ensures of { task.new.domain ≡ domain.now }
+    ensures clean { IsClean task.new }
 {
     if lock_page(rt, domain, task, PAGE, SleepState::Uninterruptible).is_err() {
         return false;
@@ -125,8 +137,10 @@ fn take_page<R: Wait>(rt: &R, domain: &Domain, task: &mut Task) -> bool
 
 /// Makes a call of conditions or heads: true where it went the way that its name says, and so it is of every other.
 fn by_conditions<R: Wait>(rt: &R, domain: &Domain, task: &mut Task, call: Call) -> bool
-    requires rests { RestsIn domain.now task.old }
-    ensures rests { RestsIn domain.now task.new }
+    requires of { task.old.domain ≡ domain.now }
+    requires clean { IsClean task.old }
+    ensures of { task.new.domain ≡ domain.now }
+    ensures clean { IsClean task.new }
 {
     match call {
         Call::SetAndWake => { set_and_wake(rt, domain, task, SET, 1, Mode::Normal, 0).woken == 0 }
@@ -145,8 +159,10 @@ fn by_conditions<R: Wait>(rt: &R, domain: &Domain, task: &mut Task, call: Call) 
 
 /// Makes a call.
 fn once<R: Wait>(rt: &R, domain: &Domain, task: &mut Task, call: Call) -> bool
-    requires rests { RestsIn domain.now task.old }
-    ensures rests { RestsIn domain.now task.new }
+    requires of { task.old.domain ≡ domain.now }
+    requires clean { IsClean task.old }
+    ensures of { task.new.domain ≡ domain.now }
+    ensures clean { IsClean task.new }
 {
     match call {
         Call::Bit => set_and_clear(rt, domain, task),
@@ -162,8 +178,10 @@ fn once<R: Wait>(rt: &R, domain: &Domain, task: &mut Task, call: Call) -> bool
 
 /// Makes a call `n` times: true where each went the way that its name says.
 fn often<R: Wait>(rt: &R, domain: &Domain, task: &mut Task, call: Call, n: u64) -> bool
-    requires rests { RestsIn domain.now task.old }
-    ensures rests { RestsIn domain.now task.new }
+    requires of { task.old.domain ≡ domain.now }
+    requires clean { IsClean task.old }
+    ensures of { task.new.domain ≡ domain.now }
+    ensures clean { IsClean task.new }
 {
     let mut all = true;
     for _ in 0..n {
@@ -176,8 +194,10 @@ fn often<R: Wait>(rt: &R, domain: &Domain, task: &mut Task, call: Call, n: u64) 
 
 /// Sets what is to be set before the calls, and raises a signal at the task where the call is to be ended by it.
 fn make_ready<R: Wait>(rt: &R, domain: &Domain, task: &mut Task, call: Call)
-    requires rests { RestsIn domain.now task.old }
-    ensures rests { RestsIn domain.now task.new }
+    requires of { task.old.domain ≡ domain.now }
+    requires clean { IsClean task.old }
+    ensures of { task.new.domain ≡ domain.now }
+    ensures clean { IsClean task.new }
 {
     set_and_wake(rt, domain, task, SET, 1, Mode::Normal, 0);
     set_simple(rt, domain, task);
@@ -190,8 +210,10 @@ fn make_ready<R: Wait>(rt: &R, domain: &Domain, task: &mut Task, call: Call)
 
 /// Sets the condition with a simple queue, and wakes who waits for it.
 fn set_simple<R: Wait>(rt: &R, domain: &Domain, task: &mut Task)
-    requires rests { RestsIn domain.now task.old }
-    ensures rests { RestsIn domain.now task.new }
+    requires of { task.old.domain ≡ domain.now }
+    requires clean { IsClean task.old }
+    ensures of { task.new.domain ≡ domain.now }
+    ensures clean { IsClean task.new }
 {
     publish(domain, task, Watch::Plain { cond: SIMPLE }, 1);
     swake_one(rt, domain, task, SIMPLE);

@@ -5,8 +5,7 @@ ghost use Rattle.wait_class.specs.Posts.{IsOut};
 ghost use Rattle.wait_pipe.specs.Pieces.{IsSettled};
 ghost use Rattle.wait_rule.specs.PipeSays.{reading, writing};
 ghost use Rattle.wait_rule.specs.Queues.{IsIdle};
-ghost use Rattle.wait_rule.specs.Says.{IsUp};
-ghost use Rattle.test_tasks.specs.Resting.{RestsIn};
+ghost use Rattle.wait_rule.specs.Says.{IsClean, IsUp};
 
 use std::sync::Wait;
 use wait_pipe::{open_read, open_write, read_piece, write_piece};
@@ -79,7 +78,8 @@ pub(crate) fn repeat_pieces<R: Wait>(
     two: &mut Task,
     n: u64,
 ) -> bool
-    requires rest { RestsIn domain.now one.old × RestsIn domain.now two.old }
+    requires of { (one.old.domain ≡ domain.now) × (two.old.domain ≡ domain.now) }
+    requires clean { IsClean one.old × IsClean two.old }
 {
     if !open_write(domain, one, PIPE) || !open_read(domain, two, PIPE) {
         return false;

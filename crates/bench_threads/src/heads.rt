@@ -6,12 +6,12 @@ ghost use Rattle.std.specs.Prelude.{◌≡◌};
 ghost use Rattle.wq_head.specs.Readied.{IsUpAndIdle, IsReadyToCall};
 
 use crate::heads::idle::wait_a_second;
+use crate::tasks::another;
 use std::alloc::Global;
 use std::io;
 use std::sync::Wait;
 use std::thread::Threads;
 use std::time::{Clock, Duration, Instant};
-use test_tasks::forks::another;
 use test_tasks::meetings::Part;
 use wait_model::layout::FIRST_PLAIN_HEAD;
 use wait_model::watches::{Kind, Mode, Watch};

@@ -1,8 +1,7 @@
 //! How fast the steps of a Domain are.
 
 ghost use Rattle.std.specs.Prelude.{◌≡◌};
-ghost use Rattle.wait_rule.specs.Says.{IsUp};
-ghost use Rattle.test_tasks.specs.Resting.{RestsIn};
+ghost use Rattle.wait_rule.specs.Says.{IsClean, IsUp};
 
 use crate::tasks::{Retry, wake_up};
 use crate::timing::{Times, time_two};
@@ -12,10 +11,9 @@ use std::sync::Wait;
 use std::thread::Threads;
 use std::time::{Clock, Duration, Instant};
 use test_tasks::meetings::Part;
-use test_tasks::parks::doze;
-use wait_model::layout::{FATAL, NORMAL};
-use wait_rule::tasks::{load_own, wake_exchange};
-use wait_rule::{Domain, Task};
+use wait_model::layout::{FATAL, NORMAL, UNINTERRUPTIBLE};
+use wait_rule::tasks::{load_own, set_state, wake_exchange};
+use wait_rule::{Domain, Task, schedule};
 
 /// Loads of the own word.
 fn loads(domain: &Domain, task: &mut Task, n: u64) -> u64
@@ -41,6 +39,17 @@ fn exchanges<R: Wait>(rt: &R, domain: &Domain, task: &mut Task, n: u64)
     for _ in 0..n {
         wake_exchange(rt, domain, task, 0, NORMAL);
     }
+}
+
+/// Sleeps until woken.
+fn doze<R: Wait>(rt: &R, domain: &Domain, task: &mut Task)
+    requires of { task.old.domain ≡ domain.now }
+    requires clean { IsClean task.old }
+    ensures of { task.new.domain ≡ domain.now }
+    ensures clean { IsClean task.new }
+{
+    set_state(domain, task, UNINTERRUPTIBLE);
+    schedule(rt, domain, task);
 }
 
 /// One side of a round trip: it wakes the other one and sleeps, or first sleeps.

@@ -1,16 +1,15 @@
 //! How long tasks of a new Domain take that play a part again and again.
 
-ghost use Rattle.std.specs.Prelude.{All};
-ghost use Rattle.test_tasks.specs.Resting.{RestsIn};
+ghost use Rattle.std.specs.Prelude.{◌≡◌, All};
+ghost use Rattle.wait_rule.specs.Says.{IsClean};
 
-use crate::tasks::crowd;
-use lock_users::mutexes::open_mutex;
+use crate::futexes::mutexes::open;
+use crate::tasks::{another, crowd};
 use std::alloc::Global;
 use std::sync::Wait;
 use std::thread::Threads;
 use std::time::{Clock, Duration, Instant};
 use std::{io, thread};
-use test_tasks::forks::another;
 use test_tasks::meetings::{Part, meet_four, meet_two};
 use test_tasks::often::Often;
 use wait_rule::{Domain, Task};
@@ -74,7 +73,7 @@ pub(crate) fn time_two<R: Clock + Threads + Wait + Sync, P: Part + Copy>(
 ) -> io::Result<Option<Duration>> {
     let (domain, mut task) = Domain::with_looks(alloc, looks)?;
     let other = another(&domain, &mut task);
-    open_mutex(rt, &domain, &mut task);
+    open(rt, &domain, &mut task);
     let (own, its) = (often(parts.0, n), often(parts.1, n));
     let start = Instant::now(rt)?;
     let (one, two) = meet_two(rt, &domain, task, other, (own, its));
@@ -110,7 +109,8 @@ fn play_one<R: Wait, P: Part + Copy>(
     part: P,
     n: u64,
 ) -> bool
-    requires rests { RestsIn domain.now task }
+    requires of { task.domain ≡ domain.now }
+    requires clean { IsClean task }
 {
     often(part, n).play(rt, domain, &mut task)
 }
@@ -123,13 +123,13 @@ fn play_all<R: Threads + Wait + Sync, P: Part + Copy + Sync>(
     part: P,
     n: u64,
 ) -> bool
-    requires rest { All (λ t. RestsIn domain.now t) tasks.items }
+    requires clean { All (λ t. (t.domain ≡ domain.now) × IsClean t) tasks.items }
 {
     let all = thread::map_vec(
         rt,
         tasks,
         &|task: Task| -> bool
-            requires { RestsIn domain.now task }
+            requires { (task.domain ≡ domain.now) × IsClean task }
         { play_one(rt, domain, task, part, n) },
     );
     all.is_ok_and(|all| all.iter().all(|one| *one))
@@ -144,7 +144,7 @@ pub(crate) fn time_crowd<R: Clock + Threads + Wait + Sync, P: Part + Copy + Sync
     n: u64,
 ) -> io::Result<Option<Duration>> {
     let (domain, mut task) = Domain::new(alloc)?;
-    open_mutex(rt, &domain, &mut task);
+    open(rt, &domain, &mut task);
     let tasks = crowd(alloc, &domain, &mut task, threads)?;
     let start = Instant::now(rt)?;
     let well = play_all(rt, &domain, tasks, part, n);

@@ -8,10 +8,10 @@ ghost use Rattle.wait_class.specs.declared.stages.Turn.TheVariants as turn;
 ghost use Rattle.futex_table.specs.CondStretches.{IsCondUnderWay};
 ghost use Rattle.futex_table.specs.Holding.{HoldsMutex};
 ghost use Rattle.futex_tests.specs.CondTasks.{IsInMonitor, IsTestedCond, tested_cond};
-ghost use Rattle.test_tasks.specs.Resting.{RestsIn};
 
 use crate::calls::{open, signal, try_lock, unlock};
 use crate::left_locks::has_mutex;
+use crate::monitors::{Whose, add_if_own};
 use crate::turns::{is_free_lock, is_free_wait, open_and_take};
 use futex_table::cond_stretches::{
     CondStage, CondStop, CondTurn, CondWait, begin_cond_wait, end_cond_wait, end_cond_wait_until,
@@ -20,7 +20,6 @@ use futex_table::cond_stretches::{
 use futex_table::cond_vars::{CondEnd, cond_broadcast};
 use futex_table::mutexes::mutex_try;
 use futex_table::waits::FutexStage;
-use lock_users::monitors::{Whose, add_if_own};
 use std::sync::Wait;
 use std::sync::atomic::{AtomicU64, Ordering};
 use std::test::Fail;
@@ -166,8 +165,10 @@ fn is_free_at(stage: CondStage) -> bool {
 
 /// Signals with the mutex, where nobody has it, and gives it back: how many it woke. None: it did not signal.
 fn signal_alone<R: Wait>(rt: &R, domain: &Domain, task: &mut Task) -> Option<u32>
-    requires rests { RestsIn domain.now task.old }
-    ensures rests { RestsIn domain.now task.new }
+    requires of { task.old.domain ≡ domain.now }
+    requires clean { IsClean task.old }
+    ensures of { task.new.domain ≡ domain.now }
+    ensures clean { IsClean task.new }
 {
     if !try_lock(domain, task) {
         return None;
@@ -185,8 +186,10 @@ fn signal_at<R: Wait>(
     moment: CondTurn,
     told: Option<u32>,
 ) -> Option<u32>
-    requires rests { RestsIn domain.now task.old }
-    ensures rests { RestsIn domain.now task.new }
+    requires of { task.old.domain ≡ domain.now }
+    requires clean { IsClean task.old }
+    ensures of { task.new.domain ≡ domain.now }
+    ensures clean { IsClean task.new }
 {
     if told.is_some() || !is_free(moment) {
         return told;
@@ -196,8 +199,10 @@ fn signal_at<R: Wait>(
 
 /// Wakes the task of this number, as a walk would, where it is to.
 fn rouse_if<R: Wait>(rt: &R, domain: &Domain, task: &mut Task, who: u8, is_to: bool)
-    requires rests { RestsIn domain.now task.old }
-    ensures rests { RestsIn domain.now task.new }
+    requires of { task.old.domain ≡ domain.now }
+    requires clean { IsClean task.old }
+    ensures of { task.new.domain ≡ domain.now }
+    ensures clean { IsClean task.new }
 {
     if !is_to {
         return;
@@ -214,7 +219,8 @@ fn reach<R: Wait>(
     stretches: u32,
     rouses: bool,
 ) -> CondTurn
-    requires rest { RestsIn domain.now task.old × RestsIn domain.now other.old }
+    requires of { (task.old.domain ≡ domain.now) × (other.old.domain ≡ domain.now) }
+    requires clean { IsClean task.old × IsClean other.old }
     requires holds { HoldsMutex task.old 6 }
     ensures of { (task.new.domain ≡ domain.now) × (other.new.domain ≡ domain.now) }
     ensures waiting { IsTestedCond task.new result }
@@ -321,7 +327,8 @@ fn act<R: Wait>(
     number: &AtomicU64,
     own: u64,
 ) -> Option<CondTurn>
-    requires rests { RestsIn domain.now task.old }
+    requires of { task.old.domain ≡ domain.now }
+    requires clean { IsClean task.old }
     requires holds { HoldsMutex task.old 6 }
     ensures of { task.new.domain ≡ domain.now }
     ensures stands { IsInMonitor task.new result }
@@ -348,7 +355,8 @@ fn come_in<R: Wait>(
     number: &AtomicU64,
     own: u64,
 ) -> Option<CondTurn>
-    requires rests { RestsIn domain.now task.old }
+    requires of { task.old.domain ≡ domain.now }
+    requires clean { IsClean task.old }
     ensures of { task.new.domain ≡ domain.now }
     ensures stands { IsInMonitor task.new result }
 {
@@ -473,7 +481,8 @@ fn play_two<R: Wait>(
     number: &AtomicU64,
     seed: u32,
 ) -> (bool, bool)
-    requires rest { RestsIn domain.now first.old × RestsIn domain.now second.old }
+    requires of { (first.old.domain ≡ domain.now) × (second.old.domain ≡ domain.now) }
+    requires clean { IsClean first.old × IsClean second.old }
 {
     let mut ats = (None, None);
     let mut seed = seed;
@@ -587,8 +596,10 @@ fn signal_if<R: Wait>(
     moment: CondTurn,
     is_to: bool,
 ) -> Option<u32>
-    requires rests { RestsIn domain.now task.old }
-    ensures rests { RestsIn domain.now task.new }
+    requires of { task.old.domain ≡ domain.now }
+    requires clean { IsClean task.old }
+    ensures of { task.new.domain ≡ domain.now }
+    ensures clean { IsClean task.new }
 {
     if !is_to {
         return None;
@@ -606,7 +617,8 @@ fn leave_after<R: Wait>(
     rouses: bool,
     signals: bool,
 ) -> bool
-    requires rest { RestsIn domain.now task.old × RestsIn domain.now other.old }
+    requires of { (task.old.domain ≡ domain.now) × (other.old.domain ≡ domain.now) }
+    requires clean { IsClean task.old × IsClean other.old }
     requires holds { HoldsMutex task.old 6 }
 {
     let at = reach(rt, domain, task, other, stretches, rouses);

@@ -5,7 +5,6 @@ ghost use Rattle.std.specs.Prelude.{◌≡◌};
 ghost use Rattle.wait_rule.specs.Says.{IsClean};
 ghost use Rattle.wait_class.specs.Tables.{Lands};
 ghost use Rattle.futex_table.specs.FutexTables.{futex_table};
-ghost use Rattle.test_tasks.specs.Resting.{RestsIn};
 
 use crate::calls::{sleep, wake_soon};
 use futex_table::futexes::{FutexEnd, begin_futex, futex_wake};
@@ -85,8 +84,10 @@ fn leave_or_pass<R: Wait>(
     flag: &AtomicU64,
     wakes: &AtomicU64,
 ) -> bool
-    requires rests { RestsIn domain.now task.old }
-    ensures rests { RestsIn domain.now task.new }
+    requires of { task.old.domain ≡ domain.now }
+    requires clean { IsClean task.old }
+    ensures of { task.new.domain ≡ domain.now }
+    ensures clean { IsClean task.new }
 {
     let asks = || flag.load(Ordering::SeqCst) != 0;
     let end = futex_wait_until(rt, domain, task, FUTEX, 0, STATE, asks);
@@ -99,8 +100,10 @@ fn leave_or_pass<R: Wait>(
 
 /// Sleeps until it is asked to leave: whether it was left.
 fn leave<R: Wait>(rt: &R, domain: &Domain, task: &mut Task, flag: &AtomicU64) -> bool
-    requires rests { RestsIn domain.now task.old }
-    ensures rests { RestsIn domain.now task.new }
+    requires of { task.old.domain ≡ domain.now }
+    requires clean { IsClean task.old }
+    ensures of { task.new.domain ≡ domain.now }
+    ensures clean { IsClean task.new }
 {
     let asks = || flag.load(Ordering::SeqCst) != 0;
     is_left(futex_wait_until(rt, domain, task, FUTEX, 0, STATE, asks))

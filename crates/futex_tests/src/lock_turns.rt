@@ -4,12 +4,11 @@
 ghost use Rattle.std.specs.Prelude.{◌≡◌};
 ghost use Rattle.wait_rule.specs.PassedLocks.{PassesNone};
 ghost use Rattle.wait_rule.specs.Queues.{IsIdle};
-ghost use Rattle.wait_rule.specs.Says.{IsClean};
+ghost use Rattle.wait_rule.specs.Says.{IsClean, IsUp};
 ghost use Rattle.wait_class.specs.Posts.{IsOut};
 ghost use Rattle.wait_class.specs.declared.stages.Turn.TheVariants as turn;
 ghost use Rattle.futex_table.specs.Holding.{HoldsMutex};
 ghost use Rattle.futex_table.specs.LockStretches.{IsLockUnderWay};
-ghost use Rattle.test_tasks.specs.Resting.{RestsIn};
 
 use crate::calls::open;
 use crate::left_locks::has_locked;
@@ -226,7 +225,8 @@ fn play_two<R: Wait>(
     second: &mut Task,
     seed: u32,
 ) -> Sections
-    requires rest { RestsIn domain.now first.old × RestsIn domain.now second.old }
+    requires of { (first.old.domain ≡ domain.now) × (second.old.domain ≡ domain.now) }
+    requires clean { IsClean first.old × IsClean second.old }
 {
     let one = Turn::Again(begin_mutex_lock(first, LOCK));
     let two = Turn::Again(begin_mutex_lock(second, LOCK));

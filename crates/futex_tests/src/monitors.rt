@@ -1,8 +1,11 @@
 //! Two tasks that hand a number to and fro under one mutex and one condition variable, in threads of their own, again and
 //! again, in Domains whose tasks park at once when they are put asleep.
 
-use crate::calls::{lock, open};
-use lock_users::monitors::hand_on;
+ghost use Rattle.std.specs.Prelude.{◌≡◌};
+ghost use Rattle.wait_rule.specs.Says.{IsClean};
+ghost use Rattle.futex_table.specs.Holding.{HoldsMutex};
+
+use crate::calls::{broadcast, lock, open, unlock, wait};
 use std::sync::Wait;
 use std::sync::atomic::{AtomicU64, Ordering};
 use std::test::Fail;
@@ -25,8 +28,64 @@ struct Adds<'a> {
 
 impl Part for Adds<'_> {
     fn play<R: Wait>(self, rt: &R, domain: &Domain, task: &mut Task) -> bool {
-        lock(rt, domain, task) && hand_on(rt, domain, task, self.number, self.own, LAST)
+        if lock(rt, domain, task) {
+            add_in_turn(rt, domain, task, self.number, self.own)
+        } else {
+            false
+        }
     }
+}
+
+/// Where it stands with the number: the own turn, that of the other, or the end.
+#[derive(Clone, Copy)]
+pub(crate) enum Whose {
+    Own,
+    Other,
+    Nobody,
+}
+
+/// Adds 1 to the number on the own turn, where it is not the last.
+pub(crate) fn add_if_own(number: &AtomicU64, own: u64, last: u64) -> Whose {
+    let now = number.load(Ordering::SeqCst);
+    if now >= last {
+        return Whose::Nobody;
+    }
+    if now % 2 == own {
+        number.store(now + 1, Ordering::SeqCst);
+        return Whose::Own;
+    }
+    Whose::Other
+}
+
+/// With the mutex, hands the number on until it is the last, and gives the mutex back: whether it came so far.
+fn add_in_turn<R: Wait>(
+    rt: &R,
+    domain: &Domain,
+    task: &mut Task,
+    number: &AtomicU64,
+    own: u64,
+) -> bool
+    requires of { task.old.domain ≡ domain.now }
+    requires clean { IsClean task.old }
+    requires holds { HoldsMutex task.old 6 }
+    ensures of { task.new.domain ≡ domain.now }
+    ensures clean { IsClean task.new }
+{
+    for _ in rt.forever() {
+        match add_if_own(number, own, LAST) {
+            Whose::Own => broadcast(rt, domain, task),
+            Whose::Other => {
+                if !wait(rt, domain, task) {
+                    return false;
+                }
+            }
+            Whose::Nobody => {
+                unlock(rt, domain, task);
+                return true;
+            }
+        }
+    }
+    unreachable!()
 }
 
 /// Whatever the order of the steps, each adds on its turn alone, and both end once the number is the last.

@@ -12,4 +12,6 @@ mod scenes;
 #[cfg(test)]
 mod steps;
 #[cfg(test)]
+mod wants;
+#[cfg(test)]
 mod words;

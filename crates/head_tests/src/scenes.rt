@@ -18,13 +18,13 @@ use crate::steps::tallies::count_up;
 use crate::steps::{
     cuts_off_all, gives_share, goes_alone, meets_by_mode, stops_sleeps, takes_fatal, tries_once,
 };
+use crate::wants::{all_so, another};
 use crate::words::is_at;
 use std::alloc::Global;
 use std::process::Abort;
 use std::sync::Wait;
 use std::test::Fail;
 use std::thread::Threads;
-use test_tasks::stops::{all_so, another};
 use wait_rule::Domain;
 
 /// What the first task does, which shows one thing.

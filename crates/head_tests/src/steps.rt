@@ -9,14 +9,13 @@ pub(crate) mod tallies;
 ghost use Rattle.std.specs.Prelude.{◌≡◌, [], true};
 ghost use Rattle.head_tests.specs.Meeting.{SleptOnce, WokeOnce, HaveMet};
 ghost use Rattle.wait_rule.specs.Says.{IsClean, IsUp, history_of};
-ghost use Rattle.test_tasks.specs.Resting.{RestsIn};
 
 use crate::scenes::{Alone, Beside, Seen, want, want_all, want_beside};
+use crate::wants::another;
 use std::sync::Wait;
 use std::test::Fail;
 use std::thread;
 use std::thread::Threads;
-use test_tasks::stops::another;
 use wait_model::layout::{INTERRUPTIBLE, KILLABLE, NORMAL, RUNNING, UNINTERRUPTIBLE};
 use wait_model::tasks::{Sleep, Taken};
 use wait_model::watches::Mode;
@@ -53,7 +52,8 @@ fn is_nothing(taken: Taken) -> bool {
 
 /// Whether the own sleeps end at once.
 fn stays_awake<R: Wait>(rt: &R, domain: &Domain, task: &mut Task) -> bool
-    requires rests { RestsIn domain.now task.old }
+    requires of { task.old.domain ≡ domain.now }
+    requires clean { IsClean task.old }
     ensures of { task.new.domain ≡ domain.now }
     ensures up { result ≡ true → IsUp task.new }
 {
@@ -79,7 +79,8 @@ fn meets_nobody<R: Wait>(rt: &R, domain: &Domain, task: &mut Task) -> bool
 
 /// Both.
 pub(crate) fn goes_alone<R: Wait>(rt: &R, domain: &Domain, task: &mut Task) -> bool
-    requires rests { RestsIn domain.now task.old }
+    requires of { task.old.domain ≡ domain.now }
+    requires clean { IsClean task.old }
 {
     stays_awake(rt, domain, task) && meets_nobody(rt, domain, task)
 }
@@ -92,8 +93,10 @@ fn alone(rt: HostRuntime) -> Result<(), Fail> {
 
 /// Cuts a task with a share of numbers off: true where it has this number.
 fn cuts_off(domain: &Domain, task: &mut Task, share: u8, number: u8) -> bool
-    requires rests { RestsIn domain.now task.old }
-    ensures rests { RestsIn domain.now task.new }
+    requires of { task.old.domain ≡ domain.now }
+    requires clean { IsClean task.old }
+    ensures of { task.new.domain ≡ domain.now }
+    ensures clean { IsClean task.new }
 {
     match task.fork(domain, share) {
         Ok(other) => other.number() == number,
@@ -108,7 +111,8 @@ fn is_refused(forked: Result<Task, NoTask>) -> bool {
 
 /// Whether all numbers are given out in their order, and then there is none left.
 pub(crate) fn cuts_off_all(domain: &Domain, task: &mut Task) -> bool
-    requires rests { RestsIn domain.now task.old }
+    requires of { task.old.domain ≡ domain.now }
+    requires clean { IsClean task.old }
 {
     let own = task.number() == 0;
     for number in 1..256u16 {
@@ -127,7 +131,8 @@ fn numbers_run_out(rt: HostRuntime) -> Result<(), Fail> {
 
 /// What a task and one that it has given a share of 5 numbers give out.
 fn share_numbers(domain: &Domain, task: &mut Task, mut second: Task) -> [bool; 5]
-    requires rest { RestsIn domain.now task.old × RestsIn domain.now second }
+    requires of { (task.old.domain ≡ domain.now) × (second.domain ≡ domain.now) }
+    requires clean { IsClean task.old × IsClean second }
 {
     let spare = (second.spare(), task.spare());
     let seen = [
@@ -143,7 +148,8 @@ fn share_numbers(domain: &Domain, task: &mut Task, mut second: Task) -> [bool; 5
 
 /// Gives such a share.
 pub(crate) fn gives_share(domain: &Domain, task: &mut Task) -> [bool; 5]
-    requires rests { RestsIn domain.now task.old }
+    requires of { task.old.domain ≡ domain.now }
+    requires clean { IsClean task.old }
 {
     match task.fork(domain, 5) {
         Ok(second) => share_numbers(domain, task, second),
@@ -172,7 +178,8 @@ fn has_met(tried: Option<Met>, met: bool) -> bool {
 
 /// What single tries find of a task that goes to sleep, and of one that was woken.
 pub(crate) fn tries_once(domain: &Domain, task: &mut Task, other: &mut Task) -> [bool; 4]
-    requires rest { RestsIn domain.now task.old × RestsIn domain.now other.old }
+    requires of { (task.old.domain ≡ domain.now) × (other.old.domain ≡ domain.now) }
+    requires clean { IsClean task.old × IsClean other.old }
 {
     set_state(domain, task, UNINTERRUPTIBLE);
     let mut failed = FailedTries::none();
@@ -196,8 +203,10 @@ fn single_tries(rt: HostRuntime) -> Result<(), Fail> {
 
 /// Whether a fatal signal stops the sleeps that admit it, and stays pending.
 pub(crate) fn stops_sleeps<R: Wait>(rt: &R, domain: &Domain, task: &mut Task) -> [bool; 3]
-    requires rests { RestsIn domain.now task.old }
-    ensures rests { RestsIn domain.now task.new }
+    requires of { task.old.domain ≡ domain.now }
+    requires clean { IsClean task.old }
+    ensures of { task.new.domain ≡ domain.now }
+    ensures clean { IsClean task.new }
 {
     send_signal(rt, domain, task, 0, true);
     set_state(domain, task, KILLABLE);
@@ -214,7 +223,8 @@ pub(crate) fn stops_sleeps<R: Wait>(rt: &R, domain: &Domain, task: &mut Task) ->
 
 /// Whether it is taken, and what the own word is without it.
 pub(crate) fn takes_fatal(domain: &Domain, task: &mut Task) -> [bool; 3]
-    requires rests { RestsIn domain.now task.old }
+    requires of { task.old.domain ≡ domain.now }
+    requires clean { IsClean task.old }
 {
     let taken = take_signal(domain, task);
     set_state(domain, task, UNINTERRUPTIBLE);
@@ -240,7 +250,8 @@ pub(crate) fn meets_by_mode<R: Wait>(
     task: &mut Task,
     other: &mut Task,
 ) -> [bool; 7]
-    requires rest { RestsIn domain.now task.old × RestsIn domain.now other.old }
+    requires of { (task.old.domain ≡ domain.now) × (other.old.domain ≡ domain.now) }
+    requires clean { IsClean task.old × IsClean other.old }
 {
     set_state(domain, other, UNINTERRUPTIBLE);
     [
@@ -262,9 +273,11 @@ fn wakes_meet_states(rt: HostRuntime) -> Result<(), Fail> {
 
 /// Stores UNINTERRUPTIBLE and sleeps until woken.
 fn sleeper<R: Wait>(rt: &R, domain: &Domain, mut task: Task) -> Task
-    requires rests { RestsIn domain.now task }
+    requires of { task.domain ≡ domain.now }
+    requires clean { IsClean task }
     requires empty { history_of task ≡ [] }
-    ensures rests { RestsIn domain.now result }
+    ensures of { result.domain ≡ domain.now }
+    ensures clean { IsClean result }
     ensures number { result.view.number ≡ task.view.number }
     ensures slept { SleptOnce result.view.items }
     ensures joined { result.view.joined ≡ task.view.joined }
@@ -296,7 +309,8 @@ fn waker<R: Wait>(rt: &R, domain: &Domain, mut task: Task, who: u8) -> Task
 /// A sleeper and its waker in two threads. After the join the two histories hold one wake that met the sleeper,
 /// and one sleep.
 fn meet<R: Threads + Wait + Sync>(rt: &R, domain: &Domain, first: Task, second: Task) -> Task
-    requires rest { RestsIn domain.now first × RestsIn domain.now second }
+    requires of { (first.domain ≡ domain.now) × (second.domain ≡ domain.now) }
+    requires clean { IsClean first × IsClean second }
     requires empty { (history_of first ≡ []) × (history_of second ≡ []) }
     requires alone { (first.view.joined ≡ []) × (second.view.joined ≡ []) }
     ensures { HaveMet second.view.number result }

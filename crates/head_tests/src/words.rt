@@ -1,6 +1,6 @@
 //! Worked numbers of the heads, of the positions, of a completion's count and of a task's word.
 
-use test_tasks::stops::all_so;
+use crate::wants::all_so;
 use wait_model::counts::{raised_done, taken_done};
 use wait_model::heads::{bit_head, var_head};
 use wait_model::layout::NORMAL;

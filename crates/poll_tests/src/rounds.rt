@@ -1,8 +1,8 @@
 //! A task that waits for two conditions, and others that set one each, in threads of their own, again and again, in
 //! Domains whose tasks park at once when they are put asleep.
 
-ghost use Rattle.std.specs.Prelude.{◌<◌};
-ghost use Rattle.test_tasks.specs.Resting.{RestsIn};
+ghost use Rattle.std.specs.Prelude.{◌≡◌, ◌<◌};
+ghost use Rattle.wait_rule.specs.Says.{IsClean};
 
 use crate::calls::{polls, sets, stores};
 use poll_wait::{PollEnd, Ready};
@@ -63,8 +63,10 @@ impl Part for Plays {
 
 /// Waits for either, and then for the other one beside a variable that nobody stores.
 fn see_both<R: Wait>(rt: &R, domain: &Domain, task: &mut Task) -> bool
-    requires rests { RestsIn domain.now task.old }
-    ensures rests { RestsIn domain.now task.new }
+    requires of { task.old.domain ≡ domain.now }
+    requires clean { IsClean task.old }
+    ensures of { task.new.domain ≡ domain.now }
+    ensures clean { IsClean task.new }
 {
     let cond = Watch::Plain { cond: COND };
     let var = Watch::Var { var: VAR, old: 0 };
@@ -85,8 +87,10 @@ fn see_both<R: Wait>(rt: &R, domain: &Domain, task: &mut Task) -> bool
 
 /// Waits for either, unless a signal ends that.
 fn see_unless_signalled<R: Wait>(rt: &R, domain: &Domain, task: &mut Task) -> bool
-    requires rests { RestsIn domain.now task.old }
-    ensures rests { RestsIn domain.now task.new }
+    requires of { task.old.domain ≡ domain.now }
+    requires clean { IsClean task.old }
+    ensures of { task.new.domain ≡ domain.now }
+    ensures clean { IsClean task.new }
 {
     let cond = Watch::Plain { cond: COND };
     let var = Watch::Var { var: VAR, old: 0 };
@@ -100,8 +104,10 @@ fn see_unless_signalled<R: Wait>(rt: &R, domain: &Domain, task: &mut Task) -> bo
 
 /// Waits for the condition beside another variable of the same table.
 fn stranger<R: Wait>(rt: &R, domain: &Domain, task: &mut Task) -> bool
-    requires rests { RestsIn domain.now task.old }
-    ensures rests { RestsIn domain.now task.new }
+    requires of { task.old.domain ≡ domain.now }
+    requires clean { IsClean task.old }
+    ensures of { task.new.domain ≡ domain.now }
+    ensures clean { IsClean task.new }
 {
     let cond = Watch::Plain { cond: COND };
     let other = Watch::Plain { cond: 4 };

@@ -1,8 +1,8 @@
 //! One task alone: what each call answers where nobody else is there, as rows of steps.
 
-ghost use Rattle.std.specs.Prelude.{◌<◌};
+ghost use Rattle.std.specs.Prelude.{◌≡◌, ◌<◌};
 ghost use Rattle.wait_model.specs.declared.layout.TheConstants.{COMPLETIONS};
-ghost use Rattle.test_tasks.specs.Resting.{RestsIn};
+ghost use Rattle.wait_rule.specs.Says.{IsClean};
 
 use completion_cell::complete_all;
 use count_sem::{SemEnd, SemFull, down, try_down, up};
@@ -24,18 +24,22 @@ pub(crate) fn gives<R: Wait>(
     task: &mut Task,
     cell: u8,
 ) -> Result<(), SemFull>
-    requires rests { RestsIn domain.now task.old }
+    requires of { task.old.domain ≡ domain.now }
+    requires clean { IsClean task.old }
     requires cell { cell < COMPLETIONS }
-    ensures rests { RestsIn domain.now task.new }
+    ensures of { task.new.domain ≡ domain.now }
+    ensures clean { IsClean task.new }
 {
     up(rt, domain, task, cell)
 }
 
 /// Takes a permit where one is there: whether it took one.
 pub(crate) fn tries<R: Wait>(rt: &R, domain: &Domain, task: &mut Task, cell: u8) -> bool
-    requires rests { RestsIn domain.now task.old }
+    requires of { task.old.domain ≡ domain.now }
+    requires clean { IsClean task.old }
     requires cell { cell < COMPLETIONS }
-    ensures rests { RestsIn domain.now task.new }
+    ensures of { task.new.domain ≡ domain.now }
+    ensures clean { IsClean task.new }
 {
     try_down(rt, domain, task, cell)
 }
@@ -57,8 +61,10 @@ enum Step {
 
 /// Makes a step, and answers whether it was answered as it says.
 fn is_so<R: Wait>(rt: &R, domain: &Domain, task: &mut Task, step: Step) -> bool
-    requires rests { RestsIn domain.now task.old }
-    ensures rests { RestsIn domain.now task.new }
+    requires of { task.old.domain ≡ domain.now }
+    requires clean { IsClean task.old }
+    ensures of { task.new.domain ≡ domain.now }
+    ensures clean { IsClean task.new }
 {
     match step {
         Step::Gives(end) => match gives(rt, domain, task, CELL) {

@@ -1,9 +1,9 @@
 //! Tasks that take permits and give them back in threads of their own, again and again, in Domains whose tasks park at
 //! once when they are put asleep; a `down` that a signal ends, or that its task leaves, at each moment.
 
-ghost use Rattle.std.specs.Prelude.{◌<◌};
+ghost use Rattle.std.specs.Prelude.{◌≡◌, ◌<◌};
 ghost use Rattle.wait_model.specs.declared.layout.TheConstants.{COMPLETIONS};
-ghost use Rattle.test_tasks.specs.Resting.{RestsIn};
+ghost use Rattle.wait_rule.specs.Says.{IsClean};
 
 use crate::alone::tries;
 use count_sem::{SemEnd, down, down_until, up};
@@ -84,8 +84,10 @@ impl Part for Plays<'_> {
 
 /// Yields so often, and gives one back.
 fn give_late<R: Wait>(rt: &R, domain: &Domain, task: &mut Task, late: u32) -> bool
-    requires rests { RestsIn domain.now task.old }
-    ensures rests { RestsIn domain.now task.new }
+    requires of { task.old.domain ≡ domain.now }
+    requires clean { IsClean task.old }
+    ensures of { task.new.domain ≡ domain.now }
+    ensures clean { IsClean task.new }
 {
     yield_often(late);
     up(rt, domain, task, CELL).is_ok()
@@ -98,8 +100,10 @@ fn take_unless_signalled<R: Wait>(
     task: &mut Task,
     took: &AtomicU64,
 ) -> bool
-    requires rests { RestsIn domain.now task.old }
-    ensures rests { RestsIn domain.now task.new }
+    requires of { task.old.domain ≡ domain.now }
+    requires clean { IsClean task.old }
+    ensures of { task.new.domain ≡ domain.now }
+    ensures clean { IsClean task.new }
 {
     match down(rt, domain, task, CELL, SleepState::Interruptible) {
         Ok(()) => {
@@ -119,8 +123,10 @@ fn take_until<R: Wait>(
     flag: &AtomicU64,
     took: &AtomicU64,
 ) -> bool
-    requires rests { RestsIn domain.now task.old }
-    ensures rests { RestsIn domain.now task.new }
+    requires of { task.old.domain ≡ domain.now }
+    requires clean { IsClean task.old }
+    ensures of { task.new.domain ≡ domain.now }
+    ensures clean { IsClean task.new }
 {
     let asks = || flag.load(Ordering::SeqCst) != 0;
     match down_until(rt, domain, task, CELL, SleepState::Uninterruptible, asks) {
@@ -142,8 +148,10 @@ fn take_and_ask<R: Wait>(
     other: &AtomicU64,
     who: u8,
 ) -> bool
-    requires rests { RestsIn domain.now task.old }
-    ensures rests { RestsIn domain.now task.new }
+    requires of { task.old.domain ≡ domain.now }
+    requires clean { IsClean task.old }
+    ensures of { task.new.domain ≡ domain.now }
+    ensures clean { IsClean task.new }
 {
     if take_until(rt, domain, task, flag, took) {
         ask_late(rt, domain, task, other, who, 0)
@@ -160,8 +168,10 @@ fn take_unless_asked<R: Wait>(
     flag: &AtomicU64,
     took: &AtomicU64,
 ) -> bool
-    requires rests { RestsIn domain.now task.old }
-    ensures rests { RestsIn domain.now task.new }
+    requires of { task.old.domain ≡ domain.now }
+    requires clean { IsClean task.old }
+    ensures of { task.new.domain ≡ domain.now }
+    ensures clean { IsClean task.new }
 {
     take_until(rt, domain, task, flag, took);
     true
@@ -169,8 +179,10 @@ fn take_unless_asked<R: Wait>(
 
 /// How many permits are counted, of two at most.
 fn rest<R: Wait>(rt: &R, domain: &Domain, task: &mut Task) -> u64
-    requires rests { RestsIn domain.now task.old }
-    ensures rests { RestsIn domain.now task.new }
+    requires of { task.old.domain ≡ domain.now }
+    requires clean { IsClean task.old }
+    ensures of { task.new.domain ≡ domain.now }
+    ensures clean { IsClean task.new }
 {
     let one = tries(rt, domain, task, CELL);
     let two = tries(rt, domain, task, CELL);

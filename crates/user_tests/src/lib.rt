@@ -11,3 +11,5 @@ mod meetings;
 mod pipes;
 #[cfg(test)]
 mod users;
+#[cfg(test)]
+mod wants;

@@ -9,13 +9,12 @@ mod stretched;
 ghost use Rattle.std.specs.Prelude.{◌≡◌};
 ghost use Rattle.wait_rule.specs.Says.{IsClean};
 ghost use Rattle.wq_user.specs.Waiting.{IsWaiting};
-ghost use Rattle.test_tasks.specs.Resting.{RestsIn};
 
+use crate::wants::{all_so, another};
 use std::sync::Wait;
 use std::test::Fail;
 use std::thread;
 use std::thread::Threads;
-use test_tasks::stops::{all_so, another};
 use wait_model::tasks::{Sleep, SleepState};
 use wait_model::watches::Kind;
 use wait_rule::{Domain, Task, send_signal};
@@ -40,7 +39,8 @@ fn wait_up<R: Wait>(rt: &R, domain: &Domain, mut task: Task) -> bool
 
 /// Sets the condition and wakes all: how many it woke.
 fn wake_up<R: Wait>(rt: &R, domain: &Domain, mut task: Task) -> u32
-    requires rests { RestsIn domain.now task }
+    requires of { task.domain ≡ domain.now }
+    requires clean { IsClean task }
 {
     set_and_wake(rt, domain, &mut task)
 }
@@ -57,7 +57,7 @@ fn both<R: Threads + Wait + Sync>(rt: &R, domain: &Domain, waiter: Task, waker: 
             requires { (waiter.domain ≡ domain.now) × IsWaiting waiter }
         { wait_up(rt, domain, waiter) },
         move || -> u32
-            requires { RestsIn domain.now waker }
+            requires { (waker.domain ≡ domain.now) × IsClean waker }
         { wake_up(rt, domain, waker) },
     )
 }

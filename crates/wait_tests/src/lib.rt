@@ -26,3 +26,5 @@ mod simple_queues;
 mod turns;
 #[cfg(test)]
 mod variables;
+#[cfg(test)]
+mod wants;

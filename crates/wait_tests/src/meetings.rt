@@ -7,12 +7,14 @@ mod parts;
 pub(crate) mod rows;
 mod shares;
 
-ghost use Rattle.test_tasks.specs.Resting.{RestsIn};
+ghost use Rattle.std.specs.Prelude.{◌≡◌};
+ghost use Rattle.wait_rule.specs.Says.{IsClean};
 
 pub(crate) use crate::meetings::founds::Found;
 pub(crate) use crate::meetings::parts::Part;
 use crate::meetings::parts::Played;
 pub(crate) use crate::meetings::shares::Shared;
+use crate::wants::all_so;
 use std::alloc::Global;
 use std::process::Abort;
 use std::sync::Wait;
@@ -20,7 +22,6 @@ use std::sync::atomic::Ordering;
 use std::test::Fail;
 use std::thread::Threads;
 use test_tasks::meetings;
-use test_tasks::stops::all_so;
 use wait_rule::{Domain, Task};
 
 /// How many rounds most tests make.
@@ -74,7 +75,8 @@ fn meet<R: Abort + Threads + Wait + Sync>(
     row: &Meeting,
     shared: &Shared,
 )
-    requires rests { RestsIn domain.now task }
+    requires of { task.domain ≡ domain.now }
+    requires clean { IsClean task }
 {
     let mut task = task;
     let began = row.before.play(rt, domain, &mut task, shared);
@@ -109,8 +111,10 @@ fn two_meet<R: Abort + Threads + Wait + Sync>(
     task: Task,
     parts: (Played, Played),
 ) -> Task
-    requires rests { RestsIn domain.now task }
-    ensures rests { RestsIn domain.now result }
+    requires of { task.domain ≡ domain.now }
+    requires clean { IsClean task }
+    ensures of { result.domain ≡ domain.now }
+    ensures clean { IsClean result }
 {
     let (task, went) = meetings::two_meet(rt, domain, task, parts);
     all_so(rt, &went);
@@ -125,8 +129,10 @@ fn four_meet<R: Abort + Threads + Wait + Sync>(
     own: (Played, Played),
     others: (Played, Played),
 ) -> Task
-    requires rests { RestsIn domain.now task }
-    ensures rests { RestsIn domain.now result }
+    requires of { task.domain ≡ domain.now }
+    requires clean { IsClean task }
+    ensures of { result.domain ≡ domain.now }
+    ensures clean { IsClean result }
 {
     let (task, went) = meetings::four_meet(rt, domain, task, own, others);
     all_so(rt, &went);

@@ -7,7 +7,6 @@ ghost use Rattle.wait_event.specs.Waits.{wait_table};
 ghost use Rattle.wait_event.specs.declared.waits.WaitStage.TheVariants as stage;
 ghost use Rattle.wait_model.specs.Tasks.{is_killable};
 ghost use Rattle.wait_rule.specs.Says.{IsClean};
-ghost use Rattle.test_tasks.specs.Resting.{RestsIn};
 
 use crate::completions::calls::{complete, try_wait};
 use crate::completions::threads::CELL;
@@ -17,6 +16,7 @@ use crate::simple_queues::threads::{COND, swake_all_or_two};
 use crate::turns::go_on;
 use crate::variables::alone::{VAR, announce};
 use crate::variables::stretches::{VALUE, has_found};
+use crate::wants::another;
 use completion_cell::await_calls::begin_await;
 use completion_cell::awaits::{AwaitOutcome, AwaitStage};
 use std::alloc::Global;
@@ -25,7 +25,6 @@ use std::sync::Wait;
 use std::test::Fail;
 use swait_queue::waits::begin_swait;
 use test_tasks::draws::next_number;
-use test_tasks::stops::another;
 use var_wait::waits::begin_var;
 use wait_class::machines::Machine;
 use wait_class::stages::{Run, Turn};
@@ -55,8 +54,10 @@ pub(crate) enum Wakes {
 
 /// The waker's call.
 fn wake<R: Wait>(rt: &R, domain: &Domain, waker: &mut Task, wakes: Wakes)
-    requires rests { RestsIn domain.now waker.old }
-    ensures rests { RestsIn domain.now waker.new }
+    requires of { waker.old.domain ≡ domain.now }
+    requires clean { IsClean waker.old }
+    ensures of { waker.new.domain ≡ domain.now }
+    ensures clean { IsClean waker.new }
 {
     match wakes {
         Wakes::Event => {
@@ -81,8 +82,10 @@ fn wake_if<R: Wait>(
     is_to: bool,
     left: u32,
 ) -> u32
-    requires rests { RestsIn domain.now waker.old }
-    ensures rests { RestsIn domain.now waker.new }
+    requires of { waker.old.domain ≡ domain.now }
+    requires clean { IsClean waker.old }
+    ensures of { waker.new.domain ≡ domain.now }
+    ensures clean { IsClean waker.new }
 {
     if is_to && left > 0 {
         wake(rt, domain, waker, wakes);
@@ -138,8 +141,11 @@ fn play<R: Wait>(
     second: &mut Task,
     seed: u32,
 ) -> bool
-    requires rest { RestsIn domain.now waker.old × RestsIn domain.now first.old
-        × RestsIn domain.now second.old }
+    requires of { (waker.old.domain ≡ domain.now) × (first.old.domain ≡ domain.now)
+        × (second.old.domain ≡ domain.now) }
+    requires waker { IsClean waker.old }
+    requires first { IsClean first.old }
+    requires second { IsClean second.old }
 {
     let begins = (Turn::Again(WaitStage::First), Turn::Again(WaitStage::First));
     let mut one = begin(first, wakes, true);
@@ -160,8 +166,11 @@ fn play_cells<R: Wait>(
     second: &mut Task,
     seed: u32,
 ) -> bool
-    requires rest { RestsIn domain.now waker.old × RestsIn domain.now first.old
-        × RestsIn domain.now second.old }
+    requires of { (waker.old.domain ≡ domain.now) × (first.old.domain ≡ domain.now)
+        × (second.old.domain ≡ domain.now) }
+    requires waker { IsClean waker.old }
+    requires first { IsClean first.old }
+    requires second { IsClean second.old }
 {
     let begins = (
         Turn::Again(AwaitStage::First),

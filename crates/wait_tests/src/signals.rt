@@ -3,15 +3,16 @@
 
 pub(crate) mod threads;
 
-ghost use Rattle.test_tasks.specs.Resting.{RestsIn};
+ghost use Rattle.std.specs.Prelude.{◌≡◌};
+ghost use Rattle.wait_rule.specs.Says.{IsClean};
 
 use crate::bits::alone::take;
 use crate::completions::calls::wait_for;
+use crate::wants::another;
 use bit_wait::{BitEnd, wait_on_bit, wait_on_bit_lock};
 use std::sync::Wait;
 use std::test::Fail;
 use swait_queue::swait_event;
-use test_tasks::stops::another;
 use wait_event::{WaitEnd, wait_event};
 use wait_model::layout::FIRST_SIMPLE;
 use wait_model::tasks::{How, SleepState};
@@ -38,8 +39,10 @@ fn interrupted(end: Result<(), BitEnd>) -> Option<u64> {
 
 /// A new task sends a plain signal to this one: false where no number is spare.
 pub(crate) fn get_signal<R: Wait>(rt: &R, domain: &Domain, task: &mut Task) -> bool
-    requires rests { RestsIn domain.now task.old }
-    ensures rests { RestsIn domain.now task.new }
+    requires of { task.old.domain ≡ domain.now }
+    requires clean { IsClean task.old }
+    ensures of { task.new.domain ≡ domain.now }
+    ensures clean { IsClean task.new }
 {
     match task.fork(domain, 0) {
         Ok(mut sender) => {
@@ -101,7 +104,8 @@ const ROWS: &[Row] = &[
 
 /// Waits, under a signal that its state admits: whether the wait ended so.
 fn is_ended<R: Wait>(rt: &R, domain: &Domain, task: &mut Task, waits: Waits) -> bool
-    requires rests { RestsIn domain.now task.old }
+    requires of { task.old.domain ≡ domain.now }
+    requires clean { IsClean task.old }
 {
     let light = SleepState::Interruptible;
     let killable = SleepState::Killable;

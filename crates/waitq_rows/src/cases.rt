@@ -4,7 +4,7 @@
 mod bytes;
 mod plays;
 
-pub(crate) use crate::cases::bytes::{Bytes, Like, push_turn};
+pub(crate) use crate::cases::bytes::{Bytes, Like};
 pub(crate) use crate::cases::plays::{play_all, play_under, plays_script, wants};
 
 /// What fails, by the numbers of the calls: reads of the file `a`, writes of a new file, calls of the folder, reads of

@@ -3,14 +3,63 @@
 use crate::cases::{
     Bytes, Case, Fails, Like, NONE, READ_FAILED, REPLAY, RUN, USAGE, WRITE_FAILED, play_all,
 };
-use crate::refused_rows::{BAD, NOTHING};
-use crate::rows::{WAIT_SET_WAKE, WORKED};
+use crate::page_rows::{PAGE_CALL_IN_VERSION_1, PAGE_HANDED_ON, PAGE_TAKEN_BY_STRANGER};
+use crate::refused_rows::{
+    BAD_CONDITION, BAD_NUMBER, CUT_LINE, LONG_LINE, NO_HEADER, NOTHING, REFUSED_OPEN,
+    REFUSED_OPEN_READ, SIMPLE_WAKE_ON_A_FULL_QUEUE, TOO_MANY_EVENTS, UNKNOWN_WORD,
+};
+use crate::rows::{
+    MODE_MISSES, PRIORITY_FIRST, SELECTED_CONDITION_TAKEN, SELECTED_THEN_SIGNALLED, WAIT_SET_WAKE,
+    WAKE_BEFORE_LOAD, WAKE_BEFORE_SLEEP, WAKE_ONE_EXCLUSIVE,
+};
+use crate::waiting_rows::{
+    BIT_LOCK_SIGNALLED, COMPLETIONS, TWO_WAITERS_ONE_PERMIT, WOKEN_FLAG_BEFORE_STATE,
+};
 use std::test::Fail;
+
+const WORKED: &[Case] = &[
+    NOTHING,
+    REFUSED_OPEN,
+    REFUSED_OPEN_READ,
+    WAIT_SET_WAKE,
+    WAKE_BEFORE_LOAD,
+    WAKE_BEFORE_SLEEP,
+    MODE_MISSES,
+    WAKE_ONE_EXCLUSIVE,
+    PRIORITY_FIRST,
+    SELECTED_THEN_SIGNALLED,
+    SELECTED_CONDITION_TAKEN,
+    WOKEN_FLAG_BEFORE_STATE,
+    COMPLETIONS,
+    TWO_WAITERS_ONE_PERMIT,
+    BIT_LOCK_SIGNALLED,
+    PAGE_HANDED_ON,
+    PAGE_TAKEN_BY_STRANGER,
+];
 
 #[test]
 fn worked_scripts_have_their_texts(rt: HostRuntime) -> Result<(), Fail> {
     play_all(&rt, rt.alloc(), WORKED)
 }
+
+const BAD: &[Case] = &[
+    NO_HEADER,
+    CUT_LINE,
+    LONG_LINE,
+    UNKNOWN_WORD,
+    SIMPLE_WAKE_ON_A_FULL_QUEUE,
+    BAD_NUMBER,
+    BAD_CONDITION,
+    TOO_MANY_EVENTS,
+    PAGE_CALL_IN_VERSION_1,
+    Case {
+        name: "an_input_above_one_mebibyte_is_too_long",
+        input: Bytes::Lines("", " ", 1_048_577),
+        status: 8,
+        line: "waitq: input too long\n",
+        ..REPLAY
+    },
+];
 
 #[test]
 fn bad_scripts_have_their_lines(rt: HostRuntime) -> Result<(), Fail> {

@@ -1,7 +1,7 @@
 //! Scripts in which many tasks add an entry each before one task walks them, and their texts. The texts were
 //! written from the rules, not by this program.
 
-use crate::cases::{plays_script, push_turn, wants};
+use crate::cases::{plays_script, wants};
 use std::alloc::{AllocError, Global};
 use std::process::Abort;
 use std::sync::Wait;
@@ -38,32 +38,25 @@ struct Walk {
 /// The lines in which task 100 breaks its walk and goes on, and those of task 200.
 const BREAK: &[&str] = &["mark h256", "unlock h256", "lock h256", "unmark h256"];
 
-/// A walk over no entry, which one hold of the lock has.
-const WALK: Walk = Walk {
-    name: "",
-    version: 1,
-    adders: 0,
-    waker: 100,
-    lines: "step 100 999\n",
-    parts: &[],
-    holds: 1,
-    own: 0,
-    events: 0,
-    moved: false,
-};
-
 const WALKS: &[Walk] = &[
     Walk {
         name: "walk_65",
+        version: 1,
         adders: 65,
+        waker: 100,
+        lines: "step 100 999\n",
         parts: &[Part::Wakes(64, 0)],
+        holds: 1,
         own: 67 + 1,
         events: 262,
-        ..WALK
+        moved: false,
     },
     Walk {
         name: "walk_66_breaks",
+        version: 1,
         adders: 66,
+        waker: 100,
+        lines: "step 100 999\n",
         parts: &[
             Part::Wakes(65, 1),
             Part::Lines(100, BREAK),
@@ -72,11 +65,13 @@ const WALKS: &[Walk] = &[
         holds: 2,
         own: 72 + 1,
         events: 270,
-        ..WALK
+        moved: false,
     },
     Walk {
         name: "walk_break_and_move",
+        version: 1,
         adders: 66,
+        waker: 100,
         lines: "step 100 68\ncall 0 remove\nstep 0 99\ncall 0 add c0 default front\nstep 0 99\n\
             step 100 999\n",
         parts: &[
@@ -90,7 +85,6 @@ const WALKS: &[Walk] = &[
         own: 71 + 1,
         events: 275,
         moved: true,
-        ..WALK
     },
     Walk {
         name: "walk_131_breaks_twice",
@@ -108,7 +102,7 @@ const WALKS: &[Walk] = &[
         holds: 3,
         own: 141 + 1,
         events: 534,
-        ..WALK
+        moved: false,
     },
 ];
 
@@ -125,6 +119,21 @@ fn push(
 ) -> Result<(), AllocError> {
     let line = format!(in alloc; "{before}{number}{after}")?;
     text.push_str(line.as_str())
+}
+
+/// Adds lines of a task, each behind its name.
+fn push_lines(
+    alloc: Global,
+    text: &mut String,
+    task: u8,
+    lines: &[&str],
+) -> Result<(), AllocError> {
+    for line in lines {
+        push(alloc, text, "t", u32::from(task), " ")?;
+        text.push_str(line)?;
+        text.push_str("\n")?;
+    }
+    Ok(())
 }
 
 /// The script of a walk.
@@ -162,7 +171,7 @@ fn push_part(alloc: Global, text: &mut String, waker: u8, part: Part) -> Result<
             }
             Ok(())
         }
-        Part::Lines(task, lines) => push_turn(alloc, text, task, lines),
+        Part::Lines(task, lines) => push_lines(alloc, text, task, lines),
     }
 }
 
@@ -170,13 +179,13 @@ fn push_part(alloc: Global, text: &mut String, waker: u8, part: Part) -> Result<
 /// nobody.
 fn push_events(alloc: Global, text: &mut String, walk: &Walk) -> Result<(), AllocError> {
     for task in 0..walk.adders {
-        push_turn(alloc, text, task, ADD)?;
+        push_lines(alloc, text, task, ADD)?;
     }
-    push_turn(alloc, text, walk.waker, &["lock h256"])?;
+    push_lines(alloc, text, walk.waker, &["lock h256"])?;
     for part in walk.parts {
         push_part(alloc, text, walk.waker, *part)?;
     }
-    push_turn(alloc, text, walk.waker, &["unlock h256"])?;
+    push_lines(alloc, text, walk.waker, &["unlock h256"])?;
     push(
         alloc,
         text,

@@ -1,7 +1,7 @@
 //! One wake of many threads that sleep.
 
-ghost use Rattle.std.specs.Prelude.{All};
-ghost use Rattle.test_tasks.specs.Resting.{RestsIn};
+ghost use Rattle.std.specs.Prelude.{◌≡◌, All};
+ghost use Rattle.wait_rule.specs.Says.{IsClean};
 
 use crate::events::calls::{set, wait_for};
 use crate::tasks::crowd;
@@ -29,7 +29,8 @@ struct Woke {
 
 /// Waits for the condition: when it went on. None where the condition was not set, or the clock not read.
 fn wait_once<R: Clock + Wait>(rt: &R, domain: &Domain, mut task: Task) -> Option<Instant>
-    requires rests { RestsIn domain.now task }
+    requires of { task.domain ≡ domain.now }
+    requires clean { IsClean task }
 {
     if wait_for(rt, domain, &mut task, COND) {
         Instant::now(rt).ok()
@@ -40,7 +41,8 @@ fn wait_once<R: Clock + Wait>(rt: &R, domain: &Domain, mut task: Task) -> Option
 
 /// Sets the condition once all sleep.
 fn wake_once<R: Clock + Wait>(rt: &R, domain: &Domain, task: &mut Task) -> io::Result<Woke>
-    requires rests { RestsIn domain.now task.old }
+    requires of { task.old.domain ≡ domain.now }
+    requires clean { IsClean task.old }
 {
     thread::sleep(rt, Duration::from_millis(PAUSE));
     let start = Instant::now(rt)?;
@@ -68,13 +70,13 @@ fn wait_all<R: Clock + Threads + Wait + Sync>(
     domain: &Domain,
     tasks: Vec<Task>,
 ) -> Option<Instant>
-    requires rest { All (λ t. RestsIn domain.now t) tasks.items }
+    requires clean { All (λ t. (t.domain ≡ domain.now) × IsClean t) tasks.items }
 {
     let ends = thread::map_vec(
         rt,
         tasks,
         &|task: Task| -> Option<Instant>
-            requires { RestsIn domain.now task }
+            requires { (task.domain ≡ domain.now) × IsClean task }
         { wait_once(rt, domain, task) },
     );
     match ends {
@@ -90,16 +92,17 @@ fn meet<R: Clock + Threads + Wait + Sync>(
     mut waker: Task,
     tasks: Vec<Task>,
 ) -> (Option<Woke>, Option<Instant>)
-    requires rests { RestsIn domain.now waker }
-    requires all { All (λ t. RestsIn domain.now t) tasks.items }
+    requires of { waker.domain ≡ domain.now }
+    requires clean { IsClean waker }
+    requires all { All (λ t. (t.domain ≡ domain.now) × IsClean t) tasks.items }
 {
     thread::join(
         rt,
         move || -> Option<Woke>
-            requires { RestsIn domain.now waker }
+            requires { (waker.domain ≡ domain.now) × IsClean waker }
         { wake_once(rt, domain, &mut waker).ok() },
         move || -> Option<Instant>
-            requires { All (λ t. RestsIn domain.now t) tasks.items }
+            requires { All (λ t. (t.domain ≡ domain.now) × IsClean t) tasks.items }
         { wait_all(rt, domain, tasks) },
     )
 }

@@ -1,7 +1,8 @@
 //! Waits of a second: a task sleeps until it is woken, and another one waits for the lock of a head. Their threads park
 //! meanwhile, so the program uses next to no processor.
 
-ghost use Rattle.test_tasks.specs.Resting.{RestsIn};
+ghost use Rattle.std.specs.Prelude.{◌≡◌};
+ghost use Rattle.wait_rule.specs.Says.{IsClean};
 
 use crate::heads::HEAD;
 use crate::tasks::{Retry, wake_up};
@@ -22,7 +23,8 @@ const LATER: u64 = 100;
 
 /// Holds the lock of the head for a while, and then wakes task `sleeper`.
 fn hold_and_wake<R: Clock + Wait>(rt: &R, domain: &Domain, mut task: Task, sleeper: u8)
-    requires rests { RestsIn domain.now task }
+    requires of { task.domain ≡ domain.now }
+    requires clean { IsClean task }
 {
     lock(rt, domain, &mut task, HEAD);
     thread::sleep(rt, Duration::from_millis(HELD));
@@ -32,7 +34,8 @@ fn hold_and_wake<R: Clock + Wait>(rt: &R, domain: &Domain, mut task: Task, sleep
 
 /// Sleeps until it is woken.
 fn sleep<R: Wait>(rt: &R, domain: &Domain, mut task: Task)
-    requires rests { RestsIn domain.now task }
+    requires of { task.domain ≡ domain.now }
+    requires clean { IsClean task }
 {
     set_state(domain, &mut task, UNINTERRUPTIBLE);
     schedule(rt, domain, &mut task);
@@ -40,7 +43,8 @@ fn sleep<R: Wait>(rt: &R, domain: &Domain, mut task: Task)
 
 /// Asks for the lock while another task holds it.
 fn ask<R: Clock + Wait>(rt: &R, domain: &Domain, mut task: Task)
-    requires rests { RestsIn domain.now task }
+    requires of { task.domain ≡ domain.now }
+    requires clean { IsClean task }
 {
     thread::sleep(rt, Duration::from_millis(LATER));
     lock(rt, domain, &mut task, HEAD);
@@ -49,15 +53,16 @@ fn ask<R: Clock + Wait>(rt: &R, domain: &Domain, mut task: Task)
 
 /// One that sleeps and one that asks, each in a thread of its own.
 fn two_wait<R: Clock + Threads + Wait + Sync>(rt: &R, domain: &Domain, sleeper: Task, asker: Task)
-    requires rest { RestsIn domain.now sleeper × RestsIn domain.now asker }
+    requires of { (sleeper.domain ≡ domain.now) × (asker.domain ≡ domain.now) }
+    requires clean { IsClean sleeper × IsClean asker }
 {
     thread::join(
         rt,
         move ||
-            requires { RestsIn domain.now sleeper }
+            requires { (sleeper.domain ≡ domain.now) × IsClean sleeper }
         { sleep(rt, domain, sleeper) },
         move ||
-            requires { RestsIn domain.now asker }
+            requires { (asker.domain ≡ domain.now) × IsClean asker }
         { ask(rt, domain, asker) },
     );
 }
@@ -71,17 +76,18 @@ pub(crate) fn wait_a_second<R: Clock + Threads + Wait + Sync>(
     sleeper: Task,
     asker: Task,
 )
-    requires rest { RestsIn domain.now task × RestsIn domain.now sleeper
-        × RestsIn domain.now asker }
+    requires of { (task.domain ≡ domain.now) × (sleeper.domain ≡ domain.now) × (asker.domain ≡ domain.now) }
+    requires clean { IsClean task × IsClean sleeper × IsClean asker }
 {
     let who = sleeper.number();
     thread::join(
         rt,
         move ||
-            requires { RestsIn domain.now task }
+            requires { (task.domain ≡ domain.now) × IsClean task }
         { hold_and_wake(rt, domain, task, who) },
         move ||
-            requires rest { RestsIn domain.now sleeper × RestsIn domain.now asker }
+            requires of { (sleeper.domain ≡ domain.now) × (asker.domain ≡ domain.now) }
+            requires clean { IsClean sleeper × IsClean asker }
         { two_wait(rt, domain, sleeper, asker) },
     );
 }

@@ -8,7 +8,6 @@ ghost use Rattle.wait_rule.specs.Says.{IsClean, IsUp};
 ghost use Rattle.wq_head.specs.Holds.{IsHolding};
 ghost use Rattle.head_tests.specs.Leaving.{HasEntry, HasLeft, IsBack, StandsQueued};
 ghost use Rattle.wq_head.specs.Readied.{IsPlainKind, IsReadyToCall};
-ghost use Rattle.test_tasks.specs.Resting.{RestsIn};
 
 use crate::scenes::{Joined, want_joined};
 use std::process::Abort;
@@ -27,7 +26,8 @@ use wq_head::wakes::wake;
 
 /// Queues the own entry at the head of condition 0.
 fn queue_own<R: Abort + Wait>(rt: &R, domain: &Domain, task: &mut Task, kind: Kind)
-    requires rests { RestsIn domain.now task.old }
+    requires of { task.old.domain ≡ domain.now }
+    requires clean { IsClean task.old }
     requires kind { IsPlainKind kind }
     ensures of { task.new.domain ≡ domain.now }
     ensures queued { IsBack task.new kind }

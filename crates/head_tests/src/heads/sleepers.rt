@@ -7,13 +7,13 @@ ghost use Rattle.wq_head.specs.Readied.{IsUpAndIdle, IsReadyToCall, IsUpAndFree}
 use crate::heads::errands::{Errand, run_four};
 use crate::heads::waiting::{count_members, leave, queue_own};
 use crate::scenes::{Batch, want_often};
+use crate::wants::{all_so, another};
 use std::process::Abort;
 use std::sync::Wait;
 use std::test::Fail;
 use std::thread;
 use std::thread::Threads;
 use test_tasks::late::yield_often;
-use test_tasks::stops::{all_so, another};
 use wait_model::layout::{RUNNING, UNINTERRUPTIBLE};
 use wait_model::watches::{Kind, Mode, Watch};
 use wait_rule::queues::{cond_load, entry_load, publish};

@@ -1,14 +1,15 @@
 //! Holds of one head by four threads.
 
-ghost use Rattle.test_tasks.specs.Resting.{RestsIn};
+ghost use Rattle.std.specs.Prelude.{◌≡◌};
+ghost use Rattle.wait_rule.specs.Says.{IsClean};
 
 use crate::meetings::Part;
+use crate::wants::all_so;
 use std::sync::Wait;
 use std::test::Fail;
 use std::thread::Threads;
 use test_tasks::meetings::four_meet;
 use test_tasks::often::Often;
-use test_tasks::stops::all_so;
 use wait_model::layout::FIRST_PLAIN_HEAD;
 use wait_rule::queues::{draw, serving_load};
 use wait_rule::{Domain, Task};
@@ -22,8 +23,10 @@ const HELD: Often<Part> = Often {
 
 /// A hold of one thread.
 pub(crate) fn hold<R: Wait>(rt: &R, domain: &Domain, task: &mut Task) -> bool
-    requires rests { RestsIn domain.now task.old }
-    ensures rests { RestsIn domain.now task.new }
+    requires of { task.old.domain ≡ domain.now }
+    requires clean { IsClean task.old }
+    ensures of { task.new.domain ≡ domain.now }
+    ensures clean { IsClean task.new }
 {
     lock(rt, domain, task, FIRST_PLAIN_HEAD);
     unlock(rt, domain, task, false);
@@ -36,7 +39,8 @@ fn four_hold<R: Threads + Wait + Sync>(
     domain: &Domain,
     task: Task,
 ) -> ([bool; 4], [bool; 2])
-    requires rests { RestsIn domain.now task }
+    requires of { task.domain ≡ domain.now }
+    requires clean { IsClean task }
 {
     let two = (HELD, HELD);
     let (mut last, went) = four_meet(rt, domain, task, two, two);

@@ -1,7 +1,8 @@
 //! Threads that sleep and wake one another again and again, in Domains whose tasks park at once when they are put
 //! asleep.
 
-ghost use Rattle.test_tasks.specs.Resting.{RestsIn};
+ghost use Rattle.std.specs.Prelude.{◌≡◌};
+ghost use Rattle.wait_rule.specs.Says.{IsClean};
 
 use crate::meetings::Part;
 use crate::scenes::{Batch, want_often};
@@ -11,10 +12,11 @@ use std::thread;
 use std::thread::Threads;
 use test_tasks::meetings::{four_meet, two_meet};
 use test_tasks::often::Often;
-use test_tasks::parks::doze;
+use wait_model::layout::UNINTERRUPTIBLE;
 use wait_model::watches::Mode;
 use wait_rule::domain::{Domain, Task};
-use wait_rule::running::wake_task;
+use wait_rule::running::{schedule, wake_task};
+use wait_rule::tasks::set_state;
 
 /// How many batches a test makes, each in a Domain and by threads of its own: threads that wake each other for long
 /// come to share a processor, and then no wake falls into the midst of a sleep.
@@ -23,11 +25,24 @@ const BATCHES: u32 = 100;
 /// How many rounds a batch has.
 const ROUNDS: u64 = 100;
 
+/// Sleeps until woken.
+fn doze<R: Wait>(rt: &R, domain: &Domain, task: &mut Task)
+    requires of { task.old.domain ≡ domain.now }
+    requires clean { IsClean task.old }
+    ensures of { task.new.domain ≡ domain.now }
+    ensures clean { IsClean task.new }
+{
+    set_state(domain, task, UNINTERRUPTIBLE);
+    schedule(rt, domain, task);
+}
+
 /// Tries to wake a task, again and again with no pause, so that a try may fall between any two steps of its sleep: true
 /// where one of them has woken it.
 fn wake_soon<R: Wait>(rt: &R, domain: &Domain, task: &mut Task, who: u8) -> bool
-    requires rests { RestsIn domain.now task.old }
-    ensures rests { RestsIn domain.now task.new }
+    requires of { task.old.domain ≡ domain.now }
+    requires clean { IsClean task.old }
+    ensures of { task.new.domain ≡ domain.now }
+    ensures clean { IsClean task.new }
 {
     for _ in 0..1000 {
         if wake_task(rt, domain, task, who, Mode::Normal) {
@@ -39,8 +54,10 @@ fn wake_soon<R: Wait>(rt: &R, domain: &Domain, task: &mut Task, who: u8) -> bool
 
 /// Wakes a task as soon as it is about to sleep.
 fn wake_up<R: Wait>(rt: &R, domain: &Domain, task: &mut Task, who: u8)
-    requires rests { RestsIn domain.now task.old }
-    ensures rests { RestsIn domain.now task.new }
+    requires of { task.old.domain ≡ domain.now }
+    requires clean { IsClean task.old }
+    ensures of { task.new.domain ≡ domain.now }
+    ensures clean { IsClean task.new }
 {
     for _ in rt.forever() {
         if wake_soon(rt, domain, task, who) {
@@ -53,8 +70,10 @@ fn wake_up<R: Wait>(rt: &R, domain: &Domain, task: &mut Task, who: u8)
 
 /// The one whose turn it is wakes another and sleeps. Any other sleeps until its turn comes.
 fn turn<R: Wait>(rt: &R, domain: &Domain, task: &mut Task, other: u8, first: bool)
-    requires rests { RestsIn domain.now task.old }
-    ensures rests { RestsIn domain.now task.new }
+    requires of { task.old.domain ≡ domain.now }
+    requires clean { IsClean task.old }
+    ensures of { task.new.domain ≡ domain.now }
+    ensures clean { IsClean task.new }
 {
     if first {
         wake_up(rt, domain, task, other);
@@ -79,8 +98,10 @@ pub(crate) enum Round {
 
 /// What a task does in one round.
 pub(crate) fn go_round<R: Wait>(rt: &R, domain: &Domain, task: &mut Task, round: Round) -> bool
-    requires rests { RestsIn domain.now task.old }
-    ensures rests { RestsIn domain.now task.new }
+    requires of { task.old.domain ≡ domain.now }
+    requires clean { IsClean task.old }
+    ensures of { task.new.domain ≡ domain.now }
+    ensures clean { IsClean task.new }
 {
     match round {
         Round::Sleeps => doze(rt, domain, task),
@@ -103,7 +124,8 @@ fn goes(round: Round) -> Often<Part> {
 
 /// A batch of a sleeper and its waker.
 pub(crate) fn two_go<R: Threads + Wait + Sync>(rt: &R, domain: &Domain, task: Task) -> [bool; 2]
-    requires rests { RestsIn domain.now task }
+    requires of { task.domain ≡ domain.now }
+    requires clean { IsClean task }
 {
     let parts = (goes(Round::Wakes { who: 1 }), goes(Round::Sleeps));
     let (_task, went) = two_meet(rt, domain, task, parts);
@@ -123,7 +145,8 @@ fn in_turn(next: u8, last: u8, first: bool) -> Often<Part> {
 
 /// A batch of three tasks that hand the turn on.
 pub(crate) fn three_go<R: Threads + Wait + Sync>(rt: &R, domain: &Domain, task: Task) -> [bool; 4]
-    requires rests { RestsIn domain.now task }
+    requires of { task.domain ≡ domain.now }
+    requires clean { IsClean task }
 {
     let firsts = (in_turn(1, 2, true), in_turn(2, 0, false));
     let rests = Often {

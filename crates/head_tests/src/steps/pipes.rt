@@ -8,11 +8,11 @@ ghost use Rattle.wait_rule.specs.PipeSays.{reading, writing};
 ghost use Rattle.wait_rule.specs.Says.{IsClean, IsUp};
 
 use crate::scenes::{Beside, Seen, want_all, want_beside};
+use crate::wants::another;
 use std::sync::Wait;
 use std::test::Fail;
 use std::thread;
 use std::thread::Threads;
-use test_tasks::stops::another;
 use wait_model::layout::{PIPE_CELLS, PIPE_ENDS};
 use wait_model::watches::Watch;
 use wait_rule::domain::{Domain, Task};

@@ -6,12 +6,11 @@ ghost use Rattle.wait_model.specs.declared.layout.TheConstants.{FIRST_SIMPLE_HEA
 ghost use Rattle.wait_model.specs.Tasks.{IsState};
 ghost use Rattle.wait_rule.specs.declared.journal.Item.TheVariants as item;
 ghost use Rattle.wait_rule.specs.Asked.{nothing_asked};
-ghost use Rattle.wait_rule.specs.Says.{IsUp, IsFree, asks_for, noted, added, newcomer};
+ghost use Rattle.wait_rule.specs.Says.{IsClean, IsUp, IsFree, asks_for, noted, added, newcomer};
 ghost use Rattle.wait_rule.specs.Queues.{IsTurn, IsLocked, IsAgreed, MayRise};
 ghost use Rattle.wait_rule.specs.LookCounts.{Looked};
 ghost use Rattle.wait_rule.specs.Stays.{Carries, StaysOwing, unchanged};
 ghost use Rattle.wait_rule.specs.Looking.{HasSeenEntries, HasSeenMarks, IsSelectingHold, ShowsEmpty};
-ghost use Rattle.test_tasks.specs.Resting.{RestsIn};
 
 use crate::scenes::{Alone, Beside, Seen, want, want_all, want_beside};
 use std::sync::Wait;
@@ -73,7 +72,8 @@ fn pass_by_steps(domain: &Domain, task: &mut Task, head: u16, state: u32) -> boo
 
 /// Whether it does so with a state and then without one.
 pub(crate) fn passes_twice(domain: &Domain, task: &mut Task) -> bool
-    requires rests { RestsIn domain.now task.old }
+    requires of { task.old.domain ≡ domain.now }
+    requires clean { IsClean task.old }
 {
     if !pass_by_steps(domain, task, FIRST_PLAIN_HEAD, UNINTERRUPTIBLE) {
         return false;
@@ -142,7 +142,8 @@ fn see_no_bits(domain: &Domain, task: &mut Task, head: u16) -> bool
 
 /// Whether one sees no bit of a head before another task holds it, and while it does.
 pub(crate) fn sees_no_bits_twice(domain: &Domain, task: &mut Task, other: &mut Task) -> bool
-    requires rest { RestsIn domain.now task.old × RestsIn domain.now other.old }
+    requires of { (task.old.domain ≡ domain.now) × (other.old.domain ≡ domain.now) }
+    requires clean { IsClean task.old × IsClean other.old }
 {
     publish(domain, task, Watch::Plain { cond: 0 }, 1);
     let before = see_no_bits(domain, task, FIRST_PLAIN_HEAD);
@@ -163,7 +164,8 @@ fn members_without_the_lock(rt: HostRuntime) -> Result<(), Fail> {
 
 /// What loads and takes show of what was published.
 pub(crate) fn publish_and_load(domain: &Domain, task: &mut Task) -> [bool; 6]
-    requires rests { RestsIn domain.now task.old }
+    requires of { task.old.domain ≡ domain.now }
+    requires clean { IsClean task.old }
 {
     let plain = Watch::Plain { cond: 47 };
     publish(domain, task, plain, 7);
@@ -190,7 +192,8 @@ fn conditions_alone(rt: HostRuntime) -> Result<(), Fail> {
 
 /// Whether another task's ticket is served once the own lock is given back and the serve made, and not before.
 pub(crate) fn serves_second(domain: &Domain, task: &mut Task, other: &mut Task) -> bool
-    requires rest { RestsIn domain.now task.old × RestsIn domain.now other.old }
+    requires of { (task.old.domain ≡ domain.now) × (other.old.domain ≡ domain.now) }
+    requires clean { IsClean task.old × IsClean other.old }
 {
     if !take_turn(domain, task, FIRST_DONE_HEAD - 1) {
         return false;

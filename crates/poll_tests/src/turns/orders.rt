@@ -6,7 +6,6 @@ ghost use Rattle.wait_rule.specs.Says.{IsClean};
 ghost use Rattle.wait_class.specs.declared.stages.Turn.TheVariants as turn;
 ghost use Rattle.poll_wait.specs.Polls.{IsPoll};
 ghost use Rattle.poll_turns.specs.PollTurns.{IsPollUnderWay};
-ghost use Rattle.test_tasks.specs.Resting.{RestsIn};
 
 use crate::calls::{sets, stores};
 use crate::turns::go_on;
@@ -36,8 +35,10 @@ fn set_if<R: Wait>(
     is_to: bool,
     done: bool,
 ) -> bool
-    requires rests { RestsIn domain.now setter.old }
-    ensures rests { RestsIn domain.now setter.new }
+    requires of { setter.old.domain ≡ domain.now }
+    requires clean { IsClean setter.old }
+    ensures of { setter.new.domain ≡ domain.now }
+    ensures clean { IsClean setter.new }
 {
     if !is_to || done {
         return done;

@@ -2,11 +2,11 @@
 
 use super::scripts::start_two;
 use super::{MOST, begins, took};
+use crate::wants::all_so;
 use completion_cell::cell_turns::CellCall;
 use std::alloc::Global;
 use std::process::Abort;
 use std::test::Fail;
-use test_tasks::stops::all_so;
 use wait_model::tasks::{How, SleepState};
 use wq_checked::calls::{Answer, Call, Progress};
 use wq_checked::tasks::CheckedTask;

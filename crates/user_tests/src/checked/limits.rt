@@ -2,8 +2,8 @@
 //! not there.
 
 use super::took;
+use crate::wants::all_so;
 use std::test::Fail;
-use test_tasks::stops::all_so;
 use wait_model::layout::{BIT_WORDS, WORD_BITS};
 use wq_checked::calls::Call;
 use wq_checked::tasks::{CheckedTask, NoFork};

@@ -2,8 +2,8 @@
 
 use crate::pipes::calls::{FULL, take_read, take_write};
 use crate::pipes::scripts::{Call, Deed, Script, Told, play};
+use crate::wants::another;
 use std::test::Fail;
-use test_tasks::stops::another;
 use wait_rule::Domain;
 
 /// The place in a stream behind a full pipe.

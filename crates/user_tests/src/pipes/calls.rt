@@ -4,7 +4,6 @@ ghost use Rattle.std.specs.Prelude.{◌≡◌, ◌<◌, ◌≤◌, MatchBool, If
 ghost use Rattle.wait_model.specs.declared.layout.TheConstants.{PIPES};
 ghost use Rattle.wait_rule.specs.Says.{IsClean};
 ghost use Rattle.user_tests.specs.PipeTasks.{IsAtMost, IsReader, IsWriter};
-ghost use Rattle.test_tasks.specs.Resting.{RestsIn};
 
 use std::alloc::AllocError;
 use std::sync::Wait;
@@ -44,7 +43,8 @@ pub(crate) fn by_now(asked: Option<&AtomicU64>) -> By<'_> {
 
 /// Takes the write end of a pipe: true where it has it.
 pub(crate) fn take_write(domain: &Domain, task: &mut Task, pipe: u8) -> bool
-    requires rests { RestsIn domain.now task.old }
+    requires of { task.old.domain ≡ domain.now }
+    requires clean { IsClean task.old }
     requires pipe { pipe < PIPES }
     ensures of { task.new.domain ≡ domain.now }
     ensures writer { MatchBool result (IsWriter pipe task.new) (IsClean task.new) }
@@ -54,7 +54,8 @@ pub(crate) fn take_write(domain: &Domain, task: &mut Task, pipe: u8) -> bool
 
 /// Takes the read end of a pipe: true where it has it.
 pub(crate) fn take_read(domain: &Domain, task: &mut Task, pipe: u8) -> bool
-    requires rests { RestsIn domain.now task.old }
+    requires of { task.old.domain ≡ domain.now }
+    requires clean { IsClean task.old }
     requires pipe { pipe < PIPES }
     ensures of { task.new.domain ≡ domain.now }
     ensures reader { MatchBool result (IsReader pipe task.new) (IsClean task.new) }
@@ -215,7 +216,8 @@ pub(crate) fn end_write<R: Wait>(rt: &R, domain: &Domain, task: &mut Task, pipe:
     requires of { task.old.domain ≡ domain.now }
     requires writer { IsWriter pipe task.old }
     requires pipe { pipe < PIPES }
-    ensures rests { RestsIn domain.now task.new }
+    ensures of { task.new.domain ≡ domain.now }
+    ensures clean { IsClean task.new }
 {
     close_write(rt, domain, task, pipe);
 }
@@ -225,7 +227,8 @@ pub(crate) fn end_read<R: Wait>(rt: &R, domain: &Domain, task: &mut Task, pipe: 
     requires of { task.old.domain ≡ domain.now }
     requires reader { IsReader pipe task.old }
     requires pipe { pipe < PIPES }
-    ensures rests { RestsIn domain.now task.new }
+    ensures of { task.new.domain ≡ domain.now }
+    ensures clean { IsClean task.new }
 {
     close_read(rt, domain, task, pipe);
 }

@@ -3,9 +3,9 @@
 
 use crate::meetings::Part;
 use crate::pipes::streams::Stream;
+use crate::wants::all_so;
 use std::test::Fail;
 use test_tasks::meetings::two_meet;
-use test_tasks::stops::all_so;
 use wait_rule::Domain;
 
 /// How many rounds the test makes.

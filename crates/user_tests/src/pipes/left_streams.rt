@@ -1,20 +1,21 @@
 //! Calls on pipes that are asked to leave in threads of their own, again and again, in Domains whose tasks park at once
 //! when they are put asleep.
 
-ghost use Rattle.test_tasks.specs.Resting.{RestsIn};
+ghost use Rattle.std.specs.Prelude.{◌≡◌};
+ghost use Rattle.wait_rule.specs.Says.{IsClean};
 
 use crate::pipes::calls::{
     By, FULL, are_from, end_read, end_write, fill_from, get, get_by, put, put_by, take_read,
     take_write,
 };
 use crate::pipes::streams::{Stream, receive, send};
+use crate::wants::all_so;
 use std::alloc::AllocError;
 use std::sync::Wait;
 use std::sync::atomic::AtomicU64;
 use std::test::Fail;
 use test_tasks::late::ask_two_late;
 use test_tasks::meetings::{Part, four_meet};
-use test_tasks::stops::all_so;
 use wait_leave::Until;
 use wait_rule::{Domain, Task};
 
@@ -94,8 +95,10 @@ fn ask<R: Wait>(
     late: u32,
     times: u32,
 ) -> bool
-    requires rests { RestsIn domain.now task.old }
-    ensures rests { RestsIn domain.now task.new }
+    requires of { task.old.domain ≡ domain.now }
+    requires clean { IsClean task.old }
+    ensures of { task.new.domain ≡ domain.now }
+    ensures clean { IsClean task.new }
 {
     for time in 0..times {
         ask_two_late(rt, domain, task, asked, whom, late.wrapping_add(time) % 9);
@@ -105,8 +108,10 @@ fn ask<R: Wait>(
 
 /// Reads from a pipe whose other end nobody has, until it is asked: whether it was left, with nothing there.
 fn leave_empty<R: Wait>(rt: &R, domain: &Domain, task: &mut Task, asked: &AtomicU64) -> bool
-    requires rests { RestsIn domain.now task.old }
-    ensures rests { RestsIn domain.now task.new }
+    requires of { task.old.domain ≡ domain.now }
+    requires clean { IsClean task.old }
+    ensures of { task.new.domain ≡ domain.now }
+    ensures clean { IsClean task.new }
 {
     if !take_read(domain, task, EMPTY) {
         return false;
@@ -119,8 +124,10 @@ fn leave_empty<R: Wait>(rt: &R, domain: &Domain, task: &mut Task, asked: &Atomic
 
 /// Fills a pipe whose other end nobody has, and writes on until it is asked: whether it was left, with no cell free.
 fn leave_full<R: Wait>(rt: &R, domain: &Domain, task: &mut Task, asked: &AtomicU64) -> bool
-    requires rests { RestsIn domain.now task.old }
-    ensures rests { RestsIn domain.now task.new }
+    requires of { task.old.domain ≡ domain.now }
+    requires clean { IsClean task.old }
+    ensures of { task.new.domain ≡ domain.now }
+    ensures clean { IsClean task.new }
 {
     if !take_write(domain, task, FILLED) {
         return false;

@@ -4,16 +4,15 @@ ghost use Rattle.std.specs.Prelude.{◌≡◌, ◌<◌};
 ghost use Rattle.wait_model.specs.declared.layout.TheConstants.{PIPES};
 ghost use Rattle.wait_rule.specs.Says.{IsClean};
 ghost use Rattle.user_tests.specs.PipeTasks.{MayRead, MayWrite};
-ghost use Rattle.test_tasks.specs.Resting.{RestsIn};
 
 use crate::pipes::calls::{
     By, FULL, are_from, end_read, end_write, fill_from, get_by, look, put_by, take_read, take_write,
 };
+use crate::wants::another;
 use std::alloc::{AllocError, Global};
 use std::process::Abort;
 use std::sync::Wait;
 use std::test::Fail;
-use test_tasks::stops::another;
 use wait_leave::Until;
 use wait_pipe::peeks::PipeState;
 use wait_pipe::pieces::PipeEnd;
@@ -172,7 +171,8 @@ fn stop_writing<R: Wait>(rt: &R, domain: &Domain, task: &mut Task, has: bool, pi
     requires of { task.old.domain ≡ domain.now }
     requires pipe { pipe < PIPES }
     requires may { MayWrite pipe task.old has }
-    ensures rests { RestsIn domain.now task.new }
+    ensures of { task.new.domain ≡ domain.now }
+    ensures clean { IsClean task.new }
 {
     if has {
         end_write(rt, domain, task, pipe);
@@ -184,7 +184,8 @@ fn stop_reading<R: Wait>(rt: &R, domain: &Domain, task: &mut Task, has: bool, pi
     requires of { task.old.domain ≡ domain.now }
     requires pipe { pipe < PIPES }
     requires may { MayRead pipe task.old has }
-    ensures rests { RestsIn domain.now task.new }
+    ensures of { task.new.domain ≡ domain.now }
+    ensures clean { IsClean task.new }
 {
     if has {
         end_read(rt, domain, task, pipe);

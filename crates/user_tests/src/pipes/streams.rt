@@ -1,21 +1,21 @@
 //! A writer and a reader in threads of their own, again and again, in Domains whose tasks park at once when they are
 //! put asleep.
 
-ghost use Rattle.std.specs.Prelude.{◌<◌, ◌≤◌};
+ghost use Rattle.std.specs.Prelude.{◌≡◌, ◌<◌, ◌≤◌};
 ghost use Rattle.wait_model.specs.declared.layout.TheConstants.{PIPES};
+ghost use Rattle.wait_rule.specs.Says.{IsClean};
 ghost use Rattle.user_tests.specs.declared.pipes.calls.TheConstants.{FULL};
-ghost use Rattle.test_tasks.specs.Resting.{RestsIn};
 
 use crate::meetings::Part;
 use crate::pipes::calls::{
     FULL, are_from, by_now, end_read, end_write, fill_from, get_by, put_by, take_read, take_write,
 };
+use crate::wants::all_so;
 use std::alloc::AllocError;
 use std::sync::Wait;
 use std::sync::atomic::AtomicU64;
 use std::test::Fail;
 use test_tasks::meetings::two_meet;
-use test_tasks::stops::all_so;
 use wait_leave::Until;
 use wait_rule::{Domain, Task};
 
@@ -102,8 +102,10 @@ pub(crate) fn send<R: Wait>(
     stream: Stream,
     asked: Option<&AtomicU64>,
 ) -> bool
-    requires rests { RestsIn domain.now task.old }
-    ensures rests { RestsIn domain.now task.new }
+    requires of { task.old.domain ≡ domain.now }
+    requires clean { IsClean task.old }
+    ensures of { task.new.domain ≡ domain.now }
+    ensures clean { IsClean task.new }
 {
     let pipe = stream.pipe();
     if !take_write(domain, task, pipe) {
@@ -141,8 +143,10 @@ pub(crate) fn receive<R: Wait>(
     stream: Stream,
     asked: Option<&AtomicU64>,
 ) -> bool
-    requires rests { RestsIn domain.now task.old }
-    ensures rests { RestsIn domain.now task.new }
+    requires of { task.old.domain ≡ domain.now }
+    requires clean { IsClean task.old }
+    ensures of { task.new.domain ≡ domain.now }
+    ensures clean { IsClean task.new }
 {
     let pipe = stream.pipe();
     if !take_read(domain, task, pipe) {

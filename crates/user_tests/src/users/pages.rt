@@ -1,7 +1,7 @@
 //! The parts for a page, each once, on one thread.
 
+use crate::wants::{all_so, another};
 use std::test::Fail;
-use test_tasks::stops::{all_so, another};
 use wait_rule::Domain;
 use wq_user::pages::{add_to_page, count_and_join, count_in_page, give_page, take_page};
 

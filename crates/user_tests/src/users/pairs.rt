@@ -1,12 +1,13 @@
 //! Each ordered pair of calls once, by a task that none of them makes sleep: the condition is set, and the completion is
 //! done for all.
 
-ghost use Rattle.test_tasks.specs.Resting.{RestsIn};
+ghost use Rattle.std.specs.Prelude.{◌≡◌};
+ghost use Rattle.wait_rule.specs.Says.{IsClean};
 
+use crate::wants::another;
 use completion_cell::completes::complete_all;
 use std::sync::Wait;
 use std::test::Fail;
-use test_tasks::stops::another;
 use wait_rule::{Domain, Task};
 use wq_pairs::calls::{CALLS, CELL, Call};
 use wq_pairs::pairs::make_both;
@@ -14,8 +15,10 @@ use wq_user::events::set_zero;
 
 /// A call, and then each of all.
 fn after<R: Wait>(rt: &R, domain: &Domain, task: &mut Task, first: Call)
-    requires rests { RestsIn domain.now task.old }
-    ensures rests { RestsIn domain.now task.new }
+    requires of { task.old.domain ≡ domain.now }
+    requires clean { IsClean task.old }
+    ensures of { task.new.domain ≡ domain.now }
+    ensures clean { IsClean task.new }
 {
     for second in &CALLS {
         make_both(rt, domain, task, first, *second);
@@ -24,8 +27,10 @@ fn after<R: Wait>(rt: &R, domain: &Domain, task: &mut Task, first: Call)
 
 /// Sets the condition, completes for all, present and to come, and then makes each pair.
 fn make_each<R: Wait>(rt: &R, domain: &Domain, task: &mut Task)
-    requires rests { RestsIn domain.now task.old }
-    ensures rests { RestsIn domain.now task.new }
+    requires of { task.old.domain ≡ domain.now }
+    requires clean { IsClean task.old }
+    ensures of { task.new.domain ≡ domain.now }
+    ensures clean { IsClean task.new }
 {
     set_zero(rt, domain, task);
     complete_all(rt, domain, task, CELL);

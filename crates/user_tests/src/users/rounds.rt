@@ -1,13 +1,14 @@
 //! Simple queues and completions: each part once by one task alone, and waits in threads of their own, again and again,
 //! in Domains whose tasks park at once when they are put asleep.
 
-ghost use Rattle.test_tasks.specs.Resting.{RestsIn};
+ghost use Rattle.std.specs.Prelude.{◌≡◌};
+ghost use Rattle.wait_rule.specs.Says.{IsClean};
 
 use crate::meetings::Part;
+use crate::wants::{all_so, another};
 use std::sync::Wait;
 use std::test::Fail;
 use test_tasks::meetings::{meet_two, two_meet};
-use test_tasks::stops::{all_so, another};
 use wait_rule::{Domain, Task};
 use wq_user::completions::{
     complete_and_clear, complete_and_join, complete_one, take_and_join, take_one,
@@ -21,8 +22,10 @@ const ROUNDS: u32 = 300;
 
 /// Sets the condition and wakes the first or all, and wakes again with nothing more set.
 pub(crate) fn swake_twice<R: Wait>(rt: &R, domain: &Domain, task: &mut Task, all: bool) -> bool
-    requires rests { RestsIn domain.now task.old }
-    ensures rests { RestsIn domain.now task.new }
+    requires of { task.old.domain ≡ domain.now }
+    requires clean { IsClean task.old }
+    ensures of { task.new.domain ≡ domain.now }
+    ensures clean { IsClean task.new }
 {
     if all {
         set_and_swake_all(rt, domain, task);

@@ -6,15 +6,14 @@ ghost use Rattle.std.specs.Prelude.{◌≡◌};
 ghost use Rattle.wait_model.specs.declared.watches.Watch.TheVariants as watch;
 ghost use Rattle.bit_wait.specs.Holders.{IsHolder};
 ghost use Rattle.wait_rule.specs.Says.{IsClean};
-ghost use Rattle.test_tasks.specs.Resting.{RestsIn};
 
 use crate::meetings::Part;
+use crate::wants::{all_so, another};
 use std::sync::Wait;
 use std::test::Fail;
 use std::thread;
 use std::thread::Threads;
 use test_tasks::meetings::meet_two;
-use test_tasks::stops::{all_so, another};
 use wait_rule::{Domain, Task};
 use wq_user::hashed::{
     change, count_members, give_bit, take_bit, wait_until_changed, wait_until_clear,
@@ -32,8 +31,10 @@ pub(crate) const VALUE: u64 = 7;
 
 /// Looks at most 2^depth times whether both waiters stand at their head: true once they do.
 fn see_both<R: Wait>(rt: &R, domain: &Domain, task: &mut Task, depth: u8) -> bool
-    requires rests { RestsIn domain.now task.old }
-    ensures rests { RestsIn domain.now task.new }
+    requires of { task.old.domain ≡ domain.now }
+    requires clean { IsClean task.old }
+    ensures of { task.new.domain ≡ domain.now }
+    ensures clean { IsClean task.new }
 {
     if depth == 0 {
         return count_members(rt, domain, task) == 2;
@@ -43,8 +44,10 @@ fn see_both<R: Wait>(rt: &R, domain: &Domain, task: &mut Task, depth: u8) -> boo
 
 /// Changes the variable once both waiters are queued.
 pub(crate) fn change_once<R: Wait>(rt: &R, domain: &Domain, task: &mut Task) -> bool
-    requires rests { RestsIn domain.now task.old }
-    ensures rests { RestsIn domain.now task.new }
+    requires of { task.old.domain ≡ domain.now }
+    requires clean { IsClean task.old }
+    ensures of { task.new.domain ≡ domain.now }
+    ensures clean { IsClean task.new }
 {
     see_both(rt, domain, task, DEPTH);
     change(rt, domain, task, VALUE);
@@ -53,8 +56,10 @@ pub(crate) fn change_once<R: Wait>(rt: &R, domain: &Domain, task: &mut Task) -> 
 
 /// Waits for the bit, and gives the task back: true where it was clear.
 fn clear_once<R: Wait>(rt: &R, domain: &Domain, mut task: Task) -> (Task, bool)
-    requires rests { RestsIn domain.now task }
-    ensures rests { RestsIn domain.now result.0 }
+    requires of { task.domain ≡ domain.now }
+    requires clean { IsClean task }
+    ensures of { result.0.domain ≡ domain.now }
+    ensures clean { IsClean result.0 }
 {
     let over = wait_until_clear(rt, domain, &mut task);
     (task, over)
@@ -72,8 +77,9 @@ fn meet_and_give<R: Threads + Wait + Sync>(
     requires of { (holder.domain ≡ domain.now) × (changer.domain ≡ domain.now) × (waiter.domain ≡ domain.now) }
     requires holder { IsHolder holder (watch.Bit 2 16) }
     requires clean { IsClean changer × IsClean waiter }
-    ensures rest { RestsIn domain.now result.0 × RestsIn domain.now result.1.0.0
-        × RestsIn domain.now result.1.1.0 }
+    ensures of { (result.0.domain ≡ domain.now) × (result.1.0.0.domain ≡ domain.now)
+        × (result.1.1.0.domain ≡ domain.now) }
+    ensures clean { IsClean result.0 × IsClean result.1.0.0 × IsClean result.1.1.0 }
 {
     let parts = (Part::Changes, Part::SeesChange);
     let met = meet_two(rt, domain, changer, waiter, parts);
@@ -108,8 +114,8 @@ fn meet_all<R: Threads + Wait + Sync>(
                 × (result.1.1.0.domain ≡ domain.entry.now) × IsClean result.1.1.0 }
         { meet_and_give(rt, domain, holder, changer, waiter) },
         move || -> (Task, bool)
-            requires { RestsIn domain.now stranger }
-            ensures { RestsIn domain.entry.now result.0 }
+            requires { (stranger.domain ≡ domain.now) × IsClean stranger }
+            ensures { (result.0.domain ≡ domain.entry.now) × IsClean result.0 }
         { clear_once(rt, domain, stranger) },
     )
 }

@@ -1,7 +1,7 @@
 //! Waits by stretches of one task alone, each of which finds what it waits for.
 
+use crate::wants::{all_so, another};
 use std::test::Fail;
-use test_tasks::stops::{all_so, another};
 use wait_model::tasks::{How, SleepState};
 use wait_rule::Domain;
 use wq_user::completions::complete_one;

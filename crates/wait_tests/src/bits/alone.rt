@@ -7,15 +7,14 @@ ghost use Rattle.wait_rule.specs.Bits.{KeepsBitOf};
 ghost use Rattle.wait_rule.specs.Says.{IsClean};
 ghost use Rattle.bit_wait.specs.Holders.{IsHolder};
 ghost use Rattle.wq_head.specs.Readied.{IsUpAndIdle};
-ghost use Rattle.test_tasks.specs.Resting.{RestsIn};
 
+use crate::wants::{all_so, another};
 use bit_wait::clears::clear_and_wake_bit;
 use bit_wait::lock_calls::wait_on_bit_lock;
 use bit_wait::tries::test_and_set;
 use bit_wait::wait_calls::wait_on_bit;
 use std::sync::Wait;
 use std::test::Fail;
-use test_tasks::stops::{all_so, another};
 use wait_model::tasks::SleepState;
 use wait_rule::bits::bit_clear;
 use wait_rule::{Domain, Task};
@@ -48,7 +47,8 @@ pub(crate) fn give(domain: &Domain, task: &mut Task, word: u8, bit: u8)
 
 /// Takes a bit, for who owes nothing: true where it was clear.
 pub(crate) fn lock(domain: &Domain, task: &mut Task, word: u8, bit: u8) -> bool
-    requires rests { RestsIn domain.now task.old }
+    requires of { task.old.domain ≡ domain.now }
+    requires clean { IsClean task.old }
     requires word { word < BIT_WORDS }
     requires bit { bit < WORD_BITS }
     ensures of { task.new.domain ≡ domain.now }
@@ -63,7 +63,8 @@ pub(crate) fn unlock<R: Wait>(rt: &R, domain: &Domain, task: &mut Task, word: u8
     requires holder { IsHolder task.old (watch.Bit word bit) }
     requires word { word < BIT_WORDS }
     requires bit { bit < WORD_BITS }
-    ensures rests { RestsIn domain.now task.new }
+    ensures of { task.new.domain ≡ domain.now }
+    ensures clean { IsClean task.new }
 {
     clear_and_wake_bit(rt, domain, task, word, bit).holds
 }

@@ -10,6 +10,7 @@ ghost use Rattle.wait_tests.specs.BitTasks.{IsReadyForBit};
 
 use crate::bits::alone::{give, take};
 use crate::turns::{go_often, go_on};
+use crate::wants::another;
 use bit_wait::lock_calls::begin_lock;
 use bit_wait::lock_waits::{LockOutcome, LockTest};
 use bit_wait::wait_calls::begin_bit;
@@ -19,7 +20,6 @@ use std::process::Abort;
 use std::sync::Wait;
 use std::test::Fail;
 use test_tasks::draws::next_number;
-use test_tasks::stops::another;
 use wait_class::frame_stages::Stage;
 use wait_class::machines::Machine;
 use wait_class::stages::{Run, Turn};

@@ -1,10 +1,10 @@
 //! The tally of a page, to which two threads add while they keep the page's bit: in the end it is the sum.
 
-ghost use Rattle.std.specs.Prelude.{◌≡◌, ◌<◌};
+ghost use Rattle.std.specs.Prelude.{◌≡◌, ◌<◌, MatchBool};
 ghost use Rattle.wait_model.specs.declared.layout.TheConstants.{PAGES};
 ghost use Rattle.wait_model.specs.declared.watches.Watch.TheVariants as watch;
+ghost use Rattle.wait_rule.specs.Says.{IsClean};
 ghost use Rattle.bit_wait.specs.Holders.{IsHolder};
-ghost use Rattle.test_tasks.specs.Resting.{RestsIn};
 
 use crate::bits::alone::{lock, unlock};
 use crate::meetings::rows::BIT_TALLY;
@@ -33,8 +33,10 @@ fn add(domain: &Domain, task: &mut Task, page: u8, amount: u64) -> u64
 
 /// Takes the page's bit, adds to its tally and gives the bit back, as soon as the bit is clear.
 fn add_once<R: Wait>(rt: &R, domain: &Domain, task: &mut Task, amount: u64)
-    requires rests { RestsIn domain.now task.old }
-    ensures rests { RestsIn domain.now task.new }
+    requires of { task.old.domain ≡ domain.now }
+    requires clean { IsClean task.old }
+    ensures of { task.new.domain ≡ domain.now }
+    ensures clean { IsClean task.new }
 {
     for _ in rt.forever() {
         if lock(domain, task, PAGE, 0) {
@@ -49,8 +51,10 @@ fn add_once<R: Wait>(rt: &R, domain: &Domain, task: &mut Task, amount: u64)
 
 /// The same again and again.
 pub(crate) fn add_often<R: Wait>(rt: &R, domain: &Domain, task: &mut Task, amount: u64) -> bool
-    requires rests { RestsIn domain.now task.old }
-    ensures rests { RestsIn domain.now task.new }
+    requires of { task.old.domain ≡ domain.now }
+    requires clean { IsClean task.old }
+    ensures of { task.new.domain ≡ domain.now }
+    ensures clean { IsClean task.new }
 {
     for _ in 0..ADDS {
         add_once(rt, domain, task, amount);

@@ -1,8 +1,8 @@
 //! One task alone: each call once, with what it answers where nobody else is there.
 
 use crate::completions::calls::{complete, complete_all, is_done, reinit, try_wait, wait_for};
+use crate::wants::all_so;
 use std::test::Fail;
-use test_tasks::stops::all_so;
 use wait_model::tasks::SleepState;
 use wait_rule::Domain;
 

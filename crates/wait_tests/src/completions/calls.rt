@@ -1,9 +1,9 @@
 //! The calls on a completion, each by a task that owes nothing and has left no entry at any completion, before it and
 //! after it.
 
-ghost use Rattle.std.specs.Prelude.{◌<◌};
+ghost use Rattle.std.specs.Prelude.{◌≡◌, ◌<◌};
 ghost use Rattle.wait_model.specs.declared.layout.TheConstants.{COMPLETIONS};
-ghost use Rattle.test_tasks.specs.Resting.{RestsIn};
+ghost use Rattle.wait_rule.specs.Says.{IsClean};
 
 use completion_cell::{asks, await_calls, completes};
 use std::sync::Wait;
@@ -11,41 +11,51 @@ use wait_model::tasks::SleepState;
 use wait_rule::{Domain, Task};
 
 pub fn complete<R: Wait>(rt: &R, domain: &Domain, task: &mut Task, cell: u8)
-    requires rests { RestsIn domain.now task.old }
+    requires of { task.old.domain ≡ domain.now }
+    requires clean { IsClean task.old }
     requires cell { cell < COMPLETIONS }
-    ensures rests { RestsIn domain.now task.new }
+    ensures of { task.new.domain ≡ domain.now }
+    ensures clean { IsClean task.new }
 {
     completes::complete(rt, domain, task, cell);
 }
 
 pub fn complete_all<R: Wait>(rt: &R, domain: &Domain, task: &mut Task, cell: u8)
-    requires rests { RestsIn domain.now task.old }
+    requires of { task.old.domain ≡ domain.now }
+    requires clean { IsClean task.old }
     requires cell { cell < COMPLETIONS }
-    ensures rests { RestsIn domain.now task.new }
+    ensures of { task.new.domain ≡ domain.now }
+    ensures clean { IsClean task.new }
 {
     completes::complete_all(rt, domain, task, cell);
 }
 
 pub fn reinit<R: Wait>(rt: &R, domain: &Domain, task: &mut Task, cell: u8)
-    requires rests { RestsIn domain.now task.old }
+    requires of { task.old.domain ≡ domain.now }
+    requires clean { IsClean task.old }
     requires cell { cell < COMPLETIONS }
-    ensures rests { RestsIn domain.now task.new }
+    ensures of { task.new.domain ≡ domain.now }
+    ensures clean { IsClean task.new }
 {
     asks::reinit(rt, domain, task, cell);
 }
 
 pub fn is_done<R: Wait>(rt: &R, domain: &Domain, task: &mut Task, cell: u8) -> bool
-    requires rests { RestsIn domain.now task.old }
+    requires of { task.old.domain ≡ domain.now }
+    requires clean { IsClean task.old }
     requires cell { cell < COMPLETIONS }
-    ensures rests { RestsIn domain.now task.new }
+    ensures of { task.new.domain ≡ domain.now }
+    ensures clean { IsClean task.new }
 {
     asks::is_done(rt, domain, task, cell)
 }
 
 pub fn try_wait<R: Wait>(rt: &R, domain: &Domain, task: &mut Task, cell: u8) -> bool
-    requires rests { RestsIn domain.now task.old }
+    requires of { task.old.domain ≡ domain.now }
+    requires clean { IsClean task.old }
     requires cell { cell < COMPLETIONS }
-    ensures rests { RestsIn domain.now task.new }
+    ensures of { task.new.domain ≡ domain.now }
+    ensures clean { IsClean task.new }
 {
     asks::try_wait(rt, domain, task, cell)
 }
@@ -58,9 +68,11 @@ pub fn wait_for<R: Wait>(
     cell: u8,
     state: SleepState,
 ) -> bool
-    requires rests { RestsIn domain.now task.old }
+    requires of { task.old.domain ≡ domain.now }
+    requires clean { IsClean task.old }
     requires cell { cell < COMPLETIONS }
-    ensures rests { RestsIn domain.now task.new }
+    ensures of { task.new.domain ≡ domain.now }
+    ensures clean { IsClean task.new }
 {
     await_calls::wait_for(rt, domain, task, cell, state).is_ok()
 }

@@ -5,13 +5,13 @@ ghost use Rattle.wait_tests.specs.CompletionTasks.{IsReadyForCell, MayComplete};
 
 use crate::completions::threads::CELL;
 use crate::turns::go_often;
+use crate::wants::{all_so, another};
 use completion_cell::await_calls::{begin_await, end_of};
 use completion_cell::awaits::AwaitStage;
 use completion_cell::cell_turns::{CellCall, CellRun, CellStage, CellTurn, cell_stretch};
 use std::process::Abort;
 use std::test::Fail;
 use test_tasks::ends::{end_both, rouses_only};
-use test_tasks::stops::{all_so, another};
 use wait_class::stages::Turn;
 use wait_model::heads::head_of;
 use wait_model::tasks::SleepState;

@@ -1,7 +1,8 @@
 //! Tasks that wait for a completion and are asked to leave in threads of their own, again and again, in Domains whose
 //! tasks park at once when they are put asleep.
 
-ghost use Rattle.test_tasks.specs.Resting.{RestsIn};
+ghost use Rattle.std.specs.Prelude.{◌≡◌};
+ghost use Rattle.wait_rule.specs.Says.{IsClean};
 
 use crate::completions::calls::complete;
 use crate::completions::threads::CELL;
@@ -18,8 +19,10 @@ use wait_rule::{Domain, Task};
 
 /// Yields so often, and completes once.
 pub(crate) fn complete_late<R: Wait>(rt: &R, domain: &Domain, task: &mut Task, late: u32) -> bool
-    requires rests { RestsIn domain.now task.old }
-    ensures rests { RestsIn domain.now task.new }
+    requires of { task.old.domain ≡ domain.now }
+    requires clean { IsClean task.old }
+    ensures of { task.new.domain ≡ domain.now }
+    ensures clean { IsClean task.new }
 {
     yield_often(late);
     complete(rt, domain, task, CELL);
@@ -29,8 +32,10 @@ pub(crate) fn complete_late<R: Wait>(rt: &R, domain: &Domain, task: &mut Task, l
 /// Takes one, which it counts, and completes once more; or leaves once it is asked. True where it took one, or was left
 /// with the count found 0.
 pub(crate) fn take_until<R: Wait>(rt: &R, domain: &Domain, task: &mut Task, shared: &Shared) -> bool
-    requires rests { RestsIn domain.now task.old }
-    ensures rests { RestsIn domain.now task.new }
+    requires of { task.old.domain ≡ domain.now }
+    requires clean { IsClean task.old }
+    ensures of { task.new.domain ≡ domain.now }
+    ensures clean { IsClean task.new }
 {
     let asks = || shared.asks();
     match wait_for_until(rt, domain, task, CELL, SleepState::Uninterruptible, asks) {

@@ -2,8 +2,8 @@
 //! known over the wait.
 
 use crate::completions::calls::{complete, try_wait};
+use crate::wants::{all_so, another};
 use std::test::Fail;
-use test_tasks::stops::{all_so, another};
 use wait_event::conds::set_and_wake;
 use wait_model::tasks::SleepState;
 use wait_model::watches::Mode;

@@ -1,7 +1,8 @@
 //! Waits and those who complete in threads of their own, again and again, in Domains whose tasks park at once when they
 //! are put asleep.
 
-ghost use Rattle.test_tasks.specs.Resting.{RestsIn};
+ghost use Rattle.std.specs.Prelude.{◌≡◌};
+ghost use Rattle.wait_rule.specs.Says.{IsClean};
 
 use crate::completions::calls::{complete, complete_all, is_done, reinit, try_wait};
 use crate::meetings::rows::PERMITS;
@@ -15,8 +16,10 @@ pub(crate) const CELL: u8 = 2;
 
 /// Completes it three times.
 pub(crate) fn complete_thrice<R: Wait>(rt: &R, domain: &Domain, task: &mut Task) -> bool
-    requires rests { RestsIn domain.now task.old }
-    ensures rests { RestsIn domain.now task.new }
+    requires of { task.old.domain ≡ domain.now }
+    requires clean { IsClean task.old }
+    ensures of { task.new.domain ≡ domain.now }
+    ensures clean { IsClean task.new }
 {
     complete(rt, domain, task, CELL);
     complete(rt, domain, task, CELL);
@@ -26,7 +29,8 @@ pub(crate) fn complete_thrice<R: Wait>(rt: &R, domain: &Domain, task: &mut Task)
 
 /// Whether nothing is left to be taken; and once all are let through and the completion is begun anew, nothing again.
 pub(crate) fn nothing_is_left<R: Wait>(rt: &R, domain: &Domain, task: &mut Task) -> bool
-    requires rests { RestsIn domain.now task.old }
+    requires of { task.old.domain ≡ domain.now }
+    requires clean { IsClean task.old }
 {
     let taken = try_wait(rt, domain, task, CELL);
     complete_all(rt, domain, task, CELL);

@@ -5,9 +5,9 @@ ghost use Rattle.wait_model.specs.declared.layout.TheConstants.{FIRST_SIMPLE};
 ghost use Rattle.wait_tests.specs.EventTasks.{IsReadyForEvent};
 
 use crate::in_order::met_nobody;
+use crate::wants::all_so;
 use std::sync::Wait;
 use std::test::Fail;
-use test_tasks::stops::all_so;
 use wait_event::conds::set_and_wake;
 use wait_event::entries::{add_entry, remove_entry};
 use wait_event::prepares::{
@@ -30,21 +30,13 @@ fn is_queued(prepared: &Result<Prepared, Worn>) -> bool {
     matches!(prepared, Ok(Prepared::Queued))
 }
 
-/// How a task prepares: with no look for a signal, exclusively, or with such a look.
-#[derive(Clone, Copy)]
-pub(crate) enum Prepares {
-    Shared(SleepState),
-    First,
-    Asking(How),
-}
-
-/// A prepare and its finish: true where the entry was queued, an exclusive one as the first, and no signal was found.
-pub(crate) fn prepare_and_finish<R: Wait>(
+/// A prepare that looks for no signal, and its finish: true where the entry was queued.
+pub(crate) fn prepare_shared<R: Wait>(
     rt: &R,
     domain: &Domain,
     task: &mut Task,
     cond: u8,
-    how: Prepares,
+    state: SleepState,
 ) -> bool
     requires of { task.old.domain ≡ domain.now }
     requires ready { IsReadyForEvent task.old }
@@ -52,25 +44,51 @@ pub(crate) fn prepare_and_finish<R: Wait>(
     ensures of { task.new.domain ≡ domain.now }
     ensures ready { IsReadyForEvent task.new }
 {
-    let (kind, watch) = (Kind::Autoremove, Watch::Plain { cond });
-    match how {
-        Prepares::Shared(state) => {
-            let queued = prepare_to_wait(rt, domain, task, kind, watch, state);
-            finish_wait(rt, domain, task);
-            queued.is_ok()
-        }
-        Prepares::First => {
-            let state = SleepState::Interruptible;
-            let first = prepare_exclusive(rt, domain, task, kind, watch, state);
-            finish_wait(rt, domain, task);
-            is_first(&first)
-        }
-        Prepares::Asking(how) => {
-            let prepared = prepare_event(rt, domain, task, kind, watch, how);
-            finish_wait(rt, domain, task);
-            is_queued(&prepared)
-        }
-    }
+    let watch = Watch::Plain { cond };
+    let queued = prepare_to_wait(rt, domain, task, Kind::Autoremove, watch, state);
+    finish_wait(rt, domain, task);
+    queued.is_ok()
+}
+
+/// An exclusive one: true where its entry was the first.
+pub(crate) fn prepare_first<R: Wait>(rt: &R, domain: &Domain, task: &mut Task, cond: u8) -> bool
+    requires of { task.old.domain ≡ domain.now }
+    requires ready { IsReadyForEvent task.old }
+    requires full { cond < FIRST_SIMPLE }
+    ensures of { task.new.domain ≡ domain.now }
+    ensures ready { IsReadyForEvent task.new }
+{
+    let watch = Watch::Plain { cond };
+    let first = prepare_exclusive(
+        rt,
+        domain,
+        task,
+        Kind::Autoremove,
+        watch,
+        SleepState::Interruptible,
+    );
+    finish_wait(rt, domain, task);
+    is_first(&first)
+}
+
+/// One that looks for a signal: true where it found none.
+pub(crate) fn prepare_asking<R: Wait>(
+    rt: &R,
+    domain: &Domain,
+    task: &mut Task,
+    cond: u8,
+    how: How,
+) -> bool
+    requires of { task.old.domain ≡ domain.now }
+    requires ready { IsReadyForEvent task.old }
+    requires full { cond < FIRST_SIMPLE }
+    ensures of { task.new.domain ≡ domain.now }
+    ensures ready { IsReadyForEvent task.new }
+{
+    let watch = Watch::Plain { cond };
+    let prepared = prepare_event(rt, domain, task, Kind::Autoremove, watch, how);
+    finish_wait(rt, domain, task);
+    is_queued(&prepared)
 }
 
 /// An entry that is added and removed: true where there was a place for it.
@@ -97,9 +115,9 @@ fn prepares_of_one_task(rt: HostRuntime) -> Result<(), Fail> {
         exclusive: true,
     };
     let seen = [
-        prepare_and_finish(&rt, &domain, &mut task, 0, Prepares::Shared(how.state)),
-        prepare_and_finish(&rt, &domain, &mut task, 0, Prepares::First),
-        prepare_and_finish(&rt, &domain, &mut task, 0, Prepares::Asking(how)),
+        prepare_shared(&rt, &domain, &mut task, 0, how.state),
+        prepare_first(&rt, &domain, &mut task, 0),
+        prepare_asking(&rt, &domain, &mut task, 0, how),
     ];
     all_so(&rt, &seen);
     Ok(())

@@ -4,7 +4,6 @@
 ghost use Rattle.std.specs.Prelude.{◌≡◌, MatchBool, None};
 ghost use Rattle.wait_rule.specs.Says.{IsClean, told_of};
 ghost use Rattle.wait_tests.specs.EventTasks.{IsCleanHearer, IsHearer};
-ghost use Rattle.test_tasks.specs.Resting.{RestsIn};
 
 use crate::in_order::met_nobody;
 use crate::meetings::rows::HEARERS;
@@ -25,7 +24,8 @@ const WATCH: Watch = Watch::Plain { cond: 0 };
 
 /// Queues an entry of kind Woken: true where there was a place for it.
 pub(crate) fn enter<R: Wait>(rt: &R, domain: &Domain, task: &mut Task) -> bool
-    requires rests { RestsIn domain.now task.old }
+    requires of { task.old.domain ≡ domain.now }
+    requires clean { IsClean task.old }
     ensures of { task.new.domain ≡ domain.now }
     ensures entered { MatchBool result (IsCleanHearer task.new) (IsClean task.new) }
     ensures unmarked { (told_of task.new).mark ≡ None }
@@ -102,8 +102,10 @@ fn woken_before_the_sleep(rt: HostRuntime) -> Result<(), Fail> {
 
 /// Waits for the condition by the flag of an entry: true where there was a place for it.
 pub(crate) fn hear_until_set<R: Wait>(rt: &R, domain: &Domain, task: &mut Task) -> bool
-    requires rests { RestsIn domain.now task.old }
-    ensures rests { RestsIn domain.now task.new }
+    requires of { task.old.domain ≡ domain.now }
+    requires clean { IsClean task.old }
+    ensures of { task.new.domain ≡ domain.now }
+    ensures clean { IsClean task.new }
 {
     if !enter(rt, domain, task) {
         return false;

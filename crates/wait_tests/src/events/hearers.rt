@@ -7,10 +7,10 @@ ghost use Rattle.wait_tests.specs.EventTasks.{IsHearer, IsHearingOn, IsWaker};
 ghost use Rattle.wait_event.specs.WokenWaits.{IsHearing, IsHearingAsleep, LandsHearing};
 
 use crate::events::flags::{enter, is_set};
+use crate::wants::another;
 use std::sync::Wait;
 use std::test::Fail;
 use test_tasks::draws::next_number;
-use test_tasks::stops::another;
 use wait_event::conds::set_and_wake;
 use wait_event::woken_waits::{WokenStage, WokenTurn, begin_woken, stretch_woken, woke_woken};
 use wait_model::tasks::SleepState;

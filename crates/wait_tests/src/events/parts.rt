@@ -6,14 +6,14 @@ ghost use Rattle.wait_model.specs.declared.watches.Kind.TheVariants as kinds;
 ghost use Rattle.wait_model.specs.declared.watches.Watch.TheVariants as watch;
 ghost use Rattle.wait_model.specs.Watches.{IsThere};
 ghost use Rattle.wait_event.specs.Prepares.{SuitsWait, exclusive_in};
-ghost use Rattle.test_tasks.specs.Resting.{RestsIn};
+ghost use Rattle.wait_rule.specs.Says.{IsClean};
 
 use crate::meetings::rows::{VALUES_BY_TURNS, WAITERS_BY_TURNS};
 use crate::meetings::{ROUNDS, meet_often};
 use crate::variables::alone::VAR;
+use crate::wants::{all_so, another};
 use std::sync::Wait;
 use std::test::Fail;
-use test_tasks::stops::{all_so, another};
 use wait_event::prepares::{
     Prepared, finish_wait, prepare_event, prepare_exclusive, prepare_to_wait,
 };
@@ -33,10 +33,12 @@ fn prepare_twice<R: Wait>(
     watch: Watch,
     how: How,
 ) -> bool
-    requires rests { RestsIn domain.now task.old }
+    requires of { task.old.domain ≡ domain.now }
+    requires clean { IsClean task.old }
     requires suits { SuitsWait watch kind how }
     requires sort { kind ≡ kinds.Woken → ⊥ }
-    ensures rests { RestsIn domain.now task.new }
+    ensures of { task.new.domain ≡ domain.now }
+    ensures clean { IsClean task.new }
 {
     let first = prepare_event(rt, domain, task, kind, watch, how);
     let second = prepare_event(rt, domain, task, kind, watch, how);
@@ -46,8 +48,10 @@ fn prepare_twice<R: Wait>(
 
 /// The same once, with an entry whose flag a wake sets.
 fn prepare_for_flag<R: Wait>(rt: &R, domain: &Domain, task: &mut Task) -> bool
-    requires rests { RestsIn domain.now task.old }
-    ensures rests { RestsIn domain.now task.new }
+    requires of { task.old.domain ≡ domain.now }
+    requires clean { IsClean task.old }
+    ensures of { task.new.domain ≡ domain.now }
+    ensures clean { IsClean task.new }
 {
     let watch = Watch::Plain { cond: 47 };
     let queued = prepare_to_wait(rt, domain, task, Kind::Woken, watch, SleepState::Killable);
@@ -74,10 +78,12 @@ fn prepare_around_wake<R: Wait>(
     waker: &mut Task,
     kind: Kind,
 ) -> (bool, u32, bool)
-    requires rest { RestsIn domain.now task.old × RestsIn domain.now waker.old }
+    requires of { (task.old.domain ≡ domain.now) × (waker.old.domain ≡ domain.now) }
+    requires clean { IsClean task.old × IsClean waker.old }
     requires suits { SuitsWait (watch.Plain 0) kind (exclusive_in states.Interruptible) }
     requires sort { kind ≡ kinds.Woken → ⊥ }
-    ensures rest { RestsIn domain.now task.new × RestsIn domain.now waker.new }
+    ensures of { (task.new.domain ≡ domain.now) × (waker.new.domain ≡ domain.now) }
+    ensures clean { IsClean task.new × IsClean waker.new }
 {
     let watch = Watch::Plain { cond: 0 };
     let first = prepare_exclusive(rt, domain, task, kind, watch, SleepState::Interruptible);
@@ -96,11 +102,13 @@ pub(crate) fn wait_in_turns<R: Wait>(
     watch: Watch,
     state: SleepState,
 ) -> u64
-    requires rests { RestsIn domain.now task.old }
+    requires of { task.old.domain ≡ domain.now }
+    requires clean { IsClean task.old }
     requires there { IsThere watch }
     requires suits { SuitsWait watch kind (record { state = state; exclusive = false }) }
     requires sort { kind ≡ kinds.Woken → ⊥ }
-    ensures rests { RestsIn domain.now task.new }
+    ensures of { task.new.domain ≡ domain.now }
+    ensures clean { IsClean task.new }
 {
     let _first = prepare_to_wait(rt, domain, task, kind, watch, state);
     for _ in rt.forever() {
@@ -117,8 +125,10 @@ pub(crate) fn wait_in_turns<R: Wait>(
 
 /// Waits for condition 0 by parts: true where it was set.
 pub(crate) fn wait_by_turns<R: Wait>(rt: &R, domain: &Domain, task: &mut Task) -> bool
-    requires rests { RestsIn domain.now task.old }
-    ensures rests { RestsIn domain.now task.new }
+    requires of { task.old.domain ≡ domain.now }
+    requires clean { IsClean task.old }
+    ensures of { task.new.domain ≡ domain.now }
+    ensures clean { IsClean task.new }
 {
     let watch = Watch::Plain { cond: 0 };
     wait_in_turns(
@@ -133,8 +143,10 @@ pub(crate) fn wait_by_turns<R: Wait>(rt: &R, domain: &Domain, task: &mut Task) -
 
 /// Waits by parts until the variable is 2, by what it saw before each time: whether it saw that.
 pub(crate) fn see_by_turns<R: Wait>(rt: &R, domain: &Domain, task: &mut Task) -> bool
-    requires rests { RestsIn domain.now task.old }
-    ensures rests { RestsIn domain.now task.new }
+    requires of { task.old.domain ≡ domain.now }
+    requires clean { IsClean task.old }
+    ensures of { task.new.domain ≡ domain.now }
+    ensures clean { IsClean task.new }
 {
     let state = SleepState::Uninterruptible;
     let watch = Watch::Var { var: VAR, old: 0 };

@@ -1,7 +1,8 @@
 //! Waits and a waker in threads of their own, again and again, in Domains whose tasks park at once when they are put
 //! asleep.
 
-ghost use Rattle.test_tasks.specs.Resting.{RestsIn};
+ghost use Rattle.std.specs.Prelude.{◌≡◌};
+ghost use Rattle.wait_rule.specs.Says.{IsClean};
 
 use crate::meetings::rows::WAITERS;
 use crate::meetings::{ROUNDS, meet_often};
@@ -15,8 +16,10 @@ use wait_rule::{Domain, Task};
 
 /// Sets condition 0, and wakes all, or so many exclusive waiters.
 pub(crate) fn set<R: Wait>(rt: &R, domain: &Domain, task: &mut Task, count: u32) -> Walked
-    requires rests { RestsIn domain.now task.old }
-    ensures rests { RestsIn domain.now task.new }
+    requires of { task.old.domain ≡ domain.now }
+    requires clean { IsClean task.old }
+    ensures of { task.new.domain ≡ domain.now }
+    ensures clean { IsClean task.new }
 {
     set_and_wake(rt, domain, task, 0, 1, Mode::Normal, count)
 }
@@ -29,8 +32,10 @@ pub(crate) fn set_late<R: Wait>(
     late: u32,
     count: u32,
 ) -> bool
-    requires rests { RestsIn domain.now task.old }
-    ensures rests { RestsIn domain.now task.new }
+    requires of { task.old.domain ≡ domain.now }
+    requires clean { IsClean task.old }
+    ensures of { task.new.domain ≡ domain.now }
+    ensures clean { IsClean task.new }
 {
     yield_often(late);
     set(rt, domain, task, count);

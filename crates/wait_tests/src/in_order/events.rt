@@ -4,10 +4,10 @@ ghost use Rattle.std.specs.Prelude.{◌≡◌};
 ghost use Rattle.wait_tests.specs.EventTasks.{IsReadyForEvent};
 
 use super::met_nobody;
-use crate::events::alone::{Prepares, prepare_and_finish};
+use crate::events::alone::{prepare_asking, prepare_first, prepare_shared};
+use crate::wants::all_so;
 use std::sync::Wait;
 use std::test::Fail;
-use test_tasks::stops::all_so;
 use wait_event::{add_entry, remove_entry, set_and_wake, wait_event};
 use wait_model::queues::{Form, Walked};
 use wait_model::tasks::{How, SleepState};
@@ -58,9 +58,9 @@ fn enter_and_leave<R: Wait>(rt: &R, domain: &Domain, task: &mut Task) -> bool
 fn parts_then_a_wait_then_an_entry(rt: HostRuntime) -> Result<(), Fail> {
     let (domain, mut task) = Domain::new(rt.alloc())?;
     let seen = [
-        prepare_and_finish(&rt, &domain, &mut task, 0, Prepares::Shared(SHARED.state)),
-        prepare_and_finish(&rt, &domain, &mut task, 0, Prepares::First),
-        prepare_and_finish(&rt, &domain, &mut task, 0, Prepares::Asking(SHARED)),
+        prepare_shared(&rt, &domain, &mut task, 0, SHARED.state),
+        prepare_first(&rt, &domain, &mut task, 0),
+        prepare_asking(&rt, &domain, &mut task, 0, SHARED),
     ];
     all_so(&rt, &seen);
     let walked = set_one(&rt, &domain, &mut task);

@@ -2,17 +2,17 @@
 
 ghost use Rattle.std.specs.Prelude.{◌≡◌};
 ghost use Rattle.wait_model.specs.declared.watches.Watch.TheVariants as watch;
+ghost use Rattle.wait_rule.specs.Says.{IsClean};
 ghost use Rattle.bit_wait.specs.Holders.{IsHolder};
-ghost use Rattle.test_tasks.specs.Resting.{RestsIn};
 
 use super::met_nobody;
 use crate::bits::lock_threads::lock_in_turn;
 use crate::pages::alone::{give, take};
 use crate::variables::alone::{announce, wait_for_other};
+use crate::wants::all_so;
 use bit_wait::{clear_and_wake_bit, wait_on_bit};
 use std::sync::Wait;
 use std::test::Fail;
-use test_tasks::stops::all_so;
 use wait_model::queues::Walked;
 use wait_model::tasks::SleepState;
 use wait_rule::tasks::set_state;
@@ -23,8 +23,10 @@ const STATE: SleepState = SleepState::Uninterruptible;
 
 /// Waits until bit 0 of word 0 is clear: true where it was.
 fn wait_for_bit<R: Wait>(rt: &R, domain: &Domain, task: &mut Task) -> bool
-    requires rests { RestsIn domain.now task.old }
-    ensures rests { RestsIn domain.now task.new }
+    requires of { task.old.domain ≡ domain.now }
+    requires clean { IsClean task.old }
+    ensures of { task.new.domain ≡ domain.now }
+    ensures clean { IsClean task.new }
 {
     let over = wait_on_bit(rt, domain, task, 0, 0, STATE).is_ok();
     set_state(domain, task, 0);
@@ -35,7 +37,8 @@ fn wait_for_bit<R: Wait>(rt: &R, domain: &Domain, task: &mut Task) -> bool
 fn give_bit<R: Wait>(rt: &R, domain: &Domain, task: &mut Task) -> Walked
     requires of { task.old.domain ≡ domain.now }
     requires holder { IsHolder task.old (watch.Bit 0 0) }
-    ensures rests { RestsIn domain.now task.new }
+    ensures of { task.new.domain ≡ domain.now }
+    ensures clean { IsClean task.new }
 {
     clear_and_wake_bit(rt, domain, task, 0, 0)
 }

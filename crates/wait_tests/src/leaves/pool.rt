@@ -1,7 +1,8 @@
 //! A pool of three workers in threads of their own, to which jobs are posted one by one, and which is shut down by asking
 //! each of them to leave its wait.
 
-ghost use Rattle.test_tasks.specs.Resting.{RestsIn};
+ghost use Rattle.std.specs.Prelude.{◌≡◌};
+ghost use Rattle.wait_rule.specs.Says.{IsClean};
 
 use crate::leaves::conditions::{set_one, take};
 use crate::meetings::rows::POOL;
@@ -30,8 +31,10 @@ const HOW: How = How {
 
 /// Makes room for the first job.
 pub(crate) fn open<R: Wait>(rt: &R, domain: &Domain, task: &mut Task) -> bool
-    requires rests { RestsIn domain.now task.old }
-    ensures rests { RestsIn domain.now task.new }
+    requires of { task.old.domain ≡ domain.now }
+    requires clean { IsClean task.old }
+    ensures of { task.new.domain ≡ domain.now }
+    ensures clean { IsClean task.new }
 {
     set_one(rt, domain, task, ROOM, 1);
     true
@@ -39,8 +42,10 @@ pub(crate) fn open<R: Wait>(rt: &R, domain: &Domain, task: &mut Task) -> bool
 
 /// Waits until there is room, and posts a job: whether there was room.
 fn post<R: Wait>(rt: &R, domain: &Domain, task: &mut Task, job: u32) -> bool
-    requires rests { RestsIn domain.now task.old }
-    ensures rests { RestsIn domain.now task.new }
+    requires of { task.old.domain ≡ domain.now }
+    requires clean { IsClean task.old }
+    ensures of { task.new.domain ≡ domain.now }
+    ensures clean { IsClean task.new }
 {
     let room = wait_event(rt, domain, task, ROOM, HOW).is_ok();
     let had = take(domain, task, ROOM);
@@ -56,8 +61,10 @@ pub(crate) fn post_all<R: Wait>(
     shared: &Shared,
     late: u32,
 ) -> bool
-    requires rests { RestsIn domain.now task.old }
-    ensures rests { RestsIn domain.now task.new }
+    requires of { task.old.domain ≡ domain.now }
+    requires clean { IsClean task.old }
+    ensures of { task.new.domain ≡ domain.now }
+    ensures clean { IsClean task.new }
 {
     let mut well = true;
     for job in 0..JOBS {
@@ -72,8 +79,10 @@ pub(crate) fn post_all<R: Wait>(
 
 /// Does the job that it takes, if there is one, and makes room for the next one.
 fn do_job<R: Wait>(rt: &R, domain: &Domain, task: &mut Task, shared: &Shared)
-    requires rests { RestsIn domain.now task.old }
-    ensures rests { RestsIn domain.now task.new }
+    requires of { task.old.domain ≡ domain.now }
+    requires clean { IsClean task.old }
+    ensures of { task.new.domain ≡ domain.now }
+    ensures clean { IsClean task.new }
 {
     match take(domain, task, NEXT) {
         0 => {}
@@ -87,8 +96,10 @@ fn do_job<R: Wait>(rt: &R, domain: &Domain, task: &mut Task, shared: &Shared)
 
 /// Does jobs until it is asked to leave and finds none: whether no wait failed.
 pub(crate) fn work<R: Wait>(rt: &R, domain: &Domain, task: &mut Task, shared: &Shared) -> bool
-    requires rests { RestsIn domain.now task.old }
-    ensures rests { RestsIn domain.now task.new }
+    requires of { task.old.domain ≡ domain.now }
+    requires clean { IsClean task.old }
+    ensures of { task.new.domain ≡ domain.now }
+    ensures clean { IsClean task.new }
 {
     for _ in rt.forever() {
         let asks = || shared.asks();

@@ -10,6 +10,7 @@ ghost use Rattle.bit_wait.specs.Holders.{IsHolder};
 
 use crate::bits::alone::lock;
 use crate::turns::go_often;
+use crate::wants::another;
 use bit_wait::BitEnd;
 use bit_wait::lock_calls::begin_lock;
 use bit_wait::lock_leaves::{end_lock_until, leave_lock};
@@ -25,7 +26,6 @@ use page_lock::wait_calls::begin_page;
 use page_lock::waits::PageStage;
 use std::sync::Wait;
 use std::test::Fail;
-use test_tasks::stops::another;
 use wait_class::frame_stages::Stage;
 use wait_class::machines::Machine;
 use wait_class::runs::woke;
@@ -177,23 +177,106 @@ fn is_set(end: Until<Result<(), BitEnd>>) -> bool {
     matches!(end, Until::Left { seen: 1 })
 }
 
-/// A wait that has just begun is left from there on, by stretches or by the call: whether it was left.
-macro_rules! is_left {
-    (
-        $rt:ident, $domain:ident, $other:ident, $task:ident, $way:ident:
-        $begun:expr, $first:expr, $is_so:ident, $leave:ident, $end:ident($($known:ident),*)
-    ) => {{
-        let mut run = $begun;
-        match way_out($rt, $domain, $other, $task, &mut run, Turn::Again($first), $way) {
-            Turn::Again(stage) => $is_so($leave($rt, $domain, $task, &mut run, stage)),
-            Turn::Done(outcome) => $is_so($end($($known,)* &run, outcome)),
-            _ => false,
-        }
-    }};
+/// A wait for condition 0 is left from there on, by stretches or by the call: whether it was left.
+fn leaves_event<R: Wait>(
+    rt: &R,
+    domain: &Domain,
+    other: &mut Task,
+    task: &mut Task,
+    way: Way,
+) -> bool
+    requires of { (other.old.domain ≡ domain.now) × (task.old.domain ≡ domain.now) }
+    requires up { IsUp other.old }
+    requires clean { IsClean task.old }
+{
+    let mut run = begin_wait(task, 0, HOW);
+    let begins = Turn::Again(WaitStage::First);
+    match way_out(rt, domain, other, task, &mut run, begins, way) {
+        Turn::Again(stage) => is_unset(leave_wait(rt, domain, task, &mut run, stage)),
+        Turn::Done(outcome) => is_unset(end_until(task, &run, outcome)),
+        _ => false,
+    }
 }
 
-/// A wait of this kind is left: one for condition 0, one for completion 1, one until bit 0 of word 2 is clear, which the
-/// other task keeps, one to take that bit, and one for page 2, which is that bit.
+/// The same of one for completion 1.
+fn leaves_await<R: Wait>(
+    rt: &R,
+    domain: &Domain,
+    other: &mut Task,
+    task: &mut Task,
+    way: Way,
+) -> bool
+    requires of { (other.old.domain ≡ domain.now) × (task.old.domain ≡ domain.now) }
+    requires up { IsUp other.old }
+    requires clean { IsClean task.old }
+{
+    let mut run = begin_await(task, 1, STATE);
+    let begins = Turn::Again(AwaitStage::First);
+    match way_out(rt, domain, other, task, &mut run, begins, way) {
+        Turn::Again(stage) => is_undone(leave_await(rt, domain, task, &mut run, stage)),
+        Turn::Done(outcome) => is_undone(end_await_until(task, &run, outcome)),
+        _ => false,
+    }
+}
+
+/// Of one until bit 0 of word 2 is clear, which the other one keeps.
+fn leaves_bit<R: Wait>(rt: &R, domain: &Domain, other: &mut Task, task: &mut Task, way: Way) -> bool
+    requires of { (other.old.domain ≡ domain.now) × (task.old.domain ≡ domain.now) }
+    requires up { IsUp other.old }
+    requires clean { IsClean task.old }
+{
+    let mut run = begin_bit(task, 2, 0, STATE);
+    let begins = Turn::Again(Stage::Test(BitTest::First));
+    match way_out(rt, domain, other, task, &mut run, begins, way) {
+        Turn::Again(stage) => is_set(leave_bit(rt, domain, task, &mut run, stage)),
+        Turn::Done(outcome) => is_set(end_bit_until(domain, task, &run, outcome)),
+        _ => false,
+    }
+}
+
+/// Of one to take that bit.
+fn leaves_lock<R: Wait>(
+    rt: &R,
+    domain: &Domain,
+    other: &mut Task,
+    task: &mut Task,
+    way: Way,
+) -> bool
+    requires of { (other.old.domain ≡ domain.now) × (task.old.domain ≡ domain.now) }
+    requires up { IsUp other.old }
+    requires clean { IsClean task.old }
+{
+    let mut run = begin_lock(task, 2, 0, STATE);
+    let begins = Turn::Again(Stage::Test(LockTest::First));
+    match way_out(rt, domain, other, task, &mut run, begins, way) {
+        Turn::Again(stage) => is_set(leave_lock(rt, domain, task, &mut run, stage)),
+        Turn::Done(outcome) => is_set(end_lock_until(domain, task, &run, outcome)),
+        _ => false,
+    }
+}
+
+/// And of one for page 2, which is that bit.
+fn leaves_page<R: Wait>(
+    rt: &R,
+    domain: &Domain,
+    other: &mut Task,
+    task: &mut Task,
+    way: Way,
+) -> bool
+    requires of { (other.old.domain ≡ domain.now) × (task.old.domain ≡ domain.now) }
+    requires up { IsUp other.old }
+    requires clean { IsClean task.old }
+{
+    let mut run = begin_page(task, 2, STATE);
+    let begins = Turn::Again(PageStage::First);
+    match way_out(rt, domain, other, task, &mut run, begins, way) {
+        Turn::Again(stage) => is_set(leave_page(rt, domain, task, &mut run, stage)),
+        Turn::Done(outcome) => is_set(end_page_until(task, &run, outcome)),
+        _ => false,
+    }
+}
+
+/// A wait of this kind is left.
 fn leaves<R: Wait>(
     rt: &R,
     domain: &Domain,
@@ -207,16 +290,11 @@ fn leaves<R: Wait>(
     requires clean { IsClean task.old }
 {
     match kind {
-        0 => is_left!(rt, domain, other, task, way: begin_wait(task, 0, HOW),
-            WaitStage::First, is_unset, leave_wait, end_until(task)),
-        1 => is_left!(rt, domain, other, task, way: begin_await(task, 1, STATE),
-            AwaitStage::First, is_undone, leave_await, end_await_until(task)),
-        2 => is_left!(rt, domain, other, task, way: begin_bit(task, 2, 0, STATE),
-            Stage::Test(BitTest::First), is_set, leave_bit, end_bit_until(domain, task)),
-        3 => is_left!(rt, domain, other, task, way: begin_lock(task, 2, 0, STATE),
-            Stage::Test(LockTest::First), is_set, leave_lock, end_lock_until(domain, task)),
-        _ => is_left!(rt, domain, other, task, way: begin_page(task, 2, STATE),
-            PageStage::First, is_set, leave_page, end_page_until(task)),
+        0 => leaves_event(rt, domain, other, task, way),
+        1 => leaves_await(rt, domain, other, task, way),
+        2 => leaves_bit(rt, domain, other, task, way),
+        3 => leaves_lock(rt, domain, other, task, way),
+        _ => leaves_page(rt, domain, other, task, way),
     }
 }
 

@@ -1,7 +1,8 @@
 //! Waits that are asked to leave in threads of their own, again and again, in Domains whose tasks park at once when they
 //! are put asleep.
 
-ghost use Rattle.test_tasks.specs.Resting.{RestsIn};
+ghost use Rattle.std.specs.Prelude.{◌≡◌};
+ghost use Rattle.wait_rule.specs.Says.{IsClean};
 
 use crate::events::threads::set;
 use crate::leaves::conditions::{set_one, take};
@@ -43,8 +44,10 @@ pub(crate) fn leave_or_pass<R: Wait>(
     task: &mut Task,
     shared: &Shared,
 ) -> bool
-    requires rests { RestsIn domain.now task.old }
-    ensures rests { RestsIn domain.now task.new }
+    requires of { task.old.domain ≡ domain.now }
+    requires clean { IsClean task.old }
+    ensures of { task.new.domain ≡ domain.now }
+    ensures clean { IsClean task.new }
 {
     match wait_event_until(rt, domain, task, 0, HOW, || shared.asks()) {
         WaitUntil::Over(Ok(())) => {
@@ -60,8 +63,10 @@ pub(crate) fn leave_or_pass<R: Wait>(
 
 /// Waits until it has the condition.
 pub(crate) fn take_it<R: Wait>(rt: &R, domain: &Domain, task: &mut Task) -> bool
-    requires rests { RestsIn domain.now task.old }
-    ensures rests { RestsIn domain.now task.new }
+    requires of { task.old.domain ≡ domain.now }
+    requires clean { IsClean task.old }
+    ensures of { task.new.domain ≡ domain.now }
+    ensures clean { IsClean task.new }
 {
     for _ in rt.forever() {
         if wait_event(rt, domain, task, 0, HOW).is_err() {
@@ -82,8 +87,10 @@ pub(crate) fn leave<R: Wait>(
     shared: &Shared,
     left: Left,
 ) -> bool
-    requires rests { RestsIn domain.now task.old }
-    ensures rests { RestsIn domain.now task.new }
+    requires of { task.old.domain ≡ domain.now }
+    requires clean { IsClean task.old }
+    ensures of { task.new.domain ≡ domain.now }
+    ensures clean { IsClean task.new }
 {
     let state = SleepState::Uninterruptible;
     let asks = || shared.asks();
@@ -107,7 +114,8 @@ fn is_left<A: Drop>(end: WaitUntil<Result<A, WaitEnd>>) -> bool {
 
 /// Whether nobody waits for the conditions that waits were left for.
 pub(crate) fn nobody_waits<R: Wait>(rt: &R, domain: &Domain, task: &mut Task) -> bool
-    requires rests { RestsIn domain.now task.old }
+    requires of { task.old.domain ≡ domain.now }
+    requires clean { IsClean task.old }
 {
     let one = swake_one(rt, domain, task, SIMPLE);
     let walked = set(rt, domain, task, 0);

@@ -1,6 +1,7 @@
 //! What the first task of a round finds when it has taken the others in.
 
-ghost use Rattle.test_tasks.specs.Resting.{RestsIn};
+ghost use Rattle.std.specs.Prelude.{◌≡◌};
+ghost use Rattle.wait_rule.specs.Says.{IsClean};
 
 use crate::bits::alone::lock;
 use crate::completions::threads::nothing_is_left;
@@ -34,7 +35,8 @@ pub(crate) enum Found {
 impl Found {
     /// Whether it is so.
     pub fn is_so<R: Wait>(self, rt: &R, domain: &Domain, task: Task, shared: &Shared) -> bool
-        requires rests { RestsIn domain.now task }
+        requires of { task.domain ≡ domain.now }
+        requires clean { IsClean task }
     {
         let mut task = task;
         match self {

@@ -5,16 +5,15 @@ ghost use Rattle.wait_model.specs.declared.layout.TheConstants.{BIT_WORDS};
 ghost use Rattle.wait_model.specs.declared.watches.Watch.TheVariants as watch;
 ghost use Rattle.wait_rule.specs.Says.{IsClean};
 ghost use Rattle.bit_wait.specs.Holders.{IsHolder};
-ghost use Rattle.test_tasks.specs.Resting.{RestsIn};
 
 use crate::in_order::met_nobody;
+use crate::wants::{all_so, another};
 use bit_wait::BitEnd;
 use page_lock::tallies::add_tally;
 use page_lock::unlocks::unlock_page;
 use page_lock::wait_calls::lock_page;
 use std::sync::Wait;
 use std::test::Fail;
-use test_tasks::stops::{all_so, another};
 use wait_model::queues::Walked;
 use wait_model::tasks::SleepState;
 use wait_rule::running::send_signal;
@@ -22,7 +21,8 @@ use wait_rule::{Domain, Task};
 
 /// Waits until it has taken a page, and no signal ends the wait: true where it has.
 pub(crate) fn take<R: Wait>(rt: &R, domain: &Domain, task: &mut Task, page: u8) -> bool
-    requires rests { RestsIn domain.now task.old }
+    requires of { task.old.domain ≡ domain.now }
+    requires clean { IsClean task.old }
     requires page { page < BIT_WORDS }
     ensures of { task.new.domain ≡ domain.now }
     ensures holder { MatchBool result (IsHolder task.new (watch.Bit page 0)) (IsClean task.new) }
@@ -38,7 +38,8 @@ pub(crate) fn give<R: Wait>(rt: &R, domain: &Domain, task: &mut Task, page: u8) 
     requires of { task.old.domain ≡ domain.now }
     requires holder { IsHolder task.old (watch.Bit page 0) }
     requires page { page < BIT_WORDS }
-    ensures rests { RestsIn domain.now task.new }
+    ensures of { task.new.domain ≡ domain.now }
+    ensures clean { IsClean task.new }
 {
     unlock_page(rt, domain, task, page)
 }

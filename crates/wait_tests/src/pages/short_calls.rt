@@ -1,11 +1,11 @@
 //! The calls that wait for nobody but the lock of a head: a page is taken, its tally added to, and the page given back.
 
 use crate::in_order::met_nobody;
+use crate::wants::{all_so, another};
 use page_lock::tallies::add_tally;
 use page_lock::tries::try_lock_page;
 use page_lock::unlocks::unlock_page;
 use std::test::Fail;
-use test_tasks::stops::{all_so, another};
 use wait_rule::Domain;
 
 /// The last page of all.

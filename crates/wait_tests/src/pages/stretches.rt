@@ -7,11 +7,11 @@ ghost use Rattle.bit_wait.specs.Holders.{IsHolder};
 
 use crate::pages::alone::{give, take};
 use crate::turns::go_often;
+use crate::wants::another;
 use page_lock::wait_calls::begin_page;
 use page_lock::waits::{PageOutcome, PageStage};
 use std::sync::Wait;
 use std::test::Fail;
-use test_tasks::stops::another;
 use wait_class::stages::Turn;
 use wait_model::tasks::SleepState;
 use wait_rule::{Domain, Task};

@@ -1,7 +1,8 @@
 //! Tasks that take one page and give it back in threads of their own, again and again, in Domains whose tasks park at
 //! once when they are put asleep.
 
-ghost use Rattle.test_tasks.specs.Resting.{RestsIn};
+ghost use Rattle.std.specs.Prelude.{◌≡◌};
+ghost use Rattle.wait_rule.specs.Says.{IsClean};
 
 use crate::meetings::rows::{PAGE_OF_FOUR, PAGE_OF_TWO};
 use crate::meetings::{ROUNDS, meet_often};
@@ -16,8 +17,10 @@ const PAGE: u8 = 3;
 
 /// Takes the page, adds 1 to its tally, and gives it back: whether it took it.
 fn add_once<R: Wait>(rt: &R, domain: &Domain, task: &mut Task) -> bool
-    requires rests { RestsIn domain.now task.old }
-    ensures rests { RestsIn domain.now task.new }
+    requires of { task.old.domain ≡ domain.now }
+    requires clean { IsClean task.old }
+    ensures of { task.new.domain ≡ domain.now }
+    ensures clean { IsClean task.new }
 {
     if !take(rt, domain, task, PAGE) {
         return false;
@@ -29,8 +32,10 @@ fn add_once<R: Wait>(rt: &R, domain: &Domain, task: &mut Task) -> bool
 
 /// The same `n` times.
 pub(crate) fn add_often<R: Wait>(rt: &R, domain: &Domain, task: &mut Task, n: u64) -> bool
-    requires rests { RestsIn domain.now task.old }
-    ensures rests { RestsIn domain.now task.new }
+    requires of { task.old.domain ≡ domain.now }
+    requires clean { IsClean task.old }
+    ensures of { task.new.domain ≡ domain.now }
+    ensures clean { IsClean task.new }
 {
     for _ in 0..n {
         add_once(rt, domain, task);
@@ -40,7 +45,8 @@ pub(crate) fn add_often<R: Wait>(rt: &R, domain: &Domain, task: &mut Task, n: u6
 
 /// The tally in the end, when each has given the page back: None where the page is set still.
 pub(crate) fn last_tally(domain: &Domain, task: &mut Task) -> Option<u64>
-    requires rests { RestsIn domain.now task.old }
+    requires of { task.old.domain ≡ domain.now }
+    requires clean { IsClean task.old }
 {
     if try_lock_page(domain, task, PAGE) {
         return Some(add(domain, task, PAGE, 0));

@@ -1,18 +1,19 @@
 //! Killable waits under plain and fatal signals, and a lock of a page that a signal ends, in threads of their own,
 //! again and again, in Domains whose tasks park at once when they are put asleep.
 
-ghost use Rattle.test_tasks.specs.Resting.{RestsIn};
+ghost use Rattle.std.specs.Prelude.{◌≡◌};
+ghost use Rattle.wait_rule.specs.Says.{IsClean};
 
 use super::interrupted;
 use crate::meetings::rows::{FATAL_SIGNAL, PLAIN_SIGNAL};
 use crate::meetings::{Part, ROUNDS, Shared, both, meet_often};
 use crate::pages::alone::{give, take};
+use crate::wants::{all_so, another};
 use page_lock::lock_page;
 use std::sync::Wait;
 use std::test::Fail;
 use std::thread;
 use test_tasks::meetings::meet_two;
-use test_tasks::stops::{all_so, another};
 use wait_model::tasks::SleepState;
 use wait_model::watches::Mode;
 use wait_rule::{Domain, Task, send_signal, wake_task};
@@ -28,8 +29,10 @@ pub(crate) fn wake_then_signal<R: Wait>(
     who: u8,
     fatal: bool,
 ) -> bool
-    requires rests { RestsIn domain.now task.old }
-    ensures rests { RestsIn domain.now task.new }
+    requires of { task.old.domain ≡ domain.now }
+    requires clean { IsClean task.old }
+    ensures of { task.new.domain ≡ domain.now }
+    ensures clean { IsClean task.new }
 {
     for _ in rt.forever() {
         if wake_task(rt, domain, task, who, Mode::Normal) {
@@ -55,8 +58,10 @@ fn fatal_signal_ends_a_wait_that_slept(rt: HostRuntime) -> Result<(), Fail> {
 
 /// Waits for the page, which stays with its holder: true where a signal ended the wait, and the page's word held 1.
 pub(crate) fn lock_in_vain<R: Wait>(rt: &R, domain: &Domain, task: &mut Task) -> bool
-    requires rests { RestsIn domain.now task.old }
-    ensures rests { RestsIn domain.now task.new }
+    requires of { task.old.domain ≡ domain.now }
+    requires clean { IsClean task.old }
+    ensures of { task.new.domain ≡ domain.now }
+    ensures clean { IsClean task.new }
 {
     match lock_page(rt, domain, task, PAGE, SleepState::Interruptible) {
         Ok(()) => {

@@ -1,12 +1,13 @@
 //! One task alone: its wakes find nobody, and its wait ends at its first look.
 
-ghost use Rattle.test_tasks.specs.Resting.{RestsIn};
+ghost use Rattle.std.specs.Prelude.{◌≡◌};
+ghost use Rattle.wait_rule.specs.Says.{IsClean};
 
+use crate::wants::{all_so, another};
 use std::sync::Wait;
 use std::test::Fail;
 use swait_queue::waits::swait_event;
 use swait_queue::wakes::{swake_all, swake_one};
-use test_tasks::stops::{all_so, another};
 use wait_model::layout::FIRST_SIMPLE;
 use wait_model::tasks::SleepState;
 use wait_rule::{Domain, Task};
@@ -17,8 +18,10 @@ const COND: u8 = FIRST_SIMPLE as u8;
 
 /// Wakes with nothing set before: whether there was a first one, and how many there were then.
 fn wake_unset<R: Wait>(rt: &R, domain: &Domain, task: &mut Task) -> (bool, u32)
-    requires rests { RestsIn domain.now task.old }
-    ensures rests { RestsIn domain.now task.new }
+    requires of { task.old.domain ≡ domain.now }
+    requires clean { IsClean task.old }
+    ensures of { task.new.domain ≡ domain.now }
+    ensures clean { IsClean task.new }
 {
     let one = swake_one(rt, domain, task, COND);
     let all = swake_all(rt, domain, task, COND);

@@ -1,11 +1,12 @@
 //! One task alone, and one that a signal reaches first: waits that end without a sleep.
 
-ghost use Rattle.test_tasks.specs.Resting.{RestsIn};
+ghost use Rattle.std.specs.Prelude.{◌≡◌};
+ghost use Rattle.wait_rule.specs.Says.{IsClean};
 
 use crate::in_order::met_nobody;
+use crate::wants::another;
 use std::sync::Wait;
 use std::test::Fail;
-use test_tasks::stops::another;
 use var_wait::publishes::publish_var_and_wake;
 use var_wait::waits::wait_var;
 use wait_event::wait_events::WaitEnd;
@@ -19,8 +20,10 @@ pub(crate) const VAR: u8 = 20;
 
 /// Publishes a value and wakes who waits for the variable to change: what the wake answers.
 pub(crate) fn announce<R: Wait>(rt: &R, domain: &Domain, task: &mut Task, value: u64) -> Walked
-    requires rests { RestsIn domain.now task.old }
-    ensures rests { RestsIn domain.now task.new }
+    requires of { task.old.domain ≡ domain.now }
+    requires clean { IsClean task.old }
+    ensures of { task.new.domain ≡ domain.now }
+    ensures clean { IsClean task.new }
 {
     publish_var_and_wake(rt, domain, task, VAR, value)
 }
@@ -32,8 +35,10 @@ pub(crate) fn wait_for_other<R: Wait>(
     task: &mut Task,
     old: u64,
 ) -> Result<u64, WaitEnd>
-    requires rests { RestsIn domain.now task.old }
-    ensures rests { RestsIn domain.now task.new }
+    requires of { task.old.domain ≡ domain.now }
+    requires clean { IsClean task.old }
+    ensures of { task.new.domain ≡ domain.now }
+    ensures clean { IsClean task.new }
 {
     wait_var(rt, domain, task, VAR, old, SleepState::Uninterruptible)
 }
@@ -46,8 +51,10 @@ fn store_and_wait<R: Wait>(
     value: u64,
     old: u64,
 ) -> Result<u64, WaitEnd>
-    requires rests { RestsIn domain.now task.old }
-    ensures rests { RestsIn domain.now task.new }
+    requires of { task.old.domain ≡ domain.now }
+    requires clean { IsClean task.old }
+    ensures of { task.new.domain ≡ domain.now }
+    ensures clean { IsClean task.new }
 {
     announce(rt, domain, task, value);
     wait_for_other(rt, domain, task, old)

@@ -1,7 +1,8 @@
 //! Waits for a variable and its publisher in threads of their own, again and again, in Domains whose tasks park at once
 //! when they are put asleep.
 
-ghost use Rattle.test_tasks.specs.Resting.{RestsIn};
+ghost use Rattle.std.specs.Prelude.{◌≡◌};
+ghost use Rattle.wait_rule.specs.Says.{IsClean};
 
 use crate::meetings::rows::VALUES;
 use crate::meetings::{ROUNDS, meet_often};
@@ -14,8 +15,10 @@ use wait_rule::{Domain, Task};
 
 /// Waits until the variable is 2, by what it saw before each time: whether it saw that.
 pub(crate) fn wait_twice<R: Wait>(rt: &R, domain: &Domain, task: &mut Task) -> bool
-    requires rests { RestsIn domain.now task.old }
-    ensures rests { RestsIn domain.now task.new }
+    requires of { task.old.domain ≡ domain.now }
+    requires clean { IsClean task.old }
+    ensures of { task.new.domain ≡ domain.now }
+    ensures clean { IsClean task.new }
 {
     let state = SleepState::Uninterruptible;
     let first = wait_var(rt, domain, task, VAR, 0, state).unwrap_or(0);
@@ -29,8 +32,10 @@ pub(crate) fn wait_twice<R: Wait>(rt: &R, domain: &Domain, task: &mut Task) -> b
 
 /// Publishes 1 and then 2.
 pub(crate) fn announce_twice<R: Wait>(rt: &R, domain: &Domain, task: &mut Task) -> bool
-    requires rests { RestsIn domain.now task.old }
-    ensures rests { RestsIn domain.now task.new }
+    requires of { task.old.domain ≡ domain.now }
+    requires clean { IsClean task.old }
+    ensures of { task.new.domain ≡ domain.now }
+    ensures clean { IsClean task.new }
 {
     announce(rt, domain, task, 1);
     announce(rt, domain, task, 2);

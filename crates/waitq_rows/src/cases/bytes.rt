@@ -12,11 +12,6 @@ pub(crate) enum Bytes {
     Hundreds(usize),
     /// So many: a letter and the 22 after it, which come again and again in their order.
     Letters(u8, usize),
-    /// A script of this version: calls of tasks, each with the most steps that its task takes after it. Where no call is
-    /// named the task goes on.
-    Calls(u8, &'static [(u8, &'static str, u32)]),
-    /// Lines of tasks, each behind the name of its task, and these after them.
-    Turns(&'static [(u8, &'static [&'static str])], &'static str),
 }
 
 /// How bytes are like those that are wanted.
@@ -59,56 +54,10 @@ fn hundredth(at: usize) -> u8 {
     }
 }
 
-/// Adds lines of a task, each behind its name.
-pub(crate) fn push_turn(
-    alloc: Global,
-    text: &mut String,
-    task: u8,
-    lines: &[&str],
-) -> Result<(), AllocError> {
-    for line in lines {
-        let named = format!(in alloc; "t{task} {line}\n")?;
-        text.push_str(named.as_str())?;
-    }
-    Ok(())
-}
-
-/// Lines of tasks, and an end after them.
-fn turns_of(alloc: Global, turns: &[(u8, &[&str])], end: &str) -> Result<String, AllocError> {
-    let mut text = String::new(alloc);
-    for (task, lines) in turns {
-        push_turn(alloc, &mut text, *task, lines)?;
-    }
-    text.push_str(end)?;
-    Ok(text)
-}
-
-/// A script of this version with these calls.
-fn script_of(alloc: Global, version: u8, calls: &[(u8, &str, u32)]) -> Result<String, AllocError> {
-    let mut script = format!(in alloc; "waitq {version}\n")?;
-    for (task, call, steps) in calls {
-        if !call.is_empty() {
-            let line = format!(in alloc; "call {task} {call}\n")?;
-            script.push_str(line.as_str())?;
-        }
-        let line = format!(in alloc; "step {task} {steps}\n")?;
-        script.push_str(line.as_str())?;
-    }
-    Ok(script)
-}
-
 /// The bytes.
 pub(crate) fn made(alloc: Global, bytes: Bytes) -> Result<Vec<u8>, AllocError> {
     let mut made = Vec::new(alloc);
     match bytes {
-        Bytes::Calls(version, calls) => {
-            let script = script_of(alloc, version, calls)?;
-            made.extend_from_slice(script.as_bytes())?;
-        }
-        Bytes::Turns(turns, end) => {
-            let text = turns_of(alloc, turns, end)?;
-            made.extend_from_slice(text.as_bytes())?;
-        }
         Bytes::Just(text) => made.extend_from_slice(text.as_bytes())?,
         Bytes::Lines(text, line, times) => {
             made.extend_from_slice(text.as_bytes())?;

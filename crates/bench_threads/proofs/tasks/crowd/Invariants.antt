@@ -1,6 +1,8 @@
+use Rattle.std.proofs.Common.{◌≡◌}
 use Rattle.std.specs.Prelude.{All}
-use Rattle.test_tasks.specs.Resting.{RestsIn}
+use Rattle.wait_rule.specs.Says.{IsClean}
 use Rattle.bench_threads.proofs.tasks.crowd.Given as goal
 
 abbrev pub invariant-loop : goal.invariant-loop
-invariant-loop l = RestsIn l.domain l.task × All (λ t. RestsIn l.domain t) l.tasks.items
+invariant-loop l = (l.task.domain ≡ l.domain)
+    × (IsClean l.task × All (λ t. (t.domain ≡ l.domain) × IsClean t) l.tasks.items)

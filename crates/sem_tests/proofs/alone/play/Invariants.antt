@@ -1,5 +1,6 @@
-use Rattle.test_tasks.specs.Resting.{RestsIn}
+use Rattle.std.proofs.Common.{◌≡◌}
+use Rattle.wait_rule.specs.Says.{IsClean}
 use Rattle.sem_tests.proofs.alone.play.Given as goal
 
 abbrev pub invariant-loop-step : goal.invariant-loop-step
-invariant-loop-step g l = RestsIn l.domain l.task
+invariant-loop-step g l = record { of : l.task.domain ≡ l.domain; clean : IsClean l.task }

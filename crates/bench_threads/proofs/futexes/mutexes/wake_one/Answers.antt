@@ -10,5 +10,5 @@ returns-clause-clean g c = let woken = c.futex_wake.ensures in record {
   running = woken.idle.running;
   free = woken.idle.free;
   settled = woken.carries.owes no_excuse
-      (excused_more (watch.Plain 5) no_excuse c.args.task.now c.requires.rests.clean.settled);
+      (excused_more (watch.Plain 5) no_excuse c.args.task.now c.requires.clean.settled);
 }

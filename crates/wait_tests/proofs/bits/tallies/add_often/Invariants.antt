@@ -1,6 +1,7 @@
-use Rattle.test_tasks.specs.Resting.{RestsIn}
+use Rattle.std.proofs.Common.{◌≡◌}
+use Rattle.wait_rule.specs.Says.{IsClean}
 use Rattle.wait_tests.proofs.bits.tallies.add_often.Given as goal
 
 -- between two adds it owes nothing
 abbrev pub invariant-loop : goal.invariant-loop
-invariant-loop g l = RestsIn l.fn.domain l.task
+invariant-loop g l = record { of_domain : l.task.domain ≡ l.fn.domain; clean : IsClean l.task }

@@ -1,9 +1,8 @@
 use Rattle.std.proofs.Common.{◌≡◌}
 use Rattle.wait_rule.specs.Says.{IsClean}
 use Rattle.futex_table.specs.Holding.{HoldsMutex}
-use Rattle.lock_users.proofs.monitors.hand_on.Given as goal
+use Rattle.bench_threads.proofs.futexes.monitors.hand_on.Given as goal
 
--- it owes nothing, and has the mutex
 abbrev pub invariant-loop : goal.invariant-loop
 invariant-loop g l = record {
   of : l.task.domain ≡ l.fn.domain;

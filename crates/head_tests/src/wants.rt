@@ -1,5 +1,6 @@
-//! What a test wants to be so, and the tasks that it wants: who does not get it ends the process. What several crates of
-//! tests check stands here once, since the proof of a test takes as long as it has branches.
+//! What a test wants to be so, and the tasks that it wants. What the tests of this crate check stands here once, since the
+//! proof of a test takes as long as it has branches; each crate of tests has this file, since no library may end the
+//! process, as what a test wants does.
 
 ghost use Rattle.std.specs.Prelude.{◌≡◌, ◌+◌};
 ghost use Rattle.wait_rule.specs.Journals.{left_with};

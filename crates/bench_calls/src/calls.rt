@@ -2,7 +2,7 @@
 
 ghost use Rattle.std.specs.Prelude.{◌≡◌, ◌<◌};
 ghost use Rattle.wait_model.specs.declared.layout.TheConstants.{FIRST_SIMPLE, WORD_BITS};
-ghost use Rattle.wait_rule.specs.Says.{IsClean};
+ghost use Rattle.wait_rule.specs.Says.{RestsIn};
 
 use crate::cells::repeat_cell;
 use crate::names::Call;
@@ -48,10 +48,8 @@ const VAR: u8 = 20;
 
 /// Takes the lock of a head, and gives it back.
 fn pass<R: Wait>(rt: &R, domain: &Domain, task: &mut Task)
-    requires of { task.old.domain ≡ domain.now }
-    requires clean { IsClean task.old }
-    ensures of { task.new.domain ≡ domain.now }
-    ensures clean { IsClean task.new }
+    requires rests { RestsIn domain.now task.old }
+    ensures rests { RestsIn domain.now task.new }
 {
     lock(rt, domain, task, FIRST_PLAIN_HEAD);
     unlock(rt, domain, task, false);
@@ -59,11 +57,9 @@ fn pass<R: Wait>(rt: &R, domain: &Domain, task: &mut Task)
 
 /// Waits for a condition: true where it was set.
 fn wait_for<R: Wait>(rt: &R, domain: &Domain, task: &mut Task, of: (u8, SleepState)) -> bool
-    requires of { task.old.domain ≡ domain.now }
-    requires clean { IsClean task.old }
+    requires rests { RestsIn domain.now task.old }
     requires full { of.0 < FIRST_SIMPLE }
-    ensures of { task.new.domain ≡ domain.now }
-    ensures clean { IsClean task.new }
+    ensures rests { RestsIn domain.now task.new }
 {
     let how = How {
         state: of.1,
@@ -74,10 +70,8 @@ fn wait_for<R: Wait>(rt: &R, domain: &Domain, task: &mut Task, of: (u8, SleepSta
 
 /// Takes the bit and gives it back: true where it was clear.
 fn set_and_clear<R: Wait>(rt: &R, domain: &Domain, task: &mut Task) -> bool
-    requires of { task.old.domain ≡ domain.now }
-    requires clean { IsClean task.old }
-    ensures of { task.new.domain ≡ domain.now }
-    ensures clean { IsClean task.new }
+    requires rests { RestsIn domain.now task.old }
+    ensures rests { RestsIn domain.now task.new }
 {
     if !test_and_set(domain, task, WORD, OWN) {
         return false;
@@ -88,10 +82,8 @@ fn set_and_clear<R: Wait>(rt: &R, domain: &Domain, task: &mut Task) -> bool
 
 /// Waits until it has the bit, and gives it back: true where it had it.
 fn lock_bit<R: Wait>(rt: &R, domain: &Domain, task: &mut Task) -> bool
-    requires of { task.old.domain ≡ domain.now }
-    requires clean { IsClean task.old }
-    ensures of { task.new.domain ≡ domain.now }
-    ensures clean { IsClean task.new }
+    requires rests { RestsIn domain.now task.old }
+    ensures rests { RestsIn domain.now task.new }
 {
     if wait_on_bit_lock(rt, domain, task, WORD, OWN, SleepState::Uninterruptible).is_err() {
         return false;
@@ -108,11 +100,9 @@ fn wait_for_bit<R: Wait>(
     bit: u8,
     state: SleepState,
 ) -> bool
-    requires of { task.old.domain ≡ domain.now }
-    requires clean { IsClean task.old }
+    requires rests { RestsIn domain.now task.old }
     requires bit { bit < WORD_BITS }
-    ensures of { task.new.domain ≡ domain.now }
-    ensures clean { IsClean task.new }
+    ensures rests { RestsIn domain.now task.new }
 {
     let over = wait_on_bit(rt, domain, task, WORD, bit, state).is_ok();
     if !over {
@@ -123,10 +113,8 @@ fn wait_for_bit<R: Wait>(
 
 /// Takes the page and gives it back: true where it had it.
 fn take_page<R: Wait>(rt: &R, domain: &Domain, task: &mut Task) -> bool
-    requires of { task.old.domain ≡ domain.now }
-    requires clean { IsClean task.old }
-    ensures of { task.new.domain ≡ domain.now }
-    ensures clean { IsClean task.new }
+    requires rests { RestsIn domain.now task.old }
+    ensures rests { RestsIn domain.now task.new }
 {
     if lock_page(rt, domain, task, PAGE, SleepState::Uninterruptible).is_err() {
         return false;
@@ -137,10 +125,8 @@ fn take_page<R: Wait>(rt: &R, domain: &Domain, task: &mut Task) -> bool
 
 /// Makes a call of conditions or heads: true where it went the way that its name says, and so it is of every other.
 fn by_conditions<R: Wait>(rt: &R, domain: &Domain, task: &mut Task, call: Call) -> bool
-    requires of { task.old.domain ≡ domain.now }
-    requires clean { IsClean task.old }
-    ensures of { task.new.domain ≡ domain.now }
-    ensures clean { IsClean task.new }
+    requires rests { RestsIn domain.now task.old }
+    ensures rests { RestsIn domain.now task.new }
 {
     match call {
         Call::SetAndWake => { set_and_wake(rt, domain, task, SET, 1, Mode::Normal, 0).woken == 0 }
@@ -159,10 +145,8 @@ fn by_conditions<R: Wait>(rt: &R, domain: &Domain, task: &mut Task, call: Call) 
 
 /// Makes a call.
 fn once<R: Wait>(rt: &R, domain: &Domain, task: &mut Task, call: Call) -> bool
-    requires of { task.old.domain ≡ domain.now }
-    requires clean { IsClean task.old }
-    ensures of { task.new.domain ≡ domain.now }
-    ensures clean { IsClean task.new }
+    requires rests { RestsIn domain.now task.old }
+    ensures rests { RestsIn domain.now task.new }
 {
     match call {
         Call::Bit => set_and_clear(rt, domain, task),
@@ -178,10 +162,8 @@ fn once<R: Wait>(rt: &R, domain: &Domain, task: &mut Task, call: Call) -> bool
 
 /// Makes a call `n` times: true where each went the way that its name says.
 fn often<R: Wait>(rt: &R, domain: &Domain, task: &mut Task, call: Call, n: u64) -> bool
-    requires of { task.old.domain ≡ domain.now }
-    requires clean { IsClean task.old }
-    ensures of { task.new.domain ≡ domain.now }
-    ensures clean { IsClean task.new }
+    requires rests { RestsIn domain.now task.old }
+    ensures rests { RestsIn domain.now task.new }
 {
     let mut all = true;
     for _ in 0..n {
@@ -194,10 +176,8 @@ fn often<R: Wait>(rt: &R, domain: &Domain, task: &mut Task, call: Call, n: u64) 
 
 /// Sets what is to be set before the calls, and raises a signal at the task where the call is to be ended by it.
 fn make_ready<R: Wait>(rt: &R, domain: &Domain, task: &mut Task, call: Call)
-    requires of { task.old.domain ≡ domain.now }
-    requires clean { IsClean task.old }
-    ensures of { task.new.domain ≡ domain.now }
-    ensures clean { IsClean task.new }
+    requires rests { RestsIn domain.now task.old }
+    ensures rests { RestsIn domain.now task.new }
 {
     set_and_wake(rt, domain, task, SET, 1, Mode::Normal, 0);
     set_simple(rt, domain, task);
@@ -210,10 +190,8 @@ fn make_ready<R: Wait>(rt: &R, domain: &Domain, task: &mut Task, call: Call)
 
 /// Sets the condition with a simple queue, and wakes who waits for it.
 fn set_simple<R: Wait>(rt: &R, domain: &Domain, task: &mut Task)
-    requires of { task.old.domain ≡ domain.now }
-    requires clean { IsClean task.old }
-    ensures of { task.new.domain ≡ domain.now }
-    ensures clean { IsClean task.new }
+    requires rests { RestsIn domain.now task.old }
+    ensures rests { RestsIn domain.now task.new }
 {
     publish(domain, task, Watch::Plain { cond: SIMPLE }, 1);
     swake_one(rt, domain, task, SIMPLE);

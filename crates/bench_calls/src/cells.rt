@@ -1,7 +1,7 @@
 //! Calls of completions, by a task that has left no entry at any.
 
 ghost use Rattle.std.specs.Prelude.{◌≡◌};
-ghost use Rattle.wait_rule.specs.Says.{IsClean};
+ghost use Rattle.wait_rule.specs.Says.{RestsIn};
 
 use crate::names::Call;
 use completion_cell::asks::try_wait;
@@ -16,40 +16,32 @@ const CELL: u8 = 0;
 
 /// Completes it for one waiter.
 fn complete_one<R: Wait>(rt: &R, domain: &Domain, task: &mut Task)
-    requires of { task.old.domain ≡ domain.now }
-    requires clean { IsClean task.old }
-    ensures of { task.new.domain ≡ domain.now }
-    ensures clean { IsClean task.new }
+    requires rests { RestsIn domain.now task.old }
+    ensures rests { RestsIn domain.now task.new }
 {
     complete(rt, domain, task, CELL);
 }
 
 /// Waits for one, and takes it: true where it took one.
 fn wait_for_one<R: Wait>(rt: &R, domain: &Domain, task: &mut Task) -> bool
-    requires of { task.old.domain ≡ domain.now }
-    requires clean { IsClean task.old }
-    ensures of { task.new.domain ≡ domain.now }
-    ensures clean { IsClean task.new }
+    requires rests { RestsIn domain.now task.old }
+    ensures rests { RestsIn domain.now task.new }
 {
     wait_for(rt, domain, task, CELL, SleepState::Uninterruptible).is_ok()
 }
 
 /// Takes one where one is there.
 fn take_one<R: Wait>(rt: &R, domain: &Domain, task: &mut Task) -> bool
-    requires of { task.old.domain ≡ domain.now }
-    requires clean { IsClean task.old }
-    ensures of { task.new.domain ≡ domain.now }
-    ensures clean { IsClean task.new }
+    requires rests { RestsIn domain.now task.old }
+    ensures rests { RestsIn domain.now task.new }
 {
     try_wait(rt, domain, task, CELL)
 }
 
 /// Completes it, and takes what it completed, as the call says: true where it took one, if it was to.
 fn once<R: Wait>(rt: &R, domain: &Domain, task: &mut Task, call: Call) -> bool
-    requires of { task.old.domain ≡ domain.now }
-    requires clean { IsClean task.old }
-    ensures of { task.new.domain ≡ domain.now }
-    ensures clean { IsClean task.new }
+    requires rests { RestsIn domain.now task.old }
+    ensures rests { RestsIn domain.now task.new }
 {
     complete_one(rt, domain, task);
     match call {
@@ -67,8 +59,7 @@ pub(crate) fn repeat_cell<R: Wait>(
     call: Call,
     n: u64,
 ) -> bool
-    requires of { task.old.domain ≡ domain.now }
-    requires clean { IsClean task.old }
+    requires rests { RestsIn domain.now task.old }
 {
     let mut all = true;
     for _ in 0..n {

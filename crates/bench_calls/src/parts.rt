@@ -5,7 +5,7 @@ ghost use Rattle.wait_model.specs.declared.tasks.SleepState.TheVariants as state
 ghost use Rattle.wait_model.specs.declared.watches.Kind.TheVariants as kinds;
 ghost use Rattle.wait_model.specs.declared.watches.Watch.TheVariants as watch;
 ghost use Rattle.wait_event.specs.Prepares.{MayPrepare};
-ghost use Rattle.wait_rule.specs.Says.{IsClean};
+ghost use Rattle.wait_rule.specs.Says.{RestsIn};
 
 use std::sync::Wait;
 use wait_event::prepares::{finish_wait, prepare_to_wait};
@@ -30,8 +30,7 @@ fn once<R: Wait>(rt: &R, domain: &Domain, task: &mut Task) -> bool
 
 /// The same `n` times: true where there was a place each time.
 pub(crate) fn repeat_parts<R: Wait>(rt: &R, domain: &Domain, task: &mut Task, n: u64) -> bool
-    requires of { task.old.domain ≡ domain.now }
-    requires clean { IsClean task.old }
+    requires rests { RestsIn domain.now task.old }
 {
     let mut all = true;
     for _ in 0..n {
@@ -44,8 +43,7 @@ pub(crate) fn repeat_parts<R: Wait>(rt: &R, domain: &Domain, task: &mut Task, n:
 
 /// Wakes who waits for condition 0, `n` times: true where nobody did.
 pub(crate) fn repeat_wakes<R: Wait>(rt: &R, domain: &Domain, task: &mut Task, n: u64) -> bool
-    requires of { task.old.domain ≡ domain.now }
-    requires clean { IsClean task.old }
+    requires rests { RestsIn domain.now task.old }
 {
     let mut woken: u32 = 0;
     for _ in 0..n {

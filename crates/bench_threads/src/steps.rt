@@ -1,7 +1,7 @@
 //! How fast the steps of a Domain are.
 
 ghost use Rattle.std.specs.Prelude.{◌≡◌};
-ghost use Rattle.wait_rule.specs.Says.{IsClean, IsUp};
+ghost use Rattle.wait_rule.specs.Says.{IsUp, RestsIn};
 
 use crate::tasks::{Retry, wake_up};
 use crate::timing::{Times, time_two};
@@ -43,10 +43,8 @@ fn exchanges<R: Wait>(rt: &R, domain: &Domain, task: &mut Task, n: u64)
 
 /// Sleeps until woken.
 fn doze<R: Wait>(rt: &R, domain: &Domain, task: &mut Task)
-    requires of { task.old.domain ≡ domain.now }
-    requires clean { IsClean task.old }
-    ensures of { task.new.domain ≡ domain.now }
-    ensures clean { IsClean task.new }
+    requires rests { RestsIn domain.now task.old }
+    ensures rests { RestsIn domain.now task.new }
 {
     set_state(domain, task, UNINTERRUPTIBLE);
     schedule(rt, domain, task);

@@ -1,7 +1,7 @@
 //! What several of the programs do with tasks: new ones, and a wake of one that is about to sleep.
 
 ghost use Rattle.std.specs.Prelude.{◌≡◌, ◌<◌, ◌+◌, All, IfOk};
-ghost use Rattle.wait_rule.specs.Says.{IsClean};
+ghost use Rattle.wait_rule.specs.Says.{IsClean, RestsIn};
 
 use std::alloc::{AllocError, Global};
 use std::hint::spin_loop;
@@ -12,11 +12,9 @@ use wait_rule::{Domain, Task, wake_task};
 
 /// A new task, of a task that has a number to give.
 pub(crate) fn another(domain: &Domain, task: &mut Task) -> Task
-    requires of { task.old.domain ≡ domain.now }
-    requires clean { IsClean task.old }
+    requires rests { RestsIn domain.now task.old }
     requires spare { 0 < task.old.view.spare }
-    ensures of { task.new.domain ≡ domain.now }
-    ensures clean { IsClean task.new }
+    ensures rests { RestsIn domain.now task.new }
     ensures spare { task.new.view.spare + 1 ≡ task.old.view.spare }
     ensures of_other { result.domain ≡ domain.now }
     ensures clean_other { IsClean result }
@@ -34,8 +32,7 @@ pub(crate) fn crowd(
     task: &mut Task,
     count: u8,
 ) -> Result<Vec<Task>, AllocError>
-    requires of { task.old.domain ≡ domain.now }
-    requires clean { IsClean task.old }
+    requires rests { RestsIn domain.now task.old }
     ensures of { IfOk result (λ _. task.new.domain ≡ domain.now) }
     ensures clean { IfOk result (λ _. IsClean task.new) }
     ensures tasks { IfOk result (λ v. All (λ t. (t.domain ≡ domain.now) × IsClean t) v.items) }
@@ -59,10 +56,8 @@ pub(crate) enum Retry {
 
 /// Wakes a task as soon as it is about to sleep.
 pub(crate) fn wake_up<R: Wait>(rt: &R, domain: &Domain, task: &mut Task, who: u8, retry: Retry)
-    requires of { task.old.domain ≡ domain.now }
-    requires clean { IsClean task.old }
-    ensures of { task.new.domain ≡ domain.now }
-    ensures clean { IsClean task.new }
+    requires rests { RestsIn domain.now task.old }
+    ensures rests { RestsIn domain.now task.new }
 {
     for _ in rt.forever() {
         if wake_task(rt, domain, task, who, Mode::Normal) {

@@ -1,7 +1,7 @@
 //! How long tasks of a new Domain take that play a part again and again.
 
 ghost use Rattle.std.specs.Prelude.{◌≡◌, All};
-ghost use Rattle.wait_rule.specs.Says.{IsClean};
+ghost use Rattle.wait_rule.specs.Says.{IsClean, RestsIn};
 
 use crate::futexes::mutexes::open;
 use crate::tasks::{another, crowd};
@@ -109,8 +109,7 @@ fn play_one<R: Wait, P: Part + Copy>(
     part: P,
     n: u64,
 ) -> bool
-    requires of { task.domain ≡ domain.now }
-    requires clean { IsClean task }
+    requires rests { RestsIn domain.now task }
 {
     often(part, n).play(rt, domain, &mut task)
 }
@@ -129,7 +128,7 @@ fn play_all<R: Threads + Wait + Sync, P: Part + Copy + Sync>(
         rt,
         tasks,
         &|task: Task| -> bool
-            requires { (task.domain ≡ domain.now) × IsClean task }
+            requires { RestsIn domain.now task }
         { play_one(rt, domain, task, part, n) },
     );
     all.is_ok_and(|all| all.iter().all(|one| *one))

@@ -5,7 +5,7 @@ ghost use Rattle.wait_model.specs.declared.layout.TheConstants.{FIRST_SIMPLE};
 ghost use Rattle.wait_model.specs.declared.queues.Walked.{Walked};
 ghost use Rattle.wait_model.specs.declared.watches.Mode.TheVariants as mode;
 ghost use Rattle.wait_rule.specs.Known.{Known};
-ghost use Rattle.wait_rule.specs.Says.{IsClean};
+ghost use Rattle.wait_rule.specs.Says.{IsClean, RestsIn};
 ghost use Rattle.wait_event.specs.Conds.{HasSet, HasTakenCond};
 ghost use Rattle.examples_threads.specs.Causes.{WaitEnded};
 
@@ -28,8 +28,7 @@ pub struct Worker<'d> {
 impl<'d> Worker<'d> {
     /// Makes a task of this Domain a worker.
     pub fn new(domain: &'d Domain, task: Task) -> Worker<'d>
-        requires of { task.domain ≡ domain.now }
-        requires clean { IsClean task }
+        requires rests { RestsIn domain.now task }
     {
         Worker { domain, task }
     }

@@ -2,7 +2,7 @@
 //! futex 6, their condition variable futex 7, and futex 5 one that tasks sleep on.
 
 ghost use Rattle.std.specs.Prelude.{◌≡◌, true};
-ghost use Rattle.wait_rule.specs.Says.{IsClean};
+ghost use Rattle.wait_rule.specs.Says.{RestsIn};
 ghost use Rattle.futex_table.specs.Holding.{HoldsMutex};
 
 use futex_table::{
@@ -26,20 +26,16 @@ const COND: u8 = 7;
 
 /// Opens the mutex.
 pub(crate) fn open<R: Wait>(rt: &R, domain: &Domain, task: &mut Task)
-    requires of { task.old.domain ≡ domain.now }
-    requires clean { IsClean task.old }
-    ensures of { task.new.domain ≡ domain.now }
-    ensures clean { IsClean task.new }
+    requires rests { RestsIn domain.now task.old }
+    ensures rests { RestsIn domain.now task.new }
 {
     mutex_open(rt, domain, task, LOCK);
 }
 
 /// Takes the mutex: whether it has it.
 pub(crate) fn lock<R: Wait>(rt: &R, domain: &Domain, task: &mut Task) -> bool
-    requires of { task.old.domain ≡ domain.now }
-    requires clean { IsClean task.old }
-    ensures of { task.new.domain ≡ domain.now }
-    ensures clean { IsClean task.new }
+    requires rests { RestsIn domain.now task.old }
+    ensures rests { RestsIn domain.now task.new }
     ensures holds { result ≡ true → HoldsMutex task.new 6 }
 {
     match mutex_lock(rt, domain, task, LOCK) {
@@ -50,10 +46,8 @@ pub(crate) fn lock<R: Wait>(rt: &R, domain: &Domain, task: &mut Task) -> bool
 
 /// Takes the mutex if nobody has it: whether it has it.
 pub(crate) fn try_lock(domain: &Domain, task: &mut Task) -> bool
-    requires of { task.old.domain ≡ domain.now }
-    requires clean { IsClean task.old }
-    ensures of { task.new.domain ≡ domain.now }
-    ensures clean { IsClean task.new }
+    requires rests { RestsIn domain.now task.old }
+    ensures rests { RestsIn domain.now task.new }
     ensures holds { result ≡ true → HoldsMutex task.new 6 }
 {
     mutex_try(domain, task, LOCK)
@@ -61,22 +55,18 @@ pub(crate) fn try_lock(domain: &Domain, task: &mut Task) -> bool
 
 /// Gives it back.
 pub(crate) fn unlock<R: Wait>(rt: &R, domain: &Domain, task: &mut Task)
-    requires of { task.old.domain ≡ domain.now }
-    requires clean { IsClean task.old }
+    requires rests { RestsIn domain.now task.old }
     requires holds { HoldsMutex task.old 6 }
-    ensures of { task.new.domain ≡ domain.now }
-    ensures clean { IsClean task.new }
+    ensures rests { RestsIn domain.now task.new }
 {
     mutex_unlock(rt, domain, task, LOCK);
 }
 
 /// Waits for the condition variable: whether it has the mutex behind the wait.
 pub(crate) fn wait<R: Wait>(rt: &R, domain: &Domain, task: &mut Task) -> bool
-    requires of { task.old.domain ≡ domain.now }
-    requires clean { IsClean task.old }
+    requires rests { RestsIn domain.now task.old }
     requires holds { HoldsMutex task.old 6 }
-    ensures of { task.new.domain ≡ domain.now }
-    ensures clean { IsClean task.new }
+    ensures rests { RestsIn domain.now task.new }
     ensures holds { result ≡ true → HoldsMutex task.new 6 }
 {
     let state = SleepState::Uninterruptible;
@@ -88,11 +78,9 @@ pub(crate) fn wait<R: Wait>(rt: &R, domain: &Domain, task: &mut Task) -> bool
 
 /// Wakes one who waits for the condition variable: how many it woke.
 pub(crate) fn signal<R: Wait>(rt: &R, domain: &Domain, task: &mut Task) -> u32
-    requires of { task.old.domain ≡ domain.now }
-    requires clean { IsClean task.old }
+    requires rests { RestsIn domain.now task.old }
     requires holds { HoldsMutex task.old 6 }
-    ensures of { task.new.domain ≡ domain.now }
-    ensures clean { IsClean task.new }
+    ensures rests { RestsIn domain.now task.new }
     ensures holds { HoldsMutex task.new 6 }
 {
     cond_signal(rt, domain, task, COND, LOCK)
@@ -100,11 +88,9 @@ pub(crate) fn signal<R: Wait>(rt: &R, domain: &Domain, task: &mut Task) -> u32
 
 /// Wakes all who wait for the condition variable.
 pub(crate) fn broadcast<R: Wait>(rt: &R, domain: &Domain, task: &mut Task)
-    requires of { task.old.domain ≡ domain.now }
-    requires clean { IsClean task.old }
+    requires rests { RestsIn domain.now task.old }
     requires holds { HoldsMutex task.old 6 }
-    ensures of { task.new.domain ≡ domain.now }
-    ensures clean { IsClean task.new }
+    ensures rests { RestsIn domain.now task.new }
     ensures holds { HoldsMutex task.new 6 }
 {
     cond_broadcast(rt, domain, task, COND, LOCK);
@@ -118,10 +104,8 @@ pub(crate) fn sleep<R: Wait>(
     state: SleepState,
     wakes: &AtomicU64,
 ) -> bool
-    requires of { task.old.domain ≡ domain.now }
-    requires clean { IsClean task.old }
-    ensures of { task.new.domain ≡ domain.now }
-    ensures clean { IsClean task.new }
+    requires rests { RestsIn domain.now task.old }
+    ensures rests { RestsIn domain.now task.new }
 {
     match futex_wait(rt, domain, task, FUTEX, 0, state) {
         Ok(()) => {
@@ -134,20 +118,16 @@ pub(crate) fn sleep<R: Wait>(
 
 /// Wakes one who sleeps on the futex: whether one did.
 fn wake_one<R: Wait>(rt: &R, domain: &Domain, task: &mut Task) -> bool
-    requires of { task.old.domain ≡ domain.now }
-    requires clean { IsClean task.old }
-    ensures of { task.new.domain ≡ domain.now }
-    ensures clean { IsClean task.new }
+    requires rests { RestsIn domain.now task.old }
+    ensures rests { RestsIn domain.now task.new }
 {
     futex_wake(rt, domain, task, FUTEX, 1) == 1
 }
 
 /// Wakes one, as soon as one sleeps.
 pub(crate) fn wake_soon<R: Wait>(rt: &R, domain: &Domain, task: &mut Task) -> bool
-    requires of { task.old.domain ≡ domain.now }
-    requires clean { IsClean task.old }
-    ensures of { task.new.domain ≡ domain.now }
-    ensures clean { IsClean task.new }
+    requires rests { RestsIn domain.now task.old }
+    ensures rests { RestsIn domain.now task.new }
 {
     for _ in rt.forever() {
         if wake_one(rt, domain, task) {

@@ -3,7 +3,7 @@
 
 ghost use Rattle.std.specs.Prelude.{◌≡◌};
 ghost use Rattle.wait_rule.specs.Queues.{IsIdle};
-ghost use Rattle.wait_rule.specs.Says.{IsClean, IsUp};
+ghost use Rattle.wait_rule.specs.Says.{IsClean, IsUp, RestsIn};
 ghost use Rattle.wait_class.specs.declared.stages.Turn.TheVariants as turn;
 ghost use Rattle.futex_table.specs.CondStretches.{IsCondUnderWay};
 ghost use Rattle.futex_table.specs.Holding.{HoldsMutex};
@@ -165,10 +165,8 @@ fn is_free_at(stage: CondStage) -> bool {
 
 /// Signals with the mutex, where nobody has it, and gives it back: how many it woke. None: it did not signal.
 fn signal_alone<R: Wait>(rt: &R, domain: &Domain, task: &mut Task) -> Option<u32>
-    requires of { task.old.domain ≡ domain.now }
-    requires clean { IsClean task.old }
-    ensures of { task.new.domain ≡ domain.now }
-    ensures clean { IsClean task.new }
+    requires rests { RestsIn domain.now task.old }
+    ensures rests { RestsIn domain.now task.new }
 {
     if !try_lock(domain, task) {
         return None;
@@ -186,10 +184,8 @@ fn signal_at<R: Wait>(
     moment: CondTurn,
     told: Option<u32>,
 ) -> Option<u32>
-    requires of { task.old.domain ≡ domain.now }
-    requires clean { IsClean task.old }
-    ensures of { task.new.domain ≡ domain.now }
-    ensures clean { IsClean task.new }
+    requires rests { RestsIn domain.now task.old }
+    ensures rests { RestsIn domain.now task.new }
 {
     if told.is_some() || !is_free(moment) {
         return told;
@@ -199,10 +195,8 @@ fn signal_at<R: Wait>(
 
 /// Wakes the task of this number, as a walk would, where it is to.
 fn rouse_if<R: Wait>(rt: &R, domain: &Domain, task: &mut Task, who: u8, is_to: bool)
-    requires of { task.old.domain ≡ domain.now }
-    requires clean { IsClean task.old }
-    ensures of { task.new.domain ≡ domain.now }
-    ensures clean { IsClean task.new }
+    requires rests { RestsIn domain.now task.old }
+    ensures rests { RestsIn domain.now task.new }
 {
     if !is_to {
         return;
@@ -327,8 +321,7 @@ fn act<R: Wait>(
     number: &AtomicU64,
     own: u64,
 ) -> Option<CondTurn>
-    requires of { task.old.domain ≡ domain.now }
-    requires clean { IsClean task.old }
+    requires rests { RestsIn domain.now task.old }
     requires holds { HoldsMutex task.old 6 }
     ensures of { task.new.domain ≡ domain.now }
     ensures stands { IsInMonitor task.new result }
@@ -355,8 +348,7 @@ fn come_in<R: Wait>(
     number: &AtomicU64,
     own: u64,
 ) -> Option<CondTurn>
-    requires of { task.old.domain ≡ domain.now }
-    requires clean { IsClean task.old }
+    requires rests { RestsIn domain.now task.old }
     ensures of { task.new.domain ≡ domain.now }
     ensures stands { IsInMonitor task.new result }
 {
@@ -596,10 +588,8 @@ fn signal_if<R: Wait>(
     moment: CondTurn,
     is_to: bool,
 ) -> Option<u32>
-    requires of { task.old.domain ≡ domain.now }
-    requires clean { IsClean task.old }
-    ensures of { task.new.domain ≡ domain.now }
-    ensures clean { IsClean task.new }
+    requires rests { RestsIn domain.now task.old }
+    ensures rests { RestsIn domain.now task.new }
 {
     if !is_to {
         return None;

@@ -2,7 +2,7 @@
 //! threads of their own, again and again, in Domains whose tasks park at once when they are put asleep.
 
 ghost use Rattle.std.specs.Prelude.{◌≡◌};
-ghost use Rattle.wait_rule.specs.Says.{IsClean};
+ghost use Rattle.wait_rule.specs.Says.{IsClean, RestsIn};
 ghost use Rattle.wait_class.specs.Tables.{Lands};
 ghost use Rattle.futex_table.specs.FutexTables.{futex_table};
 
@@ -84,10 +84,8 @@ fn leave_or_pass<R: Wait>(
     flag: &AtomicU64,
     wakes: &AtomicU64,
 ) -> bool
-    requires of { task.old.domain ≡ domain.now }
-    requires clean { IsClean task.old }
-    ensures of { task.new.domain ≡ domain.now }
-    ensures clean { IsClean task.new }
+    requires rests { RestsIn domain.now task.old }
+    ensures rests { RestsIn domain.now task.new }
 {
     let asks = || flag.load(Ordering::SeqCst) != 0;
     let end = futex_wait_until(rt, domain, task, FUTEX, 0, STATE, asks);
@@ -100,10 +98,8 @@ fn leave_or_pass<R: Wait>(
 
 /// Sleeps until it is asked to leave: whether it was left.
 fn leave<R: Wait>(rt: &R, domain: &Domain, task: &mut Task, flag: &AtomicU64) -> bool
-    requires of { task.old.domain ≡ domain.now }
-    requires clean { IsClean task.old }
-    ensures of { task.new.domain ≡ domain.now }
-    ensures clean { IsClean task.new }
+    requires rests { RestsIn domain.now task.old }
+    ensures rests { RestsIn domain.now task.new }
 {
     let asks = || flag.load(Ordering::SeqCst) != 0;
     is_left(futex_wait_until(rt, domain, task, FUTEX, 0, STATE, asks))

@@ -2,7 +2,7 @@
 //! whose tasks park at once when they are put asleep.
 
 ghost use Rattle.std.specs.Prelude.{◌≡◌};
-ghost use Rattle.wait_rule.specs.Says.{IsClean};
+ghost use Rattle.wait_rule.specs.Says.{RestsIn};
 ghost use Rattle.futex_table.specs.Holding.{HoldsMutex};
 ghost use Rattle.futex_table.specs.LockLeaves.{is_held_until, is_locked_until};
 
@@ -124,11 +124,9 @@ pub(crate) fn has_mutex(end: Until<Result<(), CondEnd>>) -> bool
 
 /// Adds, and gives the mutex back.
 fn add_and_unlock<R: Wait>(rt: &R, domain: &Domain, task: &mut Task, shared: Shared<'_>)
-    requires of { task.old.domain ≡ domain.now }
-    requires clean { IsClean task.old }
+    requires rests { RestsIn domain.now task.old }
     requires holds { HoldsMutex task.old 6 }
-    ensures of { task.new.domain ≡ domain.now }
-    ensures clean { IsClean task.new }
+    ensures rests { RestsIn domain.now task.new }
 {
     add_plainly(shared.tally);
     shared.added.fetch_add(1, Ordering::SeqCst);
@@ -137,11 +135,9 @@ fn add_and_unlock<R: Wait>(rt: &R, domain: &Domain, task: &mut Task, shared: Sha
 
 /// With the mutex, waits and adds: also where the wait was left, since the mutex is held then.
 fn wait_and_add<R: Wait>(rt: &R, domain: &Domain, task: &mut Task, shared: Shared<'_>) -> bool
-    requires of { task.old.domain ≡ domain.now }
-    requires clean { IsClean task.old }
+    requires rests { RestsIn domain.now task.old }
     requires holds { HoldsMutex task.old 6 }
-    ensures of { task.new.domain ≡ domain.now }
-    ensures clean { IsClean task.new }
+    ensures rests { RestsIn domain.now task.new }
 {
     let asks = || shared.flag.load(Ordering::SeqCst) != 0;
     let state = SleepState::Uninterruptible;
@@ -155,10 +151,8 @@ fn wait_and_add<R: Wait>(rt: &R, domain: &Domain, task: &mut Task, shared: Share
 
 /// The same, from the lock on.
 fn wait_once<R: Wait>(rt: &R, domain: &Domain, task: &mut Task, shared: Shared<'_>) -> bool
-    requires of { task.old.domain ≡ domain.now }
-    requires clean { IsClean task.old }
-    ensures of { task.new.domain ≡ domain.now }
-    ensures clean { IsClean task.new }
+    requires rests { RestsIn domain.now task.old }
+    ensures rests { RestsIn domain.now task.new }
 {
     if lock(rt, domain, task) {
         wait_and_add(rt, domain, task, shared)
@@ -175,10 +169,8 @@ fn tell_late<R: Wait>(
     shared: Shared<'_>,
     late: u32,
 ) -> bool
-    requires of { task.old.domain ≡ domain.now }
-    requires clean { IsClean task.old }
-    ensures of { task.new.domain ≡ domain.now }
-    ensures clean { IsClean task.new }
+    requires rests { RestsIn domain.now task.old }
+    ensures rests { RestsIn domain.now task.new }
 {
     yield_often(late);
     if lock(rt, domain, task) {

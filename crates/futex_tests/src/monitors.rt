@@ -2,7 +2,7 @@
 //! again, in Domains whose tasks park at once when they are put asleep.
 
 ghost use Rattle.std.specs.Prelude.{◌≡◌};
-ghost use Rattle.wait_rule.specs.Says.{IsClean};
+ghost use Rattle.wait_rule.specs.Says.{RestsIn};
 ghost use Rattle.futex_table.specs.Holding.{HoldsMutex};
 
 use crate::calls::{broadcast, lock, open, unlock, wait};
@@ -65,11 +65,9 @@ fn add_in_turn<R: Wait>(
     number: &AtomicU64,
     own: u64,
 ) -> bool
-    requires of { task.old.domain ≡ domain.now }
-    requires clean { IsClean task.old }
+    requires rests { RestsIn domain.now task.old }
     requires holds { HoldsMutex task.old 6 }
-    ensures of { task.new.domain ≡ domain.now }
-    ensures clean { IsClean task.new }
+    ensures rests { RestsIn domain.now task.new }
 {
     for _ in rt.forever() {
         match add_if_own(number, own, LAST) {

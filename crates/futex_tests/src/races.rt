@@ -2,7 +2,7 @@
 //! they are put asleep.
 
 ghost use Rattle.std.specs.Prelude.{◌≡◌};
-ghost use Rattle.wait_rule.specs.Says.{IsClean};
+ghost use Rattle.wait_rule.specs.Says.{RestsIn};
 
 use crate::calls::{sleep, wake_soon};
 use futex_table::futex_wake;
@@ -47,10 +47,8 @@ impl Part for Racing<'_> {
 
 /// Sleeps until a wake or a signal comes, and passes a wake on.
 fn pass_on<R: Wait>(rt: &R, domain: &Domain, task: &mut Task, wakes: &AtomicU64) -> bool
-    requires of { task.old.domain ≡ domain.now }
-    requires clean { IsClean task.old }
-    ensures of { task.new.domain ≡ domain.now }
-    ensures clean { IsClean task.new }
+    requires rests { RestsIn domain.now task.old }
+    ensures rests { RestsIn domain.now task.new }
 {
     if sleep(rt, domain, task, SleepState::Interruptible, wakes) {
         return wake_soon(rt, domain, task);

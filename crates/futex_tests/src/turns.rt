@@ -2,7 +2,7 @@
 //! ticket, for which the task of a whole call would wait in vain, and the mutex that is taken before them.
 
 ghost use Rattle.std.specs.Prelude.{◌≡◌};
-ghost use Rattle.wait_rule.specs.Says.{IsClean};
+ghost use Rattle.wait_rule.specs.Says.{RestsIn};
 ghost use Rattle.futex_table.specs.Holding.{HoldsMutex};
 
 use crate::calls::{open, try_lock};
@@ -27,10 +27,8 @@ pub(crate) fn is_free_lock(stage: LockStage) -> bool {
 
 /// Opens the mutex, and takes it before anybody else does.
 pub(crate) fn open_and_take<R: Abort + Wait>(rt: &R, domain: &Domain, task: &mut Task)
-    requires of { task.old.domain ≡ domain.now }
-    requires clean { IsClean task.old }
-    ensures of { task.new.domain ≡ domain.now }
-    ensures clean { IsClean task.new }
+    requires rests { RestsIn domain.now task.old }
+    ensures rests { RestsIn domain.now task.new }
     ensures holds { HoldsMutex task.new 6 }
 {
     open(rt, domain, task);

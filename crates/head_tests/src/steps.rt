@@ -8,7 +8,7 @@ pub(crate) mod tallies;
 
 ghost use Rattle.std.specs.Prelude.{◌≡◌, [], true};
 ghost use Rattle.head_tests.specs.Meeting.{SleptOnce, WokeOnce, HaveMet};
-ghost use Rattle.wait_rule.specs.Says.{IsClean, IsUp, history_of};
+ghost use Rattle.wait_rule.specs.Says.{IsClean, IsUp, RestsIn, history_of};
 
 use crate::scenes::{Alone, Beside, Seen, want, want_all, want_beside};
 use crate::wants::another;
@@ -52,8 +52,7 @@ fn is_nothing(taken: Taken) -> bool {
 
 /// Whether the own sleeps end at once.
 fn stays_awake<R: Wait>(rt: &R, domain: &Domain, task: &mut Task) -> bool
-    requires of { task.old.domain ≡ domain.now }
-    requires clean { IsClean task.old }
+    requires rests { RestsIn domain.now task.old }
     ensures of { task.new.domain ≡ domain.now }
     ensures up { result ≡ true → IsUp task.new }
 {
@@ -79,8 +78,7 @@ fn meets_nobody<R: Wait>(rt: &R, domain: &Domain, task: &mut Task) -> bool
 
 /// Both.
 pub(crate) fn goes_alone<R: Wait>(rt: &R, domain: &Domain, task: &mut Task) -> bool
-    requires of { task.old.domain ≡ domain.now }
-    requires clean { IsClean task.old }
+    requires rests { RestsIn domain.now task.old }
 {
     stays_awake(rt, domain, task) && meets_nobody(rt, domain, task)
 }
@@ -93,10 +91,8 @@ fn alone(rt: HostRuntime) -> Result<(), Fail> {
 
 /// Cuts a task with a share of numbers off: true where it has this number.
 fn cuts_off(domain: &Domain, task: &mut Task, share: u8, number: u8) -> bool
-    requires of { task.old.domain ≡ domain.now }
-    requires clean { IsClean task.old }
-    ensures of { task.new.domain ≡ domain.now }
-    ensures clean { IsClean task.new }
+    requires rests { RestsIn domain.now task.old }
+    ensures rests { RestsIn domain.now task.new }
 {
     match task.fork(domain, share) {
         Ok(other) => other.number() == number,
@@ -111,8 +107,7 @@ fn is_refused(forked: Result<Task, NoTask>) -> bool {
 
 /// Whether all numbers are given out in their order, and then there is none left.
 pub(crate) fn cuts_off_all(domain: &Domain, task: &mut Task) -> bool
-    requires of { task.old.domain ≡ domain.now }
-    requires clean { IsClean task.old }
+    requires rests { RestsIn domain.now task.old }
 {
     let own = task.number() == 0;
     for number in 1..256u16 {
@@ -148,8 +143,7 @@ fn share_numbers(domain: &Domain, task: &mut Task, mut second: Task) -> [bool; 5
 
 /// Gives such a share.
 pub(crate) fn gives_share(domain: &Domain, task: &mut Task) -> [bool; 5]
-    requires of { task.old.domain ≡ domain.now }
-    requires clean { IsClean task.old }
+    requires rests { RestsIn domain.now task.old }
 {
     match task.fork(domain, 5) {
         Ok(second) => share_numbers(domain, task, second),
@@ -203,10 +197,8 @@ fn single_tries(rt: HostRuntime) -> Result<(), Fail> {
 
 /// Whether a fatal signal stops the sleeps that admit it, and stays pending.
 pub(crate) fn stops_sleeps<R: Wait>(rt: &R, domain: &Domain, task: &mut Task) -> [bool; 3]
-    requires of { task.old.domain ≡ domain.now }
-    requires clean { IsClean task.old }
-    ensures of { task.new.domain ≡ domain.now }
-    ensures clean { IsClean task.new }
+    requires rests { RestsIn domain.now task.old }
+    ensures rests { RestsIn domain.now task.new }
 {
     send_signal(rt, domain, task, 0, true);
     set_state(domain, task, KILLABLE);
@@ -223,8 +215,7 @@ pub(crate) fn stops_sleeps<R: Wait>(rt: &R, domain: &Domain, task: &mut Task) ->
 
 /// Whether it is taken, and what the own word is without it.
 pub(crate) fn takes_fatal(domain: &Domain, task: &mut Task) -> [bool; 3]
-    requires of { task.old.domain ≡ domain.now }
-    requires clean { IsClean task.old }
+    requires rests { RestsIn domain.now task.old }
 {
     let taken = take_signal(domain, task);
     set_state(domain, task, UNINTERRUPTIBLE);
@@ -273,11 +264,9 @@ fn wakes_meet_states(rt: HostRuntime) -> Result<(), Fail> {
 
 /// Stores UNINTERRUPTIBLE and sleeps until woken.
 fn sleeper<R: Wait>(rt: &R, domain: &Domain, mut task: Task) -> Task
-    requires of { task.domain ≡ domain.now }
-    requires clean { IsClean task }
+    requires rests { RestsIn domain.now task }
     requires empty { history_of task ≡ [] }
-    ensures of { result.domain ≡ domain.now }
-    ensures clean { IsClean result }
+    ensures rests { RestsIn domain.now result }
     ensures number { result.view.number ≡ task.view.number }
     ensures slept { SleptOnce result.view.items }
     ensures joined { result.view.joined ≡ task.view.joined }

@@ -3,7 +3,7 @@
 //! loaded from the tally stands there until it stores one more, so no add is lost. It owes nothing between two calls.
 
 ghost use Rattle.std.specs.Prelude.{◌≡◌, true, false};
-ghost use Rattle.wait_rule.specs.Says.{IsClean, IsUp};
+ghost use Rattle.wait_rule.specs.Says.{IsClean, IsUp, RestsIn};
 ghost use Rattle.futex_table.specs.Holding.{HoldsMutex};
 ghost use Rattle.futex_table.specs.TalliedTasks.{CountsAdd, StartsTallies, StayTallied};
 
@@ -20,10 +20,8 @@ pub(crate) const TALLY: u8 = 7;
 
 /// Opens the mutex, once.
 pub fn open_mutex<R: Wait>(rt: &R, domain: &Domain, task: &mut Task)
-    requires of { task.old.domain ≡ domain.now }
-    requires clean { IsClean task.old }
-    ensures of { task.new.domain ≡ domain.now }
-    ensures clean { IsClean task.new }
+    requires rests { RestsIn domain.now task.old }
+    ensures rests { RestsIn domain.now task.new }
     ensures starts { StartsTallies 6 task.old task.new }
 {
     mutex_open(rt, domain, task, LOCK);
@@ -31,10 +29,8 @@ pub fn open_mutex<R: Wait>(rt: &R, domain: &Domain, task: &mut Task)
 
 /// Takes it: false where no place was left at its head.
 pub fn take_mutex<R: Wait>(rt: &R, domain: &Domain, task: &mut Task) -> bool
-    requires of { task.old.domain ≡ domain.now }
-    requires clean { IsClean task.old }
-    ensures of { task.new.domain ≡ domain.now }
-    ensures clean { IsClean task.new }
+    requires rests { RestsIn domain.now task.old }
+    ensures rests { RestsIn domain.now task.new }
     ensures holds { result ≡ true → HoldsMutex task.new 6 }
     ensures tallied { StayTallied 6 task.old task.new }
 {
@@ -46,11 +42,9 @@ pub fn take_mutex<R: Wait>(rt: &R, domain: &Domain, task: &mut Task) -> bool
 
 /// Adds one to the tally, and wakes one who waits for a change of it.
 pub fn add_one<R: Wait>(rt: &R, domain: &Domain, task: &mut Task)
-    requires of { task.old.domain ≡ domain.now }
-    requires clean { IsClean task.old }
+    requires rests { RestsIn domain.now task.old }
     requires holds { HoldsMutex task.old 6 }
-    ensures of { task.new.domain ≡ domain.now }
-    ensures clean { IsClean task.new }
+    ensures rests { RestsIn domain.now task.new }
     ensures holds { HoldsMutex task.new 6 }
     ensures counted { CountsAdd 6 7 task.old task.new }
 {
@@ -59,11 +53,9 @@ pub fn add_one<R: Wait>(rt: &R, domain: &Domain, task: &mut Task)
 
 /// Waits for a change of the tally: whether it has the mutex behind the wait.
 pub fn wait_for_add<R: Wait>(rt: &R, domain: &Domain, task: &mut Task) -> bool
-    requires of { task.old.domain ≡ domain.now }
-    requires clean { IsClean task.old }
+    requires rests { RestsIn domain.now task.old }
     requires holds { HoldsMutex task.old 6 }
-    ensures of { task.new.domain ≡ domain.now }
-    ensures clean { IsClean task.new }
+    ensures rests { RestsIn domain.now task.new }
     ensures holds { result ≡ true → HoldsMutex task.new 6 }
     ensures tallied { StayTallied 6 task.old task.new }
 {
@@ -76,11 +68,9 @@ pub fn wait_for_add<R: Wait>(rt: &R, domain: &Domain, task: &mut Task) -> bool
 
 /// Gives the mutex back.
 pub fn give_mutex<R: Wait>(rt: &R, domain: &Domain, task: &mut Task)
-    requires of { task.old.domain ≡ domain.now }
-    requires clean { IsClean task.old }
+    requires rests { RestsIn domain.now task.old }
     requires holds { HoldsMutex task.old 6 }
-    ensures of { task.new.domain ≡ domain.now }
-    ensures clean { IsClean task.new }
+    ensures rests { RestsIn domain.now task.new }
     ensures tallied { StayTallied 6 task.old task.new }
 {
     mutex_unlock(rt, domain, task, LOCK);
@@ -88,10 +78,8 @@ pub fn give_mutex<R: Wait>(rt: &R, domain: &Domain, task: &mut Task)
 
 /// Takes the mutex, adds one to the tally, and gives the mutex back: whether it had it.
 pub fn add_under_mutex<R: Wait>(rt: &R, domain: &Domain, task: &mut Task) -> bool
-    requires of { task.old.domain ≡ domain.now }
-    requires clean { IsClean task.old }
-    ensures of { task.new.domain ≡ domain.now }
-    ensures clean { IsClean task.new }
+    requires rests { RestsIn domain.now task.old }
+    ensures rests { RestsIn domain.now task.new }
     ensures added { result ≡ true → CountsAdd 6 7 task.old task.new }
     ensures none { result ≡ false → StayTallied 6 task.old task.new }
 {

@@ -2,7 +2,7 @@
 //! nothing after it.
 
 ghost use Rattle.std.specs.Prelude.{◌≡◌};
-ghost use Rattle.wait_rule.specs.Says.{IsClean};
+ghost use Rattle.wait_rule.specs.Says.{RestsIn};
 
 use count_sem::down_calls::down;
 use count_sem::ups::{try_down, up};
@@ -19,10 +19,8 @@ const CELL: u8 = 0;
 /// Takes a permit, sets condition 0 and wakes one who waits for it, waits for it, and gives the permit back: true where
 /// no signal ended a wait.
 pub fn set_with_permit<R: Wait>(rt: &R, domain: &Domain, task: &mut Task, state: SleepState) -> bool
-    requires of { task.old.domain ≡ domain.now }
-    requires clean { IsClean task.old }
-    ensures of { task.new.domain ≡ domain.now }
-    ensures clean { IsClean task.new }
+    requires rests { RestsIn domain.now task.old }
+    ensures rests { RestsIn domain.now task.new }
 {
     let took = down(rt, domain, task, CELL, state).is_ok();
     let how = How {
@@ -37,10 +35,8 @@ pub fn set_with_permit<R: Wait>(rt: &R, domain: &Domain, task: &mut Task, state:
 
 /// Takes a permit where one is there, and gives it back.
 pub fn try_with_permit<R: Wait>(rt: &R, domain: &Domain, task: &mut Task) -> bool
-    requires of { task.old.domain ≡ domain.now }
-    requires clean { IsClean task.old }
-    ensures of { task.new.domain ≡ domain.now }
-    ensures clean { IsClean task.new }
+    requires rests { RestsIn domain.now task.old }
+    ensures rests { RestsIn domain.now task.new }
 {
     try_down(rt, domain, task, CELL) && up(rt, domain, task, CELL).is_ok()
 }

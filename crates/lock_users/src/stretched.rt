@@ -2,7 +2,7 @@
 //! stretches for a change of the tally. Here a loop makes them; an executor makes them as it likes.
 
 ghost use Rattle.std.specs.Prelude.{◌≡◌, true, false};
-ghost use Rattle.wait_rule.specs.Says.{IsClean};
+ghost use Rattle.wait_rule.specs.Says.{RestsIn};
 ghost use Rattle.wait_class.specs.declared.stages.Turn.TheVariants as turn;
 ghost use Rattle.futex_table.specs.Holding.{HoldsMutex};
 ghost use Rattle.futex_table.specs.LockStretches.{IsLockUnderWay, IsMutexLocking};
@@ -81,10 +81,8 @@ fn lock_on<R: Wait>(
 
 /// Takes the mutex by stretches: false where no place was left at its head.
 pub fn take_by_stretches<R: Wait>(rt: &R, domain: &Domain, task: &mut Task) -> bool
-    requires of { task.old.domain ≡ domain.now }
-    requires clean { IsClean task.old }
-    ensures of { task.new.domain ≡ domain.now }
-    ensures clean { IsClean task.new }
+    requires rests { RestsIn domain.now task.old }
+    ensures rests { RestsIn domain.now task.new }
     ensures holds { result ≡ true → HoldsMutex task.new 6 }
     ensures tallied { StayTallied 6 task.old task.new }
 {
@@ -98,10 +96,8 @@ pub fn take_by_stretches<R: Wait>(rt: &R, domain: &Domain, task: &mut Task) -> b
 
 /// Takes the mutex by stretches, adds one to the tally, and gives the mutex back: whether it had it.
 pub fn add_by_stretches<R: Wait>(rt: &R, domain: &Domain, task: &mut Task) -> bool
-    requires of { task.old.domain ≡ domain.now }
-    requires clean { IsClean task.old }
-    ensures of { task.new.domain ≡ domain.now }
-    ensures clean { IsClean task.new }
+    requires rests { RestsIn domain.now task.old }
+    ensures rests { RestsIn domain.now task.new }
     ensures added { result ≡ true → CountsAdd 6 7 task.old task.new }
     ensures none { result ≡ false → StayTallied 6 task.old task.new }
 {

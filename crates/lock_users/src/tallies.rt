@@ -4,7 +4,7 @@
 ghost use Rattle.std.specs.Prelude.{ℕ, ◌≡◌, ◌≤◌, ◌+◌, ◌-◌, ◌%◌, ◌^◌, IfSome};
 ghost use Rattle.wait_model.specs.declared.layout.TheConstants.{TASKS};
 ghost use Rattle.wait_rule.specs.Journals.{fresh};
-ghost use Rattle.wait_rule.specs.Says.{IsClean};
+ghost use Rattle.wait_rule.specs.Says.{IsClean, RestsIn};
 ghost use Rattle.futex_table.specs.TalliedTasks.{HasTallied};
 
 use crate::mutexes::{LOCK, TALLY, add_under_mutex, give_mutex, open_mutex, take_mutex};
@@ -32,10 +32,8 @@ pub struct Tallied {
 
 /// Adds to the tally this many times; fewer where no place was left for a wait for the mutex.
 fn add_times<R: Wait>(rt: &R, domain: &Domain, mut task: Task, times: u32) -> Adder
-    requires of { task.domain ≡ domain.now }
-    requires clean { IsClean task }
-    ensures of { result.task.domain ≡ domain.now }
-    ensures clean { IsClean result.task }
+    requires rests { RestsIn domain.now task }
+    ensures rests { RestsIn domain.now result.task }
     ensures most { result.adds ≤ times }
     ensures added { (o h : ℕ) → HasTallied task 6 7 o 0 h → HasTallied result.task 6 7 o result.adds h }
 {
@@ -51,11 +49,9 @@ fn add_times<R: Wait>(rt: &R, domain: &Domain, mut task: Task, times: u32) -> Ad
 
 /// The first task of a Domain opens the mutex: nobody has added to the tally yet, and it has all numbers.
 fn open_tally<R: Wait>(rt: &R, domain: &Domain, task: &mut Task)
-    requires of { task.old.domain ≡ domain.now }
-    requires clean { IsClean task.old }
+    requires rests { RestsIn domain.now task.old }
     requires first { task.old.view ≡ fresh 0 1 (TASKS - 1) }
-    ensures of { task.new.domain ≡ domain.now }
-    ensures clean { IsClean task.new }
+    ensures rests { RestsIn domain.now task.new }
     ensures tallied { HasTallied task.new 6 7 0 0 TASKS }
 {
     open_mutex(rt, domain, task);
@@ -63,11 +59,9 @@ fn open_tally<R: Wait>(rt: &R, domain: &Domain, task: &mut Task)
 
 /// Cuts a second task off it: None where no number is spare.
 fn cut_second(domain: &Domain, task: &mut Task) -> Option<Task>
-    requires of { task.old.domain ≡ domain.now }
-    requires clean { IsClean task.old }
+    requires rests { RestsIn domain.now task.old }
     requires tallied { HasTallied task.old 6 7 0 0 TASKS }
-    ensures of { task.new.domain ≡ domain.now }
-    ensures clean { IsClean task.new }
+    ensures rests { RestsIn domain.now task.new }
     ensures tallied { IfSome result (λ second. HasTallied task.new 6 7 0 0 (TASKS - 1)) }
     ensures second_of { IfSome result (λ second. second.domain ≡ domain.now) }
     ensures second_clean { IfSome result (λ second. IsClean second) }
@@ -143,8 +137,7 @@ pub fn add_in_two_threads<R: Threads + Wait + Sync>(
     mut task: Task,
     times: u32,
 ) -> Option<Tallied>
-    requires of { task.domain ≡ domain.now }
-    requires clean { IsClean task }
+    requires rests { RestsIn domain.now task }
     requires first { task.view ≡ fresh 0 1 (TASKS - 1) }
     ensures of { IfSome result (λ t. t.task.domain ≡ domain.now) }
     ensures clean { IfSome result (λ t. IsClean t.task) }

@@ -2,7 +2,7 @@
 
 ghost use Rattle.std.specs.Prelude.{◌≡◌, ◌<◌, ◌≤◌};
 ghost use Rattle.wait_model.specs.declared.layout.TheConstants.{CLAIMS, FIRST_SIMPLE, VARIABLES};
-ghost use Rattle.wait_rule.specs.Says.{IsClean};
+ghost use Rattle.wait_rule.specs.Says.{RestsIn};
 ghost use Rattle.poll_wait.specs.Seconds.{IsPolled};
 
 use poll_wait::{PollEnd, Ready, poll_two};
@@ -22,35 +22,29 @@ pub fn polls<R: Wait>(
     second: Watch,
     state: SleepState,
 ) -> Result<Ready, PollEnd>
-    requires of { task.old.domain ≡ domain.now }
-    requires clean { IsClean task.old }
+    requires rests { RestsIn domain.now task.old }
     requires first { IsPolled first }
     requires second { IsPolled second }
-    ensures of { task.new.domain ≡ domain.now }
-    ensures clean { IsClean task.new }
+    ensures rests { RestsIn domain.now task.new }
 {
     poll_two(rt, domain, task, first, second, state)
 }
 
 /// Sets a plain condition, and wakes all who wait for it.
 pub fn sets<R: Wait>(rt: &R, domain: &Domain, task: &mut Task, cond: u8, value: u64)
-    requires of { task.old.domain ≡ domain.now }
-    requires clean { IsClean task.old }
+    requires rests { RestsIn domain.now task.old }
     requires cond { cond < FIRST_SIMPLE }
-    ensures of { task.new.domain ≡ domain.now }
-    ensures clean { IsClean task.new }
+    ensures rests { RestsIn domain.now task.new }
 {
     set_and_wake(rt, domain, task, cond, value, Mode::Normal, 0);
 }
 
 /// Stores a variable, and wakes all who wait for it.
 pub fn stores<R: Wait>(rt: &R, domain: &Domain, task: &mut Task, var: u8, value: u64)
-    requires of { task.old.domain ≡ domain.now }
-    requires clean { IsClean task.old }
+    requires rests { RestsIn domain.now task.old }
     requires free { CLAIMS ≤ var }
     requires there { var < VARIABLES }
-    ensures of { task.new.domain ≡ domain.now }
-    ensures clean { IsClean task.new }
+    ensures rests { RestsIn domain.now task.new }
 {
     publish_var_and_wake(rt, domain, task, var, value);
 }

@@ -2,7 +2,7 @@
 //! Domains whose tasks park at once when they are put asleep.
 
 ghost use Rattle.std.specs.Prelude.{◌≡◌, ◌<◌};
-ghost use Rattle.wait_rule.specs.Says.{IsClean};
+ghost use Rattle.wait_rule.specs.Says.{RestsIn};
 
 use crate::calls::{polls, sets, stores};
 use poll_wait::{PollEnd, Ready};
@@ -63,10 +63,8 @@ impl Part for Plays {
 
 /// Waits for either, and then for the other one beside a variable that nobody stores.
 fn see_both<R: Wait>(rt: &R, domain: &Domain, task: &mut Task) -> bool
-    requires of { task.old.domain ≡ domain.now }
-    requires clean { IsClean task.old }
-    ensures of { task.new.domain ≡ domain.now }
-    ensures clean { IsClean task.new }
+    requires rests { RestsIn domain.now task.old }
+    ensures rests { RestsIn domain.now task.new }
 {
     let cond = Watch::Plain { cond: COND };
     let var = Watch::Var { var: VAR, old: 0 };
@@ -87,10 +85,8 @@ fn see_both<R: Wait>(rt: &R, domain: &Domain, task: &mut Task) -> bool
 
 /// Waits for either, unless a signal ends that.
 fn see_unless_signalled<R: Wait>(rt: &R, domain: &Domain, task: &mut Task) -> bool
-    requires of { task.old.domain ≡ domain.now }
-    requires clean { IsClean task.old }
-    ensures of { task.new.domain ≡ domain.now }
-    ensures clean { IsClean task.new }
+    requires rests { RestsIn domain.now task.old }
+    ensures rests { RestsIn domain.now task.new }
 {
     let cond = Watch::Plain { cond: COND };
     let var = Watch::Var { var: VAR, old: 0 };
@@ -104,10 +100,8 @@ fn see_unless_signalled<R: Wait>(rt: &R, domain: &Domain, task: &mut Task) -> bo
 
 /// Waits for the condition beside another variable of the same table.
 fn stranger<R: Wait>(rt: &R, domain: &Domain, task: &mut Task) -> bool
-    requires of { task.old.domain ≡ domain.now }
-    requires clean { IsClean task.old }
-    ensures of { task.new.domain ≡ domain.now }
-    ensures clean { IsClean task.new }
+    requires rests { RestsIn domain.now task.old }
+    ensures rests { RestsIn domain.now task.new }
 {
     let cond = Watch::Plain { cond: COND };
     let other = Watch::Plain { cond: 4 };

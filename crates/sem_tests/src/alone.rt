@@ -2,7 +2,7 @@
 
 ghost use Rattle.std.specs.Prelude.{◌≡◌, ◌<◌};
 ghost use Rattle.wait_model.specs.declared.layout.TheConstants.{COMPLETIONS};
-ghost use Rattle.wait_rule.specs.Says.{IsClean};
+ghost use Rattle.wait_rule.specs.Says.{RestsIn};
 
 use completion_cell::complete_all;
 use count_sem::{SemEnd, SemFull, down, try_down, up};
@@ -24,22 +24,18 @@ pub(crate) fn gives<R: Wait>(
     task: &mut Task,
     cell: u8,
 ) -> Result<(), SemFull>
-    requires of { task.old.domain ≡ domain.now }
-    requires clean { IsClean task.old }
+    requires rests { RestsIn domain.now task.old }
     requires cell { cell < COMPLETIONS }
-    ensures of { task.new.domain ≡ domain.now }
-    ensures clean { IsClean task.new }
+    ensures rests { RestsIn domain.now task.new }
 {
     up(rt, domain, task, cell)
 }
 
 /// Takes a permit where one is there: whether it took one.
 pub(crate) fn tries<R: Wait>(rt: &R, domain: &Domain, task: &mut Task, cell: u8) -> bool
-    requires of { task.old.domain ≡ domain.now }
-    requires clean { IsClean task.old }
+    requires rests { RestsIn domain.now task.old }
     requires cell { cell < COMPLETIONS }
-    ensures of { task.new.domain ≡ domain.now }
-    ensures clean { IsClean task.new }
+    ensures rests { RestsIn domain.now task.new }
 {
     try_down(rt, domain, task, cell)
 }
@@ -61,10 +57,8 @@ enum Step {
 
 /// Makes a step, and answers whether it was answered as it says.
 fn is_so<R: Wait>(rt: &R, domain: &Domain, task: &mut Task, step: Step) -> bool
-    requires of { task.old.domain ≡ domain.now }
-    requires clean { IsClean task.old }
-    ensures of { task.new.domain ≡ domain.now }
-    ensures clean { IsClean task.new }
+    requires rests { RestsIn domain.now task.old }
+    ensures rests { RestsIn domain.now task.new }
 {
     match step {
         Step::Gives(end) => match gives(rt, domain, task, CELL) {

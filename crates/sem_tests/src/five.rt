@@ -1,7 +1,7 @@
 //! Five tasks in threads of their own, again and again, in Domains whose tasks park at once when they are put asleep.
 
 ghost use Rattle.std.specs.Prelude.{◌≡◌, ◌≤◌};
-ghost use Rattle.wait_rule.specs.Says.{IsClean};
+ghost use Rattle.wait_rule.specs.Says.{IsClean, RestsIn};
 
 use crate::alone::{gives, tries};
 use crate::rounds::Plays;
@@ -22,10 +22,8 @@ pub(crate) const CELL: u8 = 5;
 
 /// Gives four permits back: whether each was given or counted.
 fn give_four<R: Wait>(rt: &R, domain: &Domain, task: Task) -> (Task, bool)
-    requires of { task.domain ≡ domain.now }
-    requires clean { IsClean task }
-    ensures of { result.0.domain ≡ domain.now }
-    ensures clean { IsClean result.0 }
+    requires rests { RestsIn domain.now task }
+    ensures rests { RestsIn domain.now result.0 }
 {
     let mut task = task;
     let one = gives(rt, domain, &mut task, CELL).is_ok();
@@ -37,11 +35,9 @@ fn give_four<R: Wait>(rt: &R, domain: &Domain, task: Task) -> (Task, bool)
 
 /// The first task gives four permits back, while four others take one each: the first, and whether each did.
 fn four_take<R: Threads + Wait + Sync>(rt: &R, domain: &Domain, mut task: Task) -> (Task, [bool; 5])
-    requires of { task.domain ≡ domain.now }
-    requires clean { IsClean task }
+    requires rests { RestsIn domain.now task }
     requires spare { 4 ≤ task.view.spare }
-    ensures of { result.0.domain ≡ domain.now }
-    ensures clean { IsClean result.0 }
+    ensures rests { RestsIn domain.now result.0 }
 {
     let one = another(domain, &mut task);
     let two = another(domain, &mut task);
@@ -51,8 +47,8 @@ fn four_take<R: Threads + Wait + Sync>(rt: &R, domain: &Domain, mut task: Task) 
     let ((task, gave), ((one, two), (three, four))) = thread::join(
         rt,
         move || -> (Task, bool)
-            requires { (task.domain ≡ domain.now) × IsClean task }
-            ensures { (result.0.domain ≡ domain.entry.now) × IsClean result.0 }
+            requires { RestsIn domain.now task }
+            ensures { RestsIn domain.entry.now result.0 }
         { give_four(rt, domain, task) },
         move || -> (((Task, bool), (Task, bool)), ((Task, bool), (Task, bool)))
             requires { ((one.domain ≡ domain.now) × ((two.domain ≡ domain.now)

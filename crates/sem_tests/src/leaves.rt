@@ -1,7 +1,7 @@
 //! A `down` by stretches on one thread, which its task leaves once it was woken.
 
 ghost use Rattle.std.specs.Prelude.{◌≡◌};
-ghost use Rattle.wait_rule.specs.Says.{IsClean};
+ghost use Rattle.wait_rule.specs.Says.{IsClean, RestsIn};
 ghost use Rattle.wait_class.specs.Tables.{IsAsleepAt, IsAt, Lands};
 ghost use Rattle.count_sem.specs.Downs.{down_table};
 ghost use Rattle.count_sem.specs.declared.downs.DownStage.TheVariants as stage;
@@ -56,10 +56,8 @@ fn fall_asleep<R: Abort>(rt: &R, domain: &Domain, task: &mut Task, call: &mut Do
 
 /// Gives back a permit, or only wakes this task: whether that went so.
 fn wake_waiter<R: Wait>(rt: &R, domain: &Domain, task: &mut Task, who: u8, gives: bool) -> bool
-    requires of { task.old.domain ≡ domain.now }
-    requires clean { IsClean task.old }
-    ensures of { task.new.domain ≡ domain.now }
-    ensures clean { IsClean task.new }
+    requires rests { RestsIn domain.now task.old }
+    ensures rests { RestsIn domain.now task.new }
 {
     if gives {
         up(rt, domain, task, CELL).is_ok()
@@ -78,8 +76,7 @@ fn is_left<R: Abort + Wait>(
 ) -> bool
     requires of { (task.old.domain ≡ domain.now) × (waiter.old.domain ≡ domain.now) }
     requires clean { IsClean task.old × IsClean waiter.old }
-    ensures of { task.new.domain ≡ domain.now }
-    ensures clean { IsClean task.new }
+    ensures rests { RestsIn domain.now task.new }
 {
     let mut call = begin_down(waiter, CELL, SleepState::Uninterruptible);
     let next = fall_asleep(rt, domain, waiter, &mut call);

@@ -3,7 +3,7 @@
 
 ghost use Rattle.std.specs.Prelude.{◌≡◌, ◌<◌};
 ghost use Rattle.wait_model.specs.declared.layout.TheConstants.{COMPLETIONS};
-ghost use Rattle.wait_rule.specs.Says.{IsClean};
+ghost use Rattle.wait_rule.specs.Says.{RestsIn};
 
 use crate::alone::tries;
 use count_sem::{SemEnd, down, down_until, up};
@@ -84,10 +84,8 @@ impl Part for Plays<'_> {
 
 /// Yields so often, and gives one back.
 fn give_late<R: Wait>(rt: &R, domain: &Domain, task: &mut Task, late: u32) -> bool
-    requires of { task.old.domain ≡ domain.now }
-    requires clean { IsClean task.old }
-    ensures of { task.new.domain ≡ domain.now }
-    ensures clean { IsClean task.new }
+    requires rests { RestsIn domain.now task.old }
+    ensures rests { RestsIn domain.now task.new }
 {
     yield_often(late);
     up(rt, domain, task, CELL).is_ok()
@@ -100,10 +98,8 @@ fn take_unless_signalled<R: Wait>(
     task: &mut Task,
     took: &AtomicU64,
 ) -> bool
-    requires of { task.old.domain ≡ domain.now }
-    requires clean { IsClean task.old }
-    ensures of { task.new.domain ≡ domain.now }
-    ensures clean { IsClean task.new }
+    requires rests { RestsIn domain.now task.old }
+    ensures rests { RestsIn domain.now task.new }
 {
     match down(rt, domain, task, CELL, SleepState::Interruptible) {
         Ok(()) => {
@@ -123,10 +119,8 @@ fn take_until<R: Wait>(
     flag: &AtomicU64,
     took: &AtomicU64,
 ) -> bool
-    requires of { task.old.domain ≡ domain.now }
-    requires clean { IsClean task.old }
-    ensures of { task.new.domain ≡ domain.now }
-    ensures clean { IsClean task.new }
+    requires rests { RestsIn domain.now task.old }
+    ensures rests { RestsIn domain.now task.new }
 {
     let asks = || flag.load(Ordering::SeqCst) != 0;
     match down_until(rt, domain, task, CELL, SleepState::Uninterruptible, asks) {
@@ -148,10 +142,8 @@ fn take_and_ask<R: Wait>(
     other: &AtomicU64,
     who: u8,
 ) -> bool
-    requires of { task.old.domain ≡ domain.now }
-    requires clean { IsClean task.old }
-    ensures of { task.new.domain ≡ domain.now }
-    ensures clean { IsClean task.new }
+    requires rests { RestsIn domain.now task.old }
+    ensures rests { RestsIn domain.now task.new }
 {
     if take_until(rt, domain, task, flag, took) {
         ask_late(rt, domain, task, other, who, 0)
@@ -168,10 +160,8 @@ fn take_unless_asked<R: Wait>(
     flag: &AtomicU64,
     took: &AtomicU64,
 ) -> bool
-    requires of { task.old.domain ≡ domain.now }
-    requires clean { IsClean task.old }
-    ensures of { task.new.domain ≡ domain.now }
-    ensures clean { IsClean task.new }
+    requires rests { RestsIn domain.now task.old }
+    ensures rests { RestsIn domain.now task.new }
 {
     take_until(rt, domain, task, flag, took);
     true
@@ -179,10 +169,8 @@ fn take_unless_asked<R: Wait>(
 
 /// How many permits are counted, of two at most.
 fn rest<R: Wait>(rt: &R, domain: &Domain, task: &mut Task) -> u64
-    requires of { task.old.domain ≡ domain.now }
-    requires clean { IsClean task.old }
-    ensures of { task.new.domain ≡ domain.now }
-    ensures clean { IsClean task.new }
+    requires rests { RestsIn domain.now task.old }
+    ensures rests { RestsIn domain.now task.new }
 {
     let one = tries(rt, domain, task, CELL);
     let two = tries(rt, domain, task, CELL);

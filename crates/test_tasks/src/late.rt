@@ -1,7 +1,7 @@
 //! What a task does to others after some yields, so that it falls between whatever steps of theirs.
 
 ghost use Rattle.std.specs.Prelude.{◌≡◌};
-ghost use Rattle.wait_rule.specs.Says.{IsClean};
+ghost use Rattle.wait_rule.specs.Says.{RestsIn};
 
 use std::sync::Wait;
 use std::sync::atomic::{AtomicU64, Ordering};
@@ -18,10 +18,8 @@ pub fn yield_often(count: u32) {
 
 /// Yields so often, and sends a plain signal.
 pub fn signal_late<R: Wait>(rt: &R, domain: &Domain, task: &mut Task, who: u8, late: u32) -> bool
-    requires of { task.old.domain ≡ domain.now }
-    requires clean { IsClean task.old }
-    ensures of { task.new.domain ≡ domain.now }
-    ensures clean { IsClean task.new }
+    requires rests { RestsIn domain.now task.old }
+    ensures rests { RestsIn domain.now task.new }
 {
     yield_often(late);
     send_signal(rt, domain, task, who, false);
@@ -37,10 +35,8 @@ pub fn ask_late<R: Wait>(
     who: u8,
     late: u32,
 ) -> bool
-    requires of { task.old.domain ≡ domain.now }
-    requires clean { IsClean task.old }
-    ensures of { task.new.domain ≡ domain.now }
-    ensures clean { IsClean task.new }
+    requires rests { RestsIn domain.now task.old }
+    ensures rests { RestsIn domain.now task.new }
 {
     yield_often(late);
     flag.store(1, Ordering::SeqCst);
@@ -57,10 +53,8 @@ pub fn ask_two_late<R: Wait>(
     whom: (u8, u8),
     late: u32,
 ) -> bool
-    requires of { task.old.domain ≡ domain.now }
-    requires clean { IsClean task.old }
-    ensures of { task.new.domain ≡ domain.now }
-    ensures clean { IsClean task.new }
+    requires rests { RestsIn domain.now task.old }
+    ensures rests { RestsIn domain.now task.new }
 {
     yield_often(late);
     asked.fetch_add(1, Ordering::SeqCst);

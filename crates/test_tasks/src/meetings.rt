@@ -1,7 +1,6 @@
 //! Tasks that meet in threads of their own, each of which plays a part and gives itself back.
 
-ghost use Rattle.std.specs.Prelude.{◌≡◌};
-ghost use Rattle.wait_rule.specs.Says.{IsClean};
+ghost use Rattle.wait_rule.specs.Says.{RestsIn};
 
 use std::sync::Wait;
 use std::thread;
@@ -12,18 +11,14 @@ use wait_rule::{Domain, Task};
 pub trait Part: Send + Drop {
     /// Whether it went as the part says.
     fn play<R: Wait>(self, rt: &R, domain: &Domain, task: &mut Task) -> bool
-        requires of { task.old.domain ≡ domain.now }
-        requires clean { IsClean task.old }
-        ensures of { task.new.domain ≡ domain.now }
-        ensures clean { IsClean task.new };
+        requires rests { RestsIn domain.now task.old }
+        ensures rests { RestsIn domain.now task.new };
 }
 
 /// A task plays its part, and gives itself back: whether it went as the part says.
 fn act<R: Wait, P: Part>(rt: &R, domain: &Domain, mut task: Task, part: P) -> (Task, bool)
-    requires of { task.domain ≡ domain.now }
-    requires clean { IsClean task }
-    ensures of { result.0.domain ≡ domain.now }
-    ensures clean { IsClean result.0 }
+    requires rests { RestsIn domain.now task }
+    ensures rests { RestsIn domain.now result.0 }
 {
     let well = part.play(rt, domain, &mut task);
     (task, well)
@@ -37,21 +32,19 @@ pub fn meet_two<R: Threads + Wait + Sync, P: Part>(
     second: Task,
     parts: (P, P),
 ) -> ((Task, bool), (Task, bool))
-    requires of { (first.domain ≡ domain.now) × (second.domain ≡ domain.now) }
-    requires clean { IsClean first × IsClean second }
-    ensures of { (result.0.0.domain ≡ domain.now) × (result.1.0.domain ≡ domain.now) }
-    ensures clean { IsClean result.0.0 × IsClean result.1.0 }
+    requires rest { RestsIn domain.now first × RestsIn domain.now second }
+    ensures rest { RestsIn domain.now result.0.0 × RestsIn domain.now result.1.0 }
 {
     let (own, other) = parts;
     thread::join(
         rt,
         move || -> (Task, bool)
-            requires { (first.domain ≡ domain.now) × IsClean first }
-            ensures { (result.0.domain ≡ domain.entry.now) × IsClean result.0 }
+            requires { RestsIn domain.now first }
+            ensures { RestsIn domain.entry.now result.0 }
         { act(rt, domain, first, own) },
         move || -> (Task, bool)
-            requires { (second.domain ≡ domain.now) × IsClean second }
-            ensures { (result.0.domain ≡ domain.entry.now) × IsClean result.0 }
+            requires { RestsIn domain.now second }
+            ensures { RestsIn domain.entry.now result.0 }
         { act(rt, domain, second, other) },
     )
 }
@@ -65,27 +58,20 @@ pub fn meet_four<R: Threads + Wait + Sync, P: Part>(
     own: (P, P),
     others: (P, P),
 ) -> (((Task, bool), (Task, bool)), ((Task, bool), (Task, bool)))
-    requires of { (firsts.0.domain ≡ domain.now) × ((firsts.1.domain ≡ domain.now)
-        × ((seconds.0.domain ≡ domain.now) × (seconds.1.domain ≡ domain.now))) }
-    requires clean { IsClean firsts.0 × (IsClean firsts.1 × (IsClean seconds.0 × IsClean seconds.1)) }
-    ensures of { ((result.0.0.0.domain ≡ domain.now) × (result.0.1.0.domain ≡ domain.now))
-        × ((result.1.0.0.domain ≡ domain.now) × (result.1.1.0.domain ≡ domain.now)) }
-    ensures clean { (IsClean result.0.0.0 × IsClean result.0.1.0)
-        × (IsClean result.1.0.0 × IsClean result.1.1.0) }
+    requires firsts { RestsIn domain.now firsts.0 × RestsIn domain.now firsts.1 }
+    requires seconds { RestsIn domain.now seconds.0 × RestsIn domain.now seconds.1 }
+    ensures firsts { RestsIn domain.now result.0.0.0 × RestsIn domain.now result.0.1.0 }
+    ensures seconds { RestsIn domain.now result.1.0.0 × RestsIn domain.now result.1.1.0 }
 {
     thread::join(
         rt,
         move || -> ((Task, bool), (Task, bool))
-            requires { (firsts.0.domain ≡ domain.now) × ((firsts.1.domain ≡ domain.now)
-                × (IsClean firsts.0 × IsClean firsts.1)) }
-            ensures { ((result.0.0.domain ≡ domain.entry.now) × (result.1.0.domain ≡ domain.entry.now))
-                × (IsClean result.0.0 × IsClean result.1.0) }
+            requires { RestsIn domain.now firsts.0 × RestsIn domain.now firsts.1 }
+            ensures { RestsIn domain.entry.now result.0.0 × RestsIn domain.entry.now result.1.0 }
         { meet_two(rt, domain, firsts.0, firsts.1, own) },
         move || -> ((Task, bool), (Task, bool))
-            requires { (seconds.0.domain ≡ domain.now) × ((seconds.1.domain ≡ domain.now)
-                × (IsClean seconds.0 × IsClean seconds.1)) }
-            ensures { ((result.0.0.domain ≡ domain.entry.now) × (result.1.0.domain ≡ domain.entry.now))
-                × (IsClean result.0.0 × IsClean result.1.0) }
+            requires { RestsIn domain.now seconds.0 × RestsIn domain.now seconds.1 }
+            ensures { RestsIn domain.entry.now result.0.0 × RestsIn domain.entry.now result.1.0 }
         { meet_two(rt, domain, seconds.0, seconds.1, others) },
     )
 }
@@ -98,10 +84,8 @@ pub fn two_meet<R: Threads + Wait + Sync, P: Part>(
     task: Task,
     parts: (P, P),
 ) -> (Task, [bool; 2])
-    requires of { task.domain ≡ domain.now }
-    requires clean { IsClean task }
-    ensures of { result.0.domain ≡ domain.now }
-    ensures clean { IsClean result.0 }
+    requires rests { RestsIn domain.now task }
+    ensures rests { RestsIn domain.now result.0 }
 {
     let mut task = task;
     let Ok(other) = task.fork(domain, 0) else {
@@ -120,10 +104,8 @@ pub fn four_meet<R: Threads + Wait + Sync, P: Part>(
     own: (P, P),
     others: (P, P),
 ) -> (Task, [bool; 4])
-    requires of { task.domain ≡ domain.now }
-    requires clean { IsClean task }
-    ensures of { result.0.domain ≡ domain.now }
-    ensures clean { IsClean result.0 }
+    requires rests { RestsIn domain.now task }
+    ensures rests { RestsIn domain.now result.0 }
 {
     let mut task = task;
     let Ok(one) = task.fork(domain, 0) else {

@@ -1,7 +1,7 @@
 //! A part that a task plays again and again.
 
 ghost use Rattle.std.specs.Prelude.{◌≡◌};
-ghost use Rattle.wait_rule.specs.Says.{IsClean};
+ghost use Rattle.wait_rule.specs.Says.{RestsIn};
 
 use crate::meetings::Part;
 use std::sync::Wait;
@@ -36,10 +36,8 @@ pub fn play_often<R: Wait, P: Part + Copy>(
     part: P,
     times: u32,
 ) -> bool
-    requires of { task.old.domain ≡ domain.now }
-    requires clean { IsClean task.old }
-    ensures of { task.new.domain ≡ domain.now }
-    ensures clean { IsClean task.new }
+    requires rests { RestsIn domain.now task.old }
+    ensures rests { RestsIn domain.now task.new }
 {
     let mut well = true;
     for _ in 0..times {

@@ -1,8 +1,8 @@
 //! What a test wants to be so, and the two tasks that it begins with. What all crates of tests do stands here once. A
 //! failure is an answer, since no library may end the process.
 
-ghost use Rattle.std.specs.Prelude.{◌≡◌, IfOk};
-ghost use Rattle.wait_rule.specs.Says.{IsClean};
+ghost use Rattle.std.specs.Prelude.{IfOk};
+ghost use Rattle.wait_rule.specs.Says.{RestsIn};
 
 use std::alloc::Global;
 use std::test::Fail;
@@ -22,8 +22,7 @@ pub fn all_so(seen: &[bool]) -> Result<(), Fail> {
 
 /// A new Domain, and tasks 0 and 1 of it, which owe nothing.
 pub fn begin_two(alloc: Global) -> Result<(Domain, Task, Task), Fail>
-    ensures of { IfOk result (λ b. (b.1.domain ≡ b.0) × (b.2.domain ≡ b.0)) }
-    ensures clean { IfOk result (λ b. IsClean b.1 × IsClean b.2) }
+    ensures rest { IfOk result (λ b. RestsIn b.0 b.1 × RestsIn b.0 b.2) }
 {
     let (domain, mut task) = Domain::new(alloc)?;
     let other = task.fork(&domain, 0)?;

@@ -7,7 +7,7 @@ pub(crate) mod strangers;
 mod stretched;
 
 ghost use Rattle.std.specs.Prelude.{◌≡◌};
-ghost use Rattle.wait_rule.specs.Says.{IsClean};
+ghost use Rattle.wait_rule.specs.Says.{IsClean, RestsIn};
 ghost use Rattle.wq_user.specs.Waiting.{IsWaiting};
 
 use crate::wants::{all_so, another};
@@ -39,8 +39,7 @@ fn wait_up<R: Wait>(rt: &R, domain: &Domain, mut task: Task) -> bool
 
 /// Sets the condition and wakes all: how many it woke.
 fn wake_up<R: Wait>(rt: &R, domain: &Domain, mut task: Task) -> u32
-    requires of { task.domain ≡ domain.now }
-    requires clean { IsClean task }
+    requires rests { RestsIn domain.now task }
 {
     set_and_wake(rt, domain, &mut task)
 }
@@ -57,7 +56,7 @@ fn both<R: Threads + Wait + Sync>(rt: &R, domain: &Domain, waiter: Task, waker: 
             requires { (waiter.domain ≡ domain.now) × IsWaiting waiter }
         { wait_up(rt, domain, waiter) },
         move || -> u32
-            requires { (waker.domain ≡ domain.now) × IsClean waker }
+            requires { RestsIn domain.now waker }
         { wake_up(rt, domain, waker) },
     )
 }

@@ -8,7 +8,7 @@ pub(crate) mod rows;
 mod shares;
 
 ghost use Rattle.std.specs.Prelude.{◌≡◌};
-ghost use Rattle.wait_rule.specs.Says.{IsClean};
+ghost use Rattle.wait_rule.specs.Says.{RestsIn};
 
 pub(crate) use crate::meetings::founds::Found;
 pub(crate) use crate::meetings::parts::Part;
@@ -75,8 +75,7 @@ fn meet<R: Abort + Threads + Wait + Sync>(
     row: &Meeting,
     shared: &Shared,
 )
-    requires of { task.domain ≡ domain.now }
-    requires clean { IsClean task }
+    requires rests { RestsIn domain.now task }
 {
     let mut task = task;
     let began = row.before.play(rt, domain, &mut task, shared);
@@ -111,10 +110,8 @@ fn two_meet<R: Abort + Threads + Wait + Sync>(
     task: Task,
     parts: (Played, Played),
 ) -> Task
-    requires of { task.domain ≡ domain.now }
-    requires clean { IsClean task }
-    ensures of { result.domain ≡ domain.now }
-    ensures clean { IsClean result }
+    requires rests { RestsIn domain.now task }
+    ensures rests { RestsIn domain.now result }
 {
     let (task, went) = meetings::two_meet(rt, domain, task, parts);
     all_so(rt, &went);
@@ -129,10 +126,8 @@ fn four_meet<R: Abort + Threads + Wait + Sync>(
     own: (Played, Played),
     others: (Played, Played),
 ) -> Task
-    requires of { task.domain ≡ domain.now }
-    requires clean { IsClean task }
-    ensures of { result.domain ≡ domain.now }
-    ensures clean { IsClean result }
+    requires rests { RestsIn domain.now task }
+    ensures rests { RestsIn domain.now result }
 {
     let (task, went) = meetings::four_meet(rt, domain, task, own, others);
     all_so(rt, &went);

@@ -6,7 +6,7 @@ ghost use Rattle.wait_class.specs.Tables.{IsAt, Lands};
 ghost use Rattle.wait_event.specs.Waits.{wait_table};
 ghost use Rattle.wait_event.specs.declared.waits.WaitStage.TheVariants as stage;
 ghost use Rattle.wait_model.specs.Tasks.{is_killable};
-ghost use Rattle.wait_rule.specs.Says.{IsClean};
+ghost use Rattle.wait_rule.specs.Says.{IsClean, RestsIn};
 
 use crate::completions::calls::{complete, try_wait};
 use crate::completions::threads::CELL;
@@ -54,10 +54,8 @@ pub(crate) enum Wakes {
 
 /// The waker's call.
 fn wake<R: Wait>(rt: &R, domain: &Domain, waker: &mut Task, wakes: Wakes)
-    requires of { waker.old.domain ≡ domain.now }
-    requires clean { IsClean waker.old }
-    ensures of { waker.new.domain ≡ domain.now }
-    ensures clean { IsClean waker.new }
+    requires rests { RestsIn domain.now waker.old }
+    ensures rests { RestsIn domain.now waker.new }
 {
     match wakes {
         Wakes::Event => {
@@ -82,10 +80,8 @@ fn wake_if<R: Wait>(
     is_to: bool,
     left: u32,
 ) -> u32
-    requires of { waker.old.domain ≡ domain.now }
-    requires clean { IsClean waker.old }
-    ensures of { waker.new.domain ≡ domain.now }
-    ensures clean { IsClean waker.new }
+    requires rests { RestsIn domain.now waker.old }
+    ensures rests { RestsIn domain.now waker.new }
 {
     if is_to && left > 0 {
         wake(rt, domain, waker, wakes);

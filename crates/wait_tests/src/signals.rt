@@ -4,7 +4,7 @@
 pub(crate) mod threads;
 
 ghost use Rattle.std.specs.Prelude.{◌≡◌};
-ghost use Rattle.wait_rule.specs.Says.{IsClean};
+ghost use Rattle.wait_rule.specs.Says.{RestsIn};
 
 use crate::bits::alone::take;
 use crate::completions::calls::wait_for;
@@ -39,10 +39,8 @@ fn interrupted(end: Result<(), BitEnd>) -> Option<u64> {
 
 /// A new task sends a plain signal to this one: false where no number is spare.
 pub(crate) fn get_signal<R: Wait>(rt: &R, domain: &Domain, task: &mut Task) -> bool
-    requires of { task.old.domain ≡ domain.now }
-    requires clean { IsClean task.old }
-    ensures of { task.new.domain ≡ domain.now }
-    ensures clean { IsClean task.new }
+    requires rests { RestsIn domain.now task.old }
+    ensures rests { RestsIn domain.now task.new }
 {
     match task.fork(domain, 0) {
         Ok(mut sender) => {
@@ -104,8 +102,7 @@ const ROWS: &[Row] = &[
 
 /// Waits, under a signal that its state admits: whether the wait ended so.
 fn is_ended<R: Wait>(rt: &R, domain: &Domain, task: &mut Task, waits: Waits) -> bool
-    requires of { task.old.domain ≡ domain.now }
-    requires clean { IsClean task.old }
+    requires rests { RestsIn domain.now task.old }
 {
     let light = SleepState::Interruptible;
     let killable = SleepState::Killable;

@@ -1,7 +1,7 @@
 //! The calls of a driver, each by a task that owes nothing before it and after it.
 
 ghost use Rattle.std.specs.Prelude.{◌≡◌};
-ghost use Rattle.wait_rule.specs.Says.{IsClean};
+ghost use Rattle.wait_rule.specs.Says.{RestsIn};
 
 use completion_cell::await_calls::wait_for;
 use completion_cell::completes::complete;
@@ -69,10 +69,8 @@ pub const CALLS: [Call; 9] = [
 
 /// Makes a call.
 pub fn make<R: Wait>(rt: &R, domain: &Domain, task: &mut Task, call: Call)
-    requires of { task.old.domain ≡ domain.now }
-    requires clean { IsClean task.old }
-    ensures of { task.new.domain ≡ domain.now }
-    ensures clean { IsClean task.new }
+    requires rests { RestsIn domain.now task.old }
+    ensures rests { RestsIn domain.now task.new }
 {
     match call {
         Call::Wait => {

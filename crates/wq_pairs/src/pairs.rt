@@ -1,7 +1,7 @@
 //! Two calls of a driver, one after the other.
 
 ghost use Rattle.std.specs.Prelude.{◌≡◌};
-ghost use Rattle.wait_rule.specs.Says.{IsClean};
+ghost use Rattle.wait_rule.specs.Says.{RestsIn};
 
 use crate::calls::{Call, make};
 use std::sync::Wait;
@@ -9,10 +9,8 @@ use wait_rule::{Domain, Task};
 
 /// Makes the first call, and then the second, which may be the same.
 pub fn make_both<R: Wait>(rt: &R, domain: &Domain, task: &mut Task, first: Call, second: Call)
-    requires of { task.old.domain ≡ domain.now }
-    requires clean { IsClean task.old }
-    ensures of { task.new.domain ≡ domain.now }
-    ensures clean { IsClean task.new }
+    requires rests { RestsIn domain.now task.old }
+    ensures rests { RestsIn domain.now task.new }
 {
     make(rt, domain, task, first);
     make(rt, domain, task, second);

@@ -1,7 +1,7 @@
 //! A task that waits for completion 0, and one that completes it: each owes nothing after it, and is taken in.
 
 ghost use Rattle.std.specs.Prelude.{◌≡◌};
-ghost use Rattle.wait_rule.specs.Says.{IsClean, IsUp};
+ghost use Rattle.wait_rule.specs.Says.{IsClean, IsUp, RestsIn};
 
 use completion_cell::asks::{is_done, reinit, try_wait};
 use completion_cell::await_calls::wait_for;
@@ -15,20 +15,16 @@ const CELL: u8 = 0;
 
 /// Completes it for one waiter.
 pub fn complete_one<R: Wait>(rt: &R, domain: &Domain, task: &mut Task)
-    requires of { task.old.domain ≡ domain.now }
-    requires clean { IsClean task.old }
-    ensures of { task.new.domain ≡ domain.now }
-    ensures clean { IsClean task.new }
+    requires rests { RestsIn domain.now task.old }
+    ensures rests { RestsIn domain.now task.new }
 {
     complete(rt, domain, task, CELL);
 }
 
 /// Completes it for all, clears it, and says whether it is done then.
 pub fn complete_and_clear<R: Wait>(rt: &R, domain: &Domain, task: &mut Task) -> bool
-    requires of { task.old.domain ≡ domain.now }
-    requires clean { IsClean task.old }
-    ensures of { task.new.domain ≡ domain.now }
-    ensures clean { IsClean task.new }
+    requires rests { RestsIn domain.now task.old }
+    ensures rests { RestsIn domain.now task.new }
 {
     complete_all(rt, domain, task, CELL);
     reinit(rt, domain, task, CELL);
@@ -38,20 +34,16 @@ pub fn complete_and_clear<R: Wait>(rt: &R, domain: &Domain, task: &mut Task) -> 
 /// Waits until it is done, and takes one: true where it took one, and false where a signal ended the wait, or no place
 /// was left.
 pub fn wait_for_one<R: Wait>(rt: &R, domain: &Domain, task: &mut Task, state: SleepState) -> bool
-    requires of { task.old.domain ≡ domain.now }
-    requires clean { IsClean task.old }
-    ensures of { task.new.domain ≡ domain.now }
-    ensures clean { IsClean task.new }
+    requires rests { RestsIn domain.now task.old }
+    ensures rests { RestsIn domain.now task.new }
 {
     wait_for(rt, domain, task, CELL, state).is_ok()
 }
 
 /// Takes one where one is there.
 pub fn take_one<R: Wait>(rt: &R, domain: &Domain, task: &mut Task) -> bool
-    requires of { task.old.domain ≡ domain.now }
-    requires clean { IsClean task.old }
-    ensures of { task.new.domain ≡ domain.now }
-    ensures clean { IsClean task.new }
+    requires rests { RestsIn domain.now task.old }
+    ensures rests { RestsIn domain.now task.new }
 {
     try_wait(rt, domain, task, CELL)
 }

@@ -2,7 +2,7 @@
 
 ghost use Rattle.std.specs.Prelude.{◌≡◌};
 ghost use Rattle.wait_event.specs.Entries.{HasWokenEntry, MayRemove};
-ghost use Rattle.wait_rule.specs.Says.{IsClean, IsUp};
+ghost use Rattle.wait_rule.specs.Says.{IsClean, IsUp, RestsIn};
 ghost use Rattle.wait_rule.specs.Stays.{Carries, unchanged};
 
 use std::sync::Wait;
@@ -18,10 +18,8 @@ use wait_rule::{Domain, Task};
 
 /// Waits until condition 0 is set: true where it was, and false where a signal ended the wait, or no place was left.
 pub fn wait_for_zero<R: Wait>(rt: &R, domain: &Domain, task: &mut Task, state: SleepState) -> bool
-    requires of { task.old.domain ≡ domain.now }
-    requires clean { IsClean task.old }
-    ensures of { task.new.domain ≡ domain.now }
-    ensures clean { IsClean task.new }
+    requires rests { RestsIn domain.now task.old }
+    ensures rests { RestsIn domain.now task.new }
 {
     let how = How {
         state,
@@ -32,10 +30,8 @@ pub fn wait_for_zero<R: Wait>(rt: &R, domain: &Domain, task: &mut Task, state: S
 
 /// Sets condition 0 and wakes all who wait for it: how many they were.
 pub fn set_zero<R: Wait>(rt: &R, domain: &Domain, task: &mut Task) -> u32
-    requires of { task.old.domain ≡ domain.now }
-    requires clean { IsClean task.old }
-    ensures of { task.new.domain ≡ domain.now }
-    ensures clean { IsClean task.new }
+    requires rests { RestsIn domain.now task.old }
+    ensures rests { RestsIn domain.now task.new }
 {
     set_and_wake(rt, domain, task, 0, 1, Mode::Normal, 0).woken
 }
@@ -47,10 +43,8 @@ pub fn wait_to_be_selected<R: Wait>(
     task: &mut Task,
     state: SleepState,
 ) -> bool
-    requires of { task.old.domain ≡ domain.now }
-    requires clean { IsClean task.old }
-    ensures of { task.new.domain ≡ domain.now }
-    ensures clean { IsClean task.new }
+    requires rests { RestsIn domain.now task.old }
+    ensures rests { RestsIn domain.now task.new }
 {
     let how = How {
         state,
@@ -61,10 +55,8 @@ pub fn wait_to_be_selected<R: Wait>(
 
 /// Adds an entry for condition 0, and takes it off again: true where there was a place for it.
 pub fn come_and_go<R: Wait>(rt: &R, domain: &Domain, task: &mut Task) -> bool
-    requires of { task.old.domain ≡ domain.now }
-    requires clean { IsClean task.old }
-    ensures of { task.new.domain ≡ domain.now }
-    ensures clean { IsClean task.new }
+    requires rests { RestsIn domain.now task.old }
+    ensures rests { RestsIn domain.now task.new }
 {
     match add_entry(rt, domain, task, 0, Kind::Default, Form::Tail) {
         Ok(()) => {
@@ -78,10 +70,8 @@ pub fn come_and_go<R: Wait>(rt: &R, domain: &Domain, task: &mut Task) -> bool
 /// Waits for condition 0 by the flag of an entry: loads the condition, and where it is not set waits for the flag once.
 /// True where there was a place for the entry.
 pub fn hear_zero<R: Wait>(rt: &R, domain: &Domain, task: &mut Task, state: SleepState) -> bool
-    requires of { task.old.domain ≡ domain.now }
-    requires clean { IsClean task.old }
-    ensures of { task.new.domain ≡ domain.now }
-    ensures clean { IsClean task.new }
+    requires rests { RestsIn domain.now task.old }
+    ensures rests { RestsIn domain.now task.new }
 {
     match add_entry(rt, domain, task, 0, Kind::Woken, Form::Front) {
         Ok(()) => {
@@ -109,10 +99,8 @@ fn hear<R: Wait>(rt: &R, domain: &Domain, task: &mut Task, state: SleepState)
 
 /// Takes condition 0.
 pub fn take_zero(domain: &Domain, task: &mut Task) -> u64
-    requires of { task.old.domain ≡ domain.now }
-    requires clean { IsClean task.old }
-    ensures of { task.new.domain ≡ domain.now }
-    ensures clean { IsClean task.new }
+    requires rests { RestsIn domain.now task.old }
+    ensures rests { RestsIn domain.now task.new }
 {
     take_cond(domain, task, 0)
 }

@@ -5,7 +5,7 @@
 ghost use Rattle.std.specs.Prelude.{◌≡◌, MatchBool};
 ghost use Rattle.wait_model.specs.declared.watches.Watch.TheVariants as watch;
 ghost use Rattle.bit_wait.specs.Holders.{IsHolder};
-ghost use Rattle.wait_rule.specs.Says.{IsClean};
+ghost use Rattle.wait_rule.specs.Says.{IsClean, RestsIn};
 
 use bit_wait::{clear_and_wake_bit, test_and_set, wait_on_bit, wait_on_bit_lock};
 use std::sync::Wait;
@@ -28,8 +28,7 @@ const HEAD: u16 = 0;
 
 /// Takes the bit: true where it was clear.
 pub fn take_bit(domain: &Domain, task: &mut Task) -> bool
-    requires of { task.old.domain ≡ domain.now }
-    requires clean { IsClean task.old }
+    requires rests { RestsIn domain.now task.old }
     ensures of { task.new.domain ≡ domain.now }
     ensures holder { MatchBool result (IsHolder task.new (watch.Bit 2 16)) (IsClean task.new) }
 {
@@ -40,18 +39,15 @@ pub fn take_bit(domain: &Domain, task: &mut Task) -> bool
 pub fn give_bit<R: Wait>(rt: &R, domain: &Domain, task: &mut Task) -> u32
     requires of { task.old.domain ≡ domain.now }
     requires holder { IsHolder task.old (watch.Bit 2 16) }
-    ensures of { task.new.domain ≡ domain.now }
-    ensures clean { IsClean task.new }
+    ensures rests { RestsIn domain.now task.new }
 {
     clear_and_wake_bit(rt, domain, task, WORD, BIT).holds
 }
 
 /// Waits until it has the bit, and gives it back: true where it had it.
 pub fn hold_bit<R: Wait>(rt: &R, domain: &Domain, task: &mut Task) -> bool
-    requires of { task.old.domain ≡ domain.now }
-    requires clean { IsClean task.old }
-    ensures of { task.new.domain ≡ domain.now }
-    ensures clean { IsClean task.new }
+    requires rests { RestsIn domain.now task.old }
+    ensures rests { RestsIn domain.now task.new }
 {
     match wait_on_bit_lock(rt, domain, task, WORD, BIT, SleepState::Killable) {
         Ok(()) => {
@@ -64,10 +60,8 @@ pub fn hold_bit<R: Wait>(rt: &R, domain: &Domain, task: &mut Task) -> bool
 
 /// Waits until the bit is clear: true where it was.
 pub fn wait_until_clear<R: Wait>(rt: &R, domain: &Domain, task: &mut Task) -> bool
-    requires of { task.old.domain ≡ domain.now }
-    requires clean { IsClean task.old }
-    ensures of { task.new.domain ≡ domain.now }
-    ensures clean { IsClean task.new }
+    requires rests { RestsIn domain.now task.old }
+    ensures rests { RestsIn domain.now task.new }
 {
     let over = wait_on_bit(rt, domain, task, WORD, BIT, SleepState::Uninterruptible).is_ok();
     set_state(domain, task, 0);
@@ -76,30 +70,24 @@ pub fn wait_until_clear<R: Wait>(rt: &R, domain: &Domain, task: &mut Task) -> bo
 
 /// Waits until the variable is not 0, and answers its value.
 pub fn wait_until_changed<R: Wait>(rt: &R, domain: &Domain, task: &mut Task) -> u64
-    requires of { task.old.domain ≡ domain.now }
-    requires clean { IsClean task.old }
-    ensures of { task.new.domain ≡ domain.now }
-    ensures clean { IsClean task.new }
+    requires rests { RestsIn domain.now task.old }
+    ensures rests { RestsIn domain.now task.new }
 {
     wait_var(rt, domain, task, VAR, 0, SleepState::Uninterruptible).unwrap_or(0)
 }
 
 /// Stores a value in the variable, and wakes who waits for it to change: how many tasks that woke.
 pub fn change<R: Wait>(rt: &R, domain: &Domain, task: &mut Task, value: u64) -> u32
-    requires of { task.old.domain ≡ domain.now }
-    requires clean { IsClean task.old }
-    ensures of { task.new.domain ≡ domain.now }
-    ensures clean { IsClean task.new }
+    requires rests { RestsIn domain.now task.old }
+    ensures rests { RestsIn domain.now task.new }
 {
     publish_var_and_wake(rt, domain, task, VAR, value).woken
 }
 
 /// How many members stand at the head of both, in one hold.
 pub fn count_members<R: Wait>(rt: &R, domain: &Domain, task: &mut Task) -> usize
-    requires of { task.old.domain ≡ domain.now }
-    requires clean { IsClean task.old }
-    ensures of { task.new.domain ≡ domain.now }
-    ensures clean { IsClean task.new }
+    requires rests { RestsIn domain.now task.old }
+    ensures rests { RestsIn domain.now task.new }
 {
     let mut list = Members::new();
     lock(rt, domain, task, HEAD);

@@ -2,7 +2,7 @@
 
 ghost use Rattle.std.specs.Prelude.{◌≡◌, ◌<◌};
 ghost use Rattle.wait_model.specs.declared.layout.TheConstants.{FIRST_DONE_HEAD};
-ghost use Rattle.wait_rule.specs.Says.{IsClean, IsUp};
+ghost use Rattle.wait_rule.specs.Says.{IsClean, IsUp, RestsIn};
 
 use std::sync::Wait;
 use wait_model::watches::{Mode, Watch};
@@ -14,11 +14,9 @@ use wq_head::{has_members, lock, unlock, wake};
 /// Takes the lock of head `head`, which is none of a completion, and gives it back. The task owes nothing before and
 /// after it.
 pub fn pass<R: Wait>(rt: &R, domain: &Domain, task: &mut Task, head: u16)
-    requires of { task.old.domain ≡ domain.now }
-    requires clean { IsClean task.old }
+    requires rests { RestsIn domain.now task.old }
     requires head { head < FIRST_DONE_HEAD }
-    ensures of { task.new.domain ≡ domain.now }
-    ensures clean { IsClean task.new }
+    ensures rests { RestsIn domain.now task.new }
 {
     lock(rt, domain, task, head);
     unlock(rt, domain, task, false);
@@ -26,11 +24,9 @@ pub fn pass<R: Wait>(rt: &R, domain: &Domain, task: &mut Task, head: u16)
 
 /// The same, where the wake of who parks for the lock is a step of its own.
 pub fn pass_in_parts<R: Wait>(rt: &R, domain: &Domain, task: &mut Task, head: u16)
-    requires of { task.old.domain ≡ domain.now }
-    requires clean { IsClean task.old }
+    requires rests { RestsIn domain.now task.old }
     requires head { head < FIRST_DONE_HEAD }
-    ensures of { task.new.domain ≡ domain.now }
-    ensures clean { IsClean task.new }
+    ensures rests { RestsIn domain.now task.new }
 {
     lock(rt, domain, task, head);
     give_back(domain, task, false).wake(domain);
@@ -38,11 +34,9 @@ pub fn pass_in_parts<R: Wait>(rt: &R, domain: &Domain, task: &mut Task, head: u1
 
 /// Says whether head `head`, which is none of a completion, has members.
 pub fn look<R: Wait>(rt: &R, domain: &Domain, task: &mut Task, head: u16) -> bool
-    requires of { task.old.domain ≡ domain.now }
-    requires clean { IsClean task.old }
+    requires rests { RestsIn domain.now task.old }
     requires head { head < FIRST_DONE_HEAD }
-    ensures of { task.new.domain ≡ domain.now }
-    ensures clean { IsClean task.new }
+    ensures rests { RestsIn domain.now task.new }
 {
     lock(rt, domain, task, head);
     let has = has_members(domain, task, head);
@@ -52,10 +46,8 @@ pub fn look<R: Wait>(rt: &R, domain: &Domain, task: &mut Task, head: u16) -> boo
 
 /// Sets condition 0 and wakes all who wait for it: how many were woken.
 pub fn set_and_wake<R: Wait>(rt: &R, domain: &Domain, task: &mut Task) -> u32
-    requires of { task.old.domain ≡ domain.now }
-    requires clean { IsClean task.old }
-    ensures of { task.new.domain ≡ domain.now }
-    ensures clean { IsClean task.new }
+    requires rests { RestsIn domain.now task.old }
+    ensures rests { RestsIn domain.now task.new }
 {
     let watch = Watch::Plain { cond: 0 };
     publish(domain, task, watch, 1);
@@ -65,11 +57,9 @@ pub fn set_and_wake<R: Wait>(rt: &R, domain: &Domain, task: &mut Task) -> u32
 /// Passes through a hold of head `head`, which is none of a completion, and then sets condition 0 and wakes all who
 /// wait for it.
 pub fn pass_and_wake<R: Wait>(rt: &R, domain: &Domain, task: &mut Task, head: u16) -> u32
-    requires of { task.old.domain ≡ domain.now }
-    requires clean { IsClean task.old }
+    requires rests { RestsIn domain.now task.old }
     requires head { head < FIRST_DONE_HEAD }
-    ensures of { task.new.domain ≡ domain.now }
-    ensures clean { IsClean task.new }
+    ensures rests { RestsIn domain.now task.new }
 {
     pass(rt, domain, task, head);
     set_and_wake(rt, domain, task)

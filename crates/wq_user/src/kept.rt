@@ -4,7 +4,7 @@
 ghost use Rattle.std.specs.Prelude.{◌≡◌};
 ghost use Rattle.wait_model.specs.declared.watches.Watch.TheVariants as watch;
 ghost use Rattle.bit_wait.specs.Holders.{IsHolder};
-ghost use Rattle.wait_rule.specs.Says.{IsClean};
+ghost use Rattle.wait_rule.specs.Says.{RestsIn};
 
 use crate::hashed::{give_bit, take_bit};
 use std::sync::Wait;
@@ -42,10 +42,8 @@ pub fn wait_with_bit<R: Wait>(rt: &R, domain: &Domain, task: &mut Task) -> bool
 /// Takes the bit, makes both calls, and gives it back: how many holds of the bit's head that took. None where
 /// another task keeps the bit.
 pub fn work_with_bit<R: Wait>(rt: &R, domain: &Domain, task: &mut Task) -> Option<u32>
-    requires of { task.old.domain ≡ domain.now }
-    requires clean { IsClean task.old }
-    ensures of { task.new.domain ≡ domain.now }
-    ensures clean { IsClean task.new }
+    requires rests { RestsIn domain.now task.old }
+    ensures rests { RestsIn domain.now task.new }
 {
     if !take_bit(domain, task) {
         return None;

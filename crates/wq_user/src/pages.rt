@@ -4,7 +4,7 @@
 ghost use Rattle.std.specs.Prelude.{◌≡◌, MatchBool};
 ghost use Rattle.wait_model.specs.declared.watches.Watch.TheVariants as watch;
 ghost use Rattle.bit_wait.specs.Holders.{IsHolder};
-ghost use Rattle.wait_rule.specs.Says.{IsClean, IsUp};
+ghost use Rattle.wait_rule.specs.Says.{IsClean, IsUp, RestsIn};
 
 use page_lock::{add_tally, lock_page, try_lock_page, unlock_page};
 use std::sync::Wait;
@@ -16,8 +16,7 @@ const PAGE: u8 = 2;
 
 /// Takes the page: true where it was clear.
 pub fn take_page(domain: &Domain, task: &mut Task) -> bool
-    requires of { task.old.domain ≡ domain.now }
-    requires clean { IsClean task.old }
+    requires rests { RestsIn domain.now task.old }
     ensures of { task.new.domain ≡ domain.now }
     ensures holder { MatchBool result (IsHolder task.new (watch.Bit 2 0)) (IsClean task.new) }
 {
@@ -38,18 +37,15 @@ pub fn add_to_page(domain: &Domain, task: &mut Task, amount: u64) -> u64
 pub fn give_page<R: Wait>(rt: &R, domain: &Domain, task: &mut Task) -> u32
     requires of { task.old.domain ≡ domain.now }
     requires holder { IsHolder task.old (watch.Bit 2 0) }
-    ensures of { task.new.domain ≡ domain.now }
-    ensures clean { IsClean task.new }
+    ensures rests { RestsIn domain.now task.new }
 {
     unlock_page(rt, domain, task, PAGE).holds
 }
 
 /// Waits until it has the page, and gives it back: true where it had it.
 pub fn hold_page<R: Wait>(rt: &R, domain: &Domain, task: &mut Task) -> bool
-    requires of { task.old.domain ≡ domain.now }
-    requires clean { IsClean task.old }
-    ensures of { task.new.domain ≡ domain.now }
-    ensures clean { IsClean task.new }
+    requires rests { RestsIn domain.now task.old }
+    ensures rests { RestsIn domain.now task.new }
 {
     match lock_page(rt, domain, task, PAGE, SleepState::Killable) {
         Ok(()) => {
@@ -62,10 +58,8 @@ pub fn hold_page<R: Wait>(rt: &R, domain: &Domain, task: &mut Task) -> bool
 
 /// Takes the page, adds to its tally and gives the page back: the tally before, and None where the page was taken.
 pub fn count_in_page<R: Wait>(rt: &R, domain: &Domain, task: &mut Task, amount: u64) -> Option<u64>
-    requires of { task.old.domain ≡ domain.now }
-    requires clean { IsClean task.old }
-    ensures of { task.new.domain ≡ domain.now }
-    ensures clean { IsClean task.new }
+    requires rests { RestsIn domain.now task.old }
+    ensures rests { RestsIn domain.now task.new }
 {
     if !try_lock_page(domain, task, PAGE) {
         return None;

@@ -5,7 +5,7 @@ ghost use Rattle.std.specs.Prelude.{◌≡◌};
 ghost use Rattle.wait_class.specs.Posts.{Keeps, own_of};
 ghost use Rattle.wait_event.specs.Prepares.{MayFinish, MayPrepare};
 ghost use Rattle.wait_model.specs.Watches.{IsThere};
-ghost use Rattle.wait_rule.specs.Says.{IsClean};
+ghost use Rattle.wait_rule.specs.Says.{RestsIn};
 
 use std::sync::Wait;
 use wait_event::prepares::{finish_wait, prepare_event, prepare_exclusive, prepare_to_wait};
@@ -42,10 +42,8 @@ fn sleep_unless_set<R: Wait>(
 /// Waits once for condition 0, by parts: prepares, loads the condition, sleeps where it is not set, and finishes. True
 /// where there was a place for the entry.
 pub fn wait_by_parts<R: Wait>(rt: &R, domain: &Domain, task: &mut Task, state: SleepState) -> bool
-    requires of { task.old.domain ≡ domain.now }
-    requires clean { IsClean task.old }
-    ensures of { task.new.domain ≡ domain.now }
-    ensures clean { IsClean task.new }
+    requires rests { RestsIn domain.now task.old }
+    ensures rests { RestsIn domain.now task.new }
 {
     let watch = Watch::Plain { cond: 0 };
     let queued = prepare_to_wait(rt, domain, task, Kind::Autoremove, watch, state).is_ok();
@@ -57,10 +55,8 @@ pub fn wait_by_parts<R: Wait>(rt: &R, domain: &Domain, task: &mut Task, state: S
 /// Waits for variable 20 to differ from `old`, by parts: prepares, loads it, sleeps where it does not, prepares once
 /// more, loads it, and finishes. True where it differed then.
 pub fn wait_for_change<R: Wait>(rt: &R, domain: &Domain, task: &mut Task, old: u64) -> bool
-    requires of { task.old.domain ≡ domain.now }
-    requires clean { IsClean task.old }
-    ensures of { task.new.domain ≡ domain.now }
-    ensures clean { IsClean task.new }
+    requires rests { RestsIn domain.now task.old }
+    ensures rests { RestsIn domain.now task.new }
 {
     let watch = Watch::Var { var: 20, old };
     let state = SleepState::Interruptible;
@@ -79,10 +75,8 @@ pub fn wait_for_change<R: Wait>(rt: &R, domain: &Domain, task: &mut Task, old: u
 /// Looks for bit 3 of word 2 to be clear, by parts: prepares and loads it twice without a sleep between, gives up, and
 /// finishes. True where it found the bit clear.
 pub fn look_for_bit<R: Wait>(rt: &R, domain: &Domain, task: &mut Task) -> bool
-    requires of { task.old.domain ≡ domain.now }
-    requires clean { IsClean task.old }
-    ensures of { task.new.domain ≡ domain.now }
-    ensures clean { IsClean task.new }
+    requires rests { RestsIn domain.now task.old }
+    ensures rests { RestsIn domain.now task.new }
 {
     let watch = Watch::Bit { word: 2, bit: 3 };
     let state = SleepState::Uninterruptible;
@@ -97,10 +91,8 @@ pub fn look_for_bit<R: Wait>(rt: &R, domain: &Domain, task: &mut Task) -> bool
 /// Waits for condition 50, whose queue is a simple one, by parts: prepares, loads it, sleeps where it is not set,
 /// prepares once more, and finishes. True where there was a place for the entry.
 pub fn wait_at_simple<R: Wait>(rt: &R, domain: &Domain, task: &mut Task) -> bool
-    requires of { task.old.domain ≡ domain.now }
-    requires clean { IsClean task.old }
-    ensures of { task.new.domain ≡ domain.now }
-    ensures clean { IsClean task.new }
+    requires rests { RestsIn domain.now task.old }
+    ensures rests { RestsIn domain.now task.new }
 {
     let watch = Watch::Plain { cond: 50 };
     let state = SleepState::Interruptible;
@@ -113,10 +105,8 @@ pub fn wait_at_simple<R: Wait>(rt: &R, domain: &Domain, task: &mut Task) -> bool
 
 /// Waits for condition 1 by an entry that no wake takes off, by parts, and leaves it by a finish.
 pub fn wait_by_default<R: Wait>(rt: &R, domain: &Domain, task: &mut Task) -> bool
-    requires of { task.old.domain ≡ domain.now }
-    requires clean { IsClean task.old }
-    ensures of { task.new.domain ≡ domain.now }
-    ensures clean { IsClean task.new }
+    requires rests { RestsIn domain.now task.old }
+    ensures rests { RestsIn domain.now task.new }
 {
     let watch = Watch::Plain { cond: 1 };
     let state = SleepState::Killable;
@@ -129,10 +119,8 @@ pub fn wait_by_default<R: Wait>(rt: &R, domain: &Domain, task: &mut Task) -> boo
 
 /// Wakes all who wait for condition 0: how many were woken.
 pub fn wake_zero<R: Wait>(rt: &R, domain: &Domain, task: &mut Task) -> u32
-    requires of { task.old.domain ≡ domain.now }
-    requires clean { IsClean task.old }
-    ensures of { task.new.domain ≡ domain.now }
-    ensures clean { IsClean task.new }
+    requires rests { RestsIn domain.now task.old }
+    ensures rests { RestsIn domain.now task.new }
 {
     wake(rt, domain, task, Watch::Plain { cond: 0 }, Mode::Normal, 0).woken
 }

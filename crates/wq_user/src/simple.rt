@@ -2,7 +2,7 @@
 //! nothing after it, and is taken in.
 
 ghost use Rattle.std.specs.Prelude.{◌≡◌};
-ghost use Rattle.wait_rule.specs.Says.{IsClean, IsUp};
+ghost use Rattle.wait_rule.specs.Says.{IsClean, IsUp, RestsIn};
 
 use std::sync::Wait;
 use swait_queue::{swait_event, swake_all, swake_all_locked, swake_locked, swake_one};
@@ -20,20 +20,16 @@ const HEAD: u16 = FIRST_SIMPLE_HEAD;
 
 /// Waits until the condition is set: true where it was, and false where no place was left.
 pub fn swait<R: Wait>(rt: &R, domain: &Domain, task: &mut Task) -> bool
-    requires of { task.old.domain ≡ domain.now }
-    requires clean { IsClean task.old }
-    ensures of { task.new.domain ≡ domain.now }
-    ensures clean { IsClean task.new }
+    requires rests { RestsIn domain.now task.old }
+    ensures rests { RestsIn domain.now task.new }
 {
     swait_event(rt, domain, task, COND, SleepState::Uninterruptible).is_ok()
 }
 
 /// Sets the condition, and wakes the first who waits for it: whether there was one.
 pub fn set_and_swake<R: Wait>(rt: &R, domain: &Domain, task: &mut Task) -> bool
-    requires of { task.old.domain ≡ domain.now }
-    requires clean { IsClean task.old }
-    ensures of { task.new.domain ≡ domain.now }
-    ensures clean { IsClean task.new }
+    requires rests { RestsIn domain.now task.old }
+    ensures rests { RestsIn domain.now task.new }
 {
     publish(domain, task, Watch::Plain { cond: COND }, 1);
     swake_one(rt, domain, task, COND)
@@ -41,10 +37,8 @@ pub fn set_and_swake<R: Wait>(rt: &R, domain: &Domain, task: &mut Task) -> bool
 
 /// Sets the condition, and wakes all who wait for it: how many they were.
 pub fn set_and_swake_all<R: Wait>(rt: &R, domain: &Domain, task: &mut Task) -> u32
-    requires of { task.old.domain ≡ domain.now }
-    requires clean { IsClean task.old }
-    ensures of { task.new.domain ≡ domain.now }
-    ensures clean { IsClean task.new }
+    requires rests { RestsIn domain.now task.old }
+    ensures rests { RestsIn domain.now task.new }
 {
     publish(domain, task, Watch::Plain { cond: COND }, 1);
     swake_all(rt, domain, task, COND)
@@ -52,10 +46,8 @@ pub fn set_and_swake_all<R: Wait>(rt: &R, domain: &Domain, task: &mut Task) -> u
 
 /// Wakes the first who waits, with nothing set before: whether there was one.
 pub fn swake<R: Wait>(rt: &R, domain: &Domain, task: &mut Task) -> bool
-    requires of { task.old.domain ≡ domain.now }
-    requires clean { IsClean task.old }
-    ensures of { task.new.domain ≡ domain.now }
-    ensures clean { IsClean task.new }
+    requires rests { RestsIn domain.now task.old }
+    ensures rests { RestsIn domain.now task.new }
 {
     swake_one(rt, domain, task, COND)
 }
@@ -63,10 +55,8 @@ pub fn swake<R: Wait>(rt: &R, domain: &Domain, task: &mut Task) -> bool
 /// Wakes all who wait, with nothing set before, in a hold in which it wakes the first: whether there was one, and how
 /// many more.
 pub fn swake_in_hold<R: Wait>(rt: &R, domain: &Domain, task: &mut Task) -> (bool, u32)
-    requires of { task.old.domain ≡ domain.now }
-    requires clean { IsClean task.old }
-    ensures of { task.new.domain ≡ domain.now }
-    ensures clean { IsClean task.new }
+    requires rests { RestsIn domain.now task.old }
+    ensures rests { RestsIn domain.now task.new }
 {
     lock(rt, domain, task, HEAD);
     let first = swake_locked(rt, domain, task, HEAD);

@@ -2,7 +2,7 @@
 
 ghost use Rattle.std.specs.Prelude.{◌≡◌, MatchBool};
 ghost use Rattle.wait_rule.specs.PassedLocks.{PassesNone};
-ghost use Rattle.wait_rule.specs.Says.{IsClean, IsUp};
+ghost use Rattle.wait_rule.specs.Says.{IsUp, RestsIn};
 ghost use Rattle.wait_class.specs.declared.stages.Turn.TheVariants as turn;
 ghost use Rattle.wait_class.specs.Tables.{Advances, CallTable, IsAsleepAt, IsAt, IsStop, Lands, Turned};
 ghost use Rattle.wait_class.specs.UnderWay.{IsUnderWay};
@@ -164,10 +164,8 @@ pub(crate) fn go_on<R: Wait, W: Stretched>(
 
 /// Waits for condition 0: true where it was set, and false where a signal ended the wait, or no place was left.
 pub fn wait_by_stretches<R: Wait>(rt: &R, domain: &Domain, task: &mut Task, how: How) -> bool
-    requires of { task.old.domain ≡ domain.now }
-    requires clean { IsClean task.old }
-    ensures of { task.new.domain ≡ domain.now }
-    ensures clean { IsClean task.new }
+    requires rests { RestsIn domain.now task.old }
+    ensures rests { RestsIn domain.now task.new }
 {
     let mut wait = begin_wait(task, 0, how);
     let outcome = go_on::<R, OfClass<WaitCall>>(rt, domain, task, &mut wait, WaitStage::First);
@@ -182,10 +180,8 @@ pub fn wait_var_by_stretches<R: Wait>(
     old: u64,
     state: SleepState,
 ) -> bool
-    requires of { task.old.domain ≡ domain.now }
-    requires clean { IsClean task.old }
-    ensures of { task.new.domain ≡ domain.now }
-    ensures clean { IsClean task.new }
+    requires rests { RestsIn domain.now task.old }
+    ensures rests { RestsIn domain.now task.new }
 {
     let mut wait = begin_var(task, 0, old, state);
     let outcome = go_on::<R, OfClass<WaitCall>>(rt, domain, task, &mut wait, WaitStage::First);
@@ -199,10 +195,8 @@ pub fn take_by_stretches<R: Wait>(
     task: &mut Task,
     state: SleepState,
 ) -> bool
-    requires of { task.old.domain ≡ domain.now }
-    requires clean { IsClean task.old }
-    ensures of { task.new.domain ≡ domain.now }
-    ensures clean { IsClean task.new }
+    requires rests { RestsIn domain.now task.old }
+    ensures rests { RestsIn domain.now task.new }
 {
     let mut wait = begin_await(task, 0, state);
     let outcome = go_on::<R, OfClass<AwaitCall>>(rt, domain, task, &mut wait, AwaitStage::First);

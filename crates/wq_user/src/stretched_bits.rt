@@ -3,7 +3,7 @@
 ghost use Rattle.std.specs.Prelude.{◌≡◌, ◌<◌, MatchBool};
 ghost use Rattle.wait_model.specs.declared.layout.TheConstants.{BIT_WORDS};
 ghost use Rattle.wait_model.specs.declared.watches.Watch.TheVariants as watch;
-ghost use Rattle.wait_rule.specs.Says.{IsClean};
+ghost use Rattle.wait_rule.specs.Says.{IsClean, RestsIn};
 ghost use Rattle.bit_wait.specs.BitTables.{bit_table};
 ghost use Rattle.bit_wait.specs.Holders.{IsHolder};
 
@@ -54,10 +54,8 @@ pub fn look_by_stretches<R: Wait>(
     task: &mut Task,
     state: SleepState,
 ) -> bool
-    requires of { task.old.domain ≡ domain.now }
-    requires clean { IsClean task.old }
-    ensures of { task.new.domain ≡ domain.now }
-    ensures clean { IsClean task.new }
+    requires rests { RestsIn domain.now task.old }
+    ensures rests { RestsIn domain.now task.new }
 {
     let mut wait = begin_bit(task, 0, 0, state);
     let outcome = go_on::<R, BitWaits>(rt, domain, task, &mut wait, Stage::Test(BitTest::First));
@@ -72,8 +70,7 @@ pub fn lock_by_stretches<R: Wait>(
     page: u8,
     state: SleepState,
 ) -> bool
-    requires of { task.old.domain ≡ domain.now }
-    requires clean { IsClean task.old }
+    requires rests { RestsIn domain.now task.old }
     requires page { page < BIT_WORDS }
     ensures of { task.new.domain ≡ domain.now }
     ensures holder { MatchBool result (IsHolder task.new (watch.Bit page 0)) (IsClean task.new) }
@@ -93,10 +90,8 @@ pub fn hold_by_stretches<R: Wait>(
     task: &mut Task,
     state: SleepState,
 ) -> bool
-    requires of { task.old.domain ≡ domain.now }
-    requires clean { IsClean task.old }
-    ensures of { task.new.domain ≡ domain.now }
-    ensures clean { IsClean task.new }
+    requires rests { RestsIn domain.now task.old }
+    ensures rests { RestsIn domain.now task.new }
 {
     if lock_by_stretches(rt, domain, task, 0, state) {
         unlock_page(rt, domain, task, 0);

@@ -3,7 +3,7 @@
 ghost use Rattle.std.specs.Prelude.{◌≡◌, ◌<◌, MatchBool};
 ghost use Rattle.wait_model.specs.declared.layout.TheConstants.{BIT_WORDS, WORD_BITS};
 ghost use Rattle.wait_model.specs.declared.watches.Watch.TheVariants as watch;
-ghost use Rattle.wait_rule.specs.Says.{IsClean};
+ghost use Rattle.wait_rule.specs.Says.{IsClean, RestsIn};
 ghost use Rattle.bit_wait.specs.Holders.{IsHolder};
 ghost use Rattle.bit_wait.specs.LockTables.{lock_table};
 
@@ -54,8 +54,7 @@ pub fn take_bit_by_stretches<R: Wait>(
     bit: u8,
     state: SleepState,
 ) -> bool
-    requires of { task.old.domain ≡ domain.now }
-    requires clean { IsClean task.old }
+    requires rests { RestsIn domain.now task.old }
     requires word { word < BIT_WORDS }
     requires bit { bit < WORD_BITS }
     ensures of { task.new.domain ≡ domain.now }
@@ -76,10 +75,8 @@ pub fn hold_bit_by_stretches<R: Wait>(
     task: &mut Task,
     state: SleepState,
 ) -> bool
-    requires of { task.old.domain ≡ domain.now }
-    requires clean { IsClean task.old }
-    ensures of { task.new.domain ≡ domain.now }
-    ensures clean { IsClean task.new }
+    requires rests { RestsIn domain.now task.old }
+    ensures rests { RestsIn domain.now task.new }
 {
     if take_bit_by_stretches(rt, domain, task, 0, 1, state) {
         clear_and_wake_bit(rt, domain, task, 0, 1);

@@ -3,7 +3,7 @@
 ghost use Rattle.std.specs.Prelude.{◌≡◌, ◌<◌, IfOk, IfErr, Some};
 ghost use Rattle.wait_model.specs.declared.watches.Watch.TheVariants as watch;
 ghost use Rattle.wait_model.specs.Watches.{head_of};
-ghost use Rattle.wait_rule.specs.Says.{IsClean, IsUp, no_excuse, OwesBut};
+ghost use Rattle.wait_rule.specs.Says.{IsClean, IsUp, OwesBut, RestsIn, no_excuse};
 ghost use Rattle.wait_rule.specs.Stays.{Carries, take_off_change};
 ghost use Rattle.wq_head.specs.Holds.{IsHolding};
 ghost use Rattle.wq_head.specs.Readied.{IsPlainKind};
@@ -24,8 +24,7 @@ use wq_head::{Worn, add_tail, lock, remove, unlock};
 /// the task owes nothing still.
 #[tactic(auto, unfolding(wait_model::specs::Watches::head_of))]
 pub fn queue<R: Wait>(rt: &R, domain: &Domain, task: &mut Task, kind: Kind) -> Result<(), Worn>
-    requires of { task.old.domain ≡ domain.now }
-    requires clean { IsClean task.old }
+    requires rests { RestsIn domain.now task.old }
     requires kind { IsPlainKind kind }
     ensures of { task.new.domain ≡ domain.now }
     ensures queued { IfOk result (λ _. IsWaiting task.new) }
@@ -110,8 +109,7 @@ pub fn leave<R: Wait>(rt: &R, domain: &Domain, task: &mut Task)
     requires of { task.old.domain ≡ domain.now }
     requires waiting { IsWaiting task.old }
     requires running { task.old.book.state ≡ 0 }
-    ensures of { task.new.domain ≡ domain.now }
-    ensures clean { IsClean task.new }
+    ensures rests { RestsIn domain.now task.new }
 {
     let head = head_of(Watch::Plain { cond: 0 });
     lock(rt, domain, task, head);

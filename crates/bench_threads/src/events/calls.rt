@@ -2,7 +2,7 @@
 
 ghost use Rattle.std.specs.Prelude.{◌≡◌, ◌<◌};
 ghost use Rattle.wait_model.specs.declared.layout.TheConstants.{COMPLETIONS, FIRST_SIMPLE};
-ghost use Rattle.wait_rule.specs.Says.{IsClean};
+ghost use Rattle.wait_rule.specs.Says.{RestsIn};
 
 use completion_cell::await_calls;
 use completion_cell::completes::complete;
@@ -19,11 +19,9 @@ const STATE: SleepState = SleepState::Uninterruptible;
 
 /// Waits until condition `cond`, below `FIRST_SIMPLE`, is set: false where the wait ended for another reason.
 pub(crate) fn wait_for<R: Wait>(rt: &R, domain: &Domain, task: &mut Task, cond: u8) -> bool
-    requires of { task.old.domain ≡ domain.now }
-    requires clean { IsClean task.old }
+    requires rests { RestsIn domain.now task.old }
     requires full { cond < FIRST_SIMPLE }
-    ensures of { task.new.domain ≡ domain.now }
-    ensures clean { IsClean task.new }
+    ensures rests { RestsIn domain.now task.new }
 {
     let how = How {
         state: STATE,
@@ -34,11 +32,9 @@ pub(crate) fn wait_for<R: Wait>(rt: &R, domain: &Domain, task: &mut Task, cond: 
 
 /// The same, and takes the condition.
 pub(crate) fn receive<R: Wait>(rt: &R, domain: &Domain, task: &mut Task, cond: u8) -> bool
-    requires of { task.old.domain ≡ domain.now }
-    requires clean { IsClean task.old }
+    requires rests { RestsIn domain.now task.old }
     requires full { cond < FIRST_SIMPLE }
-    ensures of { task.new.domain ≡ domain.now }
-    ensures clean { IsClean task.new }
+    ensures rests { RestsIn domain.now task.new }
 {
     let over = wait_for(rt, domain, task, cond);
     take_cond(domain, task, cond);
@@ -47,11 +43,9 @@ pub(crate) fn receive<R: Wait>(rt: &R, domain: &Domain, task: &mut Task, cond: u
 
 /// Sets condition `cond`, below `FIRST_SIMPLE`, and wakes all who wait for it: how many were woken.
 pub(crate) fn set<R: Wait>(rt: &R, domain: &Domain, task: &mut Task, cond: u8) -> u32
-    requires of { task.old.domain ≡ domain.now }
-    requires clean { IsClean task.old }
+    requires rests { RestsIn domain.now task.old }
     requires full { cond < FIRST_SIMPLE }
-    ensures of { task.new.domain ≡ domain.now }
-    ensures clean { IsClean task.new }
+    ensures rests { RestsIn domain.now task.new }
 {
     set_and_wake(rt, domain, task, cond, 1, Mode::Normal, 0).woken
 }
@@ -69,12 +63,10 @@ pub(crate) enum Means {
 
 /// Tells whoever waits for condition, completion or semaphore `number` to go on.
 pub(crate) fn tell<R: Wait>(rt: &R, domain: &Domain, task: &mut Task, means: Means, number: u8)
-    requires of { task.old.domain ≡ domain.now }
-    requires clean { IsClean task.old }
+    requires rests { RestsIn domain.now task.old }
     requires full { number < FIRST_SIMPLE }
     requires cell { number < COMPLETIONS }
-    ensures of { task.new.domain ≡ domain.now }
-    ensures clean { IsClean task.new }
+    ensures rests { RestsIn domain.now task.new }
 {
     match means {
         Means::Condition => {
@@ -97,12 +89,10 @@ pub(crate) fn hear<R: Wait>(
     means: Means,
     number: u8,
 ) -> bool
-    requires of { task.old.domain ≡ domain.now }
-    requires clean { IsClean task.old }
+    requires rests { RestsIn domain.now task.old }
     requires full { number < FIRST_SIMPLE }
     requires cell { number < COMPLETIONS }
-    ensures of { task.new.domain ≡ domain.now }
-    ensures clean { IsClean task.new }
+    ensures rests { RestsIn domain.now task.new }
 {
     match means {
         Means::Condition => receive(rt, domain, task, number),

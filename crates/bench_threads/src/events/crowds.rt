@@ -1,7 +1,7 @@
 //! One wake of many threads that sleep.
 
 ghost use Rattle.std.specs.Prelude.{◌≡◌, All};
-ghost use Rattle.wait_rule.specs.Says.{IsClean};
+ghost use Rattle.wait_rule.specs.Says.{IsClean, RestsIn};
 
 use crate::events::calls::{set, wait_for};
 use crate::tasks::crowd;
@@ -29,8 +29,7 @@ struct Woke {
 
 /// Waits for the condition: when it went on. None where the condition was not set, or the clock not read.
 fn wait_once<R: Clock + Wait>(rt: &R, domain: &Domain, mut task: Task) -> Option<Instant>
-    requires of { task.domain ≡ domain.now }
-    requires clean { IsClean task }
+    requires rests { RestsIn domain.now task }
 {
     if wait_for(rt, domain, &mut task, COND) {
         Instant::now(rt).ok()
@@ -41,8 +40,7 @@ fn wait_once<R: Clock + Wait>(rt: &R, domain: &Domain, mut task: Task) -> Option
 
 /// Sets the condition once all sleep.
 fn wake_once<R: Clock + Wait>(rt: &R, domain: &Domain, task: &mut Task) -> io::Result<Woke>
-    requires of { task.old.domain ≡ domain.now }
-    requires clean { IsClean task.old }
+    requires rests { RestsIn domain.now task.old }
 {
     thread::sleep(rt, Duration::from_millis(PAUSE));
     let start = Instant::now(rt)?;
@@ -76,7 +74,7 @@ fn wait_all<R: Clock + Threads + Wait + Sync>(
         rt,
         tasks,
         &|task: Task| -> Option<Instant>
-            requires { (task.domain ≡ domain.now) × IsClean task }
+            requires { RestsIn domain.now task }
         { wait_once(rt, domain, task) },
     );
     match ends {
@@ -92,14 +90,13 @@ fn meet<R: Clock + Threads + Wait + Sync>(
     mut waker: Task,
     tasks: Vec<Task>,
 ) -> (Option<Woke>, Option<Instant>)
-    requires of { waker.domain ≡ domain.now }
-    requires clean { IsClean waker }
+    requires rests { RestsIn domain.now waker }
     requires all { All (λ t. (t.domain ≡ domain.now) × IsClean t) tasks.items }
 {
     thread::join(
         rt,
         move || -> Option<Woke>
-            requires { (waker.domain ≡ domain.now) × IsClean waker }
+            requires { RestsIn domain.now waker }
         { wake_once(rt, domain, &mut waker).ok() },
         move || -> Option<Instant>
             requires { All (λ t. (t.domain ≡ domain.now) × IsClean t) tasks.items }

@@ -2,7 +2,7 @@
 //! the other one.
 
 ghost use Rattle.std.specs.Prelude.{◌≡◌, true};
-ghost use Rattle.wait_rule.specs.Says.{IsClean};
+ghost use Rattle.wait_rule.specs.Says.{RestsIn};
 ghost use Rattle.futex_table.specs.Holding.{HoldsMutex};
 
 use crate::futexes::mutexes::{lock, unlock};
@@ -53,11 +53,9 @@ fn add_if_own(monitor: Monitor<'_>, own: u64) -> Whose {
 
 /// Waits for the condition variable: whether it has the mutex behind the wait.
 fn wait<R: Wait>(rt: &R, domain: &Domain, task: &mut Task) -> bool
-    requires of { task.old.domain ≡ domain.now }
-    requires clean { IsClean task.old }
+    requires rests { RestsIn domain.now task.old }
     requires holds { HoldsMutex task.old 6 }
-    ensures of { task.new.domain ≡ domain.now }
-    ensures clean { IsClean task.new }
+    ensures rests { RestsIn domain.now task.new }
     ensures holds { result ≡ true → HoldsMutex task.new 6 }
 {
     let state = SleepState::Uninterruptible;
@@ -69,11 +67,9 @@ fn wait<R: Wait>(rt: &R, domain: &Domain, task: &mut Task) -> bool
 
 /// Wakes all who wait for it.
 fn broadcast<R: Wait>(rt: &R, domain: &Domain, task: &mut Task)
-    requires of { task.old.domain ≡ domain.now }
-    requires clean { IsClean task.old }
+    requires rests { RestsIn domain.now task.old }
     requires holds { HoldsMutex task.old 6 }
-    ensures of { task.new.domain ≡ domain.now }
-    ensures clean { IsClean task.new }
+    ensures rests { RestsIn domain.now task.new }
     ensures holds { HoldsMutex task.new 6 }
 {
     cond_broadcast(rt, domain, task, COND, LOCK);
@@ -87,11 +83,9 @@ fn hand_on<R: Wait>(
     monitor: Monitor<'_>,
     own: u64,
 ) -> bool
-    requires of { task.old.domain ≡ domain.now }
-    requires clean { IsClean task.old }
+    requires rests { RestsIn domain.now task.old }
     requires holds { HoldsMutex task.old 6 }
-    ensures of { task.new.domain ≡ domain.now }
-    ensures clean { IsClean task.new }
+    ensures rests { RestsIn domain.now task.new }
 {
     for _ in rt.forever() {
         match add_if_own(monitor, own) {

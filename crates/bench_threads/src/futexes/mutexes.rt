@@ -1,7 +1,7 @@
 //! A mutex that threads take in turn and give back, and wakes that find nobody.
 
 ghost use Rattle.std.specs.Prelude.{◌≡◌, true};
-ghost use Rattle.wait_rule.specs.Says.{IsClean};
+ghost use Rattle.wait_rule.specs.Says.{RestsIn};
 ghost use Rattle.futex_table.specs.Holding.{HoldsMutex};
 
 use futex_table::{futex_wake, mutex_lock, mutex_open, mutex_unlock};
@@ -17,20 +17,16 @@ const FUTEX: u8 = 5;
 
 /// Opens the mutex.
 pub(crate) fn open<R: Wait>(rt: &R, domain: &Domain, task: &mut Task)
-    requires of { task.old.domain ≡ domain.now }
-    requires clean { IsClean task.old }
-    ensures of { task.new.domain ≡ domain.now }
-    ensures clean { IsClean task.new }
+    requires rests { RestsIn domain.now task.old }
+    ensures rests { RestsIn domain.now task.new }
 {
     mutex_open(rt, domain, task, LOCK);
 }
 
 /// Takes the mutex: false where no place was left at its head.
 pub(crate) fn lock<R: Wait>(rt: &R, domain: &Domain, task: &mut Task) -> bool
-    requires of { task.old.domain ≡ domain.now }
-    requires clean { IsClean task.old }
-    ensures of { task.new.domain ≡ domain.now }
-    ensures clean { IsClean task.new }
+    requires rests { RestsIn domain.now task.old }
+    ensures rests { RestsIn domain.now task.new }
     ensures holds { result ≡ true → HoldsMutex task.new 6 }
 {
     match mutex_lock(rt, domain, task, LOCK) {
@@ -41,11 +37,9 @@ pub(crate) fn lock<R: Wait>(rt: &R, domain: &Domain, task: &mut Task) -> bool
 
 /// Gives it back.
 pub(crate) fn unlock<R: Wait>(rt: &R, domain: &Domain, task: &mut Task)
-    requires of { task.old.domain ≡ domain.now }
-    requires clean { IsClean task.old }
+    requires rests { RestsIn domain.now task.old }
     requires holds { HoldsMutex task.old 6 }
-    ensures of { task.new.domain ≡ domain.now }
-    ensures clean { IsClean task.new }
+    ensures rests { RestsIn domain.now task.new }
 {
     mutex_unlock(rt, domain, task, LOCK);
 }
@@ -66,10 +60,8 @@ impl Part for LockOnce {
 
 /// Wakes one who sleeps on the futex, where one does.
 fn wake_one<R: Wait>(rt: &R, domain: &Domain, task: &mut Task)
-    requires of { task.old.domain ≡ domain.now }
-    requires clean { IsClean task.old }
-    ensures of { task.new.domain ≡ domain.now }
-    ensures clean { IsClean task.new }
+    requires rests { RestsIn domain.now task.old }
+    ensures rests { RestsIn domain.now task.new }
 {
     futex_wake(rt, domain, task, FUTEX, 1);
 }

@@ -2,7 +2,7 @@
 //! meanwhile, so the program uses next to no processor.
 
 ghost use Rattle.std.specs.Prelude.{◌≡◌};
-ghost use Rattle.wait_rule.specs.Says.{IsClean};
+ghost use Rattle.wait_rule.specs.Says.{IsClean, RestsIn};
 
 use crate::heads::HEAD;
 use crate::tasks::{Retry, wake_up};
@@ -23,8 +23,7 @@ const LATER: u64 = 100;
 
 /// Holds the lock of the head for a while, and then wakes task `sleeper`.
 fn hold_and_wake<R: Clock + Wait>(rt: &R, domain: &Domain, mut task: Task, sleeper: u8)
-    requires of { task.domain ≡ domain.now }
-    requires clean { IsClean task }
+    requires rests { RestsIn domain.now task }
 {
     lock(rt, domain, &mut task, HEAD);
     thread::sleep(rt, Duration::from_millis(HELD));
@@ -34,8 +33,7 @@ fn hold_and_wake<R: Clock + Wait>(rt: &R, domain: &Domain, mut task: Task, sleep
 
 /// Sleeps until it is woken.
 fn sleep<R: Wait>(rt: &R, domain: &Domain, mut task: Task)
-    requires of { task.domain ≡ domain.now }
-    requires clean { IsClean task }
+    requires rests { RestsIn domain.now task }
 {
     set_state(domain, &mut task, UNINTERRUPTIBLE);
     schedule(rt, domain, &mut task);
@@ -43,8 +41,7 @@ fn sleep<R: Wait>(rt: &R, domain: &Domain, mut task: Task)
 
 /// Asks for the lock while another task holds it.
 fn ask<R: Clock + Wait>(rt: &R, domain: &Domain, mut task: Task)
-    requires of { task.domain ≡ domain.now }
-    requires clean { IsClean task }
+    requires rests { RestsIn domain.now task }
 {
     thread::sleep(rt, Duration::from_millis(LATER));
     lock(rt, domain, &mut task, HEAD);
@@ -59,10 +56,10 @@ fn two_wait<R: Clock + Threads + Wait + Sync>(rt: &R, domain: &Domain, sleeper: 
     thread::join(
         rt,
         move ||
-            requires { (sleeper.domain ≡ domain.now) × IsClean sleeper }
+            requires { RestsIn domain.now sleeper }
         { sleep(rt, domain, sleeper) },
         move ||
-            requires { (asker.domain ≡ domain.now) × IsClean asker }
+            requires { RestsIn domain.now asker }
         { ask(rt, domain, asker) },
     );
 }
@@ -83,7 +80,7 @@ pub(crate) fn wait_a_second<R: Clock + Threads + Wait + Sync>(
     thread::join(
         rt,
         move ||
-            requires { (task.domain ≡ domain.now) × IsClean task }
+            requires { RestsIn domain.now task }
         { hold_and_wake(rt, domain, task, who) },
         move ||
             requires of { (sleeper.domain ≡ domain.now) × (asker.domain ≡ domain.now) }

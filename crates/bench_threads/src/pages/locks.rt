@@ -1,7 +1,7 @@
 //! Threads that take one page in turn, add 1 to its tally, and give it back.
 
 ghost use Rattle.std.specs.Prelude.{◌≡◌, All};
-ghost use Rattle.wait_rule.specs.Says.{IsClean};
+ghost use Rattle.wait_rule.specs.Says.{IsClean, RestsIn};
 
 use crate::tasks::crowd;
 use page_lock::{add_tally, lock_page, unlock_page};
@@ -26,10 +26,8 @@ pub(crate) struct Came {
 
 /// Takes the page, adds 1 to its tally, and gives it back: the tally before. None where no place was left at its head.
 fn add_one<R: Wait>(rt: &R, domain: &Domain, task: &mut Task) -> Option<u64>
-    requires of { task.old.domain ≡ domain.now }
-    requires clean { IsClean task.old }
-    ensures of { task.new.domain ≡ domain.now }
-    ensures clean { IsClean task.new }
+    requires rests { RestsIn domain.now task.old }
+    ensures rests { RestsIn domain.now task.new }
 {
     if lock_page(rt, domain, task, PAGE, SleepState::Uninterruptible).is_err() {
         return None;
@@ -59,8 +57,7 @@ fn come_often<R: Clock + Wait>(
     start: Instant,
     n: u64,
 ) -> Option<Vec<Came>>
-    requires of { task.domain ≡ domain.now }
-    requires clean { IsClean task }
+    requires rests { RestsIn domain.now task }
 {
     let mut all = Vec::new(alloc);
     for _ in 0..n {
@@ -86,7 +83,7 @@ fn come_all<R: Clock + Threads + Wait + Sync>(
         rt,
         tasks,
         &|task: Task| -> Option<Vec<Came>>
-            requires { (task.domain ≡ domain.now) × IsClean task }
+            requires { RestsIn domain.now task }
         { come_often(rt, alloc, domain, task, start, n) },
     )?;
     let mut all = Vec::new(alloc);

@@ -4,7 +4,7 @@
 ghost use Rattle.std.specs.Prelude.{◌≡◌};
 ghost use Rattle.wait_model.specs.declared.layout.TheConstants.{FIRST_PLAIN_HEAD};
 ghost use Rattle.wait_model.specs.declared.watches.Kind.TheVariants as kind;
-ghost use Rattle.wait_rule.specs.Says.{IsClean, IsUp};
+ghost use Rattle.wait_rule.specs.Says.{IsClean, IsUp, RestsIn};
 ghost use Rattle.wq_head.specs.Holds.{IsHolding};
 ghost use Rattle.head_tests.specs.Leaving.{HasEntry, HasLeft, IsBack, StandsQueued};
 ghost use Rattle.wq_head.specs.Readied.{IsPlainKind, IsReadyToCall};
@@ -26,8 +26,7 @@ use wq_head::wakes::wake;
 
 /// Queues the own entry at the head of condition 0.
 fn queue_own<R: Abort + Wait>(rt: &R, domain: &Domain, task: &mut Task, kind: Kind)
-    requires of { task.old.domain ≡ domain.now }
-    requires clean { IsClean task.old }
+    requires rests { RestsIn domain.now task.old }
     requires kind { IsPlainKind kind }
     ensures of { task.new.domain ≡ domain.now }
     ensures queued { IsBack task.new kind }
@@ -95,8 +94,7 @@ fn take_default(domain: &Domain, task: &mut Task)
 fn leave<R: Wait>(rt: &R, domain: &Domain, task: &mut Task, kind: Kind)
     requires of { task.old.domain ≡ domain.now }
     requires back { IsBack task.old kind }
-    ensures of { task.new.domain ≡ domain.now }
-    ensures clean { IsClean task.new }
+    ensures rests { RestsIn domain.now task.new }
 {
     lock(rt, domain, task, FIRST_PLAIN_HEAD);
     take_off(domain, task, kind);
@@ -107,8 +105,7 @@ fn leave<R: Wait>(rt: &R, domain: &Domain, task: &mut Task, kind: Kind)
 fn leave_default<R: Wait>(rt: &R, domain: &Domain, task: &mut Task)
     requires of { task.old.domain ≡ domain.now }
     requires back { IsBack task.old kind.Default }
-    ensures of { task.new.domain ≡ domain.now }
-    ensures clean { IsClean task.new }
+    ensures rests { RestsIn domain.now task.new }
 {
     lock(rt, domain, task, FIRST_PLAIN_HEAD);
     take_default(domain, task);
@@ -128,10 +125,8 @@ fn wake_with_entry<R: Wait>(rt: &R, domain: &Domain, task: &mut Task) -> u32
 
 /// Sets condition 0 and wakes all who wait for it.
 fn set_and_wake<R: Wait>(rt: &R, domain: &Domain, task: &mut Task) -> u32
-    requires of { task.old.domain ≡ domain.now }
-    requires clean { IsClean task.old }
-    ensures of { task.new.domain ≡ domain.now }
-    ensures clean { IsClean task.new }
+    requires rests { RestsIn domain.now task.old }
+    ensures rests { RestsIn domain.now task.new }
 {
     let watch = Watch::Plain { cond: 0 };
     publish(domain, task, watch, 1);

@@ -1,7 +1,7 @@
 //! Holds of one head by four threads.
 
 ghost use Rattle.std.specs.Prelude.{◌≡◌};
-ghost use Rattle.wait_rule.specs.Says.{IsClean};
+ghost use Rattle.wait_rule.specs.Says.{RestsIn};
 
 use crate::meetings::Part;
 use crate::wants::all_so;
@@ -23,10 +23,8 @@ const HELD: Often<Part> = Often {
 
 /// A hold of one thread.
 pub(crate) fn hold<R: Wait>(rt: &R, domain: &Domain, task: &mut Task) -> bool
-    requires of { task.old.domain ≡ domain.now }
-    requires clean { IsClean task.old }
-    ensures of { task.new.domain ≡ domain.now }
-    ensures clean { IsClean task.new }
+    requires rests { RestsIn domain.now task.old }
+    ensures rests { RestsIn domain.now task.new }
 {
     lock(rt, domain, task, FIRST_PLAIN_HEAD);
     unlock(rt, domain, task, false);
@@ -39,8 +37,7 @@ fn four_hold<R: Threads + Wait + Sync>(
     domain: &Domain,
     task: Task,
 ) -> ([bool; 4], [bool; 2])
-    requires of { task.domain ≡ domain.now }
-    requires clean { IsClean task }
+    requires rests { RestsIn domain.now task }
 {
     let two = (HELD, HELD);
     let (mut last, went) = four_meet(rt, domain, task, two, two);

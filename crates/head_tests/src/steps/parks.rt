@@ -2,7 +2,7 @@
 //! asleep.
 
 ghost use Rattle.std.specs.Prelude.{◌≡◌};
-ghost use Rattle.wait_rule.specs.Says.{IsClean};
+ghost use Rattle.wait_rule.specs.Says.{RestsIn};
 
 use crate::meetings::Part;
 use crate::scenes::{Batch, want_often};
@@ -27,10 +27,8 @@ const ROUNDS: u64 = 100;
 
 /// Sleeps until woken.
 fn doze<R: Wait>(rt: &R, domain: &Domain, task: &mut Task)
-    requires of { task.old.domain ≡ domain.now }
-    requires clean { IsClean task.old }
-    ensures of { task.new.domain ≡ domain.now }
-    ensures clean { IsClean task.new }
+    requires rests { RestsIn domain.now task.old }
+    ensures rests { RestsIn domain.now task.new }
 {
     set_state(domain, task, UNINTERRUPTIBLE);
     schedule(rt, domain, task);
@@ -39,10 +37,8 @@ fn doze<R: Wait>(rt: &R, domain: &Domain, task: &mut Task)
 /// Tries to wake a task, again and again with no pause, so that a try may fall between any two steps of its sleep: true
 /// where one of them has woken it.
 fn wake_soon<R: Wait>(rt: &R, domain: &Domain, task: &mut Task, who: u8) -> bool
-    requires of { task.old.domain ≡ domain.now }
-    requires clean { IsClean task.old }
-    ensures of { task.new.domain ≡ domain.now }
-    ensures clean { IsClean task.new }
+    requires rests { RestsIn domain.now task.old }
+    ensures rests { RestsIn domain.now task.new }
 {
     for _ in 0..1000 {
         if wake_task(rt, domain, task, who, Mode::Normal) {
@@ -54,10 +50,8 @@ fn wake_soon<R: Wait>(rt: &R, domain: &Domain, task: &mut Task, who: u8) -> bool
 
 /// Wakes a task as soon as it is about to sleep.
 fn wake_up<R: Wait>(rt: &R, domain: &Domain, task: &mut Task, who: u8)
-    requires of { task.old.domain ≡ domain.now }
-    requires clean { IsClean task.old }
-    ensures of { task.new.domain ≡ domain.now }
-    ensures clean { IsClean task.new }
+    requires rests { RestsIn domain.now task.old }
+    ensures rests { RestsIn domain.now task.new }
 {
     for _ in rt.forever() {
         if wake_soon(rt, domain, task, who) {
@@ -70,10 +64,8 @@ fn wake_up<R: Wait>(rt: &R, domain: &Domain, task: &mut Task, who: u8)
 
 /// The one whose turn it is wakes another and sleeps. Any other sleeps until its turn comes.
 fn turn<R: Wait>(rt: &R, domain: &Domain, task: &mut Task, other: u8, first: bool)
-    requires of { task.old.domain ≡ domain.now }
-    requires clean { IsClean task.old }
-    ensures of { task.new.domain ≡ domain.now }
-    ensures clean { IsClean task.new }
+    requires rests { RestsIn domain.now task.old }
+    ensures rests { RestsIn domain.now task.new }
 {
     if first {
         wake_up(rt, domain, task, other);
@@ -98,10 +90,8 @@ pub(crate) enum Round {
 
 /// What a task does in one round.
 pub(crate) fn go_round<R: Wait>(rt: &R, domain: &Domain, task: &mut Task, round: Round) -> bool
-    requires of { task.old.domain ≡ domain.now }
-    requires clean { IsClean task.old }
-    ensures of { task.new.domain ≡ domain.now }
-    ensures clean { IsClean task.new }
+    requires rests { RestsIn domain.now task.old }
+    ensures rests { RestsIn domain.now task.new }
 {
     match round {
         Round::Sleeps => doze(rt, domain, task),
@@ -124,8 +114,7 @@ fn goes(round: Round) -> Often<Part> {
 
 /// A batch of a sleeper and its waker.
 pub(crate) fn two_go<R: Threads + Wait + Sync>(rt: &R, domain: &Domain, task: Task) -> [bool; 2]
-    requires of { task.domain ≡ domain.now }
-    requires clean { IsClean task }
+    requires rests { RestsIn domain.now task }
 {
     let parts = (goes(Round::Wakes { who: 1 }), goes(Round::Sleeps));
     let (_task, went) = two_meet(rt, domain, task, parts);
@@ -145,8 +134,7 @@ fn in_turn(next: u8, last: u8, first: bool) -> Often<Part> {
 
 /// A batch of three tasks that hand the turn on.
 pub(crate) fn three_go<R: Threads + Wait + Sync>(rt: &R, domain: &Domain, task: Task) -> [bool; 4]
-    requires of { task.domain ≡ domain.now }
-    requires clean { IsClean task }
+    requires rests { RestsIn domain.now task }
 {
     let firsts = (in_turn(1, 2, true), in_turn(2, 0, false));
     let rests = Often {

@@ -6,7 +6,7 @@ ghost use Rattle.wait_model.specs.declared.layout.TheConstants.{FIRST_SIMPLE_HEA
 ghost use Rattle.wait_model.specs.Tasks.{IsState};
 ghost use Rattle.wait_rule.specs.declared.journal.Item.TheVariants as item;
 ghost use Rattle.wait_rule.specs.Asked.{nothing_asked};
-ghost use Rattle.wait_rule.specs.Says.{IsClean, IsUp, IsFree, asks_for, noted, added, newcomer};
+ghost use Rattle.wait_rule.specs.Says.{IsClean, IsFree, IsUp, RestsIn, added, asks_for, newcomer, noted};
 ghost use Rattle.wait_rule.specs.Queues.{IsTurn, IsLocked, IsAgreed, MayRise};
 ghost use Rattle.wait_rule.specs.LookCounts.{Looked};
 ghost use Rattle.wait_rule.specs.Stays.{Carries, StaysOwing, unchanged};
@@ -72,8 +72,7 @@ fn pass_by_steps(domain: &Domain, task: &mut Task, head: u16, state: u32) -> boo
 
 /// Whether it does so with a state and then without one.
 pub(crate) fn passes_twice(domain: &Domain, task: &mut Task) -> bool
-    requires of { task.old.domain ≡ domain.now }
-    requires clean { IsClean task.old }
+    requires rests { RestsIn domain.now task.old }
 {
     if !pass_by_steps(domain, task, FIRST_PLAIN_HEAD, UNINTERRUPTIBLE) {
         return false;
@@ -164,8 +163,7 @@ fn members_without_the_lock(rt: HostRuntime) -> Result<(), Fail> {
 
 /// What loads and takes show of what was published.
 pub(crate) fn publish_and_load(domain: &Domain, task: &mut Task) -> [bool; 6]
-    requires of { task.old.domain ≡ domain.now }
-    requires clean { IsClean task.old }
+    requires rests { RestsIn domain.now task.old }
 {
     let plain = Watch::Plain { cond: 47 };
     publish(domain, task, plain, 7);

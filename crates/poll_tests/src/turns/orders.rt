@@ -2,7 +2,7 @@
 //! an executor does.
 
 ghost use Rattle.std.specs.Prelude.{◌≡◌};
-ghost use Rattle.wait_rule.specs.Says.{IsClean};
+ghost use Rattle.wait_rule.specs.Says.{IsClean, RestsIn};
 ghost use Rattle.wait_class.specs.declared.stages.Turn.TheVariants as turn;
 ghost use Rattle.poll_wait.specs.Polls.{IsPoll};
 ghost use Rattle.poll_turns.specs.PollTurns.{IsPollUnderWay};
@@ -35,10 +35,8 @@ fn set_if<R: Wait>(
     is_to: bool,
     done: bool,
 ) -> bool
-    requires of { setter.old.domain ≡ domain.now }
-    requires clean { IsClean setter.old }
-    ensures of { setter.new.domain ≡ domain.now }
-    ensures clean { IsClean setter.new }
+    requires rests { RestsIn domain.now setter.old }
+    ensures rests { RestsIn domain.now setter.new }
 {
     if !is_to || done {
         return done;

@@ -2,7 +2,7 @@
 
 ghost use Rattle.std.specs.Prelude.{◌≡◌, ◌<◌, ◌≤◌, MatchBool, IfOk, length, true};
 ghost use Rattle.wait_model.specs.declared.layout.TheConstants.{PIPES};
-ghost use Rattle.wait_rule.specs.Says.{IsClean};
+ghost use Rattle.wait_rule.specs.Says.{IsClean, RestsIn};
 ghost use Rattle.user_tests.specs.PipeTasks.{IsAtMost, IsReader, IsWriter};
 
 use std::alloc::AllocError;
@@ -43,8 +43,7 @@ pub(crate) fn by_now(asked: Option<&AtomicU64>) -> By<'_> {
 
 /// Takes the write end of a pipe: true where it has it.
 pub(crate) fn take_write(domain: &Domain, task: &mut Task, pipe: u8) -> bool
-    requires of { task.old.domain ≡ domain.now }
-    requires clean { IsClean task.old }
+    requires rests { RestsIn domain.now task.old }
     requires pipe { pipe < PIPES }
     ensures of { task.new.domain ≡ domain.now }
     ensures writer { MatchBool result (IsWriter pipe task.new) (IsClean task.new) }
@@ -54,8 +53,7 @@ pub(crate) fn take_write(domain: &Domain, task: &mut Task, pipe: u8) -> bool
 
 /// Takes the read end of a pipe: true where it has it.
 pub(crate) fn take_read(domain: &Domain, task: &mut Task, pipe: u8) -> bool
-    requires of { task.old.domain ≡ domain.now }
-    requires clean { IsClean task.old }
+    requires rests { RestsIn domain.now task.old }
     requires pipe { pipe < PIPES }
     ensures of { task.new.domain ≡ domain.now }
     ensures reader { MatchBool result (IsReader pipe task.new) (IsClean task.new) }
@@ -216,8 +214,7 @@ pub(crate) fn end_write<R: Wait>(rt: &R, domain: &Domain, task: &mut Task, pipe:
     requires of { task.old.domain ≡ domain.now }
     requires writer { IsWriter pipe task.old }
     requires pipe { pipe < PIPES }
-    ensures of { task.new.domain ≡ domain.now }
-    ensures clean { IsClean task.new }
+    ensures rests { RestsIn domain.now task.new }
 {
     close_write(rt, domain, task, pipe);
 }
@@ -227,8 +224,7 @@ pub(crate) fn end_read<R: Wait>(rt: &R, domain: &Domain, task: &mut Task, pipe: 
     requires of { task.old.domain ≡ domain.now }
     requires reader { IsReader pipe task.old }
     requires pipe { pipe < PIPES }
-    ensures of { task.new.domain ≡ domain.now }
-    ensures clean { IsClean task.new }
+    ensures rests { RestsIn domain.now task.new }
 {
     close_read(rt, domain, task, pipe);
 }

@@ -2,7 +2,7 @@
 //! when they are put asleep.
 
 ghost use Rattle.std.specs.Prelude.{◌≡◌};
-ghost use Rattle.wait_rule.specs.Says.{IsClean};
+ghost use Rattle.wait_rule.specs.Says.{RestsIn};
 
 use crate::pipes::calls::{
     By, FULL, are_from, end_read, end_write, fill_from, get, get_by, put, put_by, take_read,
@@ -95,10 +95,8 @@ fn ask<R: Wait>(
     late: u32,
     times: u32,
 ) -> bool
-    requires of { task.old.domain ≡ domain.now }
-    requires clean { IsClean task.old }
-    ensures of { task.new.domain ≡ domain.now }
-    ensures clean { IsClean task.new }
+    requires rests { RestsIn domain.now task.old }
+    ensures rests { RestsIn domain.now task.new }
 {
     for time in 0..times {
         ask_two_late(rt, domain, task, asked, whom, late.wrapping_add(time) % 9);
@@ -108,10 +106,8 @@ fn ask<R: Wait>(
 
 /// Reads from a pipe whose other end nobody has, until it is asked: whether it was left, with nothing there.
 fn leave_empty<R: Wait>(rt: &R, domain: &Domain, task: &mut Task, asked: &AtomicU64) -> bool
-    requires of { task.old.domain ≡ domain.now }
-    requires clean { IsClean task.old }
-    ensures of { task.new.domain ≡ domain.now }
-    ensures clean { IsClean task.new }
+    requires rests { RestsIn domain.now task.old }
+    ensures rests { RestsIn domain.now task.new }
 {
     if !take_read(domain, task, EMPTY) {
         return false;
@@ -124,10 +120,8 @@ fn leave_empty<R: Wait>(rt: &R, domain: &Domain, task: &mut Task, asked: &Atomic
 
 /// Fills a pipe whose other end nobody has, and writes on until it is asked: whether it was left, with no cell free.
 fn leave_full<R: Wait>(rt: &R, domain: &Domain, task: &mut Task, asked: &AtomicU64) -> bool
-    requires of { task.old.domain ≡ domain.now }
-    requires clean { IsClean task.old }
-    ensures of { task.new.domain ≡ domain.now }
-    ensures clean { IsClean task.new }
+    requires rests { RestsIn domain.now task.old }
+    ensures rests { RestsIn domain.now task.new }
 {
     if !take_write(domain, task, FILLED) {
         return false;

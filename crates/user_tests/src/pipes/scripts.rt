@@ -2,7 +2,7 @@
 
 ghost use Rattle.std.specs.Prelude.{◌≡◌, ◌<◌};
 ghost use Rattle.wait_model.specs.declared.layout.TheConstants.{PIPES};
-ghost use Rattle.wait_rule.specs.Says.{IsClean};
+ghost use Rattle.wait_rule.specs.Says.{IsClean, RestsIn};
 ghost use Rattle.user_tests.specs.PipeTasks.{MayRead, MayWrite};
 
 use crate::pipes::calls::{
@@ -171,8 +171,7 @@ fn stop_writing<R: Wait>(rt: &R, domain: &Domain, task: &mut Task, has: bool, pi
     requires of { task.old.domain ≡ domain.now }
     requires pipe { pipe < PIPES }
     requires may { MayWrite pipe task.old has }
-    ensures of { task.new.domain ≡ domain.now }
-    ensures clean { IsClean task.new }
+    ensures rests { RestsIn domain.now task.new }
 {
     if has {
         end_write(rt, domain, task, pipe);
@@ -184,8 +183,7 @@ fn stop_reading<R: Wait>(rt: &R, domain: &Domain, task: &mut Task, has: bool, pi
     requires of { task.old.domain ≡ domain.now }
     requires pipe { pipe < PIPES }
     requires may { MayRead pipe task.old has }
-    ensures of { task.new.domain ≡ domain.now }
-    ensures clean { IsClean task.new }
+    ensures rests { RestsIn domain.now task.new }
 {
     if has {
         end_read(rt, domain, task, pipe);

@@ -3,7 +3,7 @@
 
 ghost use Rattle.std.specs.Prelude.{◌≡◌, ◌<◌, ◌≤◌};
 ghost use Rattle.wait_model.specs.declared.layout.TheConstants.{PIPES};
-ghost use Rattle.wait_rule.specs.Says.{IsClean};
+ghost use Rattle.wait_rule.specs.Says.{RestsIn};
 ghost use Rattle.user_tests.specs.declared.pipes.calls.TheConstants.{FULL};
 
 use crate::meetings::Part;
@@ -102,10 +102,8 @@ pub(crate) fn send<R: Wait>(
     stream: Stream,
     asked: Option<&AtomicU64>,
 ) -> bool
-    requires of { task.old.domain ≡ domain.now }
-    requires clean { IsClean task.old }
-    ensures of { task.new.domain ≡ domain.now }
-    ensures clean { IsClean task.new }
+    requires rests { RestsIn domain.now task.old }
+    ensures rests { RestsIn domain.now task.new }
 {
     let pipe = stream.pipe();
     if !take_write(domain, task, pipe) {
@@ -143,10 +141,8 @@ pub(crate) fn receive<R: Wait>(
     stream: Stream,
     asked: Option<&AtomicU64>,
 ) -> bool
-    requires of { task.old.domain ≡ domain.now }
-    requires clean { IsClean task.old }
-    ensures of { task.new.domain ≡ domain.now }
-    ensures clean { IsClean task.new }
+    requires rests { RestsIn domain.now task.old }
+    ensures rests { RestsIn domain.now task.new }
 {
     let pipe = stream.pipe();
     if !take_read(domain, task, pipe) {

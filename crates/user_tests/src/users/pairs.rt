@@ -2,7 +2,7 @@
 //! done for all.
 
 ghost use Rattle.std.specs.Prelude.{◌≡◌};
-ghost use Rattle.wait_rule.specs.Says.{IsClean};
+ghost use Rattle.wait_rule.specs.Says.{RestsIn};
 
 use crate::wants::another;
 use completion_cell::completes::complete_all;
@@ -15,10 +15,8 @@ use wq_user::events::set_zero;
 
 /// A call, and then each of all.
 fn after<R: Wait>(rt: &R, domain: &Domain, task: &mut Task, first: Call)
-    requires of { task.old.domain ≡ domain.now }
-    requires clean { IsClean task.old }
-    ensures of { task.new.domain ≡ domain.now }
-    ensures clean { IsClean task.new }
+    requires rests { RestsIn domain.now task.old }
+    ensures rests { RestsIn domain.now task.new }
 {
     for second in &CALLS {
         make_both(rt, domain, task, first, *second);
@@ -27,10 +25,8 @@ fn after<R: Wait>(rt: &R, domain: &Domain, task: &mut Task, first: Call)
 
 /// Sets the condition, completes for all, present and to come, and then makes each pair.
 fn make_each<R: Wait>(rt: &R, domain: &Domain, task: &mut Task)
-    requires of { task.old.domain ≡ domain.now }
-    requires clean { IsClean task.old }
-    ensures of { task.new.domain ≡ domain.now }
-    ensures clean { IsClean task.new }
+    requires rests { RestsIn domain.now task.old }
+    ensures rests { RestsIn domain.now task.new }
 {
     set_zero(rt, domain, task);
     complete_all(rt, domain, task, CELL);

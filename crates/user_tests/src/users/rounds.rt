@@ -2,7 +2,7 @@
 //! in Domains whose tasks park at once when they are put asleep.
 
 ghost use Rattle.std.specs.Prelude.{◌≡◌};
-ghost use Rattle.wait_rule.specs.Says.{IsClean};
+ghost use Rattle.wait_rule.specs.Says.{RestsIn};
 
 use crate::meetings::Part;
 use crate::wants::{all_so, another};
@@ -22,10 +22,8 @@ const ROUNDS: u32 = 300;
 
 /// Sets the condition and wakes the first or all, and wakes again with nothing more set.
 pub(crate) fn swake_twice<R: Wait>(rt: &R, domain: &Domain, task: &mut Task, all: bool) -> bool
-    requires of { task.old.domain ≡ domain.now }
-    requires clean { IsClean task.old }
-    ensures of { task.new.domain ≡ domain.now }
-    ensures clean { IsClean task.new }
+    requires rests { RestsIn domain.now task.old }
+    ensures rests { RestsIn domain.now task.new }
 {
     if all {
         set_and_swake_all(rt, domain, task);

@@ -5,7 +5,7 @@
 ghost use Rattle.std.specs.Prelude.{◌≡◌};
 ghost use Rattle.wait_model.specs.declared.watches.Watch.TheVariants as watch;
 ghost use Rattle.bit_wait.specs.Holders.{IsHolder};
-ghost use Rattle.wait_rule.specs.Says.{IsClean};
+ghost use Rattle.wait_rule.specs.Says.{IsClean, RestsIn};
 
 use crate::meetings::Part;
 use crate::wants::{all_so, another};
@@ -31,10 +31,8 @@ pub(crate) const VALUE: u64 = 7;
 
 /// Looks at most 2^depth times whether both waiters stand at their head: true once they do.
 fn see_both<R: Wait>(rt: &R, domain: &Domain, task: &mut Task, depth: u8) -> bool
-    requires of { task.old.domain ≡ domain.now }
-    requires clean { IsClean task.old }
-    ensures of { task.new.domain ≡ domain.now }
-    ensures clean { IsClean task.new }
+    requires rests { RestsIn domain.now task.old }
+    ensures rests { RestsIn domain.now task.new }
 {
     if depth == 0 {
         return count_members(rt, domain, task) == 2;
@@ -44,10 +42,8 @@ fn see_both<R: Wait>(rt: &R, domain: &Domain, task: &mut Task, depth: u8) -> boo
 
 /// Changes the variable once both waiters are queued.
 pub(crate) fn change_once<R: Wait>(rt: &R, domain: &Domain, task: &mut Task) -> bool
-    requires of { task.old.domain ≡ domain.now }
-    requires clean { IsClean task.old }
-    ensures of { task.new.domain ≡ domain.now }
-    ensures clean { IsClean task.new }
+    requires rests { RestsIn domain.now task.old }
+    ensures rests { RestsIn domain.now task.new }
 {
     see_both(rt, domain, task, DEPTH);
     change(rt, domain, task, VALUE);
@@ -56,10 +52,8 @@ pub(crate) fn change_once<R: Wait>(rt: &R, domain: &Domain, task: &mut Task) -> 
 
 /// Waits for the bit, and gives the task back: true where it was clear.
 fn clear_once<R: Wait>(rt: &R, domain: &Domain, mut task: Task) -> (Task, bool)
-    requires of { task.domain ≡ domain.now }
-    requires clean { IsClean task }
-    ensures of { result.0.domain ≡ domain.now }
-    ensures clean { IsClean result.0 }
+    requires rests { RestsIn domain.now task }
+    ensures rests { RestsIn domain.now result.0 }
 {
     let over = wait_until_clear(rt, domain, &mut task);
     (task, over)
@@ -114,8 +108,8 @@ fn meet_all<R: Threads + Wait + Sync>(
                 × (result.1.1.0.domain ≡ domain.entry.now) × IsClean result.1.1.0 }
         { meet_and_give(rt, domain, holder, changer, waiter) },
         move || -> (Task, bool)
-            requires { (stranger.domain ≡ domain.now) × IsClean stranger }
-            ensures { (result.0.domain ≡ domain.entry.now) × IsClean result.0 }
+            requires { RestsIn domain.now stranger }
+            ensures { RestsIn domain.entry.now result.0 }
         { clear_once(rt, domain, stranger) },
     )
 }

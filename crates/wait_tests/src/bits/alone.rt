@@ -4,7 +4,7 @@ ghost use Rattle.std.specs.Prelude.{◌≡◌, ◌<◌, true, MatchBool};
 ghost use Rattle.wait_model.specs.declared.layout.TheConstants.{BIT_WORDS, WORD_BITS};
 ghost use Rattle.wait_model.specs.declared.watches.Watch.TheVariants as watch;
 ghost use Rattle.wait_rule.specs.Bits.{KeepsBitOf};
-ghost use Rattle.wait_rule.specs.Says.{IsClean};
+ghost use Rattle.wait_rule.specs.Says.{IsClean, RestsIn};
 ghost use Rattle.bit_wait.specs.Holders.{IsHolder};
 ghost use Rattle.wq_head.specs.Readied.{IsUpAndIdle};
 
@@ -47,8 +47,7 @@ pub(crate) fn give(domain: &Domain, task: &mut Task, word: u8, bit: u8)
 
 /// Takes a bit, for who owes nothing: true where it was clear.
 pub(crate) fn lock(domain: &Domain, task: &mut Task, word: u8, bit: u8) -> bool
-    requires of { task.old.domain ≡ domain.now }
-    requires clean { IsClean task.old }
+    requires rests { RestsIn domain.now task.old }
     requires word { word < BIT_WORDS }
     requires bit { bit < WORD_BITS }
     ensures of { task.new.domain ≡ domain.now }
@@ -63,8 +62,7 @@ pub(crate) fn unlock<R: Wait>(rt: &R, domain: &Domain, task: &mut Task, word: u8
     requires holder { IsHolder task.old (watch.Bit word bit) }
     requires word { word < BIT_WORDS }
     requires bit { bit < WORD_BITS }
-    ensures of { task.new.domain ≡ domain.now }
-    ensures clean { IsClean task.new }
+    ensures rests { RestsIn domain.now task.new }
 {
     clear_and_wake_bit(rt, domain, task, word, bit).holds
 }

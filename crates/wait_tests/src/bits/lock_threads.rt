@@ -3,7 +3,7 @@
 
 ghost use Rattle.std.specs.Prelude.{◌≡◌, MatchBool};
 ghost use Rattle.wait_model.specs.declared.watches.Watch.TheVariants as watch;
-ghost use Rattle.wait_rule.specs.Says.{IsClean};
+ghost use Rattle.wait_rule.specs.Says.{IsClean, RestsIn};
 ghost use Rattle.bit_wait.specs.Holders.{IsHolder};
 
 use crate::bits::alone::unlock;
@@ -17,8 +17,7 @@ use wait_rule::{Domain, Task};
 
 /// Waits until it has taken the bit: true where it has.
 pub(crate) fn lock_in_turn<R: Wait>(rt: &R, domain: &Domain, task: &mut Task) -> bool
-    requires of { task.old.domain ≡ domain.now }
-    requires clean { IsClean task.old }
+    requires rests { RestsIn domain.now task.old }
     ensures of { task.new.domain ≡ domain.now }
     ensures holder { MatchBool result (IsHolder task.new (watch.Bit 0 0)) (IsClean task.new) }
 {
@@ -30,10 +29,8 @@ pub(crate) fn lock_in_turn<R: Wait>(rt: &R, domain: &Domain, task: &mut Task) ->
 
 /// Takes the bit and gives it back: whether it took it.
 fn take_turn<R: Wait>(rt: &R, domain: &Domain, task: &mut Task) -> bool
-    requires of { task.old.domain ≡ domain.now }
-    requires clean { IsClean task.old }
-    ensures of { task.new.domain ≡ domain.now }
-    ensures clean { IsClean task.new }
+    requires rests { RestsIn domain.now task.old }
+    ensures rests { RestsIn domain.now task.new }
 {
     if lock_in_turn(rt, domain, task) {
         unlock(rt, domain, task, 0, 0);
@@ -44,10 +41,8 @@ fn take_turn<R: Wait>(rt: &R, domain: &Domain, task: &mut Task) -> bool
 
 /// Two turns one after the other.
 pub(crate) fn take_turns<R: Wait>(rt: &R, domain: &Domain, task: &mut Task) -> bool
-    requires of { task.old.domain ≡ domain.now }
-    requires clean { IsClean task.old }
-    ensures of { task.new.domain ≡ domain.now }
-    ensures clean { IsClean task.new }
+    requires rests { RestsIn domain.now task.old }
+    ensures rests { RestsIn domain.now task.new }
 {
     let first = take_turn(rt, domain, task);
     let second = take_turn(rt, domain, task);

@@ -3,7 +3,7 @@
 ghost use Rattle.std.specs.Prelude.{◌≡◌, ◌<◌, MatchBool};
 ghost use Rattle.wait_model.specs.declared.layout.TheConstants.{PAGES};
 ghost use Rattle.wait_model.specs.declared.watches.Watch.TheVariants as watch;
-ghost use Rattle.wait_rule.specs.Says.{IsClean};
+ghost use Rattle.wait_rule.specs.Says.{RestsIn};
 ghost use Rattle.bit_wait.specs.Holders.{IsHolder};
 
 use crate::bits::alone::{lock, unlock};
@@ -33,10 +33,8 @@ fn add(domain: &Domain, task: &mut Task, page: u8, amount: u64) -> u64
 
 /// Takes the page's bit, adds to its tally and gives the bit back, as soon as the bit is clear.
 fn add_once<R: Wait>(rt: &R, domain: &Domain, task: &mut Task, amount: u64)
-    requires of { task.old.domain ≡ domain.now }
-    requires clean { IsClean task.old }
-    ensures of { task.new.domain ≡ domain.now }
-    ensures clean { IsClean task.new }
+    requires rests { RestsIn domain.now task.old }
+    ensures rests { RestsIn domain.now task.new }
 {
     for _ in rt.forever() {
         if lock(domain, task, PAGE, 0) {
@@ -51,10 +49,8 @@ fn add_once<R: Wait>(rt: &R, domain: &Domain, task: &mut Task, amount: u64)
 
 /// The same again and again.
 pub(crate) fn add_often<R: Wait>(rt: &R, domain: &Domain, task: &mut Task, amount: u64) -> bool
-    requires of { task.old.domain ≡ domain.now }
-    requires clean { IsClean task.old }
-    ensures of { task.new.domain ≡ domain.now }
-    ensures clean { IsClean task.new }
+    requires rests { RestsIn domain.now task.old }
+    ensures rests { RestsIn domain.now task.new }
 {
     for _ in 0..ADDS {
         add_once(rt, domain, task, amount);

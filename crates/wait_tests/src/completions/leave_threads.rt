@@ -2,7 +2,7 @@
 //! tasks park at once when they are put asleep.
 
 ghost use Rattle.std.specs.Prelude.{◌≡◌};
-ghost use Rattle.wait_rule.specs.Says.{IsClean};
+ghost use Rattle.wait_rule.specs.Says.{RestsIn};
 
 use crate::completions::calls::complete;
 use crate::completions::threads::CELL;
@@ -19,10 +19,8 @@ use wait_rule::{Domain, Task};
 
 /// Yields so often, and completes once.
 pub(crate) fn complete_late<R: Wait>(rt: &R, domain: &Domain, task: &mut Task, late: u32) -> bool
-    requires of { task.old.domain ≡ domain.now }
-    requires clean { IsClean task.old }
-    ensures of { task.new.domain ≡ domain.now }
-    ensures clean { IsClean task.new }
+    requires rests { RestsIn domain.now task.old }
+    ensures rests { RestsIn domain.now task.new }
 {
     yield_often(late);
     complete(rt, domain, task, CELL);
@@ -32,10 +30,8 @@ pub(crate) fn complete_late<R: Wait>(rt: &R, domain: &Domain, task: &mut Task, l
 /// Takes one, which it counts, and completes once more; or leaves once it is asked. True where it took one, or was left
 /// with the count found 0.
 pub(crate) fn take_until<R: Wait>(rt: &R, domain: &Domain, task: &mut Task, shared: &Shared) -> bool
-    requires of { task.old.domain ≡ domain.now }
-    requires clean { IsClean task.old }
-    ensures of { task.new.domain ≡ domain.now }
-    ensures clean { IsClean task.new }
+    requires rests { RestsIn domain.now task.old }
+    ensures rests { RestsIn domain.now task.new }
 {
     let asks = || shared.asks();
     match wait_for_until(rt, domain, task, CELL, SleepState::Uninterruptible, asks) {

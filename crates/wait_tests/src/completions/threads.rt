@@ -2,7 +2,7 @@
 //! are put asleep.
 
 ghost use Rattle.std.specs.Prelude.{◌≡◌};
-ghost use Rattle.wait_rule.specs.Says.{IsClean};
+ghost use Rattle.wait_rule.specs.Says.{RestsIn};
 
 use crate::completions::calls::{complete, complete_all, is_done, reinit, try_wait};
 use crate::meetings::rows::PERMITS;
@@ -16,10 +16,8 @@ pub(crate) const CELL: u8 = 2;
 
 /// Completes it three times.
 pub(crate) fn complete_thrice<R: Wait>(rt: &R, domain: &Domain, task: &mut Task) -> bool
-    requires of { task.old.domain ≡ domain.now }
-    requires clean { IsClean task.old }
-    ensures of { task.new.domain ≡ domain.now }
-    ensures clean { IsClean task.new }
+    requires rests { RestsIn domain.now task.old }
+    ensures rests { RestsIn domain.now task.new }
 {
     complete(rt, domain, task, CELL);
     complete(rt, domain, task, CELL);
@@ -29,8 +27,7 @@ pub(crate) fn complete_thrice<R: Wait>(rt: &R, domain: &Domain, task: &mut Task)
 
 /// Whether nothing is left to be taken; and once all are let through and the completion is begun anew, nothing again.
 pub(crate) fn nothing_is_left<R: Wait>(rt: &R, domain: &Domain, task: &mut Task) -> bool
-    requires of { task.old.domain ≡ domain.now }
-    requires clean { IsClean task.old }
+    requires rests { RestsIn domain.now task.old }
 {
     let taken = try_wait(rt, domain, task, CELL);
     complete_all(rt, domain, task, CELL);

@@ -2,7 +2,7 @@
 //! once when they are put asleep.
 
 ghost use Rattle.std.specs.Prelude.{◌≡◌, MatchBool, None};
-ghost use Rattle.wait_rule.specs.Says.{IsClean, told_of};
+ghost use Rattle.wait_rule.specs.Says.{IsClean, RestsIn, told_of};
 ghost use Rattle.wait_tests.specs.EventTasks.{IsCleanHearer, IsHearer};
 
 use crate::in_order::met_nobody;
@@ -24,8 +24,7 @@ const WATCH: Watch = Watch::Plain { cond: 0 };
 
 /// Queues an entry of kind Woken: true where there was a place for it.
 pub(crate) fn enter<R: Wait>(rt: &R, domain: &Domain, task: &mut Task) -> bool
-    requires of { task.old.domain ≡ domain.now }
-    requires clean { IsClean task.old }
+    requires rests { RestsIn domain.now task.old }
     ensures of { task.new.domain ≡ domain.now }
     ensures entered { MatchBool result (IsCleanHearer task.new) (IsClean task.new) }
     ensures unmarked { (told_of task.new).mark ≡ None }
@@ -61,8 +60,7 @@ pub(crate) fn hear<R: Wait>(rt: &R, domain: &Domain, task: &mut Task)
 pub(crate) fn leave<R: Wait>(rt: &R, domain: &Domain, task: &mut Task)
     requires of { task.old.domain ≡ domain.now }
     requires hearer { IsCleanHearer task.old }
-    ensures of { task.new.domain ≡ domain.now }
-    ensures clean { IsClean task.new }
+    ensures rests { RestsIn domain.now task.new }
 {
     remove_entry(rt, domain, task);
 }
@@ -102,10 +100,8 @@ fn woken_before_the_sleep(rt: HostRuntime) -> Result<(), Fail> {
 
 /// Waits for the condition by the flag of an entry: true where there was a place for it.
 pub(crate) fn hear_until_set<R: Wait>(rt: &R, domain: &Domain, task: &mut Task) -> bool
-    requires of { task.old.domain ≡ domain.now }
-    requires clean { IsClean task.old }
-    ensures of { task.new.domain ≡ domain.now }
-    ensures clean { IsClean task.new }
+    requires rests { RestsIn domain.now task.old }
+    ensures rests { RestsIn domain.now task.new }
 {
     if !enter(rt, domain, task) {
         return false;

@@ -6,7 +6,7 @@ ghost use Rattle.wait_model.specs.declared.watches.Kind.TheVariants as kinds;
 ghost use Rattle.wait_model.specs.declared.watches.Watch.TheVariants as watch;
 ghost use Rattle.wait_model.specs.Watches.{IsThere};
 ghost use Rattle.wait_event.specs.Prepares.{SuitsWait, exclusive_in};
-ghost use Rattle.wait_rule.specs.Says.{IsClean};
+ghost use Rattle.wait_rule.specs.Says.{IsClean, RestsIn};
 
 use crate::meetings::rows::{VALUES_BY_TURNS, WAITERS_BY_TURNS};
 use crate::meetings::{ROUNDS, meet_often};
@@ -33,12 +33,10 @@ fn prepare_twice<R: Wait>(
     watch: Watch,
     how: How,
 ) -> bool
-    requires of { task.old.domain ≡ domain.now }
-    requires clean { IsClean task.old }
+    requires rests { RestsIn domain.now task.old }
     requires suits { SuitsWait watch kind how }
     requires sort { kind ≡ kinds.Woken → ⊥ }
-    ensures of { task.new.domain ≡ domain.now }
-    ensures clean { IsClean task.new }
+    ensures rests { RestsIn domain.now task.new }
 {
     let first = prepare_event(rt, domain, task, kind, watch, how);
     let second = prepare_event(rt, domain, task, kind, watch, how);
@@ -48,10 +46,8 @@ fn prepare_twice<R: Wait>(
 
 /// The same once, with an entry whose flag a wake sets.
 fn prepare_for_flag<R: Wait>(rt: &R, domain: &Domain, task: &mut Task) -> bool
-    requires of { task.old.domain ≡ domain.now }
-    requires clean { IsClean task.old }
-    ensures of { task.new.domain ≡ domain.now }
-    ensures clean { IsClean task.new }
+    requires rests { RestsIn domain.now task.old }
+    ensures rests { RestsIn domain.now task.new }
 {
     let watch = Watch::Plain { cond: 47 };
     let queued = prepare_to_wait(rt, domain, task, Kind::Woken, watch, SleepState::Killable);
@@ -102,13 +98,11 @@ pub(crate) fn wait_in_turns<R: Wait>(
     watch: Watch,
     state: SleepState,
 ) -> u64
-    requires of { task.old.domain ≡ domain.now }
-    requires clean { IsClean task.old }
+    requires rests { RestsIn domain.now task.old }
     requires there { IsThere watch }
     requires suits { SuitsWait watch kind (record { state = state; exclusive = false }) }
     requires sort { kind ≡ kinds.Woken → ⊥ }
-    ensures of { task.new.domain ≡ domain.now }
-    ensures clean { IsClean task.new }
+    ensures rests { RestsIn domain.now task.new }
 {
     let _first = prepare_to_wait(rt, domain, task, kind, watch, state);
     for _ in rt.forever() {
@@ -125,10 +119,8 @@ pub(crate) fn wait_in_turns<R: Wait>(
 
 /// Waits for condition 0 by parts: true where it was set.
 pub(crate) fn wait_by_turns<R: Wait>(rt: &R, domain: &Domain, task: &mut Task) -> bool
-    requires of { task.old.domain ≡ domain.now }
-    requires clean { IsClean task.old }
-    ensures of { task.new.domain ≡ domain.now }
-    ensures clean { IsClean task.new }
+    requires rests { RestsIn domain.now task.old }
+    ensures rests { RestsIn domain.now task.new }
 {
     let watch = Watch::Plain { cond: 0 };
     wait_in_turns(
@@ -143,10 +135,8 @@ pub(crate) fn wait_by_turns<R: Wait>(rt: &R, domain: &Domain, task: &mut Task) -
 
 /// Waits by parts until the variable is 2, by what it saw before each time: whether it saw that.
 pub(crate) fn see_by_turns<R: Wait>(rt: &R, domain: &Domain, task: &mut Task) -> bool
-    requires of { task.old.domain ≡ domain.now }
-    requires clean { IsClean task.old }
-    ensures of { task.new.domain ≡ domain.now }
-    ensures clean { IsClean task.new }
+    requires rests { RestsIn domain.now task.old }
+    ensures rests { RestsIn domain.now task.new }
 {
     let state = SleepState::Uninterruptible;
     let watch = Watch::Var { var: VAR, old: 0 };

@@ -2,7 +2,7 @@
 //! set, so the selection is not lost.
 
 ghost use Rattle.std.specs.Prelude.{◌≡◌};
-ghost use Rattle.wait_rule.specs.Says.{IsClean};
+ghost use Rattle.wait_rule.specs.Says.{RestsIn};
 
 use crate::meetings::rows::SELECTED;
 use crate::meetings::{ROUNDS, meet_often};
@@ -14,10 +14,8 @@ use wait_rule::{Domain, Task};
 
 /// Waits for condition 0: true where it was set, or where a signal ended the wait and the last load found it not set.
 pub(crate) fn wait_exclusive<R: Wait>(rt: &R, domain: &Domain, task: &mut Task) -> bool
-    requires of { task.old.domain ≡ domain.now }
-    requires clean { IsClean task.old }
-    ensures of { task.new.domain ≡ domain.now }
-    ensures clean { IsClean task.new }
+    requires rests { RestsIn domain.now task.old }
+    ensures rests { RestsIn domain.now task.new }
 {
     let how = How {
         state: SleepState::Interruptible,

@@ -2,7 +2,7 @@
 //! asleep.
 
 ghost use Rattle.std.specs.Prelude.{◌≡◌};
-ghost use Rattle.wait_rule.specs.Says.{IsClean};
+ghost use Rattle.wait_rule.specs.Says.{RestsIn};
 
 use crate::meetings::rows::WAITERS;
 use crate::meetings::{ROUNDS, meet_often};
@@ -16,10 +16,8 @@ use wait_rule::{Domain, Task};
 
 /// Sets condition 0, and wakes all, or so many exclusive waiters.
 pub(crate) fn set<R: Wait>(rt: &R, domain: &Domain, task: &mut Task, count: u32) -> Walked
-    requires of { task.old.domain ≡ domain.now }
-    requires clean { IsClean task.old }
-    ensures of { task.new.domain ≡ domain.now }
-    ensures clean { IsClean task.new }
+    requires rests { RestsIn domain.now task.old }
+    ensures rests { RestsIn domain.now task.new }
 {
     set_and_wake(rt, domain, task, 0, 1, Mode::Normal, count)
 }
@@ -32,10 +30,8 @@ pub(crate) fn set_late<R: Wait>(
     late: u32,
     count: u32,
 ) -> bool
-    requires of { task.old.domain ≡ domain.now }
-    requires clean { IsClean task.old }
-    ensures of { task.new.domain ≡ domain.now }
-    ensures clean { IsClean task.new }
+    requires rests { RestsIn domain.now task.old }
+    ensures rests { RestsIn domain.now task.new }
 {
     yield_often(late);
     set(rt, domain, task, count);

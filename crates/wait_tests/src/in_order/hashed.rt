@@ -2,7 +2,7 @@
 
 ghost use Rattle.std.specs.Prelude.{◌≡◌};
 ghost use Rattle.wait_model.specs.declared.watches.Watch.TheVariants as watch;
-ghost use Rattle.wait_rule.specs.Says.{IsClean};
+ghost use Rattle.wait_rule.specs.Says.{RestsIn};
 ghost use Rattle.bit_wait.specs.Holders.{IsHolder};
 
 use super::met_nobody;
@@ -23,10 +23,8 @@ const STATE: SleepState = SleepState::Uninterruptible;
 
 /// Waits until bit 0 of word 0 is clear: true where it was.
 fn wait_for_bit<R: Wait>(rt: &R, domain: &Domain, task: &mut Task) -> bool
-    requires of { task.old.domain ≡ domain.now }
-    requires clean { IsClean task.old }
-    ensures of { task.new.domain ≡ domain.now }
-    ensures clean { IsClean task.new }
+    requires rests { RestsIn domain.now task.old }
+    ensures rests { RestsIn domain.now task.new }
 {
     let over = wait_on_bit(rt, domain, task, 0, 0, STATE).is_ok();
     set_state(domain, task, 0);
@@ -37,8 +35,7 @@ fn wait_for_bit<R: Wait>(rt: &R, domain: &Domain, task: &mut Task) -> bool
 fn give_bit<R: Wait>(rt: &R, domain: &Domain, task: &mut Task) -> Walked
     requires of { task.old.domain ≡ domain.now }
     requires holder { IsHolder task.old (watch.Bit 0 0) }
-    ensures of { task.new.domain ≡ domain.now }
-    ensures clean { IsClean task.new }
+    ensures rests { RestsIn domain.now task.new }
 {
     clear_and_wake_bit(rt, domain, task, 0, 0)
 }

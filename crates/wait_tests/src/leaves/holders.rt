@@ -4,7 +4,7 @@
 
 ghost use Rattle.std.specs.Prelude.{◌≡◌};
 ghost use Rattle.wait_model.specs.declared.watches.Watch.TheVariants as watch;
-ghost use Rattle.wait_rule.specs.Says.{IsClean};
+ghost use Rattle.wait_rule.specs.Says.{RestsIn};
 ghost use Rattle.bit_wait.specs.Holders.{IsHolder};
 
 use crate::bits::alone::{lock, unlock};
@@ -37,8 +37,7 @@ const STATE: SleepState = SleepState::Uninterruptible;
 fn keep_page<R: Wait>(rt: &R, domain: &Domain, task: &mut Task, shared: &Shared) -> bool
     requires of { task.old.domain ≡ domain.now }
     requires holder { IsHolder task.old (watch.Bit 3 0) }
-    ensures of { task.new.domain ≡ domain.now }
-    ensures clean { IsClean task.new }
+    ensures rests { RestsIn domain.now task.new }
 {
     let alone = shared.keeps_alone();
     give(rt, domain, task, PAGE);
@@ -49,8 +48,7 @@ fn keep_page<R: Wait>(rt: &R, domain: &Domain, task: &mut Task, shared: &Shared)
 fn keep_bit<R: Wait>(rt: &R, domain: &Domain, task: &mut Task, shared: &Shared) -> bool
     requires of { task.old.domain ≡ domain.now }
     requires holder { IsHolder task.old (watch.Bit 5 7) }
-    ensures of { task.new.domain ≡ domain.now }
-    ensures clean { IsClean task.new }
+    ensures rests { RestsIn domain.now task.new }
 {
     let alone = shared.keeps_alone();
     unlock(rt, domain, task, WORD, BIT);
@@ -64,10 +62,8 @@ pub(crate) fn turn_of_page<R: Wait>(
     task: &mut Task,
     shared: &Shared,
 ) -> bool
-    requires of { task.old.domain ≡ domain.now }
-    requires clean { IsClean task.old }
-    ensures of { task.new.domain ≡ domain.now }
-    ensures clean { IsClean task.new }
+    requires rests { RestsIn domain.now task.old }
+    ensures rests { RestsIn domain.now task.new }
 {
     if take(rt, domain, task, PAGE) {
         return keep_page(rt, domain, task, shared);
@@ -82,10 +78,8 @@ pub(crate) fn turn_of_bit<R: Wait>(
     task: &mut Task,
     shared: &Shared,
 ) -> bool
-    requires of { task.old.domain ≡ domain.now }
-    requires clean { IsClean task.old }
-    ensures of { task.new.domain ≡ domain.now }
-    ensures clean { IsClean task.new }
+    requires rests { RestsIn domain.now task.old }
+    ensures rests { RestsIn domain.now task.new }
 {
     match wait_on_bit_lock(rt, domain, task, WORD, BIT, STATE) {
         Ok(()) => keep_bit(rt, domain, task, shared),
@@ -95,10 +89,8 @@ pub(crate) fn turn_of_bit<R: Wait>(
 
 /// The same of the page until it is asked to leave: whether it kept the page alone, or was left with the page set.
 pub(crate) fn page_until<R: Wait>(rt: &R, domain: &Domain, task: &mut Task, shared: &Shared) -> bool
-    requires of { task.old.domain ≡ domain.now }
-    requires clean { IsClean task.old }
-    ensures of { task.new.domain ≡ domain.now }
-    ensures clean { IsClean task.new }
+    requires rests { RestsIn domain.now task.old }
+    ensures rests { RestsIn domain.now task.new }
 {
     let asks = || shared.asks();
     match lock_page_until(rt, domain, task, PAGE, STATE, asks) {
@@ -110,10 +102,8 @@ pub(crate) fn page_until<R: Wait>(rt: &R, domain: &Domain, task: &mut Task, shar
 
 /// And of the bit.
 pub(crate) fn bit_until<R: Wait>(rt: &R, domain: &Domain, task: &mut Task, shared: &Shared) -> bool
-    requires of { task.old.domain ≡ domain.now }
-    requires clean { IsClean task.old }
-    ensures of { task.new.domain ≡ domain.now }
-    ensures clean { IsClean task.new }
+    requires rests { RestsIn domain.now task.old }
+    ensures rests { RestsIn domain.now task.new }
 {
     let asks = || shared.asks();
     match wait_on_bit_lock_until(rt, domain, task, WORD, BIT, STATE, asks) {
@@ -130,10 +120,8 @@ pub(crate) fn clear_until<R: Wait>(
     task: &mut Task,
     shared: &Shared,
 ) -> bool
-    requires of { task.old.domain ≡ domain.now }
-    requires clean { IsClean task.old }
-    ensures of { task.new.domain ≡ domain.now }
-    ensures clean { IsClean task.new }
+    requires rests { RestsIn domain.now task.old }
+    ensures rests { RestsIn domain.now task.new }
 {
     let asks = || shared.asks();
     let end = wait_on_bit_until(rt, domain, task, WORD, BIT, STATE, asks);
@@ -146,8 +134,7 @@ pub(crate) fn clear_until<R: Wait>(
 
 /// Whether the page and the bit are clear, and nobody is woken where they are given back.
 pub(crate) fn is_clear<R: Wait>(rt: &R, domain: &Domain, task: &mut Task) -> bool
-    requires of { task.old.domain ≡ domain.now }
-    requires clean { IsClean task.old }
+    requires rests { RestsIn domain.now task.old }
 {
     if !try_lock_page(domain, task, PAGE) {
         return false;

@@ -2,7 +2,7 @@
 //! each of them to leave its wait.
 
 ghost use Rattle.std.specs.Prelude.{◌≡◌};
-ghost use Rattle.wait_rule.specs.Says.{IsClean};
+ghost use Rattle.wait_rule.specs.Says.{RestsIn};
 
 use crate::leaves::conditions::{set_one, take};
 use crate::meetings::rows::POOL;
@@ -31,10 +31,8 @@ const HOW: How = How {
 
 /// Makes room for the first job.
 pub(crate) fn open<R: Wait>(rt: &R, domain: &Domain, task: &mut Task) -> bool
-    requires of { task.old.domain ≡ domain.now }
-    requires clean { IsClean task.old }
-    ensures of { task.new.domain ≡ domain.now }
-    ensures clean { IsClean task.new }
+    requires rests { RestsIn domain.now task.old }
+    ensures rests { RestsIn domain.now task.new }
 {
     set_one(rt, domain, task, ROOM, 1);
     true
@@ -42,10 +40,8 @@ pub(crate) fn open<R: Wait>(rt: &R, domain: &Domain, task: &mut Task) -> bool
 
 /// Waits until there is room, and posts a job: whether there was room.
 fn post<R: Wait>(rt: &R, domain: &Domain, task: &mut Task, job: u32) -> bool
-    requires of { task.old.domain ≡ domain.now }
-    requires clean { IsClean task.old }
-    ensures of { task.new.domain ≡ domain.now }
-    ensures clean { IsClean task.new }
+    requires rests { RestsIn domain.now task.old }
+    ensures rests { RestsIn domain.now task.new }
 {
     let room = wait_event(rt, domain, task, ROOM, HOW).is_ok();
     let had = take(domain, task, ROOM);
@@ -61,10 +57,8 @@ pub(crate) fn post_all<R: Wait>(
     shared: &Shared,
     late: u32,
 ) -> bool
-    requires of { task.old.domain ≡ domain.now }
-    requires clean { IsClean task.old }
-    ensures of { task.new.domain ≡ domain.now }
-    ensures clean { IsClean task.new }
+    requires rests { RestsIn domain.now task.old }
+    ensures rests { RestsIn domain.now task.new }
 {
     let mut well = true;
     for job in 0..JOBS {
@@ -79,10 +73,8 @@ pub(crate) fn post_all<R: Wait>(
 
 /// Does the job that it takes, if there is one, and makes room for the next one.
 fn do_job<R: Wait>(rt: &R, domain: &Domain, task: &mut Task, shared: &Shared)
-    requires of { task.old.domain ≡ domain.now }
-    requires clean { IsClean task.old }
-    ensures of { task.new.domain ≡ domain.now }
-    ensures clean { IsClean task.new }
+    requires rests { RestsIn domain.now task.old }
+    ensures rests { RestsIn domain.now task.new }
 {
     match take(domain, task, NEXT) {
         0 => {}
@@ -96,10 +88,8 @@ fn do_job<R: Wait>(rt: &R, domain: &Domain, task: &mut Task, shared: &Shared)
 
 /// Does jobs until it is asked to leave and finds none: whether no wait failed.
 pub(crate) fn work<R: Wait>(rt: &R, domain: &Domain, task: &mut Task, shared: &Shared) -> bool
-    requires of { task.old.domain ≡ domain.now }
-    requires clean { IsClean task.old }
-    ensures of { task.new.domain ≡ domain.now }
-    ensures clean { IsClean task.new }
+    requires rests { RestsIn domain.now task.old }
+    ensures rests { RestsIn domain.now task.new }
 {
     for _ in rt.forever() {
         let asks = || shared.asks();

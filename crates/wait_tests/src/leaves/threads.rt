@@ -2,7 +2,7 @@
 //! are put asleep.
 
 ghost use Rattle.std.specs.Prelude.{◌≡◌};
-ghost use Rattle.wait_rule.specs.Says.{IsClean};
+ghost use Rattle.wait_rule.specs.Says.{RestsIn};
 
 use crate::events::threads::set;
 use crate::leaves::conditions::{set_one, take};
@@ -44,10 +44,8 @@ pub(crate) fn leave_or_pass<R: Wait>(
     task: &mut Task,
     shared: &Shared,
 ) -> bool
-    requires of { task.old.domain ≡ domain.now }
-    requires clean { IsClean task.old }
-    ensures of { task.new.domain ≡ domain.now }
-    ensures clean { IsClean task.new }
+    requires rests { RestsIn domain.now task.old }
+    ensures rests { RestsIn domain.now task.new }
 {
     match wait_event_until(rt, domain, task, 0, HOW, || shared.asks()) {
         WaitUntil::Over(Ok(())) => {
@@ -63,10 +61,8 @@ pub(crate) fn leave_or_pass<R: Wait>(
 
 /// Waits until it has the condition.
 pub(crate) fn take_it<R: Wait>(rt: &R, domain: &Domain, task: &mut Task) -> bool
-    requires of { task.old.domain ≡ domain.now }
-    requires clean { IsClean task.old }
-    ensures of { task.new.domain ≡ domain.now }
-    ensures clean { IsClean task.new }
+    requires rests { RestsIn domain.now task.old }
+    ensures rests { RestsIn domain.now task.new }
 {
     for _ in rt.forever() {
         if wait_event(rt, domain, task, 0, HOW).is_err() {
@@ -87,10 +83,8 @@ pub(crate) fn leave<R: Wait>(
     shared: &Shared,
     left: Left,
 ) -> bool
-    requires of { task.old.domain ≡ domain.now }
-    requires clean { IsClean task.old }
-    ensures of { task.new.domain ≡ domain.now }
-    ensures clean { IsClean task.new }
+    requires rests { RestsIn domain.now task.old }
+    ensures rests { RestsIn domain.now task.new }
 {
     let state = SleepState::Uninterruptible;
     let asks = || shared.asks();
@@ -114,8 +108,7 @@ fn is_left<A: Drop>(end: WaitUntil<Result<A, WaitEnd>>) -> bool {
 
 /// Whether nobody waits for the conditions that waits were left for.
 pub(crate) fn nobody_waits<R: Wait>(rt: &R, domain: &Domain, task: &mut Task) -> bool
-    requires of { task.old.domain ≡ domain.now }
-    requires clean { IsClean task.old }
+    requires rests { RestsIn domain.now task.old }
 {
     let one = swake_one(rt, domain, task, SIMPLE);
     let walked = set(rt, domain, task, 0);

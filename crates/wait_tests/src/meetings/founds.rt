@@ -1,7 +1,7 @@
 //! What the first task of a round finds when it has taken the others in.
 
 ghost use Rattle.std.specs.Prelude.{◌≡◌};
-ghost use Rattle.wait_rule.specs.Says.{IsClean};
+ghost use Rattle.wait_rule.specs.Says.{RestsIn};
 
 use crate::bits::alone::lock;
 use crate::completions::threads::nothing_is_left;
@@ -35,8 +35,7 @@ pub(crate) enum Found {
 impl Found {
     /// Whether it is so.
     pub fn is_so<R: Wait>(self, rt: &R, domain: &Domain, task: Task, shared: &Shared) -> bool
-        requires of { task.domain ≡ domain.now }
-        requires clean { IsClean task }
+        requires rests { RestsIn domain.now task }
     {
         let mut task = task;
         match self {

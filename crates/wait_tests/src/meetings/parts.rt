@@ -1,7 +1,7 @@
 //! The parts that tasks play.
 
 ghost use Rattle.std.specs.Prelude.{◌≡◌};
-ghost use Rattle.wait_rule.specs.Says.{IsClean};
+ghost use Rattle.wait_rule.specs.Says.{RestsIn};
 
 use crate::bits::lock_threads::take_turns;
 use crate::bits::tallies;
@@ -113,10 +113,8 @@ impl Clone for Part {
 impl Part {
     /// Whether it went as the part says.
     pub fn play<R: Wait>(self, rt: &R, domain: &Domain, task: &mut Task, shared: &Shared) -> bool
-        requires of { task.old.domain ≡ domain.now }
-        requires clean { IsClean task.old }
-        ensures of { task.new.domain ≡ domain.now }
-        ensures clean { IsClean task.new }
+        requires rests { RestsIn domain.now task.old }
+        ensures rests { RestsIn domain.now task.new }
     {
         let round = shared.round;
         match self {

@@ -3,7 +3,7 @@
 ghost use Rattle.std.specs.Prelude.{◌≡◌, ◌<◌, MatchBool};
 ghost use Rattle.wait_model.specs.declared.layout.TheConstants.{BIT_WORDS};
 ghost use Rattle.wait_model.specs.declared.watches.Watch.TheVariants as watch;
-ghost use Rattle.wait_rule.specs.Says.{IsClean};
+ghost use Rattle.wait_rule.specs.Says.{IsClean, RestsIn};
 ghost use Rattle.bit_wait.specs.Holders.{IsHolder};
 
 use crate::in_order::met_nobody;
@@ -21,8 +21,7 @@ use wait_rule::{Domain, Task};
 
 /// Waits until it has taken a page, and no signal ends the wait: true where it has.
 pub(crate) fn take<R: Wait>(rt: &R, domain: &Domain, task: &mut Task, page: u8) -> bool
-    requires of { task.old.domain ≡ domain.now }
-    requires clean { IsClean task.old }
+    requires rests { RestsIn domain.now task.old }
     requires page { page < BIT_WORDS }
     ensures of { task.new.domain ≡ domain.now }
     ensures holder { MatchBool result (IsHolder task.new (watch.Bit page 0)) (IsClean task.new) }
@@ -38,8 +37,7 @@ pub(crate) fn give<R: Wait>(rt: &R, domain: &Domain, task: &mut Task, page: u8) 
     requires of { task.old.domain ≡ domain.now }
     requires holder { IsHolder task.old (watch.Bit page 0) }
     requires page { page < BIT_WORDS }
-    ensures of { task.new.domain ≡ domain.now }
-    ensures clean { IsClean task.new }
+    ensures rests { RestsIn domain.now task.new }
 {
     unlock_page(rt, domain, task, page)
 }

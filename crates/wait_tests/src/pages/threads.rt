@@ -2,7 +2,7 @@
 //! once when they are put asleep.
 
 ghost use Rattle.std.specs.Prelude.{◌≡◌};
-ghost use Rattle.wait_rule.specs.Says.{IsClean};
+ghost use Rattle.wait_rule.specs.Says.{RestsIn};
 
 use crate::meetings::rows::{PAGE_OF_FOUR, PAGE_OF_TWO};
 use crate::meetings::{ROUNDS, meet_often};
@@ -17,10 +17,8 @@ const PAGE: u8 = 3;
 
 /// Takes the page, adds 1 to its tally, and gives it back: whether it took it.
 fn add_once<R: Wait>(rt: &R, domain: &Domain, task: &mut Task) -> bool
-    requires of { task.old.domain ≡ domain.now }
-    requires clean { IsClean task.old }
-    ensures of { task.new.domain ≡ domain.now }
-    ensures clean { IsClean task.new }
+    requires rests { RestsIn domain.now task.old }
+    ensures rests { RestsIn domain.now task.new }
 {
     if !take(rt, domain, task, PAGE) {
         return false;
@@ -32,10 +30,8 @@ fn add_once<R: Wait>(rt: &R, domain: &Domain, task: &mut Task) -> bool
 
 /// The same `n` times.
 pub(crate) fn add_often<R: Wait>(rt: &R, domain: &Domain, task: &mut Task, n: u64) -> bool
-    requires of { task.old.domain ≡ domain.now }
-    requires clean { IsClean task.old }
-    ensures of { task.new.domain ≡ domain.now }
-    ensures clean { IsClean task.new }
+    requires rests { RestsIn domain.now task.old }
+    ensures rests { RestsIn domain.now task.new }
 {
     for _ in 0..n {
         add_once(rt, domain, task);
@@ -45,8 +41,7 @@ pub(crate) fn add_often<R: Wait>(rt: &R, domain: &Domain, task: &mut Task, n: u6
 
 /// The tally in the end, when each has given the page back: None where the page is set still.
 pub(crate) fn last_tally(domain: &Domain, task: &mut Task) -> Option<u64>
-    requires of { task.old.domain ≡ domain.now }
-    requires clean { IsClean task.old }
+    requires rests { RestsIn domain.now task.old }
 {
     if try_lock_page(domain, task, PAGE) {
         return Some(add(domain, task, PAGE, 0));

@@ -2,7 +2,7 @@
 //! again and again, in Domains whose tasks park at once when they are put asleep.
 
 ghost use Rattle.std.specs.Prelude.{◌≡◌};
-ghost use Rattle.wait_rule.specs.Says.{IsClean};
+ghost use Rattle.wait_rule.specs.Says.{RestsIn};
 
 use super::interrupted;
 use crate::meetings::rows::{FATAL_SIGNAL, PLAIN_SIGNAL};
@@ -29,10 +29,8 @@ pub(crate) fn wake_then_signal<R: Wait>(
     who: u8,
     fatal: bool,
 ) -> bool
-    requires of { task.old.domain ≡ domain.now }
-    requires clean { IsClean task.old }
-    ensures of { task.new.domain ≡ domain.now }
-    ensures clean { IsClean task.new }
+    requires rests { RestsIn domain.now task.old }
+    ensures rests { RestsIn domain.now task.new }
 {
     for _ in rt.forever() {
         if wake_task(rt, domain, task, who, Mode::Normal) {
@@ -58,10 +56,8 @@ fn fatal_signal_ends_a_wait_that_slept(rt: HostRuntime) -> Result<(), Fail> {
 
 /// Waits for the page, which stays with its holder: true where a signal ended the wait, and the page's word held 1.
 pub(crate) fn lock_in_vain<R: Wait>(rt: &R, domain: &Domain, task: &mut Task) -> bool
-    requires of { task.old.domain ≡ domain.now }
-    requires clean { IsClean task.old }
-    ensures of { task.new.domain ≡ domain.now }
-    ensures clean { IsClean task.new }
+    requires rests { RestsIn domain.now task.old }
+    ensures rests { RestsIn domain.now task.new }
 {
     match lock_page(rt, domain, task, PAGE, SleepState::Interruptible) {
         Ok(()) => {

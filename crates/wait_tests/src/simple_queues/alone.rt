@@ -1,7 +1,7 @@
 //! One task alone: its wakes find nobody, and its wait ends at its first look.
 
 ghost use Rattle.std.specs.Prelude.{◌≡◌};
-ghost use Rattle.wait_rule.specs.Says.{IsClean};
+ghost use Rattle.wait_rule.specs.Says.{RestsIn};
 
 use crate::wants::{all_so, another};
 use std::sync::Wait;
@@ -18,10 +18,8 @@ const COND: u8 = FIRST_SIMPLE as u8;
 
 /// Wakes with nothing set before: whether there was a first one, and how many there were then.
 fn wake_unset<R: Wait>(rt: &R, domain: &Domain, task: &mut Task) -> (bool, u32)
-    requires of { task.old.domain ≡ domain.now }
-    requires clean { IsClean task.old }
-    ensures of { task.new.domain ≡ domain.now }
-    ensures clean { IsClean task.new }
+    requires rests { RestsIn domain.now task.old }
+    ensures rests { RestsIn domain.now task.new }
 {
     let one = swake_one(rt, domain, task, COND);
     let all = swake_all(rt, domain, task, COND);

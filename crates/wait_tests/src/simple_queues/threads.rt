@@ -2,7 +2,7 @@
 //! when they are put asleep.
 
 ghost use Rattle.std.specs.Prelude.{◌≡◌};
-ghost use Rattle.wait_rule.specs.Says.{IsClean};
+ghost use Rattle.wait_rule.specs.Says.{RestsIn};
 
 use crate::meetings::rows::SWAITERS;
 use crate::meetings::{ROUNDS, meet_often};
@@ -17,10 +17,8 @@ pub(crate) const COND: u8 = FIRST_SIMPLE as u8;
 
 /// Sets the condition, and wakes who waits for it, all at once or one after another.
 pub(crate) fn swake_all_or_two<R: Wait>(rt: &R, domain: &Domain, task: &mut Task, all: bool) -> bool
-    requires of { task.old.domain ≡ domain.now }
-    requires clean { IsClean task.old }
-    ensures of { task.new.domain ≡ domain.now }
-    ensures clean { IsClean task.new }
+    requires rests { RestsIn domain.now task.old }
+    ensures rests { RestsIn domain.now task.new }
 {
     if all {
         set_and_swake_all(rt, domain, task);

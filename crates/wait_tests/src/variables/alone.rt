@@ -1,7 +1,7 @@
 //! One task alone, and one that a signal reaches first: waits that end without a sleep.
 
 ghost use Rattle.std.specs.Prelude.{◌≡◌};
-ghost use Rattle.wait_rule.specs.Says.{IsClean};
+ghost use Rattle.wait_rule.specs.Says.{RestsIn};
 
 use crate::in_order::met_nobody;
 use crate::wants::another;
@@ -20,10 +20,8 @@ pub(crate) const VAR: u8 = 20;
 
 /// Publishes a value and wakes who waits for the variable to change: what the wake answers.
 pub(crate) fn announce<R: Wait>(rt: &R, domain: &Domain, task: &mut Task, value: u64) -> Walked
-    requires of { task.old.domain ≡ domain.now }
-    requires clean { IsClean task.old }
-    ensures of { task.new.domain ≡ domain.now }
-    ensures clean { IsClean task.new }
+    requires rests { RestsIn domain.now task.old }
+    ensures rests { RestsIn domain.now task.new }
 {
     publish_var_and_wake(rt, domain, task, VAR, value)
 }
@@ -35,10 +33,8 @@ pub(crate) fn wait_for_other<R: Wait>(
     task: &mut Task,
     old: u64,
 ) -> Result<u64, WaitEnd>
-    requires of { task.old.domain ≡ domain.now }
-    requires clean { IsClean task.old }
-    ensures of { task.new.domain ≡ domain.now }
-    ensures clean { IsClean task.new }
+    requires rests { RestsIn domain.now task.old }
+    ensures rests { RestsIn domain.now task.new }
 {
     wait_var(rt, domain, task, VAR, old, SleepState::Uninterruptible)
 }
@@ -51,10 +47,8 @@ fn store_and_wait<R: Wait>(
     value: u64,
     old: u64,
 ) -> Result<u64, WaitEnd>
-    requires of { task.old.domain ≡ domain.now }
-    requires clean { IsClean task.old }
-    ensures of { task.new.domain ≡ domain.now }
-    ensures clean { IsClean task.new }
+    requires rests { RestsIn domain.now task.old }
+    ensures rests { RestsIn domain.now task.new }
 {
     announce(rt, domain, task, value);
     wait_for_other(rt, domain, task, old)

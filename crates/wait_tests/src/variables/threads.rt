@@ -2,7 +2,7 @@
 //! when they are put asleep.
 
 ghost use Rattle.std.specs.Prelude.{◌≡◌};
-ghost use Rattle.wait_rule.specs.Says.{IsClean};
+ghost use Rattle.wait_rule.specs.Says.{RestsIn};
 
 use crate::meetings::rows::VALUES;
 use crate::meetings::{ROUNDS, meet_often};
@@ -15,10 +15,8 @@ use wait_rule::{Domain, Task};
 
 /// Waits until the variable is 2, by what it saw before each time: whether it saw that.
 pub(crate) fn wait_twice<R: Wait>(rt: &R, domain: &Domain, task: &mut Task) -> bool
-    requires of { task.old.domain ≡ domain.now }
-    requires clean { IsClean task.old }
-    ensures of { task.new.domain ≡ domain.now }
-    ensures clean { IsClean task.new }
+    requires rests { RestsIn domain.now task.old }
+    ensures rests { RestsIn domain.now task.new }
 {
     let state = SleepState::Uninterruptible;
     let first = wait_var(rt, domain, task, VAR, 0, state).unwrap_or(0);
@@ -32,10 +30,8 @@ pub(crate) fn wait_twice<R: Wait>(rt: &R, domain: &Domain, task: &mut Task) -> b
 
 /// Publishes 1 and then 2.
 pub(crate) fn announce_twice<R: Wait>(rt: &R, domain: &Domain, task: &mut Task) -> bool
-    requires of { task.old.domain ≡ domain.now }
-    requires clean { IsClean task.old }
-    ensures of { task.new.domain ≡ domain.now }
-    ensures clean { IsClean task.new }
+    requires rests { RestsIn domain.now task.old }
+    ensures rests { RestsIn domain.now task.new }
 {
     announce(rt, domain, task, 1);
     announce(rt, domain, task, 2);

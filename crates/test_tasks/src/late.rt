@@ -1,6 +1,5 @@
 //! What a task does to others after some yields, so that it falls between whatever steps of theirs.
 
-ghost use Rattle.std.specs.Prelude.{◌≡◌};
 ghost use Rattle.wait_rule.specs.Says.{RestsIn};
 
 use std::sync::Wait;

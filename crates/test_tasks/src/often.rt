@@ -1,6 +1,5 @@
 //! A part that a task plays again and again.
 
-ghost use Rattle.std.specs.Prelude.{◌≡◌};
 ghost use Rattle.wait_rule.specs.Says.{RestsIn};
 
 use crate::meetings::Part;

@@ -1,6 +1,5 @@
 //! A signal by a task that owes nothing, before it and after it.
 
-ghost use Rattle.std.specs.Prelude.{◌≡◌};
 ghost use Rattle.wait_rule.specs.Says.{RestsIn};
 
 use std::sync::Wait;

@@ -1,6 +1,5 @@
-use Rattle.std.proofs.Common.{◌≡◌}
-use Rattle.wait_rule.specs.Says.{IsClean}
+use Rattle.wait_rule.specs.Says.{RestsIn}
 use Rattle.test_tasks.proofs.often.play_often.Given as goal
 
 abbrev pub invariant-loop : goal.invariant-loop
-invariant-loop g l = record { of : l.task.domain ≡ l.fn.domain; clean : IsClean l.task }
+invariant-loop g l = RestsIn l.fn.domain l.task

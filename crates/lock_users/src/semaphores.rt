@@ -1,7 +1,6 @@
 //! A task that takes a permit of semaphore 0, sets condition 0 and waits for it, and gives the permit back: it owes
 //! nothing after it.
 
-ghost use Rattle.std.specs.Prelude.{◌≡◌};
 ghost use Rattle.wait_rule.specs.Says.{RestsIn};
 
 use count_sem::down_calls::down;

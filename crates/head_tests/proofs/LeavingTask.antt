@@ -6,7 +6,6 @@ use Rattle.wait_model.specs.declared.watches.Entry.{Entry}
 use Rattle.wait_model.specs.declared.watches.Watch.TheVariants as watch
 use Rattle.wait_model.specs.declared.watches.Kind.{Kind}
 use Rattle.wait_model.specs.declared.watches.Kind.TheVariants as kind
-use Rattle.wait_model.specs.declared.watches.Watch.{Watch}
 use Rattle.wait_model.specs.declared.watches.Mode.TheVariants as mode
 use Rattle.wait_model.specs.declared.watches.Aim.{Aim}
 use Rattle.wait_model.specs.declared.steps.Step.{Step}
@@ -21,18 +20,16 @@ use Rattle.wait_model.proofs.HistoryLaws.HoldLooks.{after_snoc}
 use Rattle.wait_model.proofs.StepLaws.UnlockSteps.{unlock_bits}
 use Rattle.wait_rule.specs.declared.journal.Item.TheVariants as item
 use Rattle.wait_rule.specs.Known.{Known}
-use Rattle.wait_rule.specs.Says.{IsClean, IsFree, Excuse, OwesBut, OwesNothing, HasSlept, no_excuse, added, history_of}
+use Rattle.wait_rule.specs.Says.{IsClean, IsFree, Excuse, OwesBut, HasSlept, no_excuse, added, history_of}
 use Rattle.wait_rule.specs.Says.{told_of}
 use Rattle.wait_rule.specs.Queues.{IsIdle, IsTailPlace, KnewEntry, MayUnqueue, index, saw}
 use Rattle.wait_rule.specs.Stays.{Stays, StaysOwing, no_entries, with_entry, with_wakes}
 use Rattle.wait_rule.proofs.KnownLaws.AfterSteps.{told_added}
 use Rattle.wait_rule.proofs.KnownLaws.Turns.{told_unlocked}
-use Rattle.wait_rule.specs.declared.journal.Item.{Item}
-use Rattle.wait_rule.specs.Items.{learn}
 use Rattle.wait_rule.proofs.KnownLaws.TaskHistories.{history_slept}
 use Rattle.wait_rule.proofs.KnownLaws.SettledTasks.{stays_settled, owes_after, owes_told}
 use Rattle.wait_rule.proofs.KnownLaws.Debts.{items_debts, looks_quiet}
-use Rattle.wait_rule.proofs.KnownLaws.CarriedTasks.{owes_more, published_carried}
+use Rattle.wait_rule.proofs.KnownLaws.CarriedTasks.{owes_more}
 use Rattle.wait_rule.proofs.KnownLaws.StayingParts.{look_out, owes_out}
 use Rattle.wq_head.specs.Holds.{HasLocked, HasUnlocked, IsHolding}
 use Rattle.wq_head.specs.Looks.{Looks}
@@ -179,32 +176,6 @@ idle_by k x running free o = record {
   free = free;
   unmarked = o.unmarked;
 }
-
--- a step that takes no lock and no ticket
-pub free_added : (old new : Known) (x : Item) → new ≡ added old x → (learn x old.book).head ≡ old.book.head
-    → (learn x old.book).ticket ≡ old.book.ticket → IsFree old → IsFree new
-free_added old new x is head ticket free = subst IsFree (sym is) (record {
-  head = head ∙ free.head;
-  ticket = ticket ∙ free.ticket;
-})
-
-abbrev pub all_of : Watch → Aim
-all_of c = record { watch = c; mode = mode.Normal; count = 0 }
-
-pub published_owes : (old new : Known) (c : Watch) (n r : ℕ) → new ≡ added old (item.Made (step.Publish c n r))
-    → OwesNothing old → OwesBut (with_wakes c mode.Normal no_excuse) new
-published_owes old new c n r is o = (published_carried old new c n r is).owes no_excuse o
-
-pub clean_idle : (k : Known) → IsClean k → IsIdle k
-clean_idle k c = idle_by k no_excuse c.running c.free c.settled
-
-pub published_idle : (old new : Known) (c : Watch) (n r : ℕ) → new ≡ added old (item.Made (step.Publish c n r))
-    → IsClean old
-    → IsIdle new
-published_idle old new c n r is clean = idle_by new (with_wakes c mode.Normal no_excuse)
-    (ap (λ (k : Known). k.book.state) is ∙ clean.running) (free_added old new (item.Made
-    (step.Publish c n r)) is refl refl clean.free)
-    (published_owes old new c n r is clean.settled)
 
 -- a wake with the own entry queued
 pub back_idle : (k : Known) (kd : Kind) → IsBack k kd → IsIdle k

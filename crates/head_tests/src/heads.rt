@@ -2,7 +2,7 @@
 
 ghost use Rattle.std.specs.Prelude.{◌≡◌, ◌<◌};
 ghost use Rattle.wait_model.specs.declared.layout.TheConstants.{PRIORITY_TASKS};
-ghost use Rattle.wq_head.specs.Readied.{IsReadyToCall};
+ghost use Rattle.head_tests.specs.Ready.{IsReadyIn};
 
 mod cases;
 mod errands;
@@ -29,8 +29,7 @@ use wq_head::looks::has_members;
 
 /// Whether a second hold of a free head shows no member.
 pub(crate) fn holds_twice<R: Wait>(rt: &R, domain: &Domain, task: &mut Task) -> bool
-    requires of { task.old.domain ≡ domain.now }
-    requires ready { IsReadyToCall task.old }
+    requires ready { IsReadyIn domain.now task.old }
 {
     lock(rt, domain, task, FIRST_PLAIN_HEAD);
     unlock(rt, domain, task, false);
@@ -56,8 +55,7 @@ pub(crate) enum Place {
 
 /// Adds the own entry, at the tail exclusive, and looks for a member.
 pub(crate) fn adds<R: Wait>(rt: &R, domain: &Domain, task: &mut Task, place: Place) -> [bool; 2]
-    requires of { task.old.domain ≡ domain.now }
-    requires ready { IsReadyToCall task.old }
+    requires ready { IsReadyIn domain.now task.old }
     requires few { task.old.view.number < PRIORITY_TASKS }
 {
     lock(rt, domain, task, FIRST_PLAIN_HEAD);
@@ -92,8 +90,7 @@ fn added_with_priority(rt: HostRuntime) -> Result<(), Fail> {
 
 /// Whether the own entry is no member once it was added and removed.
 pub(crate) fn removes_added<R: Wait>(rt: &R, domain: &Domain, task: &mut Task) -> bool
-    requires of { task.old.domain ≡ domain.now }
-    requires ready { IsReadyToCall task.old }
+    requires ready { IsReadyIn domain.now task.old }
     requires first { task.old.view.number ≡ 0 }
 {
     lock(rt, domain, task, FIRST_PLAIN_HEAD);

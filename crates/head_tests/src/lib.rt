@@ -12,6 +12,4 @@ mod scenes;
 #[cfg(test)]
 mod steps;
 #[cfg(test)]
-mod wants;
-#[cfg(test)]
 mod words;

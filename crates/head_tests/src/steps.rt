@@ -11,7 +11,6 @@ ghost use Rattle.head_tests.specs.Meeting.{SleptOnce, WokeOnce, HaveMet};
 ghost use Rattle.wait_rule.specs.Says.{IsClean, IsUp, RestsIn, history_of};
 
 use crate::scenes::{Alone, Beside, Seen, want, want_all, want_beside};
-use crate::wants::another;
 use std::sync::Wait;
 use std::test::Fail;
 use std::thread;
@@ -126,8 +125,7 @@ fn numbers_run_out(rt: HostRuntime) -> Result<(), Fail> {
 
 /// What a task and one that it has given a share of 5 numbers give out.
 fn share_numbers(domain: &Domain, task: &mut Task, mut second: Task) -> [bool; 5]
-    requires of { (task.old.domain ≡ domain.now) × (second.domain ≡ domain.now) }
-    requires clean { IsClean task.old × IsClean second }
+    requires rest { RestsIn domain.now task.old × RestsIn domain.now second }
 {
     let spare = (second.spare(), task.spare());
     let seen = [
@@ -172,8 +170,7 @@ fn has_met(tried: Option<Met>, met: bool) -> bool {
 
 /// What single tries find of a task that goes to sleep, and of one that was woken.
 pub(crate) fn tries_once(domain: &Domain, task: &mut Task, other: &mut Task) -> [bool; 4]
-    requires of { (task.old.domain ≡ domain.now) × (other.old.domain ≡ domain.now) }
-    requires clean { IsClean task.old × IsClean other.old }
+    requires rest { RestsIn domain.now task.old × RestsIn domain.now other.old }
 {
     set_state(domain, task, UNINTERRUPTIBLE);
     let mut failed = FailedTries::none();
@@ -241,8 +238,7 @@ pub(crate) fn meets_by_mode<R: Wait>(
     task: &mut Task,
     other: &mut Task,
 ) -> [bool; 7]
-    requires of { (task.old.domain ≡ domain.now) × (other.old.domain ≡ domain.now) }
-    requires clean { IsClean task.old × IsClean other.old }
+    requires rest { RestsIn domain.now task.old × RestsIn domain.now other.old }
 {
     set_state(domain, other, UNINTERRUPTIBLE);
     [
@@ -298,8 +294,7 @@ fn waker<R: Wait>(rt: &R, domain: &Domain, mut task: Task, who: u8) -> Task
 /// A sleeper and its waker in two threads. After the join the two histories hold one wake that met the sleeper,
 /// and one sleep.
 fn meet<R: Threads + Wait + Sync>(rt: &R, domain: &Domain, first: Task, second: Task) -> Task
-    requires of { (first.domain ≡ domain.now) × (second.domain ≡ domain.now) }
-    requires clean { IsClean first × IsClean second }
+    requires rest { RestsIn domain.now first × RestsIn domain.now second }
     requires empty { (history_of first ≡ []) × (history_of second ≡ []) }
     requires alone { (first.view.joined ≡ []) × (second.view.joined ≡ []) }
     ensures { HaveMet second.view.number result }
@@ -329,7 +324,7 @@ fn meet<R: Threads + Wait + Sync>(rt: &R, domain: &Domain, first: Task, second: 
 #[test]
 fn sleep_and_wake(rt: HostRuntime) -> Result<(), Fail> {
     let (domain, mut task) = Domain::new(rt.alloc())?;
-    let second = another(&rt, &domain, &mut task);
+    let second = task.fork(&domain, 0)?;
     let task = meet(&rt, &domain, task, second);
     assert!(rt; task.number() == 0);
     Ok(())

@@ -1,6 +1,7 @@
 //! Worked numbers of the heads, of the positions, of a completion's count and of a task's word.
 
-use crate::wants::all_so;
+use std::test::Fail;
+use test_tasks::wants::all_so;
 use wait_model::counts::{raised_done, taken_done};
 use wait_model::heads::{bit_head, var_head};
 use wait_model::layout::NORMAL;
@@ -14,8 +15,8 @@ use wait_model::tasks::Sleep;
 use wait_model::watches::Watch;
 
 #[test]
-fn heads_of_bits_and_variables(rt: HostRuntime) {
-    let seen = [
+fn heads_of_bits_and_variables() -> Result<(), Fail> {
+    all_so(&[
         bit_head(0, 0) == 0,
         bit_head(1, 0) == 114,
         bit_head(2, 16) == var_head(144),
@@ -24,24 +25,22 @@ fn heads_of_bits_and_variables(rt: HostRuntime) {
         var_head(3) == 37,
         var_head(128) == 228,
         var_head(129) == 70,
-    ];
-    all_so(&rt, &seen);
+    ])
 }
 
 #[test]
-fn counts_stay_at_their_end(rt: HostRuntime) {
-    let seen = [
+fn counts_stay_at_their_end() -> Result<(), Fail> {
+    all_so(&[
         raised_done(0) == 1,
         raised_done(0xFFFF_FFFE) == 0xFFFF_FFFF,
         raised_done(0xFFFF_FFFF) == 0xFFFF_FFFF,
         taken_done(1) == 0,
         taken_done(0xFFFF_FFFF) == 0xFFFF_FFFF,
-    ];
-    all_so(&rt, &seen);
+    ])
 }
 
 #[test]
-fn words_stand_one_class_behind_the_other(rt: HostRuntime) {
+fn words_stand_one_class_behind_the_other() -> Result<(), Fail> {
     let of_tasks = [
         task_at(0) == 1,
         task_at(255) + 1 == entry_at(0, 0),
@@ -49,7 +48,7 @@ fn words_stand_one_class_behind_the_other(rt: HostRuntime) {
         flag_at(255, 1) + 1 == mark_at(0),
         mark_at(255) + 1 == head_at(0),
     ];
-    all_so(&rt, &of_tasks);
+    all_so(&of_tasks)?;
     let of_conditions = [
         head_at(383) + 1 == cond_at(Watch::Plain { cond: 0 }),
         cond_at(Watch::Done { cell: 0 }) == 1985,
@@ -57,7 +56,7 @@ fn words_stand_one_class_behind_the_other(rt: HostRuntime) {
         cond_at(Watch::Var { var: 127, old: 5 }) + 1 == tally_at(0),
         tally_at(127) + 1 == cell_at(0, 0),
     ];
-    all_so(&rt, &of_conditions);
+    all_so(&of_conditions)?;
     let of_pipes_and_heads = [
         cell_at(7, 1023) + 1 == claim_at(0, 0),
         claim_at(7, 1) + 1 == member_at(0, 0),
@@ -66,7 +65,7 @@ fn words_stand_one_class_behind_the_other(rt: HostRuntime) {
         next_at(383) + 1 == serving_at(0),
         serving_at(383) == 16_016,
     ];
-    all_so(&rt, &of_pipes_and_heads);
+    all_so(&of_pipes_and_heads)
 }
 
 /// Whether a place is one: none is not.
@@ -78,10 +77,10 @@ pub(crate) fn is_at(place: Option<u64>, wanted: u64) -> bool {
 }
 
 #[test]
-fn adds_wear_out_at_the_ends_of_the_places(rt: HostRuntime) {
+fn adds_wear_out_at_the_ends_of_the_places() -> Result<(), Fail> {
     let middle = 1 << 39;
     let end = 1 << 40;
-    let seen = [
+    all_so(&[
         is_at(front_place(None), middle + (1 << 38)),
         front_place(Some(middle)).is_none(),
         is_at(front_place(Some(middle + 1)), middle),
@@ -93,8 +92,7 @@ fn adds_wear_out_at_the_ends_of_the_places(rt: HostRuntime) {
         is_at(priority_place(None), 1 << 38),
         priority_place(Some(middle - 2)).is_none(),
         is_at(priority_place(Some(middle - 4)), middle - 2),
-    ];
-    all_so(&rt, &seen);
+    ])
 }
 
 /// Whether a task with this word is put asleep, and leaves this of it.
@@ -116,14 +114,13 @@ fn wakes(word: u64, wanted: u64) -> bool {
 }
 
 #[test]
-fn signals_wake_the_states_that_admit_them(rt: HostRuntime) {
-    let seen = [
+fn signals_wake_the_states_that_admit_them() -> Result<(), Fail> {
+    all_so(&[
         sleeps(0x1_0002, 0x2),
         stays(0x3_0001, 0x3_0000),
         sleeps(0x3_0102, 0x2_0102),
         stays(0x7_0102, 0x7_0000),
         wakes(0x2, 0x1_0000),
         raised(TaskWord(0x1_0000), true).0 == 0x7_0000,
-    ];
-    all_so(&rt, &seen);
+    ])
 }

@@ -1,7 +1,6 @@
 //! What tasks do in threads of their own that are let go then.
 
-ghost use Rattle.std.specs.Prelude.{◌≡◌};
-ghost use Rattle.wq_head.specs.Readied.{IsReadyToCall};
+ghost use Rattle.head_tests.specs.Ready.{IsReadyIn};
 
 use crate::heads::pages::{sleep_for, wake_once};
 use crate::heads::sleepers::{set_and_wake, wait_once};
@@ -25,8 +24,7 @@ pub(crate) enum Errand {
 
 /// A task does it.
 fn run<R: Wait>(rt: &R, domain: &Domain, task: Task, errand: Errand) -> u32
-    requires of { task.domain ≡ domain.now }
-    requires ready { IsReadyToCall task }
+    requires ready { IsReadyIn domain.now task }
 {
     match errand {
         Errand::Waits => u32::from(wait_once(rt, domain, task)),
@@ -44,17 +42,16 @@ pub(crate) fn run_two<R: Threads + Wait + Sync>(
     second: Task,
     errands: (Errand, Errand),
 ) -> (u32, u32)
-    requires of { (first.domain ≡ domain.now) × (second.domain ≡ domain.now) }
-    requires ready { IsReadyToCall first × IsReadyToCall second }
+    requires ready { IsReadyIn domain.now first × IsReadyIn domain.now second }
 {
     let (own, other) = errands;
     thread::join(
         rt,
         move || -> u32
-            requires { (first.domain ≡ domain.now) × IsReadyToCall first }
+            requires { IsReadyIn domain.now first }
         { run(rt, domain, first, own) },
         move || -> u32
-            requires { (second.domain ≡ domain.now) × IsReadyToCall second }
+            requires { IsReadyIn domain.now second }
         { run(rt, domain, second, other) },
     )
 }
@@ -68,20 +65,16 @@ pub(crate) fn run_four<R: Threads + Wait + Sync>(
     own: Errand,
     others: Errand,
 ) -> ((u32, u32), (u32, u32))
-    requires of { (firsts.0.domain ≡ domain.now) × ((firsts.1.domain ≡ domain.now)
-        × ((seconds.0.domain ≡ domain.now) × (seconds.1.domain ≡ domain.now))) }
-    requires ready { IsReadyToCall firsts.0 × (IsReadyToCall firsts.1
-        × (IsReadyToCall seconds.0 × IsReadyToCall seconds.1)) }
+    requires firsts { IsReadyIn domain.now firsts.0 × IsReadyIn domain.now firsts.1 }
+    requires seconds { IsReadyIn domain.now seconds.0 × IsReadyIn domain.now seconds.1 }
 {
     thread::join(
         rt,
         move || -> (u32, u32)
-            requires { (firsts.0.domain ≡ domain.now) × ((firsts.1.domain ≡ domain.now)
-                × (IsReadyToCall firsts.0 × IsReadyToCall firsts.1)) }
+            requires { IsReadyIn domain.now firsts.0 × IsReadyIn domain.now firsts.1 }
         { run_two(rt, domain, firsts.0, firsts.1, (own, others)) },
         move || -> (u32, u32)
-            requires { (seconds.0.domain ≡ domain.now) × ((seconds.1.domain ≡ domain.now)
-                × (IsReadyToCall seconds.0 × IsReadyToCall seconds.1)) }
+            requires { IsReadyIn domain.now seconds.0 × IsReadyIn domain.now seconds.1 }
         { run_two(rt, domain, seconds.0, seconds.1, (others, others)) },
     )
 }

@@ -4,10 +4,11 @@
 ghost use Rattle.std.specs.Prelude.{◌≡◌};
 ghost use Rattle.wait_model.specs.declared.layout.TheConstants.{FIRST_PLAIN_HEAD};
 ghost use Rattle.wait_model.specs.declared.watches.Kind.TheVariants as kind;
-ghost use Rattle.wait_rule.specs.Says.{IsClean, IsUp, RestsIn};
+ghost use Rattle.wait_rule.specs.Says.{IsUp, RestsIn};
 ghost use Rattle.wq_head.specs.Holds.{IsHolding};
 ghost use Rattle.head_tests.specs.Leaving.{HasEntry, HasLeft, IsBack, StandsQueued};
-ghost use Rattle.wq_head.specs.Readied.{IsPlainKind, IsReadyToCall};
+ghost use Rattle.wq_head.specs.Readied.{IsPlainKind};
+ghost use Rattle.head_tests.specs.Ready.{IsReadyIn};
 
 use crate::scenes::{Joined, want_joined};
 use std::process::Abort;
@@ -59,7 +60,7 @@ fn sleep<R: Wait>(rt: &R, domain: &Domain, task: &mut Task, kind: Kind) -> Sleep
     schedule(rt, domain, task)
 }
 
-/// Takes the own entry off, if it is still queued.
+/// Takes the own entry off, if it is still queued, as one of kind `Default` is: no other task takes off such an entry.
 fn take_off(domain: &Domain, task: &mut Task, kind: Kind)
     requires of { task.old.domain ≡ domain.now }
     requires up { IsUp task.old }
@@ -70,24 +71,13 @@ fn take_off(domain: &Domain, task: &mut Task, kind: Kind)
 {
     let who = task.number();
     let word = entry_load(domain, task, who, 0);
-    match entry_of(word.0) {
-        None => {}
-        Some(_) => remove(domain, task, who, 0),
+    match kind {
+        Kind::Default => remove(domain, task, who, 0),
+        _ => match entry_of(word.0) {
+            None => {}
+            Some(_) => remove(domain, task, who, 0),
+        },
     }
-}
-
-/// Takes the own entry of kind `Default` off. It is still queued, since no other task takes off such an entry.
-fn take_default(domain: &Domain, task: &mut Task)
-    requires of { task.old.domain ≡ domain.now }
-    requires up { IsUp task.old }
-    requires held { IsHolding task.old }
-    requires at { task.old.at ≡ FIRST_PLAIN_HEAD }
-    requires entry { HasEntry task.old kind.Default }
-    ensures { HasLeft task.old task.new }
-{
-    let who = task.number();
-    entry_load(domain, task, who, 0);
-    remove(domain, task, who, 0);
 }
 
 /// Leaves the queue.
@@ -98,17 +88,6 @@ fn leave<R: Wait>(rt: &R, domain: &Domain, task: &mut Task, kind: Kind)
 {
     lock(rt, domain, task, FIRST_PLAIN_HEAD);
     take_off(domain, task, kind);
-    unlock(rt, domain, task, false);
-}
-
-/// Leaves the queue with an entry of kind `Default`.
-fn leave_default<R: Wait>(rt: &R, domain: &Domain, task: &mut Task)
-    requires of { task.old.domain ≡ domain.now }
-    requires back { IsBack task.old kind.Default }
-    ensures rests { RestsIn domain.now task.new }
-{
-    lock(rt, domain, task, FIRST_PLAIN_HEAD);
-    take_default(domain, task);
     unlock(rt, domain, task, false);
 }
 
@@ -135,8 +114,7 @@ fn set_and_wake<R: Wait>(rt: &R, domain: &Domain, task: &mut Task) -> u32
 
 /// Wakes all who wait for condition 0, by a task that has nothing queued.
 fn wake_all<R: Wait>(rt: &R, domain: &Domain, task: &mut Task) -> u32
-    requires of { task.old.domain ≡ domain.now }
-    requires ready { IsReadyToCall task.old }
+    requires ready { IsReadyIn domain.now task.old }
     ensures of { task.new.domain ≡ domain.now }
     ensures up { IsUp task.new }
 {
@@ -144,61 +122,25 @@ fn wake_all<R: Wait>(rt: &R, domain: &Domain, task: &mut Task) -> u32
     wake(rt, domain, task, watch, Mode::Normal, 0).woken
 }
 
-/// A waiter queues its entry, and another task wakes it before it sleeps.
-fn wait_and_wake<R: Abort + Wait>(
-    rt: &R,
-    domain: &Domain,
-    task: &mut Task,
-    waiter: &mut Task,
-    kind: Kind,
-) -> [bool; 2]
-    requires of { (task.old.domain ≡ domain.now) × (waiter.old.domain ≡ domain.now) }
-    requires ready { IsReadyToCall task.old }
-    requires clean { IsClean waiter.old }
-    requires kind { IsPlainKind kind }
-    ensures of { (task.new.domain ≡ domain.now) × (waiter.new.domain ≡ domain.now) }
-    ensures up { IsUp task.new }
-    ensures back { IsBack waiter.new kind }
-{
-    queue_own(rt, domain, waiter, kind);
-    prepare(domain, waiter, kind);
-    let woken = wake_all(rt, domain, task);
-    let slept = sleep(rt, domain, waiter, kind);
-    [woken == 1, matches!(slept, Sleep::Stay)]
-}
-
-/// It leaves the queue then, and is joined.
+/// A waiter queues its entry, and another task wakes it before it sleeps. It leaves the queue then, and is joined.
 pub(crate) fn woken_leaves<R: Abort + Wait>(
     rt: &R,
     domain: &Domain,
     task: &mut Task,
     mut waiter: Task,
+    kind: Kind,
 ) -> [bool; 2]
-    requires of { (task.old.domain ≡ domain.now) × (waiter.domain ≡ domain.now) }
-    requires ready { IsReadyToCall task.old }
-    requires clean { IsClean waiter }
+    requires ready { IsReadyIn domain.now task.old }
+    requires rests { RestsIn domain.now waiter }
+    requires kind { IsPlainKind kind }
 {
-    let seen = wait_and_wake(rt, domain, task, &mut waiter, Kind::Autoremove);
-    leave(rt, domain, &mut waiter, Kind::Autoremove);
+    queue_own(rt, domain, &mut waiter, kind);
+    prepare(domain, &mut waiter, kind);
+    let woken = wake_all(rt, domain, task);
+    let slept = sleep(rt, domain, &mut waiter, kind);
+    leave(rt, domain, &mut waiter, kind);
     task.join(domain, waiter);
-    seen
-}
-
-/// It does so with an entry that stays, which it takes off itself.
-pub(crate) fn woken_leaves_default<R: Abort + Wait>(
-    rt: &R,
-    domain: &Domain,
-    task: &mut Task,
-    mut waiter: Task,
-) -> [bool; 2]
-    requires of { (task.old.domain ≡ domain.now) × (waiter.domain ≡ domain.now) }
-    requires ready { IsReadyToCall task.old }
-    requires clean { IsClean waiter }
-{
-    let seen = wait_and_wake(rt, domain, task, &mut waiter, Kind::Default);
-    leave_default(rt, domain, &mut waiter);
-    task.join(domain, waiter);
-    seen
+    [woken == 1, matches!(slept, Sleep::Stay)]
 }
 
 /// A waiter wakes others, leaves the queue and is joined: whether it woke nobody.
@@ -208,22 +150,22 @@ pub(crate) fn waiter_wakes<R: Abort + Wait>(
     task: &mut Task,
     mut waiter: Task,
 ) -> bool
-    requires of { (task.old.domain ≡ domain.now) × (waiter.domain ≡ domain.now) }
+    requires of { task.old.domain ≡ domain.now }
     requires up { IsUp task.old }
-    requires clean { IsClean waiter }
+    requires rests { RestsIn domain.now waiter }
 {
     queue_own(rt, domain, &mut waiter, Kind::Default);
     let woken = wake_with_entry(rt, domain, &mut waiter);
-    leave_default(rt, domain, &mut waiter);
+    leave(rt, domain, &mut waiter, Kind::Default);
     task.join(domain, waiter);
     woken == 0
 }
 
 /// A waker sets the condition, wakes all and is joined: whether it woke nobody.
 pub(crate) fn waker_ends<R: Wait>(rt: &R, domain: &Domain, task: &mut Task, mut waker: Task) -> bool
-    requires of { (task.old.domain ≡ domain.now) × (waker.domain ≡ domain.now) }
+    requires of { task.old.domain ≡ domain.now }
     requires up { IsUp task.old }
-    requires clean { IsClean waker }
+    requires rests { RestsIn domain.now waker }
 {
     let woken = set_and_wake(rt, domain, &mut waker);
     task.join(domain, waker);

@@ -1,7 +1,6 @@
 //! The list of a head's members.
 
-ghost use Rattle.std.specs.Prelude.{◌≡◌};
-ghost use Rattle.wq_head.specs.Readied.{IsReadyToCall, IsUpAndFree};
+ghost use Rattle.head_tests.specs.Ready.{IsFreeIn, IsReadyIn};
 
 use crate::heads::strangers::queue_for;
 use crate::heads::waiting::queue_own;
@@ -25,8 +24,7 @@ fn is_entry_of(member: Member, who: u8) -> bool {
 
 /// Whether a hold shows that the head has these two members, in their order.
 fn shows_two<R: Wait>(rt: &R, domain: &Domain, task: &mut Task, first: u8, second: u8) -> bool
-    requires of { task.old.domain ≡ domain.now }
-    requires there { IsUpAndFree task.old }
+    requires there { IsFreeIn domain.now task.old }
 {
     let mut list = Members::new();
     lock(rt, domain, task, FIRST_PLAIN_HEAD);
@@ -42,8 +40,7 @@ pub(crate) fn queues_two<R: Wait>(
     task: &mut Task,
     other: &mut Task,
 ) -> [bool; 3]
-    requires of { (task.old.domain ≡ domain.now) × (other.old.domain ≡ domain.now) }
-    requires ready { IsReadyToCall task.old × IsReadyToCall other.old }
+    requires ready { IsReadyIn domain.now task.old × IsReadyIn domain.now other.old }
 {
     let watch = Watch::Plain { cond: 0 };
     [

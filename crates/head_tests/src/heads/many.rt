@@ -1,7 +1,6 @@
 //! New tasks that queue their entries for condition 0.
 
-ghost use Rattle.std.specs.Prelude.{◌≡◌};
-ghost use Rattle.wq_head.specs.Readied.{IsReadyToCall};
+ghost use Rattle.head_tests.specs.Ready.{IsReadyIn};
 
 use crate::heads::waiting::queue_own;
 use std::sync::Wait;
@@ -11,10 +10,8 @@ use wait_rule::{Domain, Task};
 
 /// So many new tasks queue their entries, and stay awake: false where there is no number or no place left.
 pub(crate) fn queue_many<R: Wait>(rt: &R, domain: &Domain, task: &mut Task, count: u8) -> bool
-    requires of { task.old.domain ≡ domain.now }
-    requires ready { IsReadyToCall task.old }
-    ensures of { task.new.domain ≡ domain.now }
-    ensures ready { IsReadyToCall task.new }
+    requires ready { IsReadyIn domain.now task.old }
+    ensures ready { IsReadyIn domain.now task.new }
 {
     for _ in 0..count {
         let Ok(mut other) = task.fork(domain, 0) else {

@@ -4,15 +4,14 @@
 ghost use Rattle.std.specs.Prelude.{◌≡◌, ◌<◌};
 ghost use Rattle.wait_model.specs.declared.layout.TheConstants.{BIT_WORDS};
 ghost use Rattle.wait_model.specs.Tasks.{IsState};
-ghost use Rattle.wq_head.specs.Readied.{IsUpAndIdle, IsReadyToCall, IsUpAndFree};
+ghost use Rattle.wq_head.specs.Readied.{IsUpAndIdle};
+ghost use Rattle.head_tests.specs.Ready.{IsFreeIn, IsReadyIn};
 
 use crate::heads::errands::{Errand, run_two};
 use crate::heads::scripts::Did;
 use crate::heads::sleepers::sees_queued;
 use crate::heads::strangers::{wake_for, wakes};
 use crate::scenes::{Batch, want_often};
-use crate::wants::another;
-use std::process::Abort;
 use std::sync::Wait;
 use std::test::Fail;
 use std::thread;
@@ -40,12 +39,10 @@ pub(crate) fn queue_page<R: Wait>(
     page: u8,
     state: u32,
 ) -> bool
-    requires of { task.old.domain ≡ domain.now }
-    requires ready { IsReadyToCall task.old }
+    requires ready { IsReadyIn domain.now task.old }
     requires page { page < BIT_WORDS }
     requires state { IsState state }
-    ensures of { task.new.domain ≡ domain.now }
-    ensures there { IsUpAndFree task.new }
+    ensures there { IsFreeIn domain.now task.new }
 {
     lock(rt, domain, task, head_of(Watch::Bit { word: page, bit: 0 }));
     let queued = add_for_page(domain, task, page).is_ok();
@@ -56,8 +53,7 @@ pub(crate) fn queue_page<R: Wait>(
 
 /// Whether the own entry is off, and the own flag word tells that a page was taken for the task.
 fn was_handed(domain: &Domain, task: &mut Task) -> bool
-    requires of { task.old.domain ≡ domain.now }
-    requires there { IsUpAndFree task.old }
+    requires there { IsFreeIn domain.now task.old }
 {
     let number = task.number();
     let queued = entry_load(domain, task, number, 0).queued();
@@ -73,12 +69,10 @@ pub(crate) fn hands_to<R: Wait>(
     mode: Mode,
     state: u32,
 ) -> bool
-    requires of { task.old.domain ≡ domain.now }
-    requires ready { IsReadyToCall task.old }
+    requires ready { IsReadyIn domain.now task.old }
     requires page { page < BIT_WORDS }
     requires state { IsState state }
-    ensures of { task.new.domain ≡ domain.now }
-    ensures ready { IsReadyToCall task.new }
+    ensures ready { IsReadyIn domain.now task.new }
 {
     match task.fork(domain, 0) {
         Ok(mut other) => {
@@ -99,8 +93,7 @@ pub(crate) fn hands_to<R: Wait>(
 
 /// Sleeps once its entry for page 11 is queued: true where the page was handed over to it as it was woken.
 pub(crate) fn sleep_for<R: Wait>(rt: &R, domain: &Domain, mut task: Task) -> bool
-    requires of { task.domain ≡ domain.now }
-    requires ready { IsReadyToCall task }
+    requires ready { IsReadyIn domain.now task }
 {
     if !queue_page(rt, domain, &mut task, 11, UNINTERRUPTIBLE) {
         return false;
@@ -124,10 +117,8 @@ fn look_for<R: Wait>(rt: &R, domain: &Domain, task: &mut Task, who: u8)
 
 /// A new task looks so.
 fn other_looks<R: Wait>(rt: &R, domain: &Domain, task: &mut Task, who: u8)
-    requires of { task.old.domain ≡ domain.now }
-    requires ready { IsReadyToCall task.old }
-    ensures of { task.new.domain ≡ domain.now }
-    ensures ready { IsReadyToCall task.new }
+    requires ready { IsReadyIn domain.now task.old }
+    ensures ready { IsReadyIn domain.now task.new }
 {
     if let Ok(mut looker) = task.fork(domain, 0) {
         look_for(rt, domain, &mut looker, who);
@@ -143,8 +134,7 @@ pub(crate) fn wake_once<R: Wait>(
     who: u8,
     yields: u32,
 ) -> bool
-    requires of { task.domain ≡ domain.now }
-    requires ready { IsReadyToCall task }
+    requires ready { IsReadyIn domain.now task }
 {
     other_looks(rt, domain, &mut task, who);
     yield_often(yields);
@@ -155,16 +145,17 @@ pub(crate) fn wake_once<R: Wait>(
 
 /// A new task sleeps for the page, and another one hands it over after so many yields: whether the first was told, and
 /// one was woken.
-pub(crate) fn hand_to_sleeper<R: Abort + Threads + Wait + Sync>(
+pub(crate) fn hand_to_sleeper<R: Threads + Wait + Sync>(
     rt: &R,
     domain: &Domain,
     mut task: Task,
     yields: u32,
 ) -> [bool; 2]
-    requires of { task.domain ≡ domain.now }
-    requires ready { IsReadyToCall task }
+    requires ready { IsReadyIn domain.now task }
 {
-    let sleeper = another(rt, domain, &mut task);
+    let Ok(sleeper) = task.fork(domain, 0) else {
+        return [false; 2];
+    };
     let who = sleeper.number();
     let errands = (Errand::Sleeps, Errand::Hands { who, yields });
     let (told, woken) = run_two(rt, domain, sleeper, task, errands);

@@ -1,10 +1,10 @@
 //! Scripts at heads: what new tasks do there one after the other, and what is to be seen of it.
 
-ghost use Rattle.std.specs.Prelude.{◌≡◌, ◌<◌};
+ghost use Rattle.std.specs.Prelude.{◌<◌};
 ghost use Rattle.wait_model.specs.declared.layout.TheConstants.{BIT_WORDS};
 ghost use Rattle.wait_model.specs.Tasks.{IsState};
-ghost use Rattle.wq_head.specs.Readied.{IsReadyToCall};
 ghost use Rattle.wq_head.specs.Walks.{IsFull};
+ghost use Rattle.head_tests.specs.Ready.{IsReadyIn};
 
 use crate::heads::many::queue_many;
 use crate::heads::pages::{hands_to, queue_page};
@@ -151,8 +151,7 @@ fn have_one_head() -> bool {
 
 /// Whether a row of a new task goes as it says.
 fn does<R: Wait>(rt: &R, domain: &Domain, task: &mut Task, deed: Deed) -> bool
-    requires of { task.old.domain ≡ domain.now }
-    requires ready { IsReadyToCall task.old }
+    requires ready { IsReadyIn domain.now task.old }
 {
     match deed {
         Deed::Queues { exclusive, asleep } => {
@@ -191,10 +190,8 @@ fn does<R: Wait>(rt: &R, domain: &Domain, task: &mut Task, deed: Deed) -> bool
 
 /// Whether a row goes as it says: what it says of several new tasks, or of one.
 fn goes<R: Wait>(rt: &R, domain: &Domain, task: &mut Task, deed: Deed) -> bool
-    requires of { task.old.domain ≡ domain.now }
-    requires ready { IsReadyToCall task.old }
-    ensures of { task.new.domain ≡ domain.now }
-    ensures ready { IsReadyToCall task.new }
+    requires ready { IsReadyIn domain.now task.old }
+    ensures ready { IsReadyIn domain.now task.new }
 {
     match deed {
         Deed::QueuesMany(count) => queue_many(rt, domain, task, count),
@@ -210,8 +207,7 @@ fn goes<R: Wait>(rt: &R, domain: &Domain, task: &mut Task, deed: Deed) -> bool
 
 /// Plays a script.
 pub(crate) fn play<R: Abort + Wait>(rt: &R, domain: &Domain, mut task: Task, case: &Case)
-    requires of { task.domain ≡ domain.now }
-    requires ready { IsReadyToCall task }
+    requires ready { IsReadyIn domain.now task }
 {
     let mut at: u64 = 0;
     for deed in case.script {

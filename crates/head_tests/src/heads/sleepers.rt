@@ -2,18 +2,18 @@
 //! in Domains whose tasks park at once when they are put asleep.
 
 ghost use Rattle.std.specs.Prelude.{◌≡◌};
-ghost use Rattle.wq_head.specs.Readied.{IsUpAndIdle, IsReadyToCall, IsUpAndFree};
+ghost use Rattle.wq_head.specs.Readied.{IsUpAndIdle};
+ghost use Rattle.head_tests.specs.Ready.{IsFreeIn, IsReadyIn};
 
 use crate::heads::errands::{Errand, run_four};
 use crate::heads::waiting::{count_members, leave, queue_own};
 use crate::scenes::{Batch, want_often};
-use crate::wants::{all_so, another};
-use std::process::Abort;
 use std::sync::Wait;
 use std::test::Fail;
 use std::thread;
 use std::thread::Threads;
 use test_tasks::late::yield_often;
+use test_tasks::wants::all_so;
 use wait_model::layout::{RUNNING, UNINTERRUPTIBLE};
 use wait_model::watches::{Kind, Mode, Watch};
 use wait_rule::queues::{cond_load, entry_load, publish};
@@ -26,10 +26,8 @@ const ROUNDS: u32 = 300;
 
 /// Sleeps where the condition is not set yet.
 fn sleep_unless_set<R: Wait>(rt: &R, domain: &Domain, task: &mut Task)
-    requires of { task.old.domain ≡ domain.now }
-    requires there { IsUpAndFree task.old }
-    ensures of { task.new.domain ≡ domain.now }
-    ensures there { IsUpAndFree task.new }
+    requires there { IsFreeIn domain.now task.old }
+    ensures there { IsFreeIn domain.now task.new }
 {
     if cond_load(domain, task, Watch::Plain { cond: 0 }) == 0 {
         schedule(rt, domain, task);
@@ -38,8 +36,7 @@ fn sleep_unless_set<R: Wait>(rt: &R, domain: &Domain, task: &mut Task)
 
 /// Waits once for the condition. True where its entry was still queued then: no wake has taken it off.
 pub(crate) fn wait_once<R: Wait>(rt: &R, domain: &Domain, mut task: Task) -> bool
-    requires of { task.domain ≡ domain.now }
-    requires ready { IsReadyToCall task }
+    requires ready { IsReadyIn domain.now task }
 {
     if !queue_own(
         rt,
@@ -93,8 +90,7 @@ pub(crate) fn set_and_wake<R: Wait>(
     looks: u32,
     yields: u32,
 ) -> u32
-    requires of { task.domain ≡ domain.now }
-    requires ready { IsReadyToCall task }
+    requires ready { IsReadyIn domain.now task }
 {
     let watch = Watch::Plain { cond: 0 };
     look_for_three(domain, &mut task, looks);
@@ -106,20 +102,19 @@ pub(crate) fn set_and_wake<R: Wait>(
 /// Three tasks wait, and a fourth one sets the condition and wakes them, each in a thread of its own. Each entry is taken
 /// off by the wake that woke its task, or by its task: whatever the order of the steps, no wakeup is lost, and no entry and
 /// no bookmark is left anywhere.
-pub(crate) fn walk_over_three<R: Abort + Threads + Wait + Sync>(
+pub(crate) fn walk_over_three<R: Threads + Wait + Sync>(
     rt: &R,
     domain: &Domain,
     mut task: Task,
     looks: u32,
     yields: u32,
-)
-    requires of { task.domain ≡ domain.now }
-    requires ready { IsReadyToCall task }
+) -> Result<(), Fail>
+    requires ready { IsReadyIn domain.now task }
 {
-    let first = another(rt, domain, &mut task);
-    let second = another(rt, domain, &mut task);
-    let third = another(rt, domain, &mut task);
-    let mut last = another(rt, domain, &mut task);
+    let first = task.fork(domain, 0)?;
+    let second = task.fork(domain, 0)?;
+    let third = task.fork(domain, 0)?;
+    let mut last = task.fork(domain, 0)?;
     let ((woken, one), (two, three)) = run_four(
         rt,
         domain,
@@ -129,12 +124,11 @@ pub(crate) fn walk_over_three<R: Abort + Threads + Wait + Sync>(
         Errand::Waits,
     );
     let left = one.saturating_add(two).saturating_add(three);
-    let seen = [
+    all_so(&[
         woken <= 3,
         woken.saturating_add(left) == 3,
         count_members(domain, &mut last) == (0, 0),
-    ];
-    all_so(rt, &seen);
+    ])
 }
 
 /// The condition is set at once, which may be before the tasks wait for it, while they do, or when they sleep.

@@ -1,10 +1,9 @@
 //! Tasks that queue their entries for a bit or a variable, and wakes.
 
-ghost use Rattle.std.specs.Prelude.{◌≡◌};
 ghost use Rattle.wait_model.specs.declared.watches.Kind.TheVariants as kinds;
 ghost use Rattle.wq_head.specs.Adds.{IsFor, IsForBit};
-ghost use Rattle.wq_head.specs.Readied.{IsReadyToCall, IsUpAndFree};
 ghost use Rattle.wq_head.specs.Walks.{IsFull};
+ghost use Rattle.head_tests.specs.Ready.{IsFreeIn, IsReadyIn};
 
 use crate::heads::scripts::{Did, is_done};
 use std::sync::Wait;
@@ -26,12 +25,10 @@ pub(crate) fn queue_for<R: Wait>(
     kind: Kind,
     watch: Watch,
 ) -> bool
-    requires of { task.old.domain ≡ domain.now }
-    requires ready { IsReadyToCall task.old }
+    requires ready { IsReadyIn domain.now task.old }
     requires suits { IsFor watch kind }
     requires full { IsFull watch }
-    ensures of { task.new.domain ≡ domain.now }
-    ensures there { IsUpAndFree task.new }
+    ensures there { IsFreeIn domain.now task.new }
 {
     lock(rt, domain, task, head_of(watch));
     let queued = add_front(domain, task, 0, kind, watch).is_ok();
@@ -42,12 +39,10 @@ pub(crate) fn queue_for<R: Wait>(
 
 /// Queues an exclusive entry for a bit, and stores a state in the same hold.
 pub(crate) fn queue_lock<R: Wait>(rt: &R, domain: &Domain, task: &mut Task, watch: Watch) -> bool
-    requires of { task.old.domain ≡ domain.now }
-    requires ready { IsReadyToCall task.old }
+    requires ready { IsReadyIn domain.now task.old }
     requires suits { IsForBit watch kinds.Bit }
     requires full { IsFull watch }
-    ensures of { task.new.domain ≡ domain.now }
-    ensures there { IsUpAndFree task.new }
+    ensures there { IsFreeIn domain.now task.new }
 {
     lock(rt, domain, task, head_of(watch));
     let queued = add_for_bit(domain, task, watch).is_ok();
@@ -65,8 +60,7 @@ pub(crate) fn wake_for<R: Wait>(
     mode: Mode,
     count: u32,
 ) -> Walked
-    requires of { task.old.domain ≡ domain.now }
-    requires ready { IsReadyToCall task.old }
+    requires ready { IsReadyIn domain.now task.old }
     requires full { IsFull watch }
 {
     wake(rt, domain, task, watch, mode, count)
@@ -82,11 +76,9 @@ pub(crate) fn wakes<R: Wait>(
     count: u32,
     did: Did,
 ) -> bool
-    requires of { task.old.domain ≡ domain.now }
-    requires ready { IsReadyToCall task.old }
+    requires ready { IsReadyIn domain.now task.old }
     requires full { IsFull watch }
-    ensures of { task.new.domain ≡ domain.now }
-    ensures ready { IsReadyToCall task.new }
+    ensures ready { IsReadyIn domain.now task.new }
 {
     match task.fork(domain, 0) {
         Ok(mut other) => is_done(wake_for(rt, domain, &mut other, watch, mode, count), did),

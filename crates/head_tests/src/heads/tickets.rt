@@ -1,15 +1,14 @@
 //! Holds of one head by four threads.
 
-ghost use Rattle.std.specs.Prelude.{◌≡◌};
 ghost use Rattle.wait_rule.specs.Says.{RestsIn};
 
 use crate::meetings::Part;
-use crate::wants::all_so;
 use std::sync::Wait;
 use std::test::Fail;
 use std::thread::Threads;
 use test_tasks::meetings::four_meet;
 use test_tasks::often::Often;
+use test_tasks::wants::all_so;
 use wait_model::layout::FIRST_PLAIN_HEAD;
 use wait_rule::queues::{draw, serving_load};
 use wait_rule::{Domain, Task};
@@ -51,7 +50,6 @@ fn four_hold<R: Threads + Wait + Sync>(
 fn tickets(rt: HostRuntime) -> Result<(), Fail> {
     let (domain, task) = Domain::new(rt.alloc())?;
     let (went, seen) = four_hold(&rt, &domain, task);
-    all_so(&rt, &went);
-    all_so(&rt, &seen);
-    Ok(())
+    all_so(&went)?;
+    all_so(&seen)
 }

@@ -1,13 +1,10 @@
 //! Locks and wakes hold by hold, by who waits for no lock.
 
-ghost use Rattle.std.specs.Prelude.{◌≡◌};
-ghost use Rattle.wq_head.specs.Readied.{IsReadyToCall};
+ghost use Rattle.head_tests.specs.Ready.{IsReadyIn};
 
 use crate::heads::many::queue_many;
 use crate::heads::waiting::queue_own;
 use crate::scenes::{Alone, Beside, want, want_beside};
-use crate::wants::another;
-use std::process::Abort;
 use std::sync::Wait;
 use std::test::Fail;
 use test_tasks::ends::{end_both, rouses_only};
@@ -30,8 +27,7 @@ pub(crate) fn waits_its_turn<R: Wait>(
     task: &mut Task,
     other: &mut Task,
 ) -> bool
-    requires of { (task.old.domain ≡ domain.now) × (other.old.domain ≡ domain.now) }
-    requires ready { IsReadyToCall task.old × IsReadyToCall other.old }
+    requires ready { IsReadyIn domain.now task.old × IsReadyIn domain.now other.old }
 {
     lock(rt, domain, other, FIRST_PLAIN_HEAD);
     let ticket = draw_lock(domain, task, FIRST_PLAIN_HEAD);
@@ -69,8 +65,7 @@ pub(crate) fn wake_waits<R: Wait>(
     task: &mut Task,
     other: &mut Task,
 ) -> bool
-    requires of { (task.old.domain ≡ domain.now) × (other.old.domain ≡ domain.now) }
-    requires ready { IsReadyToCall task.old × IsReadyToCall other.old }
+    requires ready { IsReadyIn domain.now task.old × IsReadyIn domain.now other.old }
 {
     lock(rt, domain, other, FIRST_PLAIN_HEAD);
     let (mut rousing, mut passing) = (Rousing::new(), Passing::none());
@@ -111,8 +106,7 @@ fn is_over(turn: WakeTurn) -> bool {
 
 /// A wake over 66 entries of tasks that are awake breaks once, and is over with the next hold.
 pub(crate) fn wake_over_66<R: Wait>(rt: &R, domain: &Domain, task: &mut Task) -> bool
-    requires of { task.old.domain ≡ domain.now }
-    requires ready { IsReadyToCall task.old }
+    requires ready { IsReadyIn domain.now task.old }
 {
     if !queue_many(rt, domain, task, 66) {
         return false;
@@ -141,8 +135,7 @@ fn broken_between_two_holds(rt: HostRuntime) -> Result<(), Fail> {
 
 /// Queues the entries of two tasks, of which the first goes to sleep.
 fn queue_both<R: Wait>(rt: &R, domain: &Domain, sleeper: &mut Task, other: &mut Task) -> bool
-    requires of { (sleeper.old.domain ≡ domain.now) × (other.old.domain ≡ domain.now) }
-    requires ready { IsReadyToCall sleeper.old × IsReadyToCall other.old }
+    requires ready { IsReadyIn domain.now sleeper.old × IsReadyIn domain.now other.old }
 {
     let kind = Kind::Autoremove;
     let first = queue_own(rt, domain, sleeper, kind, false, INTERRUPTIBLE);
@@ -161,8 +154,7 @@ fn woke_two(turn: WakeTurn) -> bool {
 
 /// Whether the wake of two tasks in one turn names this one alone, to be roused.
 fn names_alone(domain: &Domain, task: &mut Task, who: u8) -> bool
-    requires of { task.old.domain ≡ domain.now }
-    requires ready { IsReadyToCall task.old }
+    requires ready { IsReadyIn domain.now task.old }
 {
     let (mut rousing, mut passing) = (Rousing::new(), Passing::none());
     let mut run = WakeRun::new(Watch::Plain { cond: 0 }, Mode::Normal, 0);
@@ -180,12 +172,12 @@ fn names_alone(domain: &Domain, task: &mut Task, who: u8) -> bool
 }
 
 /// A wake of two tasks, one of which was put asleep: the turn names that one, to be roused.
-pub(crate) fn wake_sleeper<R: Abort + Wait>(rt: &R, domain: &Domain, task: &mut Task) -> bool
-    requires of { task.old.domain ≡ domain.now }
-    requires ready { IsReadyToCall task.old }
+pub(crate) fn wake_sleeper<R: Wait>(rt: &R, domain: &Domain, task: &mut Task) -> bool
+    requires ready { IsReadyIn domain.now task.old }
 {
-    let mut sleeper = another(rt, domain, task);
-    let mut other = another(rt, domain, task);
+    let (Ok(mut sleeper), Ok(mut other)) = (task.fork(domain, 0), task.fork(domain, 0)) else {
+        return false;
+    };
     let slept = queue_both(rt, domain, &mut sleeper, &mut other);
     slept && names_alone(domain, task, sleeper.number())
 }

@@ -6,7 +6,8 @@ ghost use Rattle.wait_model.specs.declared.layout.TheConstants.{FIRST_PLAIN_HEAD
 ghost use Rattle.wait_model.specs.Tasks.{IsState};
 ghost use Rattle.wait_rule.specs.Says.{IsUp};
 ghost use Rattle.wq_head.specs.Holds.{IsHolding};
-ghost use Rattle.wq_head.specs.Readied.{IsPlainKind, IsReadyToCall, IsUpAndFree, StaysInHold};
+ghost use Rattle.wq_head.specs.Readied.{IsPlainKind, StaysInHold};
+ghost use Rattle.head_tests.specs.Ready.{IsFreeIn, IsReadyIn};
 
 use std::sync::Wait;
 use wait_model::heads::head_of;
@@ -28,12 +29,10 @@ pub(crate) fn queue_own<R: Wait>(
     exclusive: bool,
     state: u32,
 ) -> bool
-    requires of { task.old.domain ≡ domain.now }
-    requires ready { IsReadyToCall task.old }
+    requires ready { IsReadyIn domain.now task.old }
     requires kind { IsPlainKind kind }
     requires state { IsState state }
-    ensures of { task.new.domain ≡ domain.now }
-    ensures there { IsUpAndFree task.new }
+    ensures there { IsFreeIn domain.now task.new }
 {
     lock(rt, domain, task, FIRST_PLAIN_HEAD);
     let watch = Watch::Plain { cond: 0 };
@@ -68,10 +67,8 @@ fn take_off(domain: &Domain, task: &mut Task) -> bool
 
 /// Takes the own entry off where it is still queued: true where it was.
 pub(crate) fn leave<R: Wait>(rt: &R, domain: &Domain, task: &mut Task) -> bool
-    requires of { task.old.domain ≡ domain.now }
-    requires there { IsUpAndFree task.old }
-    ensures of { task.new.domain ≡ domain.now }
-    ensures there { IsUpAndFree task.new }
+    requires there { IsFreeIn domain.now task.old }
+    ensures there { IsFreeIn domain.now task.new }
 {
     lock(rt, domain, task, FIRST_PLAIN_HEAD);
     let queued = take_off(domain, task);

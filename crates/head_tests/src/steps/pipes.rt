@@ -5,10 +5,9 @@ ghost use Rattle.wait_model.specs.declared.layout.TheConstants.{PIPES, PIPE_CELL
 ghost use Rattle.wait_rule.specs.Passing.{HasPassedCells, IsReady, OthersStay};
 ghost use Rattle.wait_rule.specs.Pipes.{IsCell, end_word, read_end, write_end};
 ghost use Rattle.wait_rule.specs.PipeSays.{reading, writing};
-ghost use Rattle.wait_rule.specs.Says.{IsClean, IsUp};
+ghost use Rattle.wait_rule.specs.Says.{IsUp};
 
 use crate::scenes::{Beside, Seen, want_all, want_beside};
-use crate::wants::another;
 use std::sync::Wait;
 use std::test::Fail;
 use std::thread;
@@ -228,7 +227,7 @@ fn two_pass<R: Threads + Wait + Sync>(rt: &R, domain: &Domain, one: Task, two: T
 #[test]
 fn cells_come_in_order(rt: HostRuntime) -> Result<(), Fail> {
     let (domain, mut task) = Domain::new(rt.alloc())?;
-    let two = another(&rt, &domain, &mut task);
+    let two = task.fork(&domain, 0)?;
     assert!(rt; two_pass(&rt, &domain, task, two) == PASSED);
     Ok(())
 }

@@ -6,7 +6,7 @@ ghost use Rattle.wait_model.specs.declared.layout.TheConstants.{FIRST_SIMPLE_HEA
 ghost use Rattle.wait_model.specs.Tasks.{IsState};
 ghost use Rattle.wait_rule.specs.declared.journal.Item.TheVariants as item;
 ghost use Rattle.wait_rule.specs.Asked.{nothing_asked};
-ghost use Rattle.wait_rule.specs.Says.{IsClean, IsFree, IsUp, RestsIn, added, asks_for, newcomer, noted};
+ghost use Rattle.wait_rule.specs.Says.{IsFree, IsUp, RestsIn, added, asks_for, newcomer, noted};
 ghost use Rattle.wait_rule.specs.Queues.{IsTurn, IsLocked, IsAgreed, MayRise};
 ghost use Rattle.wait_rule.specs.LookCounts.{Looked};
 ghost use Rattle.wait_rule.specs.Stays.{Carries, StaysOwing, unchanged};
@@ -141,8 +141,7 @@ fn see_no_bits(domain: &Domain, task: &mut Task, head: u16) -> bool
 
 /// Whether one sees no bit of a head before another task holds it, and while it does.
 pub(crate) fn sees_no_bits_twice(domain: &Domain, task: &mut Task, other: &mut Task) -> bool
-    requires of { (task.old.domain ≡ domain.now) × (other.old.domain ≡ domain.now) }
-    requires clean { IsClean task.old × IsClean other.old }
+    requires rest { RestsIn domain.now task.old × RestsIn domain.now other.old }
 {
     publish(domain, task, Watch::Plain { cond: 0 }, 1);
     let before = see_no_bits(domain, task, FIRST_PLAIN_HEAD);
@@ -190,8 +189,7 @@ fn conditions_alone(rt: HostRuntime) -> Result<(), Fail> {
 
 /// Whether another task's ticket is served once the own lock is given back and the serve made, and not before.
 pub(crate) fn serves_second(domain: &Domain, task: &mut Task, other: &mut Task) -> bool
-    requires of { (task.old.domain ≡ domain.now) × (other.old.domain ≡ domain.now) }
-    requires clean { IsClean task.old × IsClean other.old }
+    requires rest { RestsIn domain.now task.old × RestsIn domain.now other.old }
 {
     if !take_turn(domain, task, FIRST_DONE_HEAD - 1) {
         return false;

@@ -10,7 +10,7 @@ add_front-added-requires-clause-head g c = first_head
 
 pub add_front-added-requires-clause-out : goal.add_front-added-requires-clause-out
 add_front-added-requires-clause-out g c = locked_stored c.args.task.now c.lock.new.task FIRST_PLAIN_HEAD None
-    c.lock.ensures.locked _ (c.requires.ready.out _)
+    c.lock.ensures.locked _ (c.requires.ready.may.out _)
 
 pub add_tail-added-requires-clause-head : goal.add_tail-added-requires-clause-head
 add_tail-added-requires-clause-head g c = first_head
@@ -18,7 +18,7 @@ add_tail-added-requires-clause-head g c = first_head
 
 pub add_tail-added-requires-clause-out : goal.add_tail-added-requires-clause-out
 add_tail-added-requires-clause-out g c = locked_stored c.args.task.now c.lock.new.task FIRST_PLAIN_HEAD None
-    c.lock.ensures.locked _ (c.requires.ready.out _)
+    c.lock.ensures.locked _ (c.requires.ready.may.out _)
 
 pub add_priority-added-requires-clause-head : goal.add_priority-added-requires-clause-head
 add_priority-added-requires-clause-head g c = first_head
@@ -26,7 +26,7 @@ add_priority-added-requires-clause-head g c = first_head
 
 pub add_priority-added-requires-clause-out : goal.add_priority-added-requires-clause-out
 add_priority-added-requires-clause-out g c = locked_stored c.args.task.now c.lock.new.task FIRST_PLAIN_HEAD None
-    c.lock.ensures.locked _ (c.requires.ready.out _)
+    c.lock.ensures.locked _ (c.requires.ready.may.out _)
 
 pub add_priority-added-requires-clause-few : goal.add_priority-added-requires-clause-few
 add_priority-added-requires-clause-few g c = subst (λ (n : ℕ). n < PRIORITY_TASKS)

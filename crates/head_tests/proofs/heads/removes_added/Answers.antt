@@ -14,7 +14,7 @@ add_front-requires-clause-head g c = first_head
 
 pub add_front-requires-clause-out : goal.add_front-requires-clause-out
 add_front-requires-clause-out g c = locked_stored c.args.task.now c.lock.new.task FIRST_PLAIN_HEAD None
-    c.lock.ensures.locked _ (c.requires.ready.out _)
+    c.lock.ensures.locked _ (c.requires.ready.may.out _)
 
 pub remove-requires-clause-may : goal.remove-requires-clause-may
 remove-requires-clause-may g c = may_remove IsFrontPlace c.lock.new.task c.add_front.new.task 0

@@ -1,4 +1,4 @@
-use Rattle.std.proofs.Common.{None}
+use Rattle.std.proofs.Common.{None, rules}
 use Rattle.wait_model.specs.declared.layout.TheConstants.{FIRST_PLAIN_HEAD}
 use Rattle.wait_rule.specs.Queues.{walk_of_hold}
 use Rattle.head_tests.proofs.LeavingTask.{entry_locked, left_clean}
@@ -11,7 +11,11 @@ take_off-requires-clause-entry g c =
     (walk_of_hold FIRST_PLAIN_HEAD None) l.locked l.stays l.settled
     c.requires.back.queued.entry
 
-pub returns-clause-clean : goal.returns-clause-clean
-returns-clause-clean g c = left_clean c.args.task.now c.lock.new.task c.take_off.new.task c.unlock.new.task c.args.kind
-    c.requires.back
-    c.lock.ensures.stays c.take_off.ensures c.unlock.ensures.unlocked
+pub returns : goal.returns
+returns g c = record {
+  rests = record {
+    of = search rules;
+    clean = left_clean c.args.task.now c.lock.new.task c.take_off.new.task c.unlock.new.task c.args.kind c.requires.back
+        c.lock.ensures.stays c.take_off.ensures c.unlock.ensures.unlocked;
+  };
+}

@@ -12,9 +12,9 @@ add_tail-requires-clause-head g c = first_head
 
 pub add_tail-requires-clause-out : goal.add_tail-requires-clause-out
 add_tail-requires-clause-out g c = locked_stored c.args.task.now c.lock.new.task FIRST_PLAIN_HEAD
-    (walk_of_hold FIRST_PLAIN_HEAD None) c.lock.ensures.locked _ (c.requires.clean.settled.unqueued _)
+    (walk_of_hold FIRST_PLAIN_HEAD None) c.lock.ensures.locked _ (c.requires.rests.clean.settled.unqueued _)
 
 pub returns-clause-queued : goal.returns-clause-queued
 returns-clause-queued g c = entry_added c.args.task.now c.lock.new.task c.add_tail.new.task c.unlock.new.task
     c.args.kind
-    c.requires.clean c.lock.ensures.stays c.lock.ensures.settled c.in-Ok.ensures.queued c.unlock.ensures.unlocked
+    c.requires.rests.clean c.lock.ensures.stays c.lock.ensures.settled c.in-Ok.ensures.queued c.unlock.ensures.unlocked

@@ -1,6 +1,5 @@
-use Rattle.std.proofs.Common.{◌≡◌}
-use Rattle.wq_head.specs.Readied.{IsReadyToCall}
+use Rattle.head_tests.specs.Ready.{IsReadyIn}
 use Rattle.head_tests.proofs.heads.many.queue_many.Given as goal
 
 abbrev pub invariant-loop : goal.invariant-loop
-invariant-loop g l = (l.task.domain ≡ l.domain) × IsReadyToCall l.task
+invariant-loop g l = IsReadyIn l.domain l.task

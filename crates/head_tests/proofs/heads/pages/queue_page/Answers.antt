@@ -19,11 +19,11 @@ add_for_page-requires-clause-head g c = sym c.head_of.ensures
 
 pub add_for_page-requires-clause-out : goal.add_for_page-requires-clause-out
 add_for_page-requires-clause-out g c = locked_stored c.args.task.now c.lock.new.task c.head_of.result
-    (walk_of_hold c.head_of.result None) c.lock.ensures.locked _ (c.requires.ready.out _)
+    (walk_of_hold c.head_of.result None) c.lock.ensures.locked _ (c.requires.ready.may.out _)
 
 pub add_for_page-requires-clause-asks : goal.add_for_page-requires-clause-asks
 add_for_page-requires-clause-asks g c = locked_asks c.args.task.now c.lock.new.task c.head_of.result
-    (walk_of_hold c.head_of.result None) c.lock.ensures.locked c.requires.ready.asks
+    (walk_of_hold c.head_of.result None) c.lock.ensures.locked c.requires.ready.may.asks
 
 pub unlock-requires-clause-permits : goal.unlock-requires-clause-permits
 unlock-requires-clause-permits g c = walk_owes (page c.args.page) c.set_state.new.task (c.requires.page, omega arith)

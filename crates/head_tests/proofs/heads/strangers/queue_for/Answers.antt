@@ -18,7 +18,7 @@ add_front-requires-clause-head g c = sym c.head_of.ensures
 
 pub add_front-requires-clause-out : goal.add_front-requires-clause-out
 add_front-requires-clause-out g c = locked_stored c.args.task.now c.lock.new.task c.head_of.result
-    (walk_of_hold c.head_of.result None) c.lock.ensures.locked _ (c.requires.ready.out _)
+    (walk_of_hold c.head_of.result None) c.lock.ensures.locked _ (c.requires.ready.may.out _)
 
 pub unlock-requires-clause-permits : goal.unlock-requires-clause-permits
 unlock-requires-clause-permits g c = walk_owes c.args.watch c.set_state.new.task c.requires.full
@@ -26,4 +26,4 @@ unlock-requires-clause-permits g c = walk_owes c.args.watch c.set_state.new.task
 
 pub add_front-requires-clause-asks : goal.add_front-requires-clause-asks
 add_front-requires-clause-asks g c woken = locked_asks c.args.task.now c.lock.new.task c.head_of.result
-    (walk_of_hold c.head_of.result None) c.lock.ensures.locked c.requires.ready.asks
+    (walk_of_hold c.head_of.result None) c.lock.ensures.locked c.requires.ready.may.asks

@@ -17,7 +17,7 @@ add_for_bit-requires-clause-head g c = sym c.head_of.ensures
 
 pub add_for_bit-requires-clause-out : goal.add_for_bit-requires-clause-out
 add_for_bit-requires-clause-out g c = locked_stored c.args.task.now c.lock.new.task c.head_of.result
-    (walk_of_hold c.head_of.result None) c.lock.ensures.locked _ (c.requires.ready.out _)
+    (walk_of_hold c.head_of.result None) c.lock.ensures.locked _ (c.requires.ready.may.out _)
 
 pub unlock-requires-clause-permits : goal.unlock-requires-clause-permits
 unlock-requires-clause-permits g c = walk_owes c.args.watch c.set_state.new.task c.requires.full

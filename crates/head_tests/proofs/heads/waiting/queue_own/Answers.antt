@@ -11,8 +11,8 @@ add_tail-requires-clause-head g c = first_head
 
 pub add_tail-requires-clause-out : goal.add_tail-requires-clause-out
 add_tail-requires-clause-out g c = locked_stored c.args.task.now c.lock.new.task FIRST_PLAIN_HEAD None
-    c.lock.ensures.locked _ (c.requires.ready.out _)
+    c.lock.ensures.locked _ (c.requires.ready.may.out _)
 
 pub add_tail-requires-clause-asks : goal.add_tail-requires-clause-asks
 add_tail-requires-clause-asks g c woken = locked_asks c.args.task.now c.lock.new.task FIRST_PLAIN_HEAD None
-    c.lock.ensures.locked c.requires.ready.asks
+    c.lock.ensures.locked c.requires.ready.may.asks

@@ -1,6 +1,6 @@
 //! Calls by a task that owes nothing before and after each.
 
-ghost use Rattle.std.specs.Prelude.{◌≡◌, ◌<◌};
+ghost use Rattle.std.specs.Prelude.{◌<◌};
 ghost use Rattle.wait_model.specs.declared.layout.TheConstants.{FIRST_SIMPLE, WORD_BITS};
 ghost use Rattle.wait_rule.specs.Says.{RestsIn};
 

@@ -1,6 +1,5 @@
 //! Calls of completions, by a task that has left no entry at any.
 
-ghost use Rattle.std.specs.Prelude.{◌≡◌};
 ghost use Rattle.wait_rule.specs.Says.{RestsIn};
 
 use crate::names::Call;

@@ -12,15 +12,9 @@ cd "$(dirname "$0")/.."
 
 named=" $* "
 failed=0
-often() {
-    case $named in
-        "  " | *" $1 "*) ;;
-        *) return 0 ;;
-    esac
-    case $2 in
-        *"${ONLY:-}"*) ;;
-        *) return 0 ;;
-    esac
+
+# Runs a test of a crate.
+runs() {
     good=$(seq "${RUNS:-20}" | xargs -P "${JOBS:-1}" -I RUN \
         sh -c 'timeout "$1" "$2" "$3" >/dev/null 2>&1 && echo well || :' RUN "${LIMIT:-60}" \
         "crates/$1/out/$1_tests" "$2" | wc -l)
@@ -28,47 +22,41 @@ often() {
     [ "$good" -eq "${RUNS:-20}" ] || failed=1
 }
 
-often head_tests steps::parks::sleeps_end
-often head_tests steps::parks::three_hand_on
-often head_tests heads::sleepers::walk_over_arrivals
-often head_tests heads::sleepers::walk_over_sleepers
-often head_tests heads::tickets::tickets
-often wait_tests events::threads::waiters_are_joined
-often wait_tests events::selected::selected_not_lost
-often wait_tests events::flags::hearers_are_joined
-often examples_threads tests::values_in_their_order
-often examples_threads tests::statuses_to_their_users
-often wait_tests completions::threads::permits
-often wait_tests completions::leave_threads::left_waiters_lose_no_permit
-often wait_tests leaves::threads::left_waiter_passes_its_wake
-often wait_tests leaves::threads::waits_are_left_from_their_sleep
-often wait_tests leaves::holders::left_taker_keeps_nothing_from_others
-often wait_tests leaves::pool::pool_is_shut_down_with_each_job_done_once
-often wait_tests simple_queues::threads::waiters_are_joined
-often wait_tests bits::lock_threads::two_take_one_bit_in_turn
-often wait_tests bits::tallies::two_add_to_one_tally
-often wait_tests pages::threads::two_take_one_page_in_turn
-often wait_tests pages::threads::tally_of_four
-often wait_tests variables::threads::waiter_sees_each_value
-often futex_tests monitors::monitor
-often futex_tests tallies::tally_of_four
-often futex_tests races::signal_races_with_a_wake
-often poll_tests rounds::each_set_is_seen
-often poll_tests rounds::signal_ends_it_only_where_neither_is_set
-often sem_tests five::four_permits
-often sem_tests rounds::signal_beside_an_up_loses_and_doubles_no_permit
-often sem_tests rounds::left_down_beside_an_up_and_a_second_one_gets_it_or_leaves_it
-often user_tests pipes::full_pieces::full_pieces_pass_one_by_one
-often user_tests pipes::streams::bytes_come_out_as_they_went_in
-often copy_tests tests::faults::source_fails
-often copy_tests tests::faults::sink_fails
-often copy_tests tests::faults::workers_are_killed
-often copy_tests tests::faults::plain_signals_change_nothing
-often copy_tests tests::meeting::workers_meet_in_their_first_turns
-often merge_tests tests::tables::merges_in_rounds
-often merge_tests tests::faults::sources_fail
-often merge_tests tests::late::whichever_has_bytes_first
-often user_tests users::strangers::strangers_on_one_head
-often user_tests users::rounds::simple_waiter_is_joined
-often user_tests users::rounds::waiter_for_one_is_joined
+# Runs those of a crate's tests that are asked for.
+often() {
+    crate=$1
+    shift
+    case $named in
+        "  " | *" $crate "*) ;;
+        *) return 0 ;;
+    esac
+    for name in "$@"; do
+        case $name in
+            *"${ONLY:-}"*) runs "$crate" "$name" ;;
+        esac
+    done
+}
+
+often head_tests steps::parks::sleeps_end steps::parks::three_hand_on heads::sleepers::walk_over_arrivals \
+    heads::sleepers::walk_over_sleepers heads::tickets::tickets
+often wait_tests events::threads::waiters_are_joined events::selected::selected_not_lost \
+    events::flags::hearers_are_joined completions::threads::permits \
+    completions::leave_threads::left_waiters_lose_no_permit leaves::threads::left_waiter_passes_its_wake \
+    leaves::threads::waits_are_left_from_their_sleep leaves::holders::left_taker_keeps_nothing_from_others \
+    leaves::pool::pool_is_shut_down_with_each_job_done_once simple_queues::threads::waiters_are_joined \
+    bits::lock_threads::two_take_one_bit_in_turn bits::tallies::two_add_to_one_tally \
+    pages::threads::two_take_one_page_in_turn pages::threads::tally_of_four \
+    variables::threads::waiter_sees_each_value
+often examples_threads tests::values_in_their_order tests::statuses_to_their_users
+often futex_tests monitors::monitor tallies::tally_of_four races::signal_races_with_a_wake
+often poll_tests rounds::each_set_is_seen rounds::signal_ends_it_only_where_neither_is_set
+often sem_tests five::four_permits rounds::signal_beside_an_up_loses_and_doubles_no_permit \
+    rounds::left_down_beside_an_up_and_a_second_one_gets_it_or_leaves_it
+often user_tests pipes::full_pieces::full_pieces_pass_one_by_one \
+    pipes::streams::bytes_come_out_as_they_went_in users::strangers::strangers_on_one_head \
+    users::rounds::simple_waiter_is_joined users::rounds::waiter_for_one_is_joined
+often copy_tests tests::faults::source_fails tests::faults::sink_fails tests::faults::workers_are_killed \
+    tests::faults::plain_signals_change_nothing tests::meeting::workers_meet_in_their_first_turns
+often merge_tests tests::tables::merges_in_rounds tests::faults::sources_fail \
+    tests::late::whichever_has_bytes_first
 exit "$failed"

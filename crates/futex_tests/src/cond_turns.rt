@@ -123,10 +123,9 @@ fn go_on(domain: &Domain, task: &mut Task, last: CondTurn) -> CondTurn
     ensures waiting { IsTestedCond task.new result }
 {
     match last {
-        Turn::Again(stage) => stretch(domain, task, stage),
-        Turn::Locked(stage) => stretch(domain, task, stage),
+        Turn::Again(stage) | Turn::Locked(stage) => stretch(domain, task, stage),
         Turn::Asleep(stage) => look(domain, task, stage),
-        Turn::Done(end) => Turn::Done(end),
+        Turn::Done(_) => last,
     }
 }
 
@@ -138,18 +137,16 @@ fn go_out(domain: &Domain, task: &mut Task, last: CondTurn) -> CondTurn
     ensures waiting { IsCondUnderWay tested_cond task.new result }
 {
     match last {
-        Turn::Again(stage) => stretch_out(domain, task, stage),
-        Turn::Locked(stage) => stretch_out(domain, task, stage),
+        Turn::Again(stage) | Turn::Locked(stage) => stretch_out(domain, task, stage),
         Turn::Asleep(stage) => look(domain, task, stage),
-        Turn::Done(end) => Turn::Done(end),
+        Turn::Done(_) => last,
     }
 }
 
 /// Whether a wait has drawn no ticket there, so that another task of the thread can wait for the lock of a head.
 fn is_free(at: CondTurn) -> bool {
     match at {
-        Turn::Again(stage) => is_free_at(stage),
-        Turn::Locked(stage) => is_free_at(stage),
+        Turn::Again(stage) | Turn::Locked(stage) => is_free_at(stage),
         _ => true,
     }
 }
@@ -213,12 +210,12 @@ fn reach<R: Wait>(
     stretches: u32,
     rouses: bool,
 ) -> CondTurn
-    requires of { (task.old.domain ≡ domain.now) × (other.old.domain ≡ domain.now) }
-    requires clean { IsClean task.old × IsClean other.old }
+    requires rests { RestsIn domain.now task.old }
     requires holds { HoldsMutex task.old 6 }
-    ensures of { (task.new.domain ≡ domain.now) × (other.new.domain ≡ domain.now) }
+    requires other { RestsIn domain.now other.old }
+    ensures of { task.new.domain ≡ domain.now }
     ensures waiting { IsTestedCond task.new result }
-    ensures clean { IsClean other.new }
+    ensures other { RestsIn domain.now other.new }
 {
     let who = task.number();
     let mut at = begin(task);
@@ -237,12 +234,12 @@ fn end_by_signal<R: Wait>(
     other: &mut Task,
     last: CondTurn,
 ) -> CondTurn
-    requires of { (task.old.domain ≡ domain.now) × (other.old.domain ≡ domain.now) }
+    requires of { task.old.domain ≡ domain.now }
     requires waiting { IsTestedCond task.old last }
-    requires clean { IsClean other.old }
-    ensures of { (task.new.domain ≡ domain.now) × (other.new.domain ≡ domain.now) }
+    requires other { RestsIn domain.now other.old }
+    ensures of { task.new.domain ≡ domain.now }
     ensures waiting { IsTestedCond task.new result }
-    ensures clean { IsClean other.new }
+    ensures other { RestsIn domain.now other.new }
 {
     let mut at = last;
     let mut told = None;
@@ -256,11 +253,11 @@ fn end_by_signal<R: Wait>(
 /// Whether a task has the mutex, which another one cannot take, and no entry is queued for the condition variable: a
 /// broadcast would pass over that of a task that is awake.
 fn has_it_alone<R: Wait>(rt: &R, domain: &Domain, task: &mut Task, other: &mut Task) -> bool
-    requires of { (task.old.domain ≡ domain.now) × (other.old.domain ≡ domain.now) }
+    requires of { task.old.domain ≡ domain.now }
     requires up { IsUp task.old }
     requires idle { IsIdle task.old }
     requires holds { HoldsMutex task.old 6 }
-    requires clean { IsClean other.old }
+    requires other { RestsIn domain.now other.old }
 {
     let free = mutex_try(domain, other, LOCK);
     let woken = cond_broadcast(rt, domain, task, COND, LOCK);
@@ -276,9 +273,9 @@ fn is_well_over<R: Wait>(
     other: &mut Task,
     at: CondTurn,
 ) -> bool
-    requires of { (task.old.domain ≡ domain.now) × (other.old.domain ≡ domain.now) }
+    requires of { task.old.domain ≡ domain.now }
     requires waiting { IsTestedCond task.old at }
-    requires clean { IsClean other.old }
+    requires other { RestsIn domain.now other.old }
 {
     match at {
         Turn::Done(CondStop::Over(answer)) => match end_cond_wait(task, WAIT, answer) {
@@ -473,8 +470,7 @@ fn play_two<R: Wait>(
     number: &AtomicU64,
     seed: u32,
 ) -> (bool, bool)
-    requires of { (first.old.domain ≡ domain.now) × (second.old.domain ≡ domain.now) }
-    requires clean { IsClean first.old × IsClean second.old }
+    requires rest { RestsIn domain.now first.old × RestsIn domain.now second.old }
 {
     let mut ats = (None, None);
     let mut seed = seed;
@@ -517,12 +513,12 @@ fn leave_at<R: Wait>(
     other: &mut Task,
     last: CondTurn,
 ) -> CondTurn
-    requires of { (task.old.domain ≡ domain.now) × (other.old.domain ≡ domain.now) }
+    requires of { task.old.domain ≡ domain.now }
     requires waiting { IsCondUnderWay tested_cond task.old last }
-    requires clean { IsClean other.old }
-    ensures of { (task.new.domain ≡ domain.now) × (other.new.domain ≡ domain.now) }
+    requires other { RestsIn domain.now other.old }
+    ensures of { task.new.domain ≡ domain.now }
     ensures waiting { IsCondUnderWay tested_cond task.new result }
-    ensures clean { IsClean other.new }
+    ensures other { RestsIn domain.now other.new }
 {
     let who = task.number();
     wake_task(rt, domain, other, who, Mode::Normal);
@@ -567,9 +563,9 @@ fn is_well_left<R: Wait>(
     at: CondTurn,
     over: bool,
 ) -> bool
-    requires of { (task.old.domain ≡ domain.now) × (other.old.domain ≡ domain.now) }
+    requires of { task.old.domain ≡ domain.now }
     requires waiting { IsCondUnderWay tested_cond task.old at }
-    requires clean { IsClean other.old }
+    requires other { RestsIn domain.now other.old }
 {
     match at {
         Turn::Done(CondStop::Over(answer)) => {
@@ -578,23 +574,6 @@ fn is_well_left<R: Wait>(
         }
         _ => false,
     }
-}
-
-/// Signals at this moment of the wait where it is to, and can: what came of it.
-fn signal_if<R: Wait>(
-    rt: &R,
-    domain: &Domain,
-    task: &mut Task,
-    moment: CondTurn,
-    is_to: bool,
-) -> Option<u32>
-    requires rests { RestsIn domain.now task.old }
-    ensures rests { RestsIn domain.now task.new }
-{
-    if !is_to {
-        return None;
-    }
-    signal_at(rt, domain, task, moment, None)
 }
 
 /// A wait goes on by so many stretches, and is left there, behind a signal or without one: whether it ends as is due.
@@ -607,12 +586,16 @@ fn leave_after<R: Wait>(
     rouses: bool,
     signals: bool,
 ) -> bool
-    requires of { (task.old.domain ≡ domain.now) × (other.old.domain ≡ domain.now) }
-    requires clean { IsClean task.old × IsClean other.old }
+    requires rests { RestsIn domain.now task.old }
     requires holds { HoldsMutex task.old 6 }
+    requires other { RestsIn domain.now other.old }
 {
     let at = reach(rt, domain, task, other, stretches, rouses);
-    let told = signal_if(rt, domain, other, at, signals);
+    let told = if signals {
+        signal_at(rt, domain, other, at, None)
+    } else {
+        None
+    };
     let end = leave_at(rt, domain, task, other, at);
     is_well_left(rt, domain, task, other, end, is_to_end(at, told))
 }

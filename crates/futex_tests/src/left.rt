@@ -2,7 +2,7 @@
 //! threads of their own, again and again, in Domains whose tasks park at once when they are put asleep.
 
 ghost use Rattle.std.specs.Prelude.{◌≡◌};
-ghost use Rattle.wait_rule.specs.Says.{IsClean, RestsIn};
+ghost use Rattle.wait_rule.specs.Says.{RestsIn};
 ghost use Rattle.wait_class.specs.Tables.{Lands};
 ghost use Rattle.futex_table.specs.FutexTables.{futex_table};
 
@@ -167,8 +167,7 @@ fn go_on(domain: &Domain, task: &mut Task, run: &mut FutexRun, last: FutexTurn) 
 {
     let mut passing = Passing::none();
     let next = match last {
-        Turn::Again(stage) => stretch(domain, task, run, stage, &mut passing),
-        Turn::Locked(stage) => stretch(domain, task, run, stage, &mut passing),
+        Turn::Again(stage) | Turn::Locked(stage) => stretch(domain, task, run, stage, &mut passing),
         Turn::Asleep(stage) => {
             if woke(domain, task, run, stage) {
                 Turn::Again(stage)
@@ -176,7 +175,7 @@ fn go_on(domain: &Domain, task: &mut Task, run: &mut FutexRun, last: FutexTurn) 
                 Turn::Asleep(stage)
             }
         }
-        Turn::Done(outcome) => Turn::Done(outcome),
+        Turn::Done(_) => last,
     };
     passing.wake(domain);
     passing.end();
@@ -197,8 +196,9 @@ fn leave_at<R: Wait>(
     let mut at = last;
     for _ in rt.forever() {
         match at {
-            Turn::Again(stage) => return leave_futex_wait(rt, domain, task, run, stage),
-            Turn::Locked(stage) => return leave_futex_wait(rt, domain, task, run, stage),
+            Turn::Again(stage) | Turn::Locked(stage) => {
+                return leave_futex_wait(rt, domain, task, run, stage);
+            }
             Turn::Asleep(_) => at = go_on(domain, task, run, at),
             Turn::Done(outcome) => return end_futex_wait_until(task, run, outcome),
         }
@@ -224,10 +224,7 @@ fn leave_after<R: Wait>(
     stretches: u32,
     wakes: bool,
 ) -> bool
-    requires of { task.old.domain ≡ domain.now }
-    requires its { other.old.domain ≡ domain.now }
-    requires clean { IsClean task.old }
-    requires owes { IsClean other.old }
+    requires rest { RestsIn domain.now task.old × RestsIn domain.now other.old }
 {
     let who = task.number();
     let mut run = begin_futex(task, FUTEX, 0, SleepState::Interruptible);

@@ -3,9 +3,7 @@
 
 ghost use Rattle.std.specs.Prelude.{◌≡◌};
 ghost use Rattle.wait_rule.specs.PassedLocks.{PassesNone};
-ghost use Rattle.wait_rule.specs.Queues.{IsIdle};
-ghost use Rattle.wait_rule.specs.Says.{IsClean, IsUp};
-ghost use Rattle.wait_class.specs.Posts.{IsOut};
+ghost use Rattle.wait_rule.specs.Says.{RestsIn};
 ghost use Rattle.wait_class.specs.declared.stages.Turn.TheVariants as turn;
 ghost use Rattle.futex_table.specs.Holding.{HoldsMutex};
 ghost use Rattle.futex_table.specs.LockStretches.{IsLockUnderWay};
@@ -55,8 +53,7 @@ fn is_inside(at: MutexTurn) -> bool {
 /// Whether a lock has drawn no ticket there, so that another task of the thread can wait for the lock of the head.
 fn is_free(at: MutexTurn) -> bool {
     match at {
-        Turn::Again(stage) => is_free_lock(stage),
-        Turn::Locked(stage) => is_free_lock(stage),
+        Turn::Again(stage) | Turn::Locked(stage) => is_free_lock(stage),
         _ => true,
     }
 }
@@ -76,13 +73,7 @@ fn go_on_by(
     ensures waiting { IsLockUnderWay 6 task.new result }
 {
     match last {
-        Turn::Again(stage) => {
-            if asks {
-                return stretch_mutex_lock_out(domain, task, LOCK, stage, passing);
-            }
-            stretch_mutex_lock(domain, task, LOCK, stage, passing)
-        }
-        Turn::Locked(stage) => {
+        Turn::Again(stage) | Turn::Locked(stage) => {
             if asks {
                 return stretch_mutex_lock_out(domain, task, LOCK, stage, passing);
             }
@@ -94,7 +85,7 @@ fn go_on_by(
             }
             Turn::Asleep(stage)
         }
-        Turn::Done(answer) => Turn::Done(answer),
+        Turn::Done(_) => last,
     }
 }
 
@@ -225,8 +216,7 @@ fn play_two<R: Wait>(
     second: &mut Task,
     seed: u32,
 ) -> Sections
-    requires of { (first.old.domain ≡ domain.now) × (second.old.domain ≡ domain.now) }
-    requires clean { IsClean first.old × IsClean second.old }
+    requires rest { RestsIn domain.now first.old × RestsIn domain.now second.old }
 {
     let one = Turn::Again(begin_mutex_lock(first, LOCK));
     let two = Turn::Again(begin_mutex_lock(second, LOCK));
@@ -297,9 +287,8 @@ fn leave_after<R: Wait>(
     stretches: u32,
     gives: bool,
 ) -> bool
-    requires of { (task.old.domain ≡ domain.now) × ((other.old.domain ≡ domain.now)
-        × (waker.old.domain ≡ domain.now)) }
-    requires clean { IsClean task.old × (IsClean other.old × IsClean waker.old) }
+    requires rest { RestsIn domain.now task.old × RestsIn domain.now other.old }
+    requires waker { RestsIn domain.now waker.old }
     requires holds { HoldsMutex other.old 6 }
 {
     let who = task.number();

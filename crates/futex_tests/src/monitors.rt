@@ -1,7 +1,6 @@
 //! Two tasks that hand a number to and fro under one mutex and one condition variable, in threads of their own, again and
 //! again, in Domains whose tasks park at once when they are put asleep.
 
-ghost use Rattle.std.specs.Prelude.{◌≡◌};
 ghost use Rattle.wait_rule.specs.Says.{RestsIn};
 ghost use Rattle.futex_table.specs.Holding.{HoldsMutex};
 

@@ -1,7 +1,6 @@
 //! A signal that races with a wake, in threads of their own, again and again, in Domains whose tasks park at once when
 //! they are put asleep.
 
-ghost use Rattle.std.specs.Prelude.{◌≡◌};
 ghost use Rattle.wait_rule.specs.Says.{RestsIn};
 
 use crate::calls::{sleep, wake_soon};

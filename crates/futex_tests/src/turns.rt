@@ -1,7 +1,6 @@
 //! What the tests on one thread share, in which calls that go on by stretches take turns: whether a call has drawn a
 //! ticket, for which the task of a whole call would wait in vain, and the mutex that is taken before them.
 
-ghost use Rattle.std.specs.Prelude.{◌≡◌};
 ghost use Rattle.wait_rule.specs.Says.{RestsIn};
 ghost use Rattle.futex_table.specs.Holding.{HoldsMutex};
 

@@ -1,6 +1,6 @@
 //! The calls of the tests, each by a task that owes nothing, before it and after it.
 
-ghost use Rattle.std.specs.Prelude.{◌≡◌, ◌<◌, ◌≤◌};
+ghost use Rattle.std.specs.Prelude.{◌<◌, ◌≤◌};
 ghost use Rattle.wait_model.specs.declared.layout.TheConstants.{CLAIMS, FIRST_SIMPLE, VARIABLES};
 ghost use Rattle.wait_rule.specs.Says.{RestsIn};
 ghost use Rattle.poll_wait.specs.Seconds.{IsPolled};

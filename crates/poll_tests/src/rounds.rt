@@ -1,7 +1,7 @@
 //! A task that waits for two conditions, and others that set one each, in threads of their own, again and again, in
 //! Domains whose tasks park at once when they are put asleep.
 
-ghost use Rattle.std.specs.Prelude.{◌≡◌, ◌<◌};
+ghost use Rattle.std.specs.Prelude.{◌<◌};
 ghost use Rattle.wait_rule.specs.Says.{RestsIn};
 
 use crate::calls::{polls, sets, stores};

@@ -3,18 +3,4 @@
 #![tactic(auto)]
 
 #[cfg(test)]
-mod bit_tests;
-#[cfg(test)]
-mod completion_tests;
-#[cfg(test)]
-mod core_tests;
-#[cfg(test)]
-mod drill_tests;
-#[cfg(test)]
-mod lines;
-#[cfg(test)]
-mod page_tests;
-#[cfg(test)]
-mod steps;
-#[cfg(test)]
-mod text_tests;
+mod tests;

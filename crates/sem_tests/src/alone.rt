@@ -1,6 +1,6 @@
 //! One task alone: what each call answers where nobody else is there, as rows of steps.
 
-ghost use Rattle.std.specs.Prelude.{◌≡◌, ◌<◌};
+ghost use Rattle.std.specs.Prelude.{◌<◌};
 ghost use Rattle.wait_model.specs.declared.layout.TheConstants.{COMPLETIONS};
 ghost use Rattle.wait_rule.specs.Says.{RestsIn};
 

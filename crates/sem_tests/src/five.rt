@@ -1,7 +1,7 @@
 //! Five tasks in threads of their own, again and again, in Domains whose tasks park at once when they are put asleep.
 
-ghost use Rattle.std.specs.Prelude.{◌≡◌, ◌≤◌};
-ghost use Rattle.wait_rule.specs.Says.{IsClean, RestsIn};
+ghost use Rattle.std.specs.Prelude.{◌≤◌};
+ghost use Rattle.wait_rule.specs.Says.{RestsIn};
 
 use crate::alone::{gives, tries};
 use crate::rounds::Plays;
@@ -51,13 +51,10 @@ fn four_take<R: Threads + Wait + Sync>(rt: &R, domain: &Domain, mut task: Task) 
             ensures { RestsIn domain.entry.now result.0 }
         { give_four(rt, domain, task) },
         move || -> (((Task, bool), (Task, bool)), ((Task, bool), (Task, bool)))
-            requires { ((one.domain ≡ domain.now) × ((two.domain ≡ domain.now)
-                × ((three.domain ≡ domain.now) × (four.domain ≡ domain.now))))
-                × (IsClean one × (IsClean two × (IsClean three × IsClean four))) }
-            ensures { (((result.0.0.0.domain ≡ domain.entry.now) × (result.0.1.0.domain ≡ domain.entry.now))
-                × ((result.1.0.0.domain ≡ domain.entry.now) × (result.1.1.0.domain ≡ domain.entry.now)))
-                × ((IsClean result.0.0.0 × IsClean result.0.1.0)
-                × (IsClean result.1.0.0 × IsClean result.1.1.0)) }
+            requires { (RestsIn domain.now one × RestsIn domain.now two)
+                × (RestsIn domain.now three × RestsIn domain.now four) }
+            ensures { (RestsIn domain.entry.now result.0.0.0 × RestsIn domain.entry.now result.0.1.0)
+                × (RestsIn domain.entry.now result.1.0.0 × RestsIn domain.entry.now result.1.1.0) }
         { meet_four(rt, domain, (one, two), (three, four), takes, takes) },
     );
     (task, [gave, one.1, two.1, three.1, four.1])

@@ -1,7 +1,7 @@
 //! A `down` by stretches on one thread, which its task leaves once it was woken.
 
 ghost use Rattle.std.specs.Prelude.{◌≡◌};
-ghost use Rattle.wait_rule.specs.Says.{IsClean, RestsIn};
+ghost use Rattle.wait_rule.specs.Says.{RestsIn};
 ghost use Rattle.wait_class.specs.Tables.{IsAsleepAt, IsAt, Lands};
 ghost use Rattle.count_sem.specs.Downs.{down_table};
 ghost use Rattle.count_sem.specs.declared.downs.DownStage.TheVariants as stage;
@@ -74,8 +74,8 @@ fn is_left<R: Abort + Wait>(
     waiter: &mut Task,
     gives: bool,
 ) -> bool
-    requires of { (task.old.domain ≡ domain.now) × (waiter.old.domain ≡ domain.now) }
-    requires clean { IsClean task.old × IsClean waiter.old }
+    requires rests { RestsIn domain.now task.old }
+    requires waiter { RestsIn domain.now waiter.old }
     ensures rests { RestsIn domain.now task.new }
 {
     let mut call = begin_down(waiter, CELL, SleepState::Uninterruptible);

@@ -1,8 +1,7 @@
 //! Tasks that take permits and give them back in threads of their own, again and again, in Domains whose tasks park at
 //! once when they are put asleep; a `down` that a signal ends, or that its task leaves, at each moment.
 
-ghost use Rattle.std.specs.Prelude.{◌≡◌, ◌<◌};
-ghost use Rattle.wait_model.specs.declared.layout.TheConstants.{COMPLETIONS};
+ghost use Rattle.std.specs.Prelude.{◌<◌};
 ghost use Rattle.wait_rule.specs.Says.{RestsIn};
 
 use crate::alone::tries;

@@ -11,5 +11,3 @@ mod meetings;
 mod pipes;
 #[cfg(test)]
 mod users;
-#[cfg(test)]
-mod wants;

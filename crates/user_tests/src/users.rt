@@ -7,14 +7,14 @@ pub(crate) mod strangers;
 mod stretched;
 
 ghost use Rattle.std.specs.Prelude.{◌≡◌};
-ghost use Rattle.wait_rule.specs.Says.{IsClean, RestsIn};
+ghost use Rattle.wait_rule.specs.Says.{RestsIn};
 ghost use Rattle.wq_user.specs.Waiting.{IsWaiting};
 
-use crate::wants::{all_so, another};
 use std::sync::Wait;
 use std::test::Fail;
 use std::thread;
 use std::thread::Threads;
+use test_tasks::wants::{all_so, begin_two};
 use wait_model::tasks::{Sleep, SleepState};
 use wait_model::watches::Kind;
 use wait_rule::{Domain, Task, send_signal};
@@ -46,9 +46,8 @@ fn wake_up<R: Wait>(rt: &R, domain: &Domain, mut task: Task) -> u32
 
 /// A wait and a wake, each in a thread of its own.
 fn both<R: Threads + Wait + Sync>(rt: &R, domain: &Domain, waiter: Task, waker: Task) -> (bool, u32)
-    requires of { (waiter.domain ≡ domain.now) × (waker.domain ≡ domain.now) }
-    requires waiting { IsWaiting waiter }
-    requires clean { IsClean waker }
+    requires waiting { (waiter.domain ≡ domain.now) × IsWaiting waiter }
+    requires rests { RestsIn domain.now waker }
 {
     thread::join(
         rt,
@@ -64,23 +63,20 @@ fn both<R: Threads + Wait + Sync>(rt: &R, domain: &Domain, waiter: Task, waker: 
 /// A task that only holds and wakes is taken in.
 #[test]
 fn holds_and_wakes(rt: HostRuntime) -> Result<(), Fail> {
-    let (domain, mut task) = Domain::new(rt.alloc())?;
-    let mut other = another(&rt, &domain, &mut task);
+    let (domain, mut task, mut other) = begin_two(rt.alloc())?;
     pass(&rt, &domain, &mut other, 256);
     let seen = [
         !look(&rt, &domain, &mut other, 256),
         pass_and_wake(&rt, &domain, &mut other, 256) == 0,
         wake_and_join(&rt, &domain, &mut task, other) == 0,
     ];
-    all_so(&rt, &seen);
-    Ok(())
+    all_so(&seen)
 }
 
 /// A waiter that is woken leaves and is taken in.
 #[test]
 fn waiter_leaves(rt: HostRuntime) -> Result<(), Fail> {
-    let (domain, mut task) = Domain::new(rt.alloc())?;
-    let mut waiter = another(&rt, &domain, &mut task);
+    let (domain, mut task, mut waiter) = begin_two(rt.alloc())?;
     let Ok(()) = queue(&rt, &domain, &mut waiter, Kind::Default) else {
         panic!(rt; "the queue is empty")
     };
@@ -89,7 +85,7 @@ fn waiter_leaves(rt: HostRuntime) -> Result<(), Fail> {
         set_and_wake(&rt, &domain, &mut task) == 1,
         matches!(sleep(&rt, &domain, &mut waiter), Sleep::Stay),
     ];
-    all_so(&rt, &seen);
+    all_so(&seen)?;
     leave(&rt, &domain, &mut waiter);
     task.join(&domain, waiter);
     Ok(())
@@ -98,8 +94,7 @@ fn waiter_leaves(rt: HostRuntime) -> Result<(), Fail> {
 /// A waiter and a waker, each in a thread of its own.
 #[test]
 fn waiter_and_waker(rt: HostRuntime) -> Result<(), Fail> {
-    let (domain, mut task) = Domain::new(rt.alloc())?;
-    let mut waiter = another(&rt, &domain, &mut task);
+    let (domain, mut task, mut waiter) = begin_two(rt.alloc())?;
     let Ok(()) = queue(&rt, &domain, &mut waiter, Kind::Autoremove) else {
         panic!(rt; "the queue is empty")
     };
@@ -112,15 +107,14 @@ fn waiter_and_waker(rt: HostRuntime) -> Result<(), Fail> {
 /// A condition that is set and taken, by two tasks that stay clean, and a wait that is taken in.
 #[test]
 fn condition_is_waited_for(rt: HostRuntime) -> Result<(), Fail> {
-    let (domain, mut task) = Domain::new(rt.alloc())?;
-    let mut other = another(&rt, &domain, &mut task);
+    let (domain, mut task, mut other) = begin_two(rt.alloc())?;
     let seen = [
         set_zero(&rt, &domain, &mut task) == 0,
         wait_for_zero(&rt, &domain, &mut other, SleepState::Interruptible),
         take_zero(&domain, &mut other) == 1,
         set_zero(&rt, &domain, &mut task) == 0,
     ];
-    all_so(&rt, &seen);
+    all_so(&seen)?;
     wait_and_join(&rt, &domain, &mut task, other);
     Ok(())
 }
@@ -128,14 +122,13 @@ fn condition_is_waited_for(rt: HostRuntime) -> Result<(), Fail> {
 /// An exclusive wait whose condition is set, and an entry that is added and taken off: the task is taken in after both.
 #[test]
 fn exclusive_waiter_is_joined(rt: HostRuntime) -> Result<(), Fail> {
-    let (domain, mut task) = Domain::new(rt.alloc())?;
-    let mut other = another(&rt, &domain, &mut task);
+    let (domain, mut task, mut other) = begin_two(rt.alloc())?;
     let seen = [
         come_and_go(&rt, &domain, &mut other),
         set_zero(&rt, &domain, &mut task) == 0,
         wait_to_be_selected(&rt, &domain, &mut other, SleepState::Killable),
     ];
-    all_so(&rt, &seen);
+    all_so(&seen)?;
     task.join(&domain, other);
     Ok(())
 }
@@ -143,8 +136,7 @@ fn exclusive_waiter_is_joined(rt: HostRuntime) -> Result<(), Fail> {
 /// A wait by the flag of an entry whose condition is set, and one that a signal ends: the task is taken in after both.
 #[test]
 fn hearer_is_joined(rt: HostRuntime) -> Result<(), Fail> {
-    let (domain, mut task) = Domain::new(rt.alloc())?;
-    let mut other = another(&rt, &domain, &mut task);
+    let (domain, mut task, mut other) = begin_two(rt.alloc())?;
     let who = other.number();
     send_signal(&rt, &domain, &mut task, who, false);
     let seen = [
@@ -152,7 +144,7 @@ fn hearer_is_joined(rt: HostRuntime) -> Result<(), Fail> {
         set_zero(&rt, &domain, &mut task) == 0,
         hear_zero(&rt, &domain, &mut other, SleepState::Killable),
     ];
-    all_so(&rt, &seen);
+    all_so(&seen)?;
     task.join(&domain, other);
     Ok(())
 }
@@ -160,8 +152,7 @@ fn hearer_is_joined(rt: HostRuntime) -> Result<(), Fail> {
 /// Waits by parts for what is set, and such that a signal ends in their sleep: the task is taken in after all.
 #[test]
 fn waiter_by_parts_is_joined(rt: HostRuntime) -> Result<(), Fail> {
-    let (domain, mut task) = Domain::new(rt.alloc())?;
-    let mut other = another(&rt, &domain, &mut task);
+    let (domain, mut task, mut other) = begin_two(rt.alloc())?;
     let who = other.number();
     send_signal(&rt, &domain, &mut task, who, true);
     let seen = [
@@ -171,7 +162,7 @@ fn waiter_by_parts_is_joined(rt: HostRuntime) -> Result<(), Fail> {
         wait_by_default(&rt, &domain, &mut other),
         wait_by_parts(&rt, &domain, &mut other, SleepState::Interruptible),
     ];
-    all_so(&rt, &seen);
+    all_so(&seen)?;
     task.join(&domain, other);
     Ok(())
 }

@@ -5,44 +5,37 @@ mod bytes;
 mod plays;
 
 pub(crate) use crate::cases::bytes::{Bytes, Like};
-pub(crate) use crate::cases::plays::{play_all, play_under, plays_script, wants};
+pub(crate) use crate::cases::plays::{play_all, play_under, play_words, plays_script, wants};
 
-/// What fails, by the numbers of the calls: reads of the file `a`, writes of a new file, calls of the folder, reads of
-/// the input, and writes of the output and of the error stream.
-#[derive(Clone, Copy)]
-pub(crate) struct Fails {
-    pub(crate) reads: &'static [u64],
-    pub(crate) writes: &'static [u64],
-    pub(crate) calls: &'static [u64],
-    pub(crate) ins: &'static [u64],
-    pub(crate) outs: &'static [u64],
-    pub(crate) errs: &'static [u64],
+/// What can fail: a read of the file `a`, a write of a new file, a call of the folder, a read of the input, and a write of
+/// the output or of the error stream.
+#[derive(Clone, Copy, PartialEq, Eq)]
+pub(crate) enum Outside {
+    Read,
+    Write,
+    Folder,
+    In,
+    Out,
+    Err,
 }
-
-pub(crate) const NONE: Fails = Fails {
-    reads: &[],
-    writes: &[],
-    calls: &[],
-    ins: &[],
-    outs: &[],
-    errs: &[],
-};
 
 /// What a file is to hold after a run.
 #[derive(Clone, Copy)]
 pub(crate) enum Held {
-    /// There is no such file.
-    Missing,
-    /// Bytes that are like these.
-    Such(Like, Bytes),
-    /// The bytes of two files, those of each in their order.
-    Merged(Bytes, Bytes),
+    /// What it held before; and there is none where there was none.
+    Kept,
+    /// Bytes that are like those of the file `a`.
+    Such(Like),
+    /// The bytes of the files `a` and `b`, those of each in their order.
+    Merged,
     /// A front of those of each.
-    MergedFronts(Bytes, Bytes),
+    MergedFronts,
+    /// Whatever the run has left.
+    Any,
 }
 
-/// A run of the program: its words with the events after them, its input, the files `a` and `b`, and what fails; and
-/// what it is to answer, to write and to leave.
+/// A run of the program: its words with the events after them, its input, the files `a` and `b`, and what fails, by the
+/// numbers of its calls; and what it is to answer, to write and to leave in one file. It keeps the others.
 #[derive(Clone, Copy)]
 pub(crate) struct Case {
     pub(crate) name: &'static str,
@@ -51,12 +44,13 @@ pub(crate) struct Case {
     pub(crate) input: Bytes,
     pub(crate) a: Option<Bytes>,
     pub(crate) b: Option<Bytes>,
-    pub(crate) fails: Fails,
+    pub(crate) fails: &'static [(Outside, u64)],
     pub(crate) status: u8,
     pub(crate) like: Like,
     pub(crate) text: Bytes,
     pub(crate) line: &'static str,
-    pub(crate) left: &'static [(&'static str, Held)],
+    pub(crate) into: &'static str,
+    pub(crate) left: Held,
 }
 
 /// A run with no words, no input and no files, in which nothing fails.
@@ -67,12 +61,13 @@ pub(crate) const RUN: Case = Case {
     input: Bytes::Just(""),
     a: None,
     b: None,
-    fails: NONE,
+    fails: &[],
     status: 0,
     like: Like::All,
     text: Bytes::Just(""),
     line: "",
-    left: &[],
+    into: "b",
+    left: Held::Kept,
 };
 
 pub(crate) const REPLAY: Case = Case {

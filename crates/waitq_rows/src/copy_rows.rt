@@ -1,7 +1,7 @@
 //! Copies through `run`, over a folder in memory.
 
 use crate::cases::{
-    Bytes, Case, Fails, Held, Like, NONE, READ_FAILED, RUN, USAGE, WRITE_FAILED, play_all,
+    Bytes, Case, Held, Like, Outside, READ_FAILED, RUN, USAGE, WRITE_FAILED, play_all, play_words,
 };
 use std::test::Fail;
 
@@ -9,20 +9,20 @@ use std::test::Fail;
 const BYTES: Bytes = Bytes::Hundreds(20_000);
 
 /// A file with all of them, with the first piece of them, and with any front.
-const WHOLE: Held = Held::Such(Like::All, BYTES);
+const WHOLE: Held = Held::Such(Like::All);
 
-const PIECE: Held = Held::Such(Like::Front(4_096), BYTES);
+const PIECE: Held = Held::Such(Like::Front(4_096));
 
-const FRONT: Held = Held::Such(Like::AtMost(20_000), BYTES);
+const FRONT: Held = Held::Such(Like::AtMost(20_000));
 
-const EMPTY: Held = Held::Such(Like::Front(0), BYTES);
+const EMPTY: Held = Held::Such(Like::Front(0));
 
 /// A copy of them, in which nothing fails.
 const COPY: Case = Case {
     words: &["copy", "a", "b"],
     a: Some(BYTES),
     text: Bytes::Just("copied 20000 bytes\nmoved 60000\nwatch 0 20000\nwatch 1 200\nsignals 0\n"),
-    left: &[("b", WHOLE)],
+    left: WHOLE,
     ..RUN
 };
 
@@ -32,45 +32,26 @@ const STOPPED: Case = Case {
     ..COPY
 };
 
-const COPIES: &[Case] = &[
-    Case {
-        name: "a_copy_writes_its_text_and_the_file",
-        left: &[("a", WHOLE), ("b", WHOLE)],
-        ..COPY
-    },
-    Case {
-        name: "copies_of_several_sizes: 0",
-        a: Some(Bytes::Lines("", "x", 0)),
-        text: Bytes::Just("copied 0 bytes\nmoved 0\nwatch 0 0\nwatch 1 0\nsignals 0\n"),
-        left: &[("b", Held::Such(Like::All, Bytes::Lines("", "x", 0)))],
-        ..COPY
-    },
-    Case {
-        name: "copies_of_several_sizes: 1",
-        a: Some(Bytes::Lines("", "x", 1)),
-        text: Bytes::Just("copied 1 bytes\nmoved 3\nwatch 0 1\nwatch 1 0\nsignals 0\n"),
-        left: &[("b", Held::Such(Like::All, Bytes::Lines("", "x", 1)))],
-        ..COPY
-    },
-    Case {
-        name: "copies_of_several_sizes: 7168",
-        a: Some(Bytes::Lines("", "x", 7_168)),
-        text: Bytes::Just("copied 7168 bytes\nmoved 21504\nwatch 0 7168\nwatch 1 0\nsignals 0\n"),
-        left: &[("b", Held::Such(Like::All, Bytes::Lines("", "x", 7_168)))],
-        ..COPY
-    },
-    Case {
-        name: "copies_of_several_sizes: 7169",
-        a: Some(Bytes::Lines("", "x", 7_169)),
-        text: Bytes::Just("copied 7169 bytes\nmoved 21507\nwatch 0 7169\nwatch 1 0\nsignals 0\n"),
-        left: &[("b", Held::Such(Like::All, Bytes::Lines("", "x", 7_169)))],
-        ..COPY
-    },
-];
+/// How many bytes each copy has that is made for its size.
+const SIZES: [u32; 4] = [0, 1, 7_168, 7_169];
 
 #[test]
 fn copies_of_several_sizes(rt: HostRuntime) -> Result<(), Fail> {
-    play_all(&rt, rt.alloc(), COPIES)
+    let kept = Case {
+        name: "a_copy_writes_its_text_and_the_file",
+        ..COPY
+    };
+    play_all(&rt, rt.alloc(), &[kept])?;
+    for size in SIZES {
+        let case = Case {
+            name: "copies_of_several_sizes",
+            a: Some(Bytes::Lines("", "x", size)),
+            text: Bytes::Copied(u64::from(size)),
+            ..COPY
+        };
+        play_all(&rt, rt.alloc(), &[case])?;
+    }
+    Ok(())
 }
 
 const SIGNALS: &[Case] = &[
@@ -101,7 +82,7 @@ const SIGNALS: &[Case] = &[
         a: Some(Bytes::Just("x")),
         like: Like::Begins,
         text: Bytes::Just(""),
-        left: &[],
+        left: Held::Any,
         ..COPY
     },
     Case {
@@ -111,7 +92,7 @@ const SIGNALS: &[Case] = &[
         status: 2,
         text: Bytes::Just(""),
         line: USAGE,
-        left: &[("b", Held::Missing)],
+        left: Held::Kept,
         ..COPY
     },
 ];
@@ -130,48 +111,26 @@ const KILLED: Case = Case {
 
 // A kill that is sent before the first read stops its own worker at the beginning of its next turn: of what went on
 // through this one no more has arrived than the piece of one turn.
-const KILLS: &[Case] = &[
-    Case {
-        name: "a_kill_that_was_sent_ends_with_its_status: writer",
-        events: &["kill:writer@4096"],
-        left: &[("b", FRONT)],
-        ..KILLED
-    },
-    Case {
-        name: "a_kill_that_was_sent_ends_with_its_status: reader",
-        events: &["kill:reader@0"],
-        left: &[("b", EMPTY)],
-        ..KILLED
-    },
-    Case {
-        name: "a_kill_that_was_sent_ends_with_its_status: relay",
-        events: &["kill:relay@20000"],
-        left: &[("b", FRONT)],
-        ..KILLED
-    },
-    Case {
-        name: "a_kill_at_0_stops_its_own_worker: reader",
-        events: &["kill:reader@0"],
-        left: &[("b", EMPTY)],
-        ..KILLED
-    },
-    Case {
-        name: "a_kill_at_0_stops_its_own_worker: relay",
-        events: &["kill:relay@0"],
-        left: &[("b", Held::Such(Like::AtMost(4_096), BYTES))],
-        ..KILLED
-    },
-    Case {
-        name: "a_kill_at_0_stops_its_own_worker: writer",
-        events: &["kill:writer@0"],
-        left: &[("b", Held::Such(Like::AtMost(4_096), BYTES))],
-        ..KILLED
-    },
+const KILLS: &[(&[&str], Held)] = &[
+    (&["kill:writer@4096"], FRONT),
+    (&["kill:reader@0"], EMPTY),
+    (&["kill:relay@20000"], FRONT),
+    (&["kill:relay@0"], Held::Such(Like::AtMost(4_096))),
+    (&["kill:writer@0"], Held::Such(Like::AtMost(4_096))),
 ];
 
 #[test]
 fn a_kill_that_was_sent_ends_with_its_status(rt: HostRuntime) -> Result<(), Fail> {
-    play_all(&rt, rt.alloc(), KILLS)
+    for (events, left) in KILLS {
+        let case = Case {
+            name: events[0],
+            events: *events,
+            left: *left,
+            ..KILLED
+        };
+        play_all(&rt, rt.alloc(), &[case])?;
+    }
+    Ok(())
 }
 
 /// A copy that a fault of a read stops, and one that a fault of a write does.
@@ -187,101 +146,59 @@ const UNWRITTEN: Case = Case {
     ..STOPPED
 };
 
-const FAULTS: &[Case] = &[
+/// What fails, with the copy that it stops, and what that leaves.
+const FAULTS: &[(&str, Case, &[(Outside, u64)], Held)] = &[
+    ("the first read", UNREAD, &[(Outside::Read, 1)], EMPTY),
+    ("the second read", UNREAD, &[(Outside::Read, 2)], PIECE),
+    ("no open", UNREAD, &[(Outside::Folder, 1)], Held::Kept),
+    (
+        "no new file",
+        UNWRITTEN,
+        &[(Outside::Folder, 2)],
+        Held::Kept,
+    ),
+    ("no store", UNWRITTEN, &[(Outside::Folder, 3)], Held::Kept),
+    ("no text", UNWRITTEN, &[(Outside::Out, 1)], WHOLE),
+    ("the second write", UNWRITTEN, &[(Outside::Write, 2)], FRONT),
+];
+
+const OTHER_FAULTS: &[Case] = &[
     Case {
         name: "a_missing_file_ends_with_its_name",
         words: &["copy", "c", "b"],
         a: Some(Bytes::Just("x")),
-        status: 4,
         line: "waitq: no file c\n",
-        left: &[("b", Held::Missing)],
-        ..STOPPED
-    },
-    Case {
-        name: "faults_of_the_outside: the first read",
-        fails: Fails {
-            reads: &[1],
-            ..NONE
-        },
-        left: &[("b", EMPTY)],
+        left: Held::Kept,
         ..UNREAD
     },
     Case {
-        name: "faults_of_the_outside: the second read",
-        fails: Fails {
-            reads: &[2],
-            ..NONE
-        },
-        left: &[("b", PIECE)],
-        ..UNREAD
-    },
-    Case {
-        name: "faults_of_the_outside: the file is not opened",
-        fails: Fails {
-            calls: &[1],
-            ..NONE
-        },
-        left: &[("b", Held::Missing)],
-        ..UNREAD
-    },
-    Case {
-        name: "faults_of_the_outside: the new file is not made",
-        fails: Fails {
-            calls: &[2],
-            ..NONE
-        },
-        left: &[("b", Held::Missing)],
-        ..UNWRITTEN
-    },
-    Case {
-        name: "faults_of_the_outside: the new file is not stored",
-        fails: Fails {
-            calls: &[3],
-            ..NONE
-        },
-        left: &[("b", Held::Missing)],
-        ..UNWRITTEN
-    },
-    Case {
-        name: "faults_of_the_outside: the text is not written",
-        fails: Fails { outs: &[1], ..NONE },
-        ..UNWRITTEN
-    },
-    Case {
-        name: "faults_of_the_outside: neither the second read nor the line",
-        fails: Fails {
-            reads: &[2],
-            errs: &[1],
-            ..NONE
-        },
+        name: "neither the second read nor the line",
+        fails: &[(Outside::Read, 2), (Outside::Err, 1)],
         line: "",
-        left: &[("b", PIECE)],
+        left: PIECE,
         ..UNREAD
     },
     Case {
-        name: "faults_of_the_outside: the second write leaves a front",
-        fails: Fails {
-            writes: &[2],
-            ..NONE
-        },
-        left: &[("b", FRONT)],
-        ..UNWRITTEN
-    },
-    Case {
-        name: "faults_of_the_outside: a read that fails is told, though a kill was planned",
+        name: "a read that fails is told, though a kill was planned",
         events: &["kill:writer@0"],
-        fails: Fails {
-            reads: &[1],
-            ..NONE
-        },
-        left: &[],
+        fails: &[(Outside::Read, 1)],
+        left: Held::Any,
         ..UNREAD
     },
 ];
 
 #[test]
 fn faults_of_the_outside_end_with_their_statuses(rt: HostRuntime) -> Result<(), Fail> {
-    play_all(&rt, rt.alloc(), FAULTS)
+    for (name, stopped, fails, left) in FAULTS {
+        let case = Case {
+            name: *name,
+            fails: *fails,
+            left: *left,
+            ..*stopped
+        };
+        play_all(&rt, rt.alloc(), &[case])?;
+    }
+    play_all(&rt, rt.alloc(), OTHER_FAULTS)
 }
 
 /// Words that are no copy command.
@@ -290,78 +207,35 @@ const OTHER: Case = Case {
     a: Some(Bytes::Just("x")),
     status: 2,
     line: USAGE,
-    left: &[("b", Held::Missing)],
     ..RUN
 };
 
-const OTHERS: &[Case] = &[
-    Case {
-        words: &["copy"],
-        ..OTHER
-    },
-    Case {
-        words: &["copy", "a"],
-        ..OTHER
-    },
-    Case {
-        words: &["copy", "a", "a"],
-        ..OTHER
-    },
-    Case {
-        words: &["copy", "a", ""],
-        ..OTHER
-    },
-    Case {
-        words: &["copy", "-a", "b"],
-        ..OTHER
-    },
-    Case {
-        words: &["copy", "a", "-"],
-        ..OTHER
-    },
-    Case {
-        words: &["copy", "a", "b", "signal:main@1"],
-        ..OTHER
-    },
-    Case {
-        words: &["copy", "a", "b", "signal:relay@01"],
-        ..OTHER
-    },
-    Case {
-        words: &["copy", "a", "b", "signal:relay@+1"],
-        ..OTHER
-    },
-    Case {
-        words: &["copy", "a", "b", "signal:relay@"],
-        ..OTHER
-    },
-    Case {
-        words: &["copy", "a", "b", "kill:relay@1099511627777"],
-        ..OTHER
-    },
-    Case {
-        words: &["copy", "a", "b", "stop:relay@1"],
-        ..OTHER
-    },
-    Case {
-        words: &["copy", "a", "b", ""],
-        ..OTHER
-    },
-    Case {
-        words: &["help"],
-        ..OTHER
-    },
-    Case {
-        words: &[],
-        ..OTHER
-    },
-    // the greatest offset
+const OTHERS: &[&[&str]] = &[
+    &["copy"],
+    &["copy", "a"],
+    &["copy", "a", "a"],
+    &["copy", "a", ""],
+    &["copy", "-a", "b"],
+    &["copy", "a", "-"],
+    &["copy", "a", "b", "signal:main@1"],
+    &["copy", "a", "b", "signal:relay@01"],
+    &["copy", "a", "b", "signal:relay@+1"],
+    &["copy", "a", "b", "signal:relay@"],
+    &["copy", "a", "b", "kill:relay@1099511627777"],
+    &["copy", "a", "b", "stop:relay@1"],
+    &["copy", "a", "b", ""],
+    &["help"],
+    &[],
+];
+
+/// The greatest offset, and words of another command.
+const LEGAL: &[Case] = &[
     Case {
         words: &["copy", "a", "b", "kill:relay@1099511627776"],
         status: 0,
         like: Like::Begins,
         line: "",
-        left: &[],
+        left: Held::Any,
         ..OTHER
     },
     Case {
@@ -370,15 +244,12 @@ const OTHERS: &[Case] = &[
         status: 0,
         text: Bytes::Just("drill 7 0\nevents 0\nrefused 0\nasleep 0\nend\n"),
         line: "",
-        left: &[
-            ("a", Held::Such(Like::All, Bytes::Just("x"))),
-            ("b", Held::Missing),
-        ],
         ..OTHER
     },
 ];
 
 #[test]
 fn words_that_are_no_copy_command(rt: HostRuntime) -> Result<(), Fail> {
-    play_all(&rt, rt.alloc(), OTHERS)
+    play_words(&rt, rt.alloc(), OTHER, OTHERS)?;
+    play_all(&rt, rt.alloc(), LEGAL)
 }

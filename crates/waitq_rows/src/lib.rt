@@ -11,14 +11,8 @@ mod event_rows;
 #[cfg(test)]
 mod merge_rows;
 #[cfg(test)]
-mod page_rows;
-#[cfg(test)]
-mod refused_rows;
-#[cfg(test)]
 mod rows;
 #[cfg(test)]
 mod tests;
-#[cfg(test)]
-mod waiting_rows;
 #[cfg(test)]
 mod walks;

@@ -1,69 +1,87 @@
 //! Worked scripts, refusals and faults through `run`.
 
 use crate::cases::{
-    Bytes, Case, Fails, Like, NONE, READ_FAILED, REPLAY, RUN, USAGE, WRITE_FAILED, play_all,
+    Bytes, Case, Like, Outside, READ_FAILED, REPLAY, RUN, USAGE, WRITE_FAILED, play_all, play_words,
 };
-use crate::page_rows::{PAGE_CALL_IN_VERSION_1, PAGE_HANDED_ON, PAGE_TAKEN_BY_STRANGER};
-use crate::refused_rows::{
-    BAD_CONDITION, BAD_NUMBER, CUT_LINE, LONG_LINE, NO_HEADER, NOTHING, REFUSED_OPEN,
-    REFUSED_OPEN_READ, SIMPLE_WAKE_ON_A_FULL_QUEUE, TOO_MANY_EVENTS, UNKNOWN_WORD,
-};
-use crate::rows::{
-    MODE_MISSES, PRIORITY_FIRST, SELECTED_CONDITION_TAKEN, SELECTED_THEN_SIGNALLED, WAIT_SET_WAKE,
-    WAKE_BEFORE_LOAD, WAKE_BEFORE_SLEEP, WAKE_ONE_EXCLUSIVE,
-};
-use crate::waiting_rows::{
-    BIT_LOCK_SIGNALLED, COMPLETIONS, TWO_WAITERS_ONE_PERMIT, WOKEN_FLAG_BEFORE_STATE,
-};
+use crate::rows::{NOTHING, ORDERS, OTHER_WAITS, PAGES, REFUSED, WAIT_SET_WAKE, WAKES};
 use std::test::Fail;
-
-const WORKED: &[Case] = &[
-    NOTHING,
-    REFUSED_OPEN,
-    REFUSED_OPEN_READ,
-    WAIT_SET_WAKE,
-    WAKE_BEFORE_LOAD,
-    WAKE_BEFORE_SLEEP,
-    MODE_MISSES,
-    WAKE_ONE_EXCLUSIVE,
-    PRIORITY_FIRST,
-    SELECTED_THEN_SIGNALLED,
-    SELECTED_CONDITION_TAKEN,
-    WOKEN_FLAG_BEFORE_STATE,
-    COMPLETIONS,
-    TWO_WAITERS_ONE_PERMIT,
-    BIT_LOCK_SIGNALLED,
-    PAGE_HANDED_ON,
-    PAGE_TAKEN_BY_STRANGER,
-];
 
 #[test]
 fn worked_scripts_have_their_texts(rt: HostRuntime) -> Result<(), Fail> {
-    play_all(&rt, rt.alloc(), WORKED)
+    for rows in [REFUSED, WAKES, ORDERS, OTHER_WAITS, PAGES] {
+        play_all(&rt, rt.alloc(), rows)?;
+    }
+    Ok(())
 }
 
-const BAD: &[Case] = &[
-    NO_HEADER,
-    CUT_LINE,
-    LONG_LINE,
-    UNKNOWN_WORD,
-    SIMPLE_WAKE_ON_A_FULL_QUEUE,
-    BAD_NUMBER,
-    BAD_CONDITION,
-    TOO_MANY_EVENTS,
-    PAGE_CALL_IN_VERSION_1,
-    Case {
-        name: "an_input_above_one_mebibyte_is_too_long",
-        input: Bytes::Lines("", " ", 1_048_577),
-        status: 8,
-        line: "waitq: input too long\n",
-        ..REPLAY
-    },
+/// Scripts that are bad, each behind its name, and the lines that they are refused with.
+const BAD: &[(&str, &str, &str)] = &[
+    ("no_header", "", "waitq: line 1: no header\n"),
+    ("cut_line", "waitq 1\nstep 1", "waitq: line 2: cut line\n"),
+    (
+        "long_line",
+        "waitq 1\n\
+xxxxxxxxxxxxxxxxxxxxxxxxxxxxxxxxxxxxxxxxxxxxxxxxxxxxxxxxxxxxxxxxxxxxxxxxxxxxxxxxxxxxxxxxxxxxxxxxxxxx\
+xxxxxxxxxxxxxxxxxxxxxxxxxxxxxxxxxxxxxxxxxxxxxxxxxxxxxxxxxxxxxxxxxxxxxxxxxxxxxxxxxxxxxxxxxxxxxxxxxxxxx\n",
+        "waitq: line 2: long line\n",
+    ),
+    (
+        "unknown_word",
+        "waitq 1\ncall 1 hop c0\n",
+        "waitq: line 2: unknown word\n",
+    ),
+    (
+        "simple_wake_on_a_full_queue",
+        "waitq 1\ncall 1 swake c47 one\n",
+        BAD_CONDITION,
+    ),
+    (
+        "bad_number",
+        "waitq 1\nstep 200 1\n",
+        "waitq: line 2: bad number\n",
+    ),
+    (
+        "bad_condition",
+        "waitq 1\ncall 1 wait c50 plain\n",
+        BAD_CONDITION,
+    ),
+    (
+        "page_call_in_version_1",
+        "waitq 1\ncall 1 lockpage b0 int\n",
+        "waitq: line 2: unknown word\n",
+    ),
 ];
+
+const BAD_CONDITION: &str = "waitq: line 2: bad condition\n";
+
+/// A script that is too long.
+const TOO_LONG: Case = Case {
+    name: "too_many_events",
+    input: Bytes::Just("waitq 1\nstep 1 1000000\nstep 1 1\n"),
+    status: 8,
+    line: "waitq: input too long\n",
+    ..REPLAY
+};
+
+const LONG_INPUT: Case = Case {
+    name: "an_input_above_one_mebibyte_is_too_long",
+    input: Bytes::Lines("", " ", 1_048_577),
+    ..TOO_LONG
+};
 
 #[test]
 fn bad_scripts_have_their_lines(rt: HostRuntime) -> Result<(), Fail> {
-    play_all(&rt, rt.alloc(), BAD)
+    for (name, input, line) in BAD {
+        let case = Case {
+            name: *name,
+            input: Bytes::Just(*input),
+            status: 3,
+            line: *line,
+            ..REPLAY
+        };
+        play_all(&rt, rt.alloc(), &[case])?;
+    }
+    play_all(&rt, rt.alloc(), &[TOO_LONG, LONG_INPUT])
 }
 
 /// Words that are no command, beside a script that has no fault.
@@ -75,52 +93,22 @@ const OTHER: Case = Case {
     ..NOTHING
 };
 
-const OTHERS: &[Case] = &[
-    Case {
-        words: &[],
-        ..OTHER
-    },
-    Case {
-        words: &["replay", "x"],
-        ..OTHER
-    },
-    Case {
-        words: &["Replay"],
-        ..OTHER
-    },
-    Case {
-        words: &[""],
-        ..OTHER
-    },
-    Case {
-        words: &["-x"],
-        ..OTHER
-    },
-    Case {
-        words: &["drill", "7"],
-        ..OTHER
-    },
-    Case {
-        words: &["drill", "01", "5"],
-        ..OTHER
-    },
-    Case {
-        words: &["drill", "7", "20001"],
-        ..OTHER
-    },
-    Case {
-        words: &["drill", "18446744073709551616", "5"],
-        ..OTHER
-    },
-    Case {
-        words: &["drill", "-1", ""],
-        ..OTHER
-    },
+const OTHERS: &[&[&str]] = &[
+    &[],
+    &["replay", "x"],
+    &["Replay"],
+    &[""],
+    &["-x"],
+    &["drill", "7"],
+    &["drill", "01", "5"],
+    &["drill", "7", "20001"],
+    &["drill", "18446744073709551616", "5"],
+    &["drill", "-1", ""],
 ];
 
 #[test]
 fn other_words_are_refused_with_the_usage(rt: HostRuntime) -> Result<(), Fail> {
-    play_all(&rt, rt.alloc(), OTHERS)
+    play_words(&rt, rt.alloc(), OTHER, OTHERS)
 }
 
 /// A script whose text is written by two calls.
@@ -135,7 +123,7 @@ const FAULTS: &[Case] = &[
     // the first call reads the script, and the second would find the end
     Case {
         name: "a_read_that_fails_ends_with_its_status: the first",
-        fails: Fails { ins: &[1], ..NONE },
+        fails: &[(Outside::In, 1)],
         status: 4,
         text: Bytes::Just(""),
         line: READ_FAILED,
@@ -143,7 +131,7 @@ const FAULTS: &[Case] = &[
     },
     Case {
         name: "a_read_that_fails_ends_with_its_status: the second",
-        fails: Fails { ins: &[2], ..NONE },
+        fails: &[(Outside::In, 2)],
         status: 4,
         text: Bytes::Just(""),
         line: READ_FAILED,
@@ -152,7 +140,7 @@ const FAULTS: &[Case] = &[
     // the first call writes the lines of the steps, and the second the end lines
     Case {
         name: "a_write_that_fails_leaves_a_front_of_the_text: the first",
-        fails: Fails { outs: &[1], ..NONE },
+        fails: &[(Outside::Out, 1)],
         status: 5,
         like: Like::Cut(0),
         line: WRITE_FAILED,
@@ -160,7 +148,7 @@ const FAULTS: &[Case] = &[
     },
     Case {
         name: "a_write_that_fails_leaves_a_front_of_the_text: the second",
-        fails: Fails { outs: &[2], ..NONE },
+        fails: &[(Outside::Out, 2)],
         status: 5,
         like: Like::Cut(0),
         line: WRITE_FAILED,
@@ -171,7 +159,7 @@ const FAULTS: &[Case] = &[
         ..LONG
     },
     Case {
-        fails: Fails { outs: &[2], ..NONE },
+        fails: &[(Outside::Out, 2)],
         status: 5,
         like: Like::Cut(1),
         line: WRITE_FAILED,
@@ -179,7 +167,7 @@ const FAULTS: &[Case] = &[
     },
     Case {
         name: "a_fault_of_the_error_stream_changes_no_status",
-        fails: Fails { errs: &[1], ..NONE },
+        fails: &[(Outside::Err, 1)],
         status: 3,
         ..REPLAY
     },
@@ -203,14 +191,14 @@ const DRILLS: &[Case] = &[
     Case {
         name: "drills_have_their_summaries: one call",
         words: &["drill", "0", "1"],
-        fails: Fails { ins: &[1], ..NONE },
+        fails: &[(Outside::In, 1)],
         text: Bytes::Just("drill 0 1\nevents 8\nrefused 0\nasleep 1\nend\n"),
         ..RUN
     },
     Case {
         name: "drills_have_their_summaries: none",
         words: &["drill", "7", "0"],
-        fails: Fails { ins: &[1], ..NONE },
+        fails: &[(Outside::In, 1)],
         text: Bytes::Just("drill 7 0\nevents 0\nrefused 0\nasleep 0\nend\n"),
         ..RUN
     },
@@ -219,7 +207,7 @@ const DRILLS: &[Case] = &[
     Case {
         name: "a_summary_that_cannot_be_written_ends_with_its_status",
         words: &["drill", "0", "1"],
-        fails: Fails { outs: &[1], ..NONE },
+        fails: &[(Outside::Out, 1)],
         status: 5,
         line: WRITE_FAILED,
         ..RUN

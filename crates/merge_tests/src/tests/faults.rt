@@ -27,8 +27,7 @@ fn has_part(bytes: &[u8], of_first: bool, size: usize) -> bool {
 fn fails<R: Abort + Threads + Wait + Sync>(
     rt: &R,
     alloc: Global,
-    given: Given,
-    arrived: usize,
+    (given, arrived): (Given, usize),
 ) -> Result<(), Fail> {
     let end = merge(rt, alloc, given)?;
     let is_first = given.first_fails > 0;
@@ -63,10 +62,10 @@ fn second_fails(read: u64) -> Given {
 #[test]
 fn sources_fail(rt: HostRuntime) -> Result<(), Fail> {
     for _ in 0..ROUNDS {
-        fails(&rt, rt.alloc(), first_fails(1), 0)?;
-        fails(&rt, rt.alloc(), second_fails(1), 0)?;
-        fails(&rt, rt.alloc(), first_fails(2), 4_096)?;
-        fails(&rt, rt.alloc(), second_fails(2), 4_096)?;
+        fails(&rt, rt.alloc(), (first_fails(1), 0))?;
+        fails(&rt, rt.alloc(), (second_fails(1), 0))?;
+        fails(&rt, rt.alloc(), (first_fails(2), 4_096))?;
+        fails(&rt, rt.alloc(), (second_fails(2), 4_096))?;
     }
     Ok(())
 }

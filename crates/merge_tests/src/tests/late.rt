@@ -85,8 +85,7 @@ impl Sink for Counting<'_> {
 fn merges_late<R: Abort + Threads + Wait + Sync>(
     rt: &R,
     alloc: Global,
-    first_after: u64,
-    second_after: u64,
+    (first_after, second_after): (u64, u64),
 ) -> Result<(), Fail> {
     let arrived = Arrived {
         bytes: AtomicU64::new(0),
@@ -124,6 +123,6 @@ fn merges_late<R: Abort + Threads + Wait + Sync>(
 /// All of one source arrives while the other gives nothing, whichever it is: so none is waited for alone.
 #[test]
 fn whichever_has_bytes_first(rt: HostRuntime) -> Result<(), Fail> {
-    merges_late(&rt, rt.alloc(), 0, SIZE as u64)?;
-    merges_late(&rt, rt.alloc(), SIZE as u64, 0)
+    merges_late(&rt, rt.alloc(), (0, SIZE as u64))?;
+    merges_late(&rt, rt.alloc(), (SIZE as u64, 0))
 }

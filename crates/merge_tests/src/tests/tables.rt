@@ -14,8 +14,7 @@ use std::thread::Threads;
 fn merges<R: Abort + Threads + Wait + Sync>(
     rt: &R,
     alloc: Global,
-    first: usize,
-    second: usize,
+    (first, second): (usize, usize),
 ) -> Result<(), Fail> {
     let end = merge(rt, alloc, of_sizes(first, second))?;
     let (left, right) = (first as u64, second as u64);
@@ -37,7 +36,7 @@ const SIZES: [usize; 5] = [0, 1, 7_168, 7_169, 30_000];
 fn merges_bytes(rt: HostRuntime) -> Result<(), Fail> {
     for first in SIZES {
         for second in SIZES {
-            merges(&rt, rt.alloc(), first, second)?;
+            merges(&rt, rt.alloc(), (first, second))?;
         }
     }
     Ok(())
@@ -47,7 +46,7 @@ fn merges_bytes(rt: HostRuntime) -> Result<(), Fail> {
 #[test]
 fn merges_in_rounds(rt: HostRuntime) -> Result<(), Fail> {
     for _ in 0..200 {
-        merges(&rt, rt.alloc(), 9_000, 9_000)?;
+        merges(&rt, rt.alloc(), (9_000, 9_000))?;
     }
     Ok(())
 }

@@ -3,7 +3,6 @@
 
 ghost use Rattle.std.specs.Prelude.{◌≡◌};
 ghost use Rattle.wait_rule.specs.Says.{IsClean, RestsIn};
-ghost use Rattle.wait_class.specs.declared.stages.Turn.TheVariants as turn;
 ghost use Rattle.poll_wait.specs.Polls.{IsPoll};
 ghost use Rattle.poll_turns.specs.PollTurns.{IsPollUnderWay};
 

@@ -2,11 +2,11 @@
 
 use super::scripts::start_two;
 use super::{MOST, begins, took};
-use crate::wants::all_so;
 use completion_cell::cell_turns::CellCall;
 use std::alloc::Global;
 use std::process::Abort;
 use std::test::Fail;
+use test_tasks::wants::all_so;
 use wait_model::tasks::{How, SleepState};
 use wq_checked::calls::{Answer, Call, Progress};
 use wq_checked::tasks::CheckedTask;
@@ -227,7 +227,7 @@ fn leave_each(rt: &impl Abort, alloc: Global, woken: bool) -> Result<(), Fail> {
         took(keeper.begin(Call::TryBit { word: 2, bit: 5 })),
         took(keeper.begin(Call::TryBit { word: 3, bit: 0 })),
     ];
-    all_so(rt, &kept);
+    all_so(&kept)?;
     for kind in 0..KINDS {
         for after in 0..MOMENTS {
             let left = if woken {
@@ -274,6 +274,5 @@ fn sleepers_are_kicked(rt: HostRuntime) -> Result<(), Fail> {
     ];
     rousing.hand_on();
     rousing.end();
-    all_so(&rt, &seen);
-    Ok(())
+    all_so(&seen)
 }

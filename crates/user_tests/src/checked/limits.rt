@@ -2,8 +2,8 @@
 //! not there.
 
 use super::took;
-use crate::wants::all_so;
 use std::test::Fail;
+use test_tasks::wants::all_so;
 use wait_model::layout::{BIT_WORDS, WORD_BITS};
 use wq_checked::calls::Call;
 use wq_checked::tasks::{CheckedTask, NoFork};
@@ -45,8 +45,7 @@ fn shares_are_given_out(rt: HostRuntime) -> Result<(), Fail> {
         matches!(task.fork(252), Err(NoFork::Numbers)),
         matches!(task.fork(251), Ok(last) if last.number() == 4),
     ];
-    all_so(&rt, &seen);
-    Ok(())
+    all_so(&seen)
 }
 
 /// A bit that is not there is kept by nobody, whatever is.
@@ -61,6 +60,5 @@ fn no_bit_is_kept_beyond_the_words(rt: HostRuntime) -> Result<(), Fail> {
         task.keeps(127, 63) && task.keeps(0, 0) && !task.keeps(0, 63),
         !keeps_beyond(&task),
     ];
-    all_so(&rt, &seen);
-    Ok(())
+    all_so(&seen)
 }

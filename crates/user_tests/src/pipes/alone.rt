@@ -2,9 +2,8 @@
 
 use crate::pipes::calls::{FULL, take_read, take_write};
 use crate::pipes::scripts::{Call, Deed, Script, Told, play};
-use crate::wants::another;
 use std::test::Fail;
-use wait_rule::Domain;
+use test_tasks::wants::begin_two;
 
 /// The place in a stream behind a full pipe.
 pub(super) const BEHIND: u32 = FULL as u32;
@@ -25,9 +24,8 @@ fn piece_goes_through(rt: HostRuntime) -> Result<(), Fail> {
 /// Each end of a pipe is taken once, and each pipe has its own.
 #[test]
 fn end_is_opened_once(rt: HostRuntime) -> Result<(), Fail> {
-    let (domain, mut one) = Domain::new(rt.alloc())?;
-    let mut two = another(&rt, &domain, &mut one);
-    let mut three = another(&rt, &domain, &mut one);
+    let (domain, mut one, mut two) = begin_two(rt.alloc())?;
+    let mut three = one.fork(&domain, 0)?;
     assert!(rt; take_write(&domain, &mut one, 0));
     assert!(rt; !take_write(&domain, &mut two, 0));
     assert!(rt; take_read(&domain, &mut two, 0));

@@ -1,9 +1,9 @@
 //! The calls of tests: for tasks that owe nothing, and for those that owe nothing but that their end is closed.
 
-ghost use Rattle.std.specs.Prelude.{◌≡◌, ◌<◌, ◌≤◌, MatchBool, IfOk, length, true};
+ghost use Rattle.std.specs.Prelude.{◌≡◌, ◌<◌, ◌≤◌, IfOk, length, true};
 ghost use Rattle.wait_model.specs.declared.layout.TheConstants.{PIPES};
-ghost use Rattle.wait_rule.specs.Says.{IsClean, RestsIn};
-ghost use Rattle.user_tests.specs.PipeTasks.{IsAtMost, IsReader, IsWriter};
+ghost use Rattle.wait_rule.specs.Says.{RestsIn};
+ghost use Rattle.user_tests.specs.PipeTasks.{IsAtMost, IsReader, IsWriter, MayRead, MayWrite};
 
 use std::alloc::AllocError;
 use std::sync::Wait;
@@ -33,6 +33,17 @@ impl Clone for By<'_> {
     }
 }
 
+impl By<'_> {
+    /// Whether it is asked to leave.
+    fn asks(self) -> bool {
+        match self {
+            By::Plain => false,
+            By::Said(asked) => asked,
+            By::Count(asked, before) => asked.load(Ordering::SeqCst) != before,
+        }
+    }
+}
+
 /// By the plain call; or asked from now on, where there is a count of the asks.
 pub(crate) fn by_now(asked: Option<&AtomicU64>) -> By<'_> {
     match asked {
@@ -45,8 +56,7 @@ pub(crate) fn by_now(asked: Option<&AtomicU64>) -> By<'_> {
 pub(crate) fn take_write(domain: &Domain, task: &mut Task, pipe: u8) -> bool
     requires rests { RestsIn domain.now task.old }
     requires pipe { pipe < PIPES }
-    ensures of { task.new.domain ≡ domain.now }
-    ensures writer { MatchBool result (IsWriter pipe task.new) (IsClean task.new) }
+    ensures writer { MayWrite domain.now pipe task.new result }
 {
     open_write(domain, task, pipe)
 }
@@ -55,8 +65,7 @@ pub(crate) fn take_write(domain: &Domain, task: &mut Task, pipe: u8) -> bool
 pub(crate) fn take_read(domain: &Domain, task: &mut Task, pipe: u8) -> bool
     requires rests { RestsIn domain.now task.old }
     requires pipe { pipe < PIPES }
-    ensures of { task.new.domain ≡ domain.now }
-    ensures reader { MatchBool result (IsReader pipe task.new) (IsClean task.new) }
+    ensures reader { MayRead domain.now pipe task.new result }
 {
     open_read(domain, task, pipe)
 }
@@ -69,12 +78,10 @@ pub(crate) fn put<R: Wait>(
     pipe: u8,
     bytes: &[u8],
 ) -> Result<usize, PipeEnd>
-    requires of { task.old.domain ≡ domain.now }
-    requires writer { IsWriter pipe task.old }
+    requires writer { IsWriter domain.now pipe task.old }
     requires pipe { pipe < PIPES }
     requires bytes { 0 < length bytes.now }
-    ensures of { task.new.domain ≡ domain.now }
-    ensures writer { IsWriter pipe task.new }
+    ensures writer { IsWriter domain.now pipe task.new }
     ensures some { IfOk result (λ n. 0 < n) }
     ensures most { IfOk result (λ n. n ≤ length bytes.now) }
 {
@@ -89,12 +96,10 @@ pub(crate) fn get<R: Wait>(
     pipe: u8,
     buf: &mut [u8],
 ) -> Result<usize, PipeEnd>
-    requires of { task.old.domain ≡ domain.now }
-    requires reader { IsReader pipe task.old }
+    requires reader { IsReader domain.now pipe task.old }
     requires pipe { pipe < PIPES }
     requires buf { 7 ≤ length buf.old }
-    ensures of { task.new.domain ≡ domain.now }
-    ensures reader { IsReader pipe task.new }
+    ensures reader { IsReader domain.now pipe task.new }
     ensures most { IfOk result (λ n. n ≤ length buf.new) }
 {
     read_piece(rt, domain, task, pipe, buf)
@@ -102,11 +107,9 @@ pub(crate) fn get<R: Wait>(
 
 /// Looks what there is to be taken, and takes nothing.
 pub(crate) fn look(domain: &Domain, task: &mut Task, pipe: u8) -> PipeState
-    requires of { task.old.domain ≡ domain.now }
-    requires reader { IsReader pipe task.old }
+    requires reader { IsReader domain.now pipe task.old }
     requires pipe { pipe < PIPES }
-    ensures of { task.new.domain ≡ domain.now }
-    ensures reader { IsReader pipe task.new }
+    ensures reader { IsReader domain.now pipe task.new }
 {
     peek_read(domain, task, pipe)
 }
@@ -120,13 +123,11 @@ pub(crate) fn put_until<R: Wait, Q: Fn() -> bool + Copy>(
     bytes: &[u8],
     asks: Q,
 ) -> Until<Result<usize, PipeEnd>>
-    requires of { task.old.domain ≡ domain.now }
-    requires writer { IsWriter pipe task.old }
+    requires writer { IsWriter domain.now pipe task.old }
     requires pipe { pipe < PIPES }
     requires bytes { 0 < length bytes.now }
     requires asks { Q.IsAlwaysCallable asks }
-    ensures of { task.new.domain ≡ domain.now }
-    ensures writer { IsWriter pipe task.new }
+    ensures writer { IsWriter domain.now pipe task.new }
     ensures most { IsAtMost (length bytes.now) result }
 {
     write_piece_until(rt, domain, task, pipe, bytes, asks)
@@ -141,13 +142,11 @@ pub(crate) fn get_until<R: Wait, Q: Fn() -> bool + Copy>(
     buf: &mut [u8],
     asks: Q,
 ) -> Until<Result<usize, PipeEnd>>
-    requires of { task.old.domain ≡ domain.now }
-    requires reader { IsReader pipe task.old }
+    requires reader { IsReader domain.now pipe task.old }
     requires pipe { pipe < PIPES }
     requires buf { 7 ≤ length buf.old }
     requires asks { Q.IsAlwaysCallable asks }
-    ensures of { task.new.domain ≡ domain.now }
-    ensures reader { IsReader pipe task.new }
+    ensures reader { IsReader domain.now pipe task.new }
     ensures same { length buf.new ≡ length buf.old }
     ensures most { IsAtMost (length buf.new) result }
 {
@@ -163,21 +162,15 @@ pub(crate) fn put_by<R: Wait>(
     bytes: &[u8],
     by: By<'_>,
 ) -> Until<Result<usize, PipeEnd>>
-    requires of { task.old.domain ≡ domain.now }
-    requires writer { IsWriter pipe task.old }
+    requires writer { IsWriter domain.now pipe task.old }
     requires pipe { pipe < PIPES }
     requires bytes { 0 < length bytes.now }
-    ensures of { task.new.domain ≡ domain.now }
-    ensures writer { IsWriter pipe task.new }
+    ensures writer { IsWriter domain.now pipe task.new }
     ensures most { IsAtMost (length bytes.now) result }
 {
     match by {
         By::Plain => Until::Over(put(rt, domain, task, pipe, bytes)),
-        By::Said(asked) => put_until(rt, domain, task, pipe, bytes, || asked),
-        By::Count(asked, before) => {
-            let asks = || asked.load(Ordering::SeqCst) != before;
-            put_until(rt, domain, task, pipe, bytes, asks)
-        }
+        _ => put_until(rt, domain, task, pipe, bytes, || by.asks()),
     }
 }
 
@@ -190,29 +183,22 @@ pub(crate) fn get_by<R: Wait>(
     buf: &mut [u8],
     by: By<'_>,
 ) -> Until<Result<usize, PipeEnd>>
-    requires of { task.old.domain ≡ domain.now }
-    requires reader { IsReader pipe task.old }
+    requires reader { IsReader domain.now pipe task.old }
     requires pipe { pipe < PIPES }
     requires buf { 7 ≤ length buf.old }
-    ensures of { task.new.domain ≡ domain.now }
-    ensures reader { IsReader pipe task.new }
+    ensures reader { IsReader domain.now pipe task.new }
     ensures same { length buf.new ≡ length buf.old }
     ensures most { IsAtMost (length buf.new) result }
 {
     match by {
         By::Plain => Until::Over(get(rt, domain, task, pipe, buf)),
-        By::Said(asked) => get_until(rt, domain, task, pipe, buf, || asked),
-        By::Count(asked, before) => {
-            let asks = || asked.load(Ordering::SeqCst) != before;
-            get_until(rt, domain, task, pipe, buf, asks)
-        }
+        _ => get_until(rt, domain, task, pipe, buf, || by.asks()),
     }
 }
 
 /// Closes the write end.
 pub(crate) fn end_write<R: Wait>(rt: &R, domain: &Domain, task: &mut Task, pipe: u8)
-    requires of { task.old.domain ≡ domain.now }
-    requires writer { IsWriter pipe task.old }
+    requires writer { IsWriter domain.now pipe task.old }
     requires pipe { pipe < PIPES }
     ensures rests { RestsIn domain.now task.new }
 {
@@ -221,8 +207,7 @@ pub(crate) fn end_write<R: Wait>(rt: &R, domain: &Domain, task: &mut Task, pipe:
 
 /// Closes the read end.
 pub(crate) fn end_read<R: Wait>(rt: &R, domain: &Domain, task: &mut Task, pipe: u8)
-    requires of { task.old.domain ≡ domain.now }
-    requires reader { IsReader pipe task.old }
+    requires reader { IsReader domain.now pipe task.old }
     requires pipe { pipe < PIPES }
     ensures rests { RestsIn domain.now task.new }
 {

@@ -3,9 +3,9 @@
 
 use crate::meetings::Part;
 use crate::pipes::streams::Stream;
-use crate::wants::all_so;
 use std::test::Fail;
 use test_tasks::meetings::two_meet;
+use test_tasks::wants::all_so;
 use wait_rule::Domain;
 
 /// How many rounds the test makes.
@@ -18,7 +18,7 @@ fn full_pieces_pass_one_by_one(rt: HostRuntime) -> Result<(), Fail> {
         let (domain, task) = Domain::with_looks(rt.alloc(), 0)?;
         let parts = (Part::Sends(Stream::Full), Part::Receives(Stream::Full));
         let (_task, went) = two_meet(&rt, &domain, task, parts);
-        all_so(&rt, &went);
+        all_so(&went)?;
     }
     Ok(())
 }

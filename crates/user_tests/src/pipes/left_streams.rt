@@ -1,7 +1,6 @@
 //! Calls on pipes that are asked to leave in threads of their own, again and again, in Domains whose tasks park at once
 //! when they are put asleep.
 
-ghost use Rattle.std.specs.Prelude.{◌≡◌};
 ghost use Rattle.wait_rule.specs.Says.{RestsIn};
 
 use crate::pipes::calls::{
@@ -9,13 +8,13 @@ use crate::pipes::calls::{
     take_write,
 };
 use crate::pipes::streams::{Stream, receive, send};
-use crate::wants::all_so;
 use std::alloc::AllocError;
 use std::sync::Wait;
 use std::sync::atomic::AtomicU64;
 use std::test::Fail;
 use test_tasks::late::ask_two_late;
 use test_tasks::meetings::{Part, four_meet};
+use test_tasks::wants::all_so;
 use wait_leave::Until;
 use wait_rule::{Domain, Task};
 
@@ -156,7 +155,7 @@ fn left_calls_lose_no_byte(rt: HostRuntime) -> Result<(), Fail> {
         };
         let own = (sends, receives);
         let (_task, went) = four_meet(&rt, &domain, task, own, (asks, Leaving::Rests));
-        all_so(&rt, &went);
+        all_so(&went)?;
     }
     Ok(())
 }
@@ -175,7 +174,7 @@ fn calls_are_left_from_their_sleep(rt: HostRuntime) -> Result<(), Fail> {
         };
         let leaves = (Leaving::LeavesEmpty(&asked), Leaving::LeavesFull(&asked));
         let (mut task, went) = four_meet(&rt, &domain, task, (asks, Leaving::Rests), leaves);
-        all_so(&rt, &went);
+        all_so(&went)?;
         let opened = take_read(&domain, &mut task, FILLED);
         if !opened {
             panic!(rt; "the end is free")
@@ -185,7 +184,7 @@ fn calls_are_left_from_their_sleep(rt: HostRuntime) -> Result<(), Fail> {
         let in_order = are_from(0, &buf);
         let last = get(&rt, &domain, &mut task, FILLED, &mut buf);
         let seen = [matches!(all, Ok(FULL)), in_order, matches!(last, Ok(0))];
-        all_so(&rt, &seen);
+        all_so(&seen)?;
     }
     Ok(())
 }

@@ -1,14 +1,13 @@
 //! Scripts of a writer and a reader on one thread: what one of them does at a time, and what is to be seen of it.
 
-ghost use Rattle.std.specs.Prelude.{◌≡◌, ◌<◌};
+ghost use Rattle.std.specs.Prelude.{◌<◌};
 ghost use Rattle.wait_model.specs.declared.layout.TheConstants.{PIPES};
-ghost use Rattle.wait_rule.specs.Says.{IsClean, RestsIn};
+ghost use Rattle.wait_rule.specs.Says.{RestsIn};
 ghost use Rattle.user_tests.specs.PipeTasks.{MayRead, MayWrite};
 
 use crate::pipes::calls::{
     By, FULL, are_from, end_read, end_write, fill_from, get_by, look, put_by, take_read, take_write,
 };
-use crate::wants::another;
 use std::alloc::{AllocError, Global};
 use std::process::Abort;
 use std::sync::Wait;
@@ -106,11 +105,9 @@ fn puts<R: Wait>(
     pipe: u8,
     piece: (u32, usize, Call, Told),
 ) -> bool
-    requires of { task.old.domain ≡ domain.now }
     requires pipe { pipe < PIPES }
-    requires may { MayWrite pipe task.old has }
-    ensures of { task.new.domain ≡ domain.now }
-    ensures may { MayWrite pipe task.new has }
+    requires may { MayWrite domain.now pipe task.old has }
+    ensures may { MayWrite domain.now pipe task.new has }
 {
     if !has {
         return false;
@@ -132,11 +129,9 @@ fn gets<R: Wait>(
     pipe: u8,
     piece: (u32, usize, Call, Told),
 ) -> bool
-    requires of { task.old.domain ≡ domain.now }
     requires pipe { pipe < PIPES }
-    requires may { MayRead pipe task.old has }
-    ensures of { task.new.domain ≡ domain.now }
-    ensures may { MayRead pipe task.new has }
+    requires may { MayRead domain.now pipe task.old has }
+    ensures may { MayRead domain.now pipe task.new has }
 {
     if !has {
         return false;
@@ -153,11 +148,9 @@ fn gets<R: Wait>(
 
 /// A reader looks, if its end is open: whether that is to be seen.
 fn looks(domain: &Domain, task: &mut Task, has: bool, pipe: u8, wanted: PipeState) -> bool
-    requires of { task.old.domain ≡ domain.now }
     requires pipe { pipe < PIPES }
-    requires may { MayRead pipe task.old has }
-    ensures of { task.new.domain ≡ domain.now }
-    ensures may { MayRead pipe task.new has }
+    requires may { MayRead domain.now pipe task.old has }
+    ensures may { MayRead domain.now pipe task.new has }
 {
     if !has {
         return false;
@@ -168,9 +161,8 @@ fn looks(domain: &Domain, task: &mut Task, has: bool, pipe: u8, wanted: PipeStat
 
 /// A writer closes its end, if it is open.
 fn stop_writing<R: Wait>(rt: &R, domain: &Domain, task: &mut Task, has: bool, pipe: u8)
-    requires of { task.old.domain ≡ domain.now }
     requires pipe { pipe < PIPES }
-    requires may { MayWrite pipe task.old has }
+    requires may { MayWrite domain.now pipe task.old has }
     ensures rests { RestsIn domain.now task.new }
 {
     if has {
@@ -180,9 +172,8 @@ fn stop_writing<R: Wait>(rt: &R, domain: &Domain, task: &mut Task, has: bool, pi
 
 /// A reader closes its end, if it is open.
 fn stop_reading<R: Wait>(rt: &R, domain: &Domain, task: &mut Task, has: bool, pipe: u8)
-    requires of { task.old.domain ≡ domain.now }
     requires pipe { pipe < PIPES }
-    requires may { MayRead pipe task.old has }
+    requires may { MayRead domain.now pipe task.old has }
     ensures rests { RestsIn domain.now task.new }
 {
     if has {
@@ -193,17 +184,13 @@ fn stop_reading<R: Wait>(rt: &R, domain: &Domain, task: &mut Task, has: bool, pi
 impl Players {
     /// Whether a task does it, and all is as it is to be.
     fn does<R: Wait>(&mut self, rt: &R, domain: &Domain, pipe: u8, deed: Deed) -> bool
-        requires of { (self.old.writer.domain ≡ domain.now) × ((self.old.reader.domain ≡ domain.now)
-            × (self.old.sender.domain ≡ domain.now)) }
         requires pipe { pipe < PIPES }
-        requires writes { MayWrite pipe self.old.writer self.old.writes }
-        requires reads { MayRead pipe self.old.reader self.old.reads }
-        requires clean { IsClean self.old.sender }
-        ensures of { (self.new.writer.domain ≡ domain.now) × ((self.new.reader.domain ≡ domain.now)
-            × (self.new.sender.domain ≡ domain.now)) }
-        ensures writes { MayWrite pipe self.new.writer self.new.writes }
-        ensures reads { MayRead pipe self.new.reader self.new.reads }
-        ensures clean { IsClean self.new.sender }
+        requires writes { MayWrite domain.now pipe self.old.writer self.old.writes }
+        requires reads { MayRead domain.now pipe self.old.reader self.old.reads }
+        requires sender { RestsIn domain.now self.old.sender }
+        ensures writes { MayWrite domain.now pipe self.new.writer self.new.writes }
+        ensures reads { MayRead domain.now pipe self.new.reader self.new.reads }
+        ensures sender { RestsIn domain.now self.new.sender }
     {
         match deed {
             Deed::Puts(place, length, call, told) => {
@@ -248,15 +235,12 @@ fn play_rows<R: Wait + Abort>(
     pipe: u8,
     script: Script,
 )
-    requires of { (players.old.writer.domain ≡ domain.now) × ((players.old.reader.domain ≡ domain.now)
-        × (players.old.sender.domain ≡ domain.now)) }
     requires pipe { pipe < PIPES }
-    requires writes { MayWrite pipe players.old.writer players.old.writes }
-    requires reads { MayRead pipe players.old.reader players.old.reads }
-    requires clean { IsClean players.old.sender }
-    ensures of { (players.new.writer.domain ≡ domain.now) × (players.new.reader.domain ≡ domain.now) }
-    ensures writes { MayWrite pipe players.new.writer players.new.writes }
-    ensures reads { MayRead pipe players.new.reader players.new.reads }
+    requires writes { MayWrite domain.now pipe players.old.writer players.old.writes }
+    requires reads { MayRead domain.now pipe players.old.reader players.old.reads }
+    requires sender { RestsIn domain.now players.old.sender }
+    ensures writes { MayWrite domain.now pipe players.new.writer players.new.writes }
+    ensures reads { MayRead domain.now pipe players.new.reader players.new.reads }
 {
     let mut at: u64 = 0;
     for deed in script {
@@ -277,8 +261,8 @@ pub(super) fn play<R: Wait + Abort>(
     requires pipe { pipe < PIPES }
 {
     let (domain, mut writer) = Domain::new(alloc)?;
-    let mut reader = another(rt, &domain, &mut writer);
-    let sender = another(rt, &domain, &mut writer);
+    let mut reader = writer.fork(&domain, 0)?;
+    let sender = writer.fork(&domain, 0)?;
     if !take_write(&domain, &mut writer, pipe) || !take_read(&domain, &mut reader, pipe) {
         panic!(rt; "the ends are free")
     }

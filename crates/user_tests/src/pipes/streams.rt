@@ -1,7 +1,7 @@
 //! A writer and a reader in threads of their own, again and again, in Domains whose tasks park at once when they are
 //! put asleep.
 
-ghost use Rattle.std.specs.Prelude.{◌≡◌, ◌<◌, ◌≤◌};
+ghost use Rattle.std.specs.Prelude.{◌<◌, ◌≤◌};
 ghost use Rattle.wait_model.specs.declared.layout.TheConstants.{PIPES};
 ghost use Rattle.wait_rule.specs.Says.{RestsIn};
 ghost use Rattle.user_tests.specs.declared.pipes.calls.TheConstants.{FULL};
@@ -10,12 +10,12 @@ use crate::meetings::Part;
 use crate::pipes::calls::{
     FULL, are_from, by_now, end_read, end_write, fill_from, get_by, put_by, take_read, take_write,
 };
-use crate::wants::all_so;
 use std::alloc::AllocError;
 use std::sync::Wait;
 use std::sync::atomic::AtomicU64;
 use std::test::Fail;
 use test_tasks::meetings::two_meet;
+use test_tasks::wants::all_so;
 use wait_leave::Until;
 use wait_rule::{Domain, Task};
 
@@ -175,7 +175,7 @@ fn bytes_come_out_as_they_went_in(rt: HostRuntime) -> Result<(), Fail> {
         let stream = Stream::Pieces { round };
         let parts = (Part::Sends(stream), Part::Receives(stream));
         let (_task, went) = two_meet(&rt, &domain, task, parts);
-        all_so(&rt, &went);
+        all_so(&went)?;
     }
     Ok(())
 }

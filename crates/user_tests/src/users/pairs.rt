@@ -1,13 +1,12 @@
 //! Each ordered pair of calls once, by a task that none of them makes sleep: the condition is set, and the completion is
 //! done for all.
 
-ghost use Rattle.std.specs.Prelude.{◌≡◌};
 ghost use Rattle.wait_rule.specs.Says.{RestsIn};
 
-use crate::wants::another;
 use completion_cell::completes::complete_all;
 use std::sync::Wait;
 use std::test::Fail;
+use test_tasks::wants::begin_two;
 use wait_rule::{Domain, Task};
 use wq_pairs::calls::{CALLS, CELL, Call};
 use wq_pairs::pairs::make_both;
@@ -38,8 +37,7 @@ fn make_each<R: Wait>(rt: &R, domain: &Domain, task: &mut Task)
 /// The task that made all of them is taken in.
 #[test]
 fn each_pair_is_made(rt: HostRuntime) -> Result<(), Fail> {
-    let (domain, mut task) = Domain::new(rt.alloc())?;
-    let mut other = another(&rt, &domain, &mut task);
+    let (domain, mut task, mut other) = begin_two(rt.alloc())?;
     make_each(&rt, &domain, &mut other);
     task.join(&domain, other);
     Ok(())

@@ -1,14 +1,13 @@
 //! Simple queues and completions: each part once by one task alone, and waits in threads of their own, again and again,
 //! in Domains whose tasks park at once when they are put asleep.
 
-ghost use Rattle.std.specs.Prelude.{◌≡◌};
 ghost use Rattle.wait_rule.specs.Says.{RestsIn};
 
 use crate::meetings::Part;
-use crate::wants::{all_so, another};
 use std::sync::Wait;
 use std::test::Fail;
 use test_tasks::meetings::{meet_two, two_meet};
+use test_tasks::wants::{all_so, begin_two};
 use wait_rule::{Domain, Task};
 use wq_user::completions::{
     complete_and_clear, complete_and_join, complete_one, take_and_join, take_one,
@@ -37,8 +36,7 @@ pub(crate) fn swake_twice<R: Wait>(rt: &R, domain: &Domain, task: &mut Task, all
 /// Wakes with nothing set find nobody; a wait whose condition is set ends at once; and the task is taken in.
 #[test]
 fn simple_queue_of_nobody(rt: HostRuntime) -> Result<(), Fail> {
-    let (domain, mut task) = Domain::new(rt.alloc())?;
-    let mut other = another(&rt, &domain, &mut task);
+    let (domain, mut task, mut other) = begin_two(rt.alloc())?;
     let seen = [
         !swake(&rt, &domain, &mut other),
         swake_in_hold(&rt, &domain, &mut other) == (false, 0),
@@ -46,23 +44,21 @@ fn simple_queue_of_nobody(rt: HostRuntime) -> Result<(), Fail> {
         swait(&rt, &domain, &mut other),
         swake_and_join(&rt, &domain, &mut task, other) == 0,
     ];
-    all_so(&rt, &seen);
-    Ok(())
+    all_so(&seen)
 }
 
 /// A completion is taken as often as it was completed; one that is cleared is not done; and both tasks are taken in.
 #[test]
 fn completion_of_nobody(rt: HostRuntime) -> Result<(), Fail> {
-    let (domain, mut task) = Domain::new(rt.alloc())?;
-    let mut one = another(&rt, &domain, &mut task);
-    let two = another(&rt, &domain, &mut task);
+    let (domain, mut task, mut one) = begin_two(rt.alloc())?;
+    let two = task.fork(&domain, 0)?;
     complete_one(&rt, &domain, &mut one);
     let seen = [
         take_one(&rt, &domain, &mut one),
         !take_one(&rt, &domain, &mut one),
         !complete_and_clear(&rt, &domain, &mut one),
     ];
-    all_so(&rt, &seen);
+    all_so(&seen)?;
     complete_and_join(&rt, &domain, &mut task, two);
     assert!(rt; take_and_join(&rt, &domain, &mut task, one));
     Ok(())
@@ -73,7 +69,7 @@ fn completion_of_nobody(rt: HostRuntime) -> Result<(), Fail> {
 fn simple_waiter_is_joined(rt: HostRuntime) -> Result<(), Fail> {
     for round in 0..ROUNDS {
         let (domain, mut task) = Domain::with_looks(rt.alloc(), 0)?;
-        let other = another(&rt, &domain, &mut task);
+        let other = task.fork(&domain, 0)?;
         let all = round % 2 == 0;
         let parts = (Part::UserSwakes { all }, Part::UserSwaits);
         let ((mut task, _), waited) = meet_two(&rt, &domain, task, other, parts);
@@ -81,7 +77,7 @@ fn simple_waiter_is_joined(rt: HostRuntime) -> Result<(), Fail> {
             waited.1,
             swake_and_join(&rt, &domain, &mut task, waited.0) == 0,
         ];
-        all_so(&rt, &seen);
+        all_so(&seen)?;
     }
     Ok(())
 }
@@ -93,7 +89,7 @@ fn waiter_for_one_is_joined(rt: HostRuntime) -> Result<(), Fail> {
         let (domain, task) = Domain::with_looks(rt.alloc(), 0)?;
         let parts = (Part::UserCompletes, Part::UserWaits);
         let (mut task, went) = two_meet(&rt, &domain, task, parts);
-        all_so(&rt, &went);
+        all_so(&went)?;
         assert!(rt; !take_one(&rt, &domain, &mut task));
     }
     Ok(())

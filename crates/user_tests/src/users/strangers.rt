@@ -5,15 +5,15 @@
 ghost use Rattle.std.specs.Prelude.{◌≡◌};
 ghost use Rattle.wait_model.specs.declared.watches.Watch.TheVariants as watch;
 ghost use Rattle.bit_wait.specs.Holders.{IsHolder};
-ghost use Rattle.wait_rule.specs.Says.{IsClean, RestsIn};
+ghost use Rattle.wait_rule.specs.Says.{RestsIn};
 
 use crate::meetings::Part;
-use crate::wants::{all_so, another};
 use std::sync::Wait;
 use std::test::Fail;
 use std::thread;
 use std::thread::Threads;
 use test_tasks::meetings::meet_two;
+use test_tasks::wants::{all_so, begin_two};
 use wait_rule::{Domain, Task};
 use wq_user::hashed::{
     change, count_members, give_bit, take_bit, wait_until_changed, wait_until_clear,
@@ -68,12 +68,10 @@ fn meet_and_give<R: Threads + Wait + Sync>(
     changer: Task,
     waiter: Task,
 ) -> (Task, ((Task, bool), (Task, bool)))
-    requires of { (holder.domain ≡ domain.now) × (changer.domain ≡ domain.now) × (waiter.domain ≡ domain.now) }
-    requires holder { IsHolder holder (watch.Bit 2 16) }
-    requires clean { IsClean changer × IsClean waiter }
-    ensures of { (result.0.domain ≡ domain.now) × (result.1.0.0.domain ≡ domain.now)
-        × (result.1.1.0.domain ≡ domain.now) }
-    ensures clean { IsClean result.0 × IsClean result.1.0.0 × IsClean result.1.1.0 }
+    requires holder { (holder.domain ≡ domain.now) × IsHolder holder (watch.Bit 2 16) }
+    requires rest { RestsIn domain.now changer × RestsIn domain.now waiter }
+    ensures rests { RestsIn domain.now result.0 }
+    ensures rest { RestsIn domain.now result.1.0.0 × RestsIn domain.now result.1.1.0 }
 {
     let parts = (Part::Changes, Part::SeesChange);
     let met = meet_two(rt, domain, changer, waiter, parts);
@@ -90,22 +88,18 @@ fn meet_all<R: Threads + Wait + Sync>(
     waiter: Task,
     stranger: Task,
 ) -> ((Task, ((Task, bool), (Task, bool))), (Task, bool))
-    requires of { (holder.domain ≡ domain.now) × (changer.domain ≡ domain.now) × (waiter.domain ≡ domain.now)
-        × (stranger.domain ≡ domain.now) }
-    requires holder { IsHolder holder (watch.Bit 2 16) }
-    requires clean { IsClean changer × IsClean waiter × IsClean stranger }
-    ensures of { (result.0.0.domain ≡ domain.now) × (result.0.1.0.0.domain ≡ domain.now)
-        × (result.0.1.1.0.domain ≡ domain.now) × (result.1.0.domain ≡ domain.now) }
-    ensures clean { IsClean result.0.0 × IsClean result.0.1.0.0 × IsClean result.0.1.1.0 × IsClean result.1.0 }
+    requires holder { (holder.domain ≡ domain.now) × IsHolder holder (watch.Bit 2 16) }
+    requires rest { RestsIn domain.now changer × RestsIn domain.now waiter × RestsIn domain.now stranger }
+    ensures rests { RestsIn domain.now result.0.0 × RestsIn domain.now result.1.0 }
+    ensures rest { RestsIn domain.now result.0.1.0.0 × RestsIn domain.now result.0.1.1.0 }
 {
     thread::join(
         rt,
         move || -> (Task, ((Task, bool), (Task, bool)))
             requires { (holder.domain ≡ domain.now) × IsHolder holder (watch.Bit 2 16)
-                × (changer.domain ≡ domain.now) × IsClean changer × (waiter.domain ≡ domain.now) × IsClean waiter }
-            ensures { (result.0.domain ≡ domain.entry.now) × IsClean result.0
-                × (result.1.0.0.domain ≡ domain.entry.now) × IsClean result.1.0.0
-                × (result.1.1.0.domain ≡ domain.entry.now) × IsClean result.1.1.0 }
+                × RestsIn domain.now changer × RestsIn domain.now waiter }
+            ensures { RestsIn domain.entry.now result.0 × RestsIn domain.entry.now result.1.0.0
+                × RestsIn domain.entry.now result.1.1.0 }
         { meet_and_give(rt, domain, holder, changer, waiter) },
         move || -> (Task, bool)
             requires { RestsIn domain.now stranger }
@@ -120,15 +114,15 @@ fn meet_all<R: Threads + Wait + Sync>(
 fn strangers_on_one_head(rt: HostRuntime) -> Result<(), Fail> {
     for _round in 0..ROUNDS {
         let (domain, mut task) = Domain::with_looks(rt.alloc(), 0)?;
-        let mut holder = another(&rt, &domain, &mut task);
-        let changer = another(&rt, &domain, &mut task);
-        let waiter = another(&rt, &domain, &mut task);
-        let stranger = another(&rt, &domain, &mut task);
+        let mut holder = task.fork(&domain, 0)?;
+        let changer = task.fork(&domain, 0)?;
+        let waiter = task.fork(&domain, 0)?;
+        let stranger = task.fork(&domain, 0)?;
         if !take_bit(&domain, &mut holder) {
             panic!(rt; "the bit is clear")
         }
         let (met, over) = meet_all(&rt, &domain, holder, changer, waiter, stranger);
-        all_so(&rt, &[met.1.0.1, met.1.1.1, over.1]);
+        all_so(&[met.1.0.1, met.1.1.1, over.1])?;
         task.join(&domain, met.0);
         task.join(&domain, met.1.0.0);
         task.join(&domain, met.1.1.0);
@@ -140,8 +134,7 @@ fn strangers_on_one_head(rt: HostRuntime) -> Result<(), Fail> {
 /// Who takes a bit and gives it back, and who changes a variable for nobody, takes no lock, and can be taken in.
 #[test]
 fn hashed_parts_of_one_task(rt: HostRuntime) -> Result<(), Fail> {
-    let (domain, mut task) = Domain::new(rt.alloc())?;
-    let mut other = another(&rt, &domain, &mut task);
+    let (domain, mut task, mut other) = begin_two(rt.alloc())?;
     if !take_bit(&domain, &mut other) {
         panic!(rt; "the bit is clear")
     }
@@ -152,7 +145,7 @@ fn hashed_parts_of_one_task(rt: HostRuntime) -> Result<(), Fail> {
         wait_until_changed(&rt, &domain, &mut other) == 3,
         count_members(&rt, &domain, &mut other) == 0,
     ];
-    all_so(&rt, &seen);
+    all_so(&seen)?;
     task.join(&domain, other);
     Ok(())
 }
@@ -160,8 +153,7 @@ fn hashed_parts_of_one_task(rt: HostRuntime) -> Result<(), Fail> {
 /// Who keeps a bit sets a condition and waits for it, gives the bit back, and can be taken in.
 #[test]
 fn bit_is_kept_over_other_calls(rt: HostRuntime) -> Result<(), Fail> {
-    let (domain, mut task) = Domain::new(rt.alloc())?;
-    let mut other = another(&rt, &domain, &mut task);
+    let (domain, mut task, mut other) = begin_two(rt.alloc())?;
     let Some(holds) = work_with_bit(&rt, &domain, &mut other) else {
         panic!(rt; "the bit is clear")
     };

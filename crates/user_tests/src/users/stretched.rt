@@ -1,9 +1,8 @@
 //! Waits by stretches of one task alone, each of which finds what it waits for.
 
-use crate::wants::{all_so, another};
 use std::test::Fail;
+use test_tasks::wants::{all_so, begin_two};
 use wait_model::tasks::{How, SleepState};
-use wait_rule::Domain;
 use wq_user::completions::complete_one;
 use wq_user::events::set_zero;
 use wq_user::stretched::{take_by_stretches, wait_by_stretches, wait_var_by_stretches};
@@ -13,8 +12,7 @@ use wq_user::stretched_locks::hold_bit_by_stretches;
 /// Each ends as its whole call does, and the task is taken in.
 #[test]
 fn waits_by_stretches_are_over(rt: HostRuntime) -> Result<(), Fail> {
-    let (domain, mut task) = Domain::new(rt.alloc())?;
-    let mut other = another(&rt, &domain, &mut task);
+    let (domain, mut task, mut other) = begin_two(rt.alloc())?;
     let how = How {
         state: SleepState::Interruptible,
         exclusive: false,
@@ -29,7 +27,7 @@ fn waits_by_stretches_are_over(rt: HostRuntime) -> Result<(), Fail> {
         hold_by_stretches(&rt, &domain, &mut other, SleepState::Killable),
         hold_bit_by_stretches(&rt, &domain, &mut other, SleepState::Interruptible),
     ];
-    all_so(&rt, &seen);
+    all_so(&seen)?;
     task.join(&domain, other);
     Ok(())
 }

@@ -6,6 +6,11 @@ use std::alloc::{AllocError, Global};
 pub(crate) enum Bytes {
     /// These.
     Just(&'static str),
+    /// These, where `; ` stands for a newline.
+    Folded(&'static str),
+    /// What a copy of so many bytes with no newline writes, and what a merge of so many does.
+    Copied(u64),
+    Merged(u64),
     /// These, and a line after them so often.
     Lines(&'static str, &'static str, u32),
     /// So many, of which each 100th is a newline, from the 100th on.
@@ -54,15 +59,49 @@ fn hundredth(at: usize) -> u8 {
     }
 }
 
+/// Adds a text with a newline for each `; ` of it.
+fn unfold(made: &mut Vec<u8>, text: &str) -> Result<(), AllocError> {
+    let mut is_behind = false;
+    for byte in text.as_bytes() {
+        match *byte {
+            b';' => made.push(b'\n')?,
+            b' ' if is_behind => {}
+            other => made.push(other)?,
+        }
+        is_behind = *byte == b';';
+    }
+    Ok(())
+}
+
+/// Adds a text.
+fn push_text(made: &mut Vec<u8>, text: &str) -> Result<(), AllocError> {
+    made.extend_from_slice(text.as_bytes())
+}
+
+/// The text of a copy of so many bytes, none of which is a newline. Each is moved three times.
+fn text_of_copy(alloc: Global, size: u64) -> Result<String, AllocError> {
+    let moved = size.saturating_mul(3);
+    format!(in alloc; "copied {size} bytes\nmoved {moved}\nwatch 0 {size}\nwatch 1 0\nsignals 0\n")
+}
+
+/// And that of a merge.
+fn text_of_merge(alloc: Global, size: u64) -> Result<String, AllocError> {
+    let moved = size.saturating_mul(3);
+    format!(in alloc; "merged {size} bytes\nmoved {moved}\n")
+}
+
 /// The bytes.
 pub(crate) fn made(alloc: Global, bytes: Bytes) -> Result<Vec<u8>, AllocError> {
     let mut made = Vec::new(alloc);
     match bytes {
-        Bytes::Just(text) => made.extend_from_slice(text.as_bytes())?,
+        Bytes::Just(text) => push_text(&mut made, text)?,
+        Bytes::Folded(text) => unfold(&mut made, text)?,
+        Bytes::Copied(size) => push_text(&mut made, text_of_copy(alloc, size)?.as_str())?,
+        Bytes::Merged(size) => push_text(&mut made, text_of_merge(alloc, size)?.as_str())?,
         Bytes::Lines(text, line, times) => {
-            made.extend_from_slice(text.as_bytes())?;
+            push_text(&mut made, text)?;
             for _ in 0..times {
-                made.extend_from_slice(line.as_bytes())?;
+                push_text(&mut made, line)?;
             }
         }
         Bytes::Hundreds(size) => {

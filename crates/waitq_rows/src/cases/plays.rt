@@ -1,7 +1,7 @@
 //! Plays the rows.
 
 use crate::cases::bytes::{Bytes, are_like, least_of, made, parts};
-use crate::cases::{Case, Held, REPLAY};
+use crate::cases::{Case, Held, Outside, REPLAY};
 use copy_plan::OpenGate;
 use edge_io::{Folder, Sink, Source};
 use func_head::FuncHead;
@@ -70,6 +70,17 @@ fn words_of(alloc: Global, case: &Case) -> Result<Vec<String>, AllocError> {
     Ok(list)
 }
 
+/// The numbers of the calls that fail there.
+fn fails_of(alloc: Global, case: &Case, outside: Outside) -> Result<Vec<u64>, AllocError> {
+    let mut numbers = Vec::new(alloc);
+    for (failing, number) in case.fails {
+        if *failing == outside {
+            numbers.push(*number)?;
+        }
+    }
+    Ok(numbers)
+}
+
 /// Adds a file, where the case has one.
 fn add_file(
     alloc: Global,
@@ -90,10 +101,16 @@ fn add_file(
 /// The folder of a case.
 fn folder_of(alloc: Global, case: &Case) -> Result<MemFolder, AllocError> {
     let mut folder = MemFolder::new(alloc);
-    add_file(alloc, &mut folder, "a", case.a, case.fails.reads)?;
+    add_file(
+        alloc,
+        &mut folder,
+        "a",
+        case.a,
+        &fails_of(alloc, case, Outside::Read)?,
+    )?;
     add_file(alloc, &mut folder, "b", case.b, &[])?;
-    folder.fail_writes(case.fails.writes)?;
-    folder.fail_calls(case.fails.calls)?;
+    folder.fail_writes(&fails_of(alloc, case, Outside::Write)?)?;
+    folder.fail_calls(&fails_of(alloc, case, Outside::Folder)?)?;
     Ok(folder)
 }
 
@@ -102,8 +119,8 @@ fn begun(alloc: Global, case: &Case) -> Result<Left, AllocError> {
     Ok(Left {
         status: 0,
         folder: folder_of(alloc, case)?,
-        out: MemSink::new(alloc, case.fails.outs)?,
-        err: MemSink::new(alloc, case.fails.errs)?,
+        out: MemSink::new(alloc, &fails_of(alloc, case, Outside::Out)?)?,
+        err: MemSink::new(alloc, &fails_of(alloc, case, Outside::Err)?)?,
     })
 }
 
@@ -117,7 +134,7 @@ fn runs<R: Threads + Wait + Sync>(
     watch: FuncHead,
 ) -> Result<(), Fail> {
     let list = words_of(alloc, case)?;
-    let mut input = MemSource::new(alloc, input, case.fails.ins)?;
+    let mut input = MemSource::new(alloc, input, &fails_of(alloc, case, Outside::In)?)?;
     left.status = status_under(
         rt,
         alloc,
@@ -131,19 +148,44 @@ fn runs<R: Threads + Wait + Sync>(
     Ok(())
 }
 
-/// Whether a file is as it is to be.
-fn is_held(alloc: Global, found: Option<&[u8]>, held: Held) -> Result<bool, AllocError> {
+/// Whether a file is as it was before.
+fn is_kept(alloc: Global, before: Option<Bytes>, found: Option<&[u8]>) -> Result<bool, AllocError> {
+    match (before, found) {
+        (Some(before), Some(found)) => Ok(found == made(alloc, before)?.as_slice()),
+        (None, None) => Ok(true),
+        _ => Ok(false),
+    }
+}
+
+/// Whether the file that a case writes is there, and as it is to be.
+fn is_held(alloc: Global, case: &Case, found: Option<&[u8]>) -> Result<bool, AllocError> {
     let Some(found) = found else {
-        return Ok(matches!(held, Held::Missing));
+        return Ok(false);
     };
-    match held {
-        Held::Missing => Ok(false),
-        Held::Such(like, bytes) => {
-            let bytes = made(alloc, bytes)?;
-            Ok(are_like(found, like, &bytes))
+    let first = case.a.unwrap_or(Bytes::Just(""));
+    let second = case.b.unwrap_or(Bytes::Just(""));
+    match case.left {
+        Held::Such(like) => Ok(are_like(found, like, &made(alloc, first)?)),
+        Held::Merged => is_merged(alloc, found, first, second, true),
+        Held::MergedFronts => is_merged(alloc, found, first, second, false),
+        _ => Ok(false),
+    }
+}
+
+/// Whether a file of this name is as it is to be.
+fn is_left(
+    alloc: Global,
+    case: &Case,
+    name: &str,
+    before: Option<Bytes>,
+    found: Option<&[u8]>,
+) -> Result<bool, AllocError> {
+    match case.left {
+        Held::Any if name == case.into => Ok(true),
+        Held::Such(_) | Held::Merged | Held::MergedFronts if name == case.into => {
+            is_held(alloc, case, found)
         }
-        Held::Merged(first, second) => is_merged(alloc, found, first, second, true),
-        Held::MergedFronts(first, second) => is_merged(alloc, found, first, second, false),
+        _ => is_kept(alloc, before, found),
     }
 }
 
@@ -184,8 +226,8 @@ fn compares(
     wants(rt, row, name, "text", is_text);
     let is_line = left.err.bytes() == case.line.as_bytes();
     wants(rt, row, name, "line", is_line);
-    for (file, held) in case.left {
-        let is_so = is_held(alloc, left.folder.bytes_of(file), *held)?;
+    for (file, before) in [("a", case.a), ("b", case.b), ("c", None)] {
+        let is_so = is_left(alloc, case, file, before, left.folder.bytes_of(file))?;
         wants(rt, row, name, file, is_so);
     }
     Ok(())
@@ -216,6 +258,26 @@ pub(crate) fn play_all<R: Abort + Threads + Wait + Sync>(
         row = row.saturating_add(1);
         let watch = watchers_of(alloc)?;
         play_under(rt, alloc, row, case, watch)?;
+    }
+    Ok(())
+}
+
+/// Plays a case with the words of each row.
+pub(crate) fn play_words<R: Abort + Threads + Wait + Sync>(
+    rt: &R,
+    alloc: Global,
+    case: Case,
+    rows: &[&'static [&'static str]],
+) -> Result<(), Fail> {
+    for words in rows {
+        play_all(
+            rt,
+            alloc,
+            &[Case {
+                words: *words,
+                ..case
+            }],
+        )?;
     }
     Ok(())
 }

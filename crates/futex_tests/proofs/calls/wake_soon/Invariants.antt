@@ -1,6 +1,5 @@
-use Rattle.std.proofs.Common.{◌≡◌}
-use Rattle.wait_rule.specs.Says.{IsClean}
+use Rattle.wait_rule.specs.Says.{RestsIn}
 use Rattle.futex_tests.proofs.calls.wake_soon.Given as goal
 
 abbrev pub invariant-loop : goal.invariant-loop
-invariant-loop g l = record { of : l.task.domain ≡ l.fn.domain; clean : IsClean l.task }
+invariant-loop g l = RestsIn l.fn.domain l.task

@@ -1,5 +1,5 @@
 use Rattle.std.specs.Prelude.{◌≡◌}
-use Rattle.wait_rule.specs.Says.{IsClean}
+use Rattle.wait_rule.specs.Says.{RestsIn}
 use Rattle.futex_tests.specs.CondTasks.{IsTestedCond}
 use Rattle.futex_tests.proofs.cond_turns.end_by_signal.Given as goal
 
@@ -7,7 +7,6 @@ use Rattle.futex_tests.proofs.cond_turns.end_by_signal.Given as goal
 abbrev pub invariant-loop : goal.invariant-loop
 invariant-loop g l = record {
   of : l.task.domain ≡ l.fn.domain;
-  its : l.other.domain ≡ l.fn.domain;
   waiting : IsTestedCond l.task l.at;
-  owes : IsClean l.other;
+  other : RestsIn l.fn.domain l.other;
 }

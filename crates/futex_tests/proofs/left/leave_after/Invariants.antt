@@ -1,5 +1,5 @@
 use Rattle.std.proofs.Common.{◌≡◌}
-use Rattle.wait_rule.specs.Says.{IsClean}
+use Rattle.wait_rule.specs.Says.{RestsIn}
 use Rattle.wait_class.specs.Tables.{Lands}
 use Rattle.futex_table.specs.FutexTables.{futex_table}
 use Rattle.futex_tests.proofs.left.leave_after.Given as goal
@@ -8,7 +8,6 @@ use Rattle.futex_tests.proofs.left.leave_after.Given as goal
 abbrev pub invariant-loop : goal.invariant-loop
 invariant-loop g l = record {
   of : l.task.domain ≡ l.fn.domain;
-  its : l.other.domain ≡ l.fn.domain;
-  owes : IsClean l.other;
   waiting : Lands futex_table l.task l.run l.at;
+  other : RestsIn l.fn.domain l.other;
 }

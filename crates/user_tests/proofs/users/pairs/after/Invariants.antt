@@ -1,7 +1,6 @@
-use Rattle.std.proofs.Common.{◌≡◌}
-use Rattle.wait_rule.specs.Says.{IsClean}
+use Rattle.wait_rule.specs.Says.{RestsIn}
 use Rattle.user_tests.proofs.users.pairs.after.Given as goal
 
 -- between two calls it owes nothing
 abbrev pub invariant-loop-second : goal.invariant-loop-second
-invariant-loop-second g l = record { of_domain : l.task.domain ≡ l.fn.domain; user : IsClean l.task }
+invariant-loop-second g l = RestsIn l.fn.domain l.task

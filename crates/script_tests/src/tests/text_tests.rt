@@ -1,5 +1,5 @@
-use crate::lines::{BAD_LINES, BAD_LINES_OF_VERSION_2, CALLS, GREATER, PAGES};
-use crate::steps::{has_refusal, has_text, wants as wants_step};
+use crate::tests::lines::{BAD_LINES, BAD_LINES_OF_VERSION_2, CALLS, GREATER, PAGES};
+use crate::tests::steps::{has_refusal, has_text, wants as wants_step};
 use std::alloc::{AllocError, Global};
 use std::process::Abort;
 use std::test::Fail;

@@ -1,4 +1,4 @@
-use crate::steps::{Row, Step, plays_all};
+use crate::tests::steps::{Row, Step, plays_all};
 use std::test::Fail;
 use wait_model::calls::Call;
 use wait_model::layout::{BOOKMARK_AT, CONDITION_AT, ENTRY_AT, FLAG_AT, HEAD_AT};
@@ -67,11 +67,10 @@ const ROWS: &[Row] = &[
             Step::Runs(2, EXCLUSIVE, 8, None),
             Step::Runs(3, PLAIN, 7, None),
             Step::Opens(4, WAKE_ONE),
-            Step::Writes(4, "t4 lock h256\n"),
-            Step::Writes(4, "t4 wake t3 yes\n"),
-            Step::Writes(4, "t4 unqueue t3\n"),
-            Step::Writes(4, "t4 wake t1 yes\n"),
-            Step::Writes(4, "t4 unqueue t1\n"),
+            Step::Says(
+                4,
+                "lock h256; wake t3 yes; unqueue t3; wake t1 yes; unqueue t1",
+            ),
             Step::Writes(
                 4,
                 "t4 unlock h256 spent\nt4 = woken 2 selected 1 holds 1 spent\n",
@@ -86,14 +85,10 @@ const ROWS: &[Row] = &[
         steps: &[
             Step::Runs(1, ADD, 3, Some(0)),
             Step::Opens(2, WAKE),
-            Step::Writes(2, "t2 lock h256\n"),
-            Step::Writes(2, "t2 woken t1\n"),
-            Step::Writes(2, "t2 wake t1 no\n"),
+            Step::Says(2, "lock h256; woken t1; wake t1 no"),
             Step::Writes(2, "t2 unlock h256\nt2 = woken 0 selected 0 holds 1 end\n"),
             Step::Opens(1, WOKEN),
-            Step::Writes(1, "t1 state int\n"),
-            Step::Writes(1, "t1 flag yes\n"),
-            Step::Writes(1, "t1 state run\n"),
+            Step::Says(1, "state int; flag yes; state run"),
             Step::Writes(1, "t1 unflag\nt1 = 0\n"),
             Step::Runs(1, Call::Remove, 3, Some(0)),
             Step::Has(FLAG_AT + 2, 0),

@@ -1,4 +1,4 @@
-use crate::steps::{Row, Step, plays_all};
+use crate::tests::steps::{Row, Step, plays_all};
 use std::test::Fail;
 use wait_model::calls::Call;
 use wait_model::layout::{CONDITION_AT, ENTRY_AT, FIRST_BIT_WORD};

@@ -1,4 +1,4 @@
-use crate::steps::{Row, Step, plays_all};
+use crate::tests::steps::{Row, Step, plays_all};
 use std::test::Fail;
 use wait_model::calls::Call;
 use wait_model::layout::{CONDITION_AT, ENTRY_AT, FIRST_DONE, FIRST_DONE_HEAD, HEAD_AT};
@@ -84,11 +84,7 @@ const ROWS: &[Row] = &[
             Step::Runs(1, WAIT, 6, None),
             Step::Runs(2, WAIT, 6, None),
             Step::Opens(3, COMPLETE),
-            Step::Writes(3, "t3 lock h320\n"),
-            Step::Writes(3, "t3 load d0 0\n"),
-            Step::Writes(3, "t3 set d0 1\n"),
-            Step::Writes(3, "t3 wake t1 yes\n"),
-            Step::Writes(3, "t3 unqueue t1\n"),
+            Step::Says(3, "lock h320; load d0 0; set d0 1; wake t1 yes; unqueue t1"),
             Step::Goes(3, 1, Some(0)),
             Step::Has(HEAD, 4),
             Step::Has(ENTRY_AT + 2, 0),
@@ -116,8 +112,7 @@ const ROWS: &[Row] = &[
             Step::Runs(3, SIMPLE_WAIT, 7, None),
             Step::Runs(4, Call::Kick { who: 1 }, 1, Some(1)),
             Step::Opens(4, ONE),
-            Step::Writes(4, "t4 lock h306\n"),
-            Step::Writes(4, "t4 wake t1 no\n"),
+            Step::Says(4, "lock h306; wake t1 no"),
             Step::Goes(4, 2, Some(1)),
             Step::Runs(4, ALL, 6, Some(2)),
             Step::Runs(4, ONE, 2, Some(0)),

@@ -32,6 +32,8 @@ pub enum Step {
     Makes(u8, u32),
     /// It makes one event: its text, with that of what the call answers if it ends there.
     Writes(u8, &'static str),
+    /// It makes an event for each of these, which `; ` parts: their texts, each behind the task and before a newline.
+    Says(u8, &'static str),
     /// A call is not opened: the text of that.
     Refuses(u8, Call, &'static str),
     /// All tasks below the number add an entry at the front of condition 0, one after another.
@@ -117,6 +119,16 @@ pub fn has_text(
     let mut out = MemSink::new(alloc, &[])?;
     let is_written = write_step(&mut out, task, stepped).is_ok();
     Ok(is_written && is_text(&out, text))
+}
+
+/// Whether the next events of a task have these texts, which `; ` parts.
+fn says(alloc: Global, core: &mut Core, task: u8, texts: &str) -> Result<bool, AllocError> {
+    let mut have_all = true;
+    for part in texts.split(';') {
+        let text = format!(in alloc; "t{task} {}\n", part.trim_start())?;
+        have_all = has_text(alloc, task, &core.step(task), text.as_str())? && have_all;
+    }
+    Ok(have_all)
 }
 
 /// Whether the refusal of a call of a task has this text.
@@ -217,6 +229,7 @@ fn is_made(core: &mut Core, step: Step) -> bool {
 fn is_so(alloc: Global, core: &mut Core, step: Step) -> Result<bool, AllocError> {
     match step {
         Step::Writes(task, text) => has_text(alloc, task, &core.step(task), text),
+        Step::Says(task, texts) => says(alloc, core, task, texts),
         Step::Refuses(task, call, text) => refuses(alloc, core, task, call, text),
         _ => Ok(is_made(core, step)),
     }

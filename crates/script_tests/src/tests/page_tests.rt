@@ -1,4 +1,4 @@
-use crate::steps::{Row, Step, plays_all};
+use crate::tests::steps::{Row, Step, plays_all};
 use std::test::Fail;
 use wait_model::calls::Call;
 use wait_model::layout::{CONDITION_AT, ENTRY_AT, FIRST_BIT_WORD, FLAG_AT, HANDED};
@@ -42,17 +42,15 @@ const ROWS: &[Row] = &[
             Step::Runs(1, TRY, 1, Some(1)),
             Step::Runs(2, LOCK, 10, None),
             Step::Opens(1, CLEAR),
-            Step::Writes(1, "t1 clear b127.0\n"),
-            Step::Writes(1, "t1 active h158 yes\n"),
-            Step::Writes(1, "t1 lock h158\n"),
-            Step::Writes(1, "t1 load b127 0\n"),
-            Step::Writes(1, "t1 tas b127.0 0 t2\n"),
+            Step::Says(
+                1,
+                "clear b127.0; active h158 yes; lock h158; load b127 0; tas b127.0 0 t2",
+            ),
             Step::Has(WORD, 1),
             Step::Has(FLAG, 0),
-            Step::Writes(1, "t1 handed t2\n"),
+            Step::Says(1, "handed t2"),
             Step::Has(FLAG, HANDED),
-            Step::Writes(1, "t1 wake t2 yes\n"),
-            Step::Writes(1, "t1 unqueue t2\n"),
+            Step::Says(1, "wake t2 yes; unqueue t2"),
             Step::Has(ENTRY, 0),
             Step::Goes(1, 1, None),
             Step::Refuses(1, CLEAR, "t1 refused 4\n"),
@@ -69,14 +67,10 @@ const ROWS: &[Row] = &[
         steps: &[
             Step::Runs(1, TRY, 1, Some(1)),
             Step::Opens(2, LOCK),
-            Step::Writes(2, "t2 tas b127.0 1\n"),
-            Step::Writes(2, "t2 unflag\n"),
-            Step::Writes(2, "t2 lock h158\n"),
-            Step::Writes(2, "t2 queue h158 tail\n"),
+            Step::Says(2, "tas b127.0 1; unflag; lock h158; queue h158 tail"),
             Step::Opens(1, CLEAR),
-            Step::Writes(1, "t1 clear b127.0\n"),
-            Step::Writes(2, "t2 tas b127.0 0\n"),
-            Step::Writes(2, "t2 unqueue t2\n"),
+            Step::Says(1, "clear b127.0"),
+            Step::Says(2, "tas b127.0 0; unqueue t2"),
             Step::Goes(2, 1, Some(0)),
             Step::Goes(1, 1, None),
             Step::Runs(2, CLEAR, 2, None),
@@ -101,7 +95,7 @@ const ROWS: &[Row] = &[
             Step::Runs(2, LOCK, 10, None),
             Step::Runs(3, LOCK, 10, None),
             Step::Opens(1, CLEAR),
-            Step::Writes(1, "t1 clear b127.0\n"),
+            Step::Says(1, "clear b127.0"),
             Step::Runs(4, TRY, 1, Some(1)),
             Step::Goes(1, 4, None),
             Step::HasSome(ENTRY),

@@ -198,7 +198,8 @@ in_wait : (b : Bool) (w : CondWait) (old new : Known) (q : Run FutexWait) (u : F
 in_wait b w old new q (turn.Again s) x = x
 in_wait b w old new q (turn.Asleep s) x = x
 in_wait b w old new q (turn.Locked s) x = with_way b w old new new q q (turn.Locked s) (turn.Again s) x
-    (way_again (AskedIf b) futex_table futex_exits futex_may_leave futex_lawful x.let_go.unlocked x.first stage.First new q s
+    (way_again (AskedIf b) futex_table futex_exits futex_may_leave futex_lawful x.let_go.unlocked x.first stage.First
+    new q s
     x.came)
 in_wait b w old new q (turn.Done o) x = cond_over b w old new q o x
 
@@ -206,7 +207,8 @@ module _ (b : Bool) (w : CondWait) (old mid new : Known) (q : Run FutexWait) (s 
   pub wait_on : (p : Run FutexWait) (u : FutexWaitTurn) → IsForCond (AskedIf b) w old mid q (turn.Again s)
       → OnTheWay (AskedIf b) futex_table futex_exits mid q s new p u → IsCondWaiting b w old new (awaited_to p u)
   wait_on p u x v = in_wait b w old new p u (with_way b w old mid new q p (turn.Again s) u x
-      (way_then (AskedIf b) futex_table futex_exits futex_may_leave futex_lawful x.let_go.unlocked x.first stage.First mid new
+      (way_then (AskedIf b) futex_table futex_exits futex_may_leave futex_lawful x.let_go.unlocked x.first stage.First
+      mid new
       q p s u x.came v))
 
   pub wait_woke : SleepsNot mid new → (c : Bool) → MatchBool c (Advances futex_table mid new q q s (turn.Again s))
@@ -214,14 +216,16 @@ module _ (b : Bool) (w : CondWait) (old mid new : Known) (q : Run FutexWait) (s 
       → MatchBool c (IsForCond (AskedIf b) w old new q (turn.Again s))
       (IsForCond (AskedIf b) w old new q (turn.Asleep s))
   wait_woke calm true a x = with_way b w old mid new q q (turn.Asleep s) (turn.Again s) x
-      (way_risen (AskedIf b) futex_table futex_exits futex_may_leave futex_lawful x.let_go.unlocked x.first stage.First mid new
+      (way_risen (AskedIf b) futex_table futex_exits futex_may_leave futex_lawful x.let_go.unlocked x.first stage.First
+      mid new
       q s x.came a)
   wait_woke calm false a x = with_way b w old mid new q q (turn.Asleep s) (turn.Asleep s) x
       (way_dozed (AskedIf b) x.let_go.unlocked x.first stage.First mid new q s calm x.came a)
 
 pub wait_lands : (b : Bool) (w : CondWait) (old k : Known) (q : Run FutexWait) (u : FutexWaitTurn)
     → IsForCond (AskedIf b) w old k q u → Lands futex_table k q u
-wait_lands b w old k q u x = way_lands (AskedIf b) futex_table futex_exits futex_may_leave futex_lawful x.let_go.unlocked
+wait_lands b w old k q u x = way_lands (AskedIf b) futex_table futex_exits futex_may_leave futex_lawful
+    x.let_go.unlocked
     x.first stage.First k q u x.came
 
 pub cond_may_be_asked : (b : Bool) (w : CondWait) (old new : Known) (q : Run FutexWait) (u : FutexWaitTurn)

@@ -42,6 +42,7 @@ use Rattle.wait_class.specs.Posts.{Runs}
 use Rattle.wait_event.specs.Waits.{is_queue, has_queued_in}
 use Rattle.wait_class.specs.Findings.{saw_nothing, with_value}
 use Rattle.wait_event.proofs.Entering.{runs_lock, unlock_looks}
+use Rattle.wait_event.proofs.LookedSteps.{looks_all}
 use Rattle.wait_class.proofs.Ways.{either_event}
 use Rattle.wait_class.proofs.Ground.Going.{runs_one}
 use Rattle.wait_rule.proofs.KnownLaws.TaskHistories.{history_after}
@@ -199,18 +200,7 @@ value_append c o [] fs = refl
 value_append c o (e ∷ es) fs = value_append c (value_after c e o) es fs
 
 looks_value : (c : Watch) (o : Option ℕ) (xs : List Item) → AreLooks xs → value_from c o (steps_of xs) ≡ o
-looks_value c o [] l = refl
-looks_value c o (item.Made (step.Saw x w) ∷ xs) l = looks_value c o xs l.1
-looks_value c o (item.Made e ∷ xs) l = absurd l.0
-looks_value c o (item.Awake w ∷ xs) l = looks_value c o xs l.1
-looks_value c o (item.Bookmark t w ∷ xs) l = looks_value c o xs l.1
-looks_value c o (item.Member ∷ xs) l = looks_value c o xs l.1
-looks_value c o (item.Word w ∷ xs) l = looks_value c o xs l.1
-looks_value c o (item.Drawn h w ∷ xs) l = looks_value c o xs l.1
-looks_value c o (item.Serving h w ∷ xs) l = looks_value c o xs l.1
-looks_value c o (item.Served ∷ xs) l = looks_value c o xs l.1
-looks_value c o (item.Tally p n w ∷ xs) l = absurd l.0
-looks_value c o (item.Piped j a w ∷ xs) l = absurd l.0
+looks_value c o = looks_all (λ es. value_from c o es ≡ o) refl (λ x w es is. is)
 
 pub looked_count : (d : ℕ) (old new : Known) → OnlyLooks old new
     → count_in d (history_of new) ≡ count_in d (history_of old)

@@ -7,12 +7,12 @@ use Rattle.wait_model.specs.declared.watches.Watch.TheVariants as watch
 use Rattle.wait_model.specs.Permits.{after_store}
 use Rattle.wait_model.specs.Runs.{is_publishing, own, set_step}
 use Rattle.wait_rule.specs.declared.journal.Item.{Item}
-use Rattle.wait_rule.specs.declared.journal.Item.TheVariants as item
 use Rattle.wait_rule.specs.Items.{steps_of}
 use Rattle.wait_rule.specs.Known.{Known}
 use Rattle.wait_rule.specs.Says.{history_of}
 use Rattle.wait_rule.specs.Transitions.{AreLooks, OnlyLooks}
 use Rattle.wait_rule.proofs.TableSteps.ItemLists.{steps_append}
+use Rattle.wait_event.proofs.LookedSteps.{looks_all}
 use Rattle.completion_cell.specs.HeldPermits.{Deals, Held}
 
 -- by the steps that the history has more
@@ -22,25 +22,14 @@ pub held_by : (d : ℕ) (old new : Known) (es : List Step) (o p : Option ℕ) (n
 held_by d old new es o p n m is number deals = record { made = es; is = is; deals = deals; number = number }
 
 -- looks
-looks_deal : (d x : ℕ) (xs : List Item) (o : Option ℕ) (n : ℕ) → AreLooks xs → Deals d x (steps_of xs) o n o n
-looks_deal d x [] o n l = (refl, refl)
-looks_deal d x (item.Made (step.Saw y w) ∷ xs) o n l = (tt, looks_deal d x xs o n l.1)
-looks_deal d x (item.Made e ∷ xs) o n l = absurd l.0
-looks_deal d x (item.Awake w ∷ xs) o n l = looks_deal d x xs o n l.1
-looks_deal d x (item.Bookmark t w ∷ xs) o n l = looks_deal d x xs o n l.1
-looks_deal d x (item.Member ∷ xs) o n l = looks_deal d x xs o n l.1
-looks_deal d x (item.Word w ∷ xs) o n l = looks_deal d x xs o n l.1
-looks_deal d x (item.Drawn h w ∷ xs) o n l = looks_deal d x xs o n l.1
-looks_deal d x (item.Serving h w ∷ xs) o n l = looks_deal d x xs o n l.1
-looks_deal d x (item.Served ∷ xs) o n l = looks_deal d x xs o n l.1
-looks_deal d x (item.Tally p m w ∷ xs) o n l = absurd l.0
-looks_deal d x (item.Piped j a w ∷ xs) o n l = absurd l.0
+looks_deal : (d x : ℕ) (o : Option ℕ) (n : ℕ) (xs : List Item) → AreLooks xs → Deals d x (steps_of xs) o n o n
+looks_deal d x o n = looks_all (λ es. Deals d x es o n o n) (refl, refl) (λ y w es deals. (tt, deals))
 
 pub held_only : (d : ℕ) (old new : Known) (o : Option ℕ) (n : ℕ) → OnlyLooks old new → Held d old new o n o n
 held_only d old new o n l = record {
   made = steps_of l.items;
   is = ap history_of l.is ∙ steps_append old.view.items l.items;
-  deals = looks_deal d (own old.view.number) l.items o n l.looks;
+  deals = looks_deal d (own old.view.number) o n l.items l.looks;
   number = ap (λ (k : Known). k.view.number) l.is;
 }
 

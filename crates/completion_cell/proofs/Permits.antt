@@ -31,6 +31,7 @@ use Rattle.wq_head.specs.Holds.{HasLocked}
 use Rattle.wq_head.specs.Looks.{Looks}
 use Rattle.wq_head.specs.Selects.{HasSelected, SelectsMany, SelectsFirst, ShowsNoEntry}
 use Rattle.wait_class.proofs.Histories.{stored_history, two_more}
+use Rattle.wait_event.proofs.LookedSteps.{looks_all}
 use Rattle.completion_cell.proofs.Asking.{locked_history}
 
 -- Steps of a hold, and what they make of the permits that it owes.
@@ -77,32 +78,10 @@ inside_step d old new e inside is = record {
 }
 
 looks_inside : (xs : List Item) → AreLooks xs → AreInside (steps_of xs)
-looks_inside [] l = tt
-looks_inside (item.Made (step.Saw x w) ∷ xs) l = (tt, looks_inside xs l.1)
-looks_inside (item.Made e ∷ xs) l = absurd l.0
-looks_inside (item.Awake w ∷ xs) l = looks_inside xs l.1
-looks_inside (item.Bookmark t w ∷ xs) l = looks_inside xs l.1
-looks_inside (item.Member ∷ xs) l = looks_inside xs l.1
-looks_inside (item.Word w ∷ xs) l = looks_inside xs l.1
-looks_inside (item.Drawn h w ∷ xs) l = looks_inside xs l.1
-looks_inside (item.Serving h w ∷ xs) l = looks_inside xs l.1
-looks_inside (item.Served ∷ xs) l = looks_inside xs l.1
-looks_inside (item.Tally p n w ∷ xs) l = absurd l.0
-looks_inside (item.Piped j a w ∷ xs) l = absurd l.0
+looks_inside = looks_all AreInside tt (λ x w es inside. (tt, inside))
 
 looks_owe : (d k : ℕ) (xs : List Item) → AreLooks xs → owed_by d (steps_of xs) k ≡ k
-looks_owe d k [] l = refl
-looks_owe d k (item.Made (step.Saw x w) ∷ xs) l = looks_owe d k xs l.1
-looks_owe d k (item.Made e ∷ xs) l = absurd l.0
-looks_owe d k (item.Awake w ∷ xs) l = looks_owe d k xs l.1
-looks_owe d k (item.Bookmark t w ∷ xs) l = looks_owe d k xs l.1
-looks_owe d k (item.Member ∷ xs) l = looks_owe d k xs l.1
-looks_owe d k (item.Word w ∷ xs) l = looks_owe d k xs l.1
-looks_owe d k (item.Drawn h w ∷ xs) l = looks_owe d k xs l.1
-looks_owe d k (item.Serving h w ∷ xs) l = looks_owe d k xs l.1
-looks_owe d k (item.Served ∷ xs) l = looks_owe d k xs l.1
-looks_owe d k (item.Tally p n w ∷ xs) l = absurd l.0
-looks_owe d k (item.Piped j a w ∷ xs) l = absurd l.0
+looks_owe d k = looks_all (λ es. owed_by d es k ≡ k) refl (λ x w es same. same)
 
 pub inside_looks : (d : ℕ) (old new : Known) → Looks old new → Inside d old new (λ k. k)
 inside_looks d old new l = record {

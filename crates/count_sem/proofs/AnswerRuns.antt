@@ -8,7 +8,6 @@ use Rattle.wait_model.specs.declared.points.Seen.{Seen}
 use Rattle.wait_model.specs.declared.steps.Step.{Step}
 use Rattle.wait_model.specs.declared.steps.Step.TheVariants as step
 use Rattle.wait_rule.specs.declared.journal.Item.{Item}
-use Rattle.wait_rule.specs.declared.journal.Item.TheVariants as item
 use Rattle.wait_rule.specs.Items.{steps_of}
 use Rattle.wait_rule.specs.Known.{Known}
 use Rattle.wait_rule.specs.LeftEntries.{Order}
@@ -17,6 +16,7 @@ use Rattle.wait_rule.specs.Transitions.{AreLooks, Finds, Goes, IsMadeFor, IsStep
 use Rattle.wait_rule.specs.Transitions.{Transition, after_transition, by_look, by_step}
 use Rattle.wait_rule.proofs.KnownLaws.HandedSteps.{OrderStep, order_front, order_step}
 use Rattle.wait_rule.proofs.SaidEvents.Fronts.{looks_history, step_follows, step_history, steps_made}
+use Rattle.wait_event.proofs.LookedSteps.{looks_all}
 
 module _ (me : ℕ) (f : Program) (Q : Next → List Step → Type 0) where
   abbrev pub LooksHold : Type 0
@@ -33,29 +33,18 @@ module _ (me : ℕ) (f : Program) (Q : Next → List Step → Type 0) where
   PointsHold = (p : Point) (seen : Seen) (k : Known) → Q (next.Go p) (history_of k) → Steps k p seen
 
   module _ (stay : LooksHold) (points : PointsHold) where
-    looks_hold : (n : Next) (xs : List Item) (es : List Step) → AreLooks xs → Order me (es ++ steps_of xs) → Q n es
+    looks_hold : (n : Next) (xs : List Item) → AreLooks xs → (es : List Step) → Order me (es ++ steps_of xs) → Q n es
         → Q n (es ++ steps_of xs)
-    looks_hold n [] es l o is = subst (Q n) (sym (append-nil es)) is
-    looks_hold n (item.Made (step.Saw y w) ∷ xs) es l o is =
-        subst (Q n) (append_assoc es (step.Saw y w ∷ []) (steps_of xs))
-        (looks_hold n xs (es ++ step.Saw y w ∷ []) l.1
-        (subst (Order me) (sym (append_assoc es (step.Saw y w ∷ []) (steps_of xs))) o)
-        (stay n es y w (order_step me es (step.Saw y w) (steps_of xs) o) is))
-    looks_hold n (item.Made e ∷ xs) es l o is = absurd l.0
-    looks_hold n (item.Awake w ∷ xs) es l o is = looks_hold n xs es l.1 o is
-    looks_hold n (item.Bookmark t w ∷ xs) es l o is = looks_hold n xs es l.1 o is
-    looks_hold n (item.Member ∷ xs) es l o is = looks_hold n xs es l.1 o is
-    looks_hold n (item.Word w ∷ xs) es l o is = looks_hold n xs es l.1 o is
-    looks_hold n (item.Drawn h w ∷ xs) es l o is = looks_hold n xs es l.1 o is
-    looks_hold n (item.Serving h w ∷ xs) es l o is = looks_hold n xs es l.1 o is
-    looks_hold n (item.Served ∷ xs) es l o is = looks_hold n xs es l.1 o is
-    looks_hold n (item.Tally p m w ∷ xs) es l o is = absurd l.0
-    looks_hold n (item.Piped j a w ∷ xs) es l o is = absurd l.0
+    looks_hold n = looks_all (λ fs. (es : List Step) → Order me (es ++ fs) → Q n es → Q n (es ++ fs))
+        (λ es o is. subst (Q n) (sym (append-nil es)) is)
+        (λ y w fs held es o is. subst (Q n) (append_assoc es (step.Saw y w ∷ []) fs)
+        (held (es ++ step.Saw y w ∷ []) (subst (Order me) (sym (append_assoc es (step.Saw y w ∷ []) fs)) o)
+        (stay n es y w (order_step me es (step.Saw y w) fs o) is)))
 
     looked_holds : (n : Next) (old new : Known) → OnlyLooks old new → Order me (history_of new) → Q n (history_of old)
         → Q n (history_of new)
     looked_holds n old new l o is = subst (Q n) (sym (looks_history old new l))
-        (looks_hold n l.items (history_of old) l.looks (subst (Order me) (looks_history old new l) o) is)
+        (looks_hold n l.items l.looks (history_of old) (subst (Order me) (looks_history old new l) o) is)
 
     event_holds : (p : Point) (seen : Seen) (k : Known) (did : StepOrLook) (rest : List Step)
         → Order me (history_of k ++ (steps_made did ++ rest))

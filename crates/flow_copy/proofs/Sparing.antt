@@ -30,6 +30,7 @@ use Rattle.wait_rule.specs.Transitions.{StepOrLook, Transition, after_step_or_lo
 use Rattle.wait_rule.specs.Transitions.{call_program, with_lock}
 use Rattle.wait_rule.proofs.KnownLaws.SilentCalls.{GoesBeside, TakesNone, goes_beside, program_spared}
 use Rattle.wait_rule.proofs.TableSteps.ItemLists.{steps_append}
+use Rattle.wait_event.proofs.LookedSteps.{looks_all}
 use Rattle.completion_cell.specs.Completes.{HasCompleted}
 use Rattle.page_lock.specs.PageEnds.{EndsPageLock}
 use Rattle.bit_wait.specs.declared.wait_calls.BitEnd.{BitEnd}
@@ -65,18 +66,7 @@ items_spared old new xs is none = ap (λ (v : Journal). total takes_fatal (steps
     ∙ (total_append takes_fatal (history_of old) (steps_of xs) ∙ omega (arith, none)))
 
 looks_none : (xs : List Item) → AreLooks xs → total takes_fatal (steps_of xs) ≡ 0
-looks_none [] l = refl
-looks_none (item.Made (step.Saw x w) ∷ xs) l = let e = looks_none xs l.1 in omega (arith, e)
-looks_none (item.Made e ∷ xs) l = absurd l.0
-looks_none (item.Awake w ∷ xs) l = looks_none xs l.1
-looks_none (item.Bookmark t w ∷ xs) l = looks_none xs l.1
-looks_none (item.Member ∷ xs) l = looks_none xs l.1
-looks_none (item.Word w ∷ xs) l = looks_none xs l.1
-looks_none (item.Drawn h w ∷ xs) l = looks_none xs l.1
-looks_none (item.Serving h w ∷ xs) l = looks_none xs l.1
-looks_none (item.Served ∷ xs) l = looks_none xs l.1
-looks_none (item.Tally p n w ∷ xs) l = absurd l.0
-looks_none (item.Piped k a w ∷ xs) l = absurd l.0
+looks_none = looks_all (λ es. total takes_fatal es ≡ 0) refl (λ x w es none. omega (arith, none))
 
 scans_none : (h : ℕ) (xs : List Item) → AreScansOf h xs → total takes_fatal (steps_of xs) ≡ 0
 scans_none h [] l = refl

@@ -42,12 +42,12 @@ use Rattle.futex_table.specs.declared.waits.FutexStage.TheVariants as stage
 use Rattle.futex_table.specs.declared.waits.FutexWait.{FutexWait}
 use Rattle.futex_table.specs.CondStretches.{EndsCond, IsCondWaiting, IsCondAsleep, IsCondAt, IsCondUnderWay, IsForCond}
 use Rattle.futex_table.specs.CondStretches.{IsGivingBack, IsRelocking, LeavesCond, awaited_to}
-use Rattle.futex_table.specs.CondVars.{WaitsForCond, cond_answer}
+use Rattle.futex_table.specs.CondVars.{WaitsForCond, cond_answer, cond_change}
 use Rattle.futex_table.specs.FutexEnds.{futex_aim}
 use Rattle.futex_table.specs.FutexLeaves.{EndsFutexUntil, futex_exits, futex_until_in}
 use Rattle.futex_table.specs.FutexTables.{futex_table}
-use Rattle.futex_table.specs.Holding.{StayHeld, holds_mutex}
-use Rattle.futex_table.specs.LockLeaves.{WaitsForCondUntil, cond_until_answer}
+use Rattle.futex_table.specs.Holding.{OthersStayHeld, holds_mutex}
+use Rattle.futex_table.specs.LockLeaves.{WaitsForCondUntil, cond_until_answer, is_held_until}
 use Rattle.futex_table.specs.LockStretches.{AskedIf, IsLockAsleep, IsLockAt, IsMutexLocking, LeavesLock, MutexTurn}
 use Rattle.futex_table.specs.LockStretches.{FutexWaitTurn}
 use Rattle.futex_table.specs.Mutexes.{HasFreedMutex, LocksMutex, is_locked}
@@ -62,20 +62,28 @@ use Rattle.futex_table.proofs.LockStretching.{lock_begins, plain_wait, way_dozed
 use Rattle.futex_table.proofs.Mutexing.{idle_still, out_still, set_frees, set_others}
 use Rattle.futex_table.proofs.Tallying.{freed_leaves, leaves_on, load_leaves, woken_adds}
 
+-- one part after another
+leaves_then : (m : ℕ) (old mid new : Known) (had has : Bool) → LeavesCond m old mid had → IsUp new → IsIdle new
+    → IsOut new → Carries (cond_change m (index old.view.number 0) new.at) mid new → holds_mutex new m ≡ has
+    → OthersStayHeld m mid new → LeavesTallies m mid new → LeavesCond m old new has
+leaves_then m old mid new had has l up idle out carries held others tallies = record {
+  up = up;
+  idle = idle;
+  out = out;
+  carries = cond_on m (index old.view.number 0) old mid new l.carries carries;
+  held = held;
+  others = λ n ne. others n ne ∙ l.others n ne;
+  tallies = leaves_on m old mid new l.tallies tallies;
+}
+
 -- behind the load of the condition's word
 pub cond_loaded : (c v m : ℕ) (old now loaded : Known) → LeavesCond m old now true
     → loaded ≡ added now (item.Made (step.Load (watch.Plain c) v)) → Carries unchanged now loaded
     → LeavesCond m old loaded true
-cond_loaded c v m old now loaded l is still =
-    let i = index old.view.number 0 in record {
-      up = still.awake ∙ l.up;
-      idle = idle_still now loaded still l.idle;
-      out = out_still now loaded still l.out;
-      carries = cond_on m i old now loaded l.carries (of_unchanged m i now loaded still);
-      held = load_held c v now loaded is m ∙ l.held;
-      others = λ n ne. load_held c v now loaded is n ∙ l.others n ne;
-      tallies = leaves_on m old now loaded l.tallies (load_leaves m c v now loaded is);
-    }
+cond_loaded c v m old now loaded l is still = leaves_then m old now loaded true true l (still.awake ∙ l.up)
+    (idle_still now loaded still l.idle) (out_still now loaded still l.out)
+    (of_unchanged m (index old.view.number 0) now loaded still) (load_held c v now loaded is m ∙ l.held)
+    (λ n ne. load_held c v now loaded is n) (load_leaves m c v now loaded is)
 
 -- a wake of the mutex that begins
 pub give_begins : (m : ℕ) (k : Known) (r : WakeRun) → r.aim ≡ futex_aim m 1 → r.aim.count < 2 ^ 32 → m < FIRST_SIMPLE
@@ -130,57 +138,38 @@ module _ (w : CondWait) (old now new : Known) (seen : ℕ) (r p : WakeRun) (s : 
     }
 
     pub given_left : LeavesCond w.lock old new false
-    given_left =
-        let i = index old.view.number 0 in record {
-          up = over.up;
-          idle = over.idle;
-          out = sets_out (watch.Plain w.lock) x.loaded new given_carries x.left.out;
-          carries = cond_on w.lock i old x.loaded new x.left.carries (of_set w.lock i x.loaded new given_carries);
-          held = set_frees w.lock 1 x.found x.loaded x.stored new (futex_aim w.lock 1) walked x.stores over.woken;
-          others = λ n ne. set_others w.lock 1 x.found x.loaded x.stored new (futex_aim w.lock 1) walked x.stores
-              over.woken n ne ∙ x.left.others n ne;
-          tallies = leaves_on w.lock old x.loaded new x.left.tallies
-              (freed_leaves w.lock x.loaded new given_stores x.left.held);
-        }
+    given_left = leaves_then w.lock old x.loaded new true false x.left over.up over.idle
+        (sets_out (watch.Plain w.lock) x.loaded new given_carries x.left.out)
+        (of_set w.lock (index old.view.number 0) x.loaded new given_carries)
+        (set_frees w.lock 1 x.found x.loaded x.stored new (futex_aim w.lock 1) walked x.stores over.woken)
+        (set_others w.lock 1 x.found x.loaded x.stored new (futex_aim w.lock 1) walked x.stores over.woken)
+        (freed_leaves w.lock x.loaded new given_stores x.left.held)
 
--- a wait behind that, which takes nothing
-cond_waited : (m : ℕ) (old mid new : Known) → LeavesCond m old mid false
-    → Carries (wait_change (index mid.view.number 0) new.at) mid new → StayHeld mid new → LeavesTallies m mid new
-    → IsUp new → IsIdle new → IsOut new → LeavesCond m old new false
-cond_waited m old mid new l carries stays tallies up idle out =
-    let i = index old.view.number 0 in record {
-      up = up;
-      idle = idle;
-      out = out;
-      carries = cond_on m i old mid new l.carries
-          (of_wait m i mid new (subst (λ (n : ℕ). Carries (wait_change (index n 0) new.at) mid new) l.carries.number
-          carries));
-      held = stays m ∙ l.held;
-      others = λ n ne. stays n ∙ l.others n ne;
-      tallies = leaves_on m old mid new l.tallies tallies;
-    }
+-- a wait behind that, or a lock
+leaves_waited : (m : ℕ) (old mid new : Known) (had has : Bool) → LeavesCond m old mid had
+    → Carries (wait_change (index mid.view.number 0) new.at) mid new → IsUp new → IsIdle new → IsOut new
+    → holds_mutex new m ≡ has → OthersStayHeld m mid new → LeavesTallies m mid new → LeavesCond m old new has
+leaves_waited m old mid new had has l carries up idle out = leaves_then m old mid new had has l up idle out
+    (of_wait m (index old.view.number 0) mid new
+    (subst (λ (n : ℕ). Carries (wait_change (index n 0) new.at) mid new) l.carries.number carries))
 
 module _ (b : Bool) (w : CondWait) (old new : Known) (q : Run FutexWait) (o : FutexOutcome)
     (x : IsForCond (AskedIf b) w old new q (turn.Done o)) where
   abbrev end : Until (Result (Unit {0}) FutexEnd)
   end = futex_until_in q.of o
 
-  waited : EndsFutexUntil (AskedIf b) x.unlocked new w.cond x.seen w.state end
+  waited : EndsFutexUntil (AskedIf b) x.let_go.unlocked new w.cond x.let_go.seen w.state end
   waited = ends_until x.fresh x.came
 
   over_left : LeavesCond w.lock old new false
-  over_left = cond_waited w.lock old x.unlocked new x.left
-      (left_carried x.came x.left.up x.left.idle (x.told.head ∙ x.left.idle.free.head)) (left_held x.came)
-      (until_leaves w.lock x.unlocked new waited) (left_up x.came) (left_idle x.came x.left.idle.unmarked)
-      (left_out x.came)
+  over_left = leaves_waited w.lock old x.let_go.unlocked new false false x.left
+      (left_carried x.came x.left.up x.left.idle (x.told.head ∙ x.left.idle.free.head)) (left_up x.came)
+      (left_idle x.came x.left.idle.unmarked) (left_out x.came) (left_held x.came w.lock ∙ x.left.held)
+      (λ n ne. left_held x.came n) (until_leaves w.lock x.let_go.unlocked new waited)
 
   cond_over : IsCondWaiting b w old new (awaited_to q (turn.Done o))
   cond_over = record {
-    seen = x.seen;
-    loaded = x.loaded;
-    loads = x.loads;
-    unlocked = x.unlocked;
-    gives = x.gives;
+    let_go = x.let_go;
     waited = new;
     waits = waited;
     left = over_left;
@@ -193,14 +182,10 @@ module _ (b : Bool) (w : CondWait) (old new : Known) (q : Run FutexWait) (o : Fu
 -- a wait that went on to here
 with_way : (b : Bool) (w : CondWait) (old mid new : Known) (q p : Run FutexWait) (u v : FutexWaitTurn)
     (x : IsForCond (AskedIf b) w old mid q u)
-    → OnTheWay (AskedIf b) futex_table futex_exits x.unlocked x.first stage.First new p v
+    → OnTheWay (AskedIf b) futex_table futex_exits x.let_go.unlocked x.first stage.First new p v
     → IsForCond (AskedIf b) w old new p v
 with_way b w old mid new q p u v x came = record {
-  seen = x.seen;
-  loaded = x.loaded;
-  loads = x.loads;
-  unlocked = x.unlocked;
-  gives = x.gives;
+  let_go = x.let_go;
   left = x.left;
   told = x.told;
   first = x.first;
@@ -213,7 +198,8 @@ in_wait : (b : Bool) (w : CondWait) (old new : Known) (q : Run FutexWait) (u : F
 in_wait b w old new q (turn.Again s) x = x
 in_wait b w old new q (turn.Asleep s) x = x
 in_wait b w old new q (turn.Locked s) x = with_way b w old new new q q (turn.Locked s) (turn.Again s) x
-    (way_again (AskedIf b) futex_table futex_exits futex_may_leave futex_lawful x.unlocked x.first stage.First new q s
+    (way_again (AskedIf b) futex_table futex_exits futex_may_leave futex_lawful x.let_go.unlocked x.first stage.First
+    new q s
     x.came)
 in_wait b w old new q (turn.Done o) x = cond_over b w old new q o x
 
@@ -221,7 +207,8 @@ module _ (b : Bool) (w : CondWait) (old mid new : Known) (q : Run FutexWait) (s 
   pub wait_on : (p : Run FutexWait) (u : FutexWaitTurn) → IsForCond (AskedIf b) w old mid q (turn.Again s)
       → OnTheWay (AskedIf b) futex_table futex_exits mid q s new p u → IsCondWaiting b w old new (awaited_to p u)
   wait_on p u x v = in_wait b w old new p u (with_way b w old mid new q p (turn.Again s) u x
-      (way_then (AskedIf b) futex_table futex_exits futex_may_leave futex_lawful x.unlocked x.first stage.First mid new
+      (way_then (AskedIf b) futex_table futex_exits futex_may_leave futex_lawful x.let_go.unlocked x.first stage.First
+      mid new
       q p s u x.came v))
 
   pub wait_woke : SleepsNot mid new → (c : Bool) → MatchBool c (Advances futex_table mid new q q s (turn.Again s))
@@ -229,24 +216,22 @@ module _ (b : Bool) (w : CondWait) (old mid new : Known) (q : Run FutexWait) (s 
       → MatchBool c (IsForCond (AskedIf b) w old new q (turn.Again s))
       (IsForCond (AskedIf b) w old new q (turn.Asleep s))
   wait_woke calm true a x = with_way b w old mid new q q (turn.Asleep s) (turn.Again s) x
-      (way_risen (AskedIf b) futex_table futex_exits futex_may_leave futex_lawful x.unlocked x.first stage.First mid new
+      (way_risen (AskedIf b) futex_table futex_exits futex_may_leave futex_lawful x.let_go.unlocked x.first stage.First
+      mid new
       q s x.came a)
   wait_woke calm false a x = with_way b w old mid new q q (turn.Asleep s) (turn.Asleep s) x
-      (way_dozed (AskedIf b) x.unlocked x.first stage.First mid new q s calm x.came a)
+      (way_dozed (AskedIf b) x.let_go.unlocked x.first stage.First mid new q s calm x.came a)
 
 pub wait_lands : (b : Bool) (w : CondWait) (old k : Known) (q : Run FutexWait) (u : FutexWaitTurn)
     → IsForCond (AskedIf b) w old k q u → Lands futex_table k q u
-wait_lands b w old k q u x = way_lands (AskedIf b) futex_table futex_exits futex_may_leave futex_lawful x.unlocked
+wait_lands b w old k q u x = way_lands (AskedIf b) futex_table futex_exits futex_may_leave futex_lawful
+    x.let_go.unlocked
     x.first stage.First k q u x.came
 
 pub cond_may_be_asked : (b : Bool) (w : CondWait) (old new : Known) (q : Run FutexWait) (u : FutexWaitTurn)
     → IsForCond (AskedIf b) w old new q u → IsForCond (Unit {0}) w old new q u
 cond_may_be_asked b w old new q u x = record {
-  seen = x.seen;
-  loaded = x.loaded;
-  loads = x.loads;
-  unlocked = x.unlocked;
-  gives = x.gives;
+  let_go = x.let_go;
   left = x.left;
   told = x.told;
   first = x.first;
@@ -265,11 +250,7 @@ module _ (A : Type 0) (w : CondWait) (old mid new : Known) (end : Until (Result 
   pub relock_on : (s n : MutexTurn) (x : IsRelocking A w old mid end s) → IsMutexLocking false w.lock x.waited new n
       → IsRelocking A w old new end n
   relock_on s n x locks = record {
-    seen = x.seen;
-    loaded = x.loaded;
-    loads = x.loads;
-    unlocked = x.unlocked;
-    gives = x.gives;
+    let_go = x.let_go;
     waited = x.waited;
     waits = x.waits;
     left = x.left;
@@ -285,33 +266,20 @@ module _ (A : Type 0) (w : CondWait) (old mid new : Known) (end : Until (Result 
   pub relock_ends : (s : MutexTurn) (x : IsRelocking A w old mid end s) (locked : Result (Unit {0}) Worn)
       → LocksMutex x.waited new w.lock locked → LeavesLock w.lock x.waited new (is_locked locked)
       → EndsCond A w old new (cond_until_answer end locked)
-  relock_ends s x locked locks l =
-      let i = index old.view.number 0 in record {
-        waited = record {
-          seen = x.seen;
-          loaded = x.loaded;
-          loads = x.loads;
-          unlocked = x.unlocked;
-          gives = x.gives;
-          waited = x.waited;
-          end = end;
-          waits = x.waits;
-          lock = locked;
-          locks = locks;
-          answers = refl;
-        };
-        left = record {
-          up = l.up;
-          idle = l.idle;
-          out = l.out;
-          carries = cond_on w.lock i old x.waited new x.left.carries
-              (of_wait w.lock i x.waited new (subst (λ (n : ℕ). Carries (wait_change (index n 0) new.at) x.waited new)
-              x.left.carries.number l.carries));
-          held = cond_until_held (holds_mutex x.waited w.lock) end locked new w.lock x.left.held l.held;
-          others = λ n ne. l.others n ne ∙ x.left.others n ne;
-          tallies = leaves_on w.lock old x.waited new x.left.tallies l.tallies;
-        };
-      }
+  relock_ends s x locked locks l = record {
+    waited = record {
+      let_go = x.let_go;
+      waited = x.waited;
+      end = end;
+      waits = x.waits;
+      lock = locked;
+      locks = locks;
+      answers = refl;
+    };
+    left = leaves_waited w.lock old x.waited new false (is_held_until (cond_until_answer end locked)) x.left l.carries
+        l.up l.idle l.out (cond_until_held (holds_mutex x.waited w.lock) end locked new w.lock x.left.held l.held)
+        l.others l.tallies;
+  }
 
 -- A wait that nobody asked to leave says at its end what one says that can't be left.
 over_same : (a b : Result (Unit {0}) CondEnd) → until.Over a ≡ until.Over b → a ≡ b
@@ -319,17 +287,13 @@ over_same a b is = cc
 
 plain_end : (old new : Known) (c m : ℕ) (st : SleepState) (r : Result (Unit {0}) CondEnd)
     (x : WaitsForCondUntil ⊥ old new c m st (until.Over r)) (end : Until (Result (Unit {0}) FutexEnd))
-    → EndsFutexUntil ⊥ x.unlocked x.waited c x.seen st end → until.Over r ≡ cond_until_answer end x.lock
+    → EndsFutexUntil ⊥ x.let_go.unlocked x.waited c x.let_go.seen st end → until.Over r ≡ cond_until_answer end x.lock
     → WaitsForCond old new c m st r
 plain_end old new c m st r x (until.Over e) waits answers = record {
-  seen = x.seen;
-  loaded = x.loaded;
-  loads = x.loads;
-  unlocked = x.unlocked;
-  gives = x.gives;
+  let_go = x.let_go;
   waited = x.waited;
   end = e;
-  waits = plain_wait x.unlocked x.waited c x.seen st e waits;
+  waits = plain_wait x.let_go.unlocked x.waited c x.let_go.seen st e waits;
   lock = x.lock;
   locks = x.locks;
   answers = over_same r (cond_answer e x.lock) answers;

@@ -127,24 +127,13 @@ one_adds m c n old new e grows is may counts = record {
 }
 
 -- looks
-looks_are : (m c : ℕ) (xs : List Item) (op h : Bool) (r : Option ℕ) → AreLooks xs
+looks_are : (m c : ℕ) (xs : List Item) → AreLooks xs → (op h : Bool) (r : Option ℕ)
     → AreTallySteps m c op h r (steps_of xs)
-looks_are m c [] op h r l = tt
-looks_are m c (item.Made (step.Saw x w) ∷ xs) op h r l = (
-  tt,
-  looks_are m c xs (opens_after m (step.Saw x w) op) (holds_after m (step.Saw x w) h)
-      (read_after m c (step.Saw x w) h r) l.1,
-)
-looks_are m c (item.Made e ∷ xs) op h r l = absurd l.0
-looks_are m c (item.Awake w ∷ xs) op h r l = looks_are m c xs op h r l.1
-looks_are m c (item.Bookmark t w ∷ xs) op h r l = looks_are m c xs op h r l.1
-looks_are m c (item.Member ∷ xs) op h r l = looks_are m c xs op h r l.1
-looks_are m c (item.Word w ∷ xs) op h r l = looks_are m c xs op h r l.1
-looks_are m c (item.Drawn g w ∷ xs) op h r l = looks_are m c xs op h r l.1
-looks_are m c (item.Serving g w ∷ xs) op h r l = looks_are m c xs op h r l.1
-looks_are m c (item.Served ∷ xs) op h r l = looks_are m c xs op h r l.1
-looks_are m c (item.Tally p n w ∷ xs) op h r l = absurd l.0
-looks_are m c (item.Piped k a w ∷ xs) op h r l = absurd l.0
+looks_are m c = looks_all (λ es. (op h : Bool) (r : Option ℕ) → AreTallySteps m c op h r es) (λ op h r. tt)
+    (λ x w es are op h r. (
+      tt,
+      are (opens_after m (step.Saw x w) op) (holds_after m (step.Saw x w) h) (read_after m c (step.Saw x w) h r),
+    ))
 
 looks_add : (c : ℕ) (xs : List Item) → AreLooks xs → total (tally_adds c) (steps_of xs) ≡ 0
 looks_add c = looks_all (λ es. total (tally_adds c) es ≡ 0) refl (λ x w es none. omega (arith, none))
@@ -154,8 +143,8 @@ only_adds m c old new l = record {
   grows = record { items = l.items; view = ap (λ (k : Known). k.view) l.is };
   uses = λ op u. subst (UsesTally m c op) (sym (looks_history old new l))
       (uses_append m c (history_of old) (steps_of l.items) op false None u
-      (looks_are m c l.items (opens_from m (history_of old) op) (holds_in m (history_of old))
-      (read_in m c (history_of old)) l.looks));
+      (looks_are m c l.items l.looks (opens_from m (history_of old) op) (holds_in m (history_of old))
+      (read_in m c (history_of old))));
   adds = ap (total (tally_adds c)) (looks_history old new l)
       ∙ (adds_append c (history_of old) (steps_of l.items)
       ∙ ap (λ (k : ℕ). total (tally_adds c) (history_of old) + k) (looks_add c l.items l.looks));

@@ -39,14 +39,13 @@ use Rattle.futex_table.specs.declared.futexes.FutexEnd.{FutexEnd}
 use Rattle.futex_table.specs.declared.lock_stretches.LockStage.TheVariants as lock
 use Rattle.futex_table.specs.declared.waits.FutexStage.TheVariants as stage
 use Rattle.futex_table.specs.declared.waits.FutexWait.{FutexWait}
-use Rattle.futex_table.specs.CondVars.{cond_change}
+use Rattle.futex_table.specs.CondVars.{HasLetGo, cond_change}
 use Rattle.futex_table.specs.FutexEnds.{futex_aim}
 use Rattle.futex_table.specs.FutexLeaves.{EndsFutexUntil, futex_exits, futex_until_in}
 use Rattle.futex_table.specs.FutexTables.{IsFreshFutexWait, futex_table}
 use Rattle.futex_table.specs.Holding.{OthersStayHeld, holds_mutex}
 use Rattle.futex_table.specs.LockLeaves.{WaitsForCondUntil, cond_until_answer, is_held_until}
 use Rattle.futex_table.specs.LockStretches.{AskedIf, IsMutexLocking, MutexTurn, LockTurned, FutexWaitTurn}
-use Rattle.futex_table.specs.Mutexes.{HasFreedMutex}
 use Rattle.futex_table.specs.TallyUses.{LeavesTallies}
 
 abbrev pub CondTurn : Type 0
@@ -78,27 +77,19 @@ pub record IsGivingBack (w : CondWait) (old new : Known) (seen : ℕ) (r : WakeR
 
 -- It loaded the word, gave the mutex back, and came in the wait for another value than it loaded to here.
 pub record IsForCond (A : Type 0) (w : CondWait) (old new : Known) (q : Run FutexWait) (u : FutexWaitTurn) : Type 0 where
-  pub seen : ℕ
-  pub loaded : Known
-  pub loads : loaded ≡ added old (item.Made (step.Load (watch.Plain w.cond) seen))
-  pub unlocked : Known
-  pub gives : HasFreedMutex loaded unlocked w.lock
-  pub left : LeavesCond w.lock old unlocked false
-  pub told : IsTold unlocked
+  pub let_go : HasLetGo old w.cond w.lock
+  pub left : LeavesCond w.lock old let_go.unlocked false
+  pub told : IsTold let_go.unlocked
   pub first : Run FutexWait
-  pub fresh : IsFreshFutexWait first.of w.cond seen w.state
-  pub came : OnTheWay A futex_table futex_exits unlocked first stage.First new q u
+  pub fresh : IsFreshFutexWait first.of w.cond let_go.seen w.state
+  pub came : OnTheWay A futex_table futex_exits let_go.unlocked first stage.First new q u
 
 -- The wait is over, and the lock behind it came to here; that is not left.
 pub record IsRelocking (A : Type 0) (w : CondWait) (old new : Known) (end : Until (Result (Unit {0}) FutexEnd))
     (u : MutexTurn) : Type 0 where
-  pub seen : ℕ
-  pub loaded : Known
-  pub loads : loaded ≡ added old (item.Made (step.Load (watch.Plain w.cond) seen))
-  pub unlocked : Known
-  pub gives : HasFreedMutex loaded unlocked w.lock
+  pub let_go : HasLetGo old w.cond w.lock
   pub waited : Known
-  pub waits : EndsFutexUntil A unlocked waited w.cond seen w.state end
+  pub waits : EndsFutexUntil A let_go.unlocked waited w.cond let_go.seen w.state end
   pub left : LeavesCond w.lock old waited false
   pub locks : IsMutexLocking false w.lock waited new u
 

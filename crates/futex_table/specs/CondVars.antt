@@ -37,18 +37,21 @@ abbrev pub is_mutex_held : Result (Unit {0}) CondEnd → Bool
 is_mutex_held (Err (cond_end.Worn h place held)) = held
 is_mutex_held _ = true
 
--- The task loaded the condition's word, gave the mutex back, waited while the word has the value that it loaded, and
--- locked the mutex.
+-- The task loaded the condition's word, and gave the mutex back.
+pub record HasLetGo (old : Known) (c m : ℕ) : Type 0 where
+  pub seen : ℕ
+  pub loaded : Known
+  pub loads : loaded ≡ added old (item.Made (step.Load (watch.Plain c) seen))
+  pub unlocked : Known
+  pub gives : HasFreedMutex loaded unlocked m
+
+-- It did so, waited while the word has the value that it loaded, and locked the mutex.
 pub record WaitsForCond (old new : Known) (c m : ℕ) (st : SleepState) (result : Result (Unit {0}) CondEnd) : Type 0
   where
-    pub seen : ℕ
-    pub loaded : Known
-    pub loads : loaded ≡ added old (item.Made (step.Load (watch.Plain c) seen))
-    pub unlocked : Known
-    pub gives : HasFreedMutex loaded unlocked m
+    pub let_go : HasLetGo old c m
     pub waited : Known
     pub end : Result (Unit {0}) FutexEnd
-    pub waits : EndsFutexWait unlocked waited c seen st end
+    pub waits : EndsFutexWait let_go.unlocked waited c let_go.seen st end
     pub lock : Result (Unit {0}) Worn
     pub locks : LocksMutex waited new m lock
     pub answers : result ≡ cond_answer end lock

@@ -1,21 +1,17 @@
 -- To be believed.
 -- What the calls on mutexes and condition variables say whose waits their task leaves.
 use Rattle.std.specs.Prelude.{ℕ, zero, suc, ◌≡◌, Bool, true, false, Option, Some, None, Result, Ok, Err}
-use Rattle.wait_model.specs.declared.steps.Step.TheVariants as step
 use Rattle.wait_model.specs.declared.tasks.SleepState.{SleepState}
 use Rattle.wait_model.specs.declared.tasks.SleepState.TheVariants as states
-use Rattle.wait_model.specs.declared.watches.Watch.TheVariants as watch
-use Rattle.wait_rule.specs.declared.journal.Item.TheVariants as item
 use Rattle.wait_rule.specs.Known.{Known}
-use Rattle.wait_rule.specs.Says.{added}
 use Rattle.wq_head.specs.declared.adds.Worn.{Worn}
 use Rattle.wait_leave.specs.declared.exits.Until.{Until}
 use Rattle.wait_leave.specs.declared.exits.Until.TheVariants as until
 use Rattle.futex_table.specs.declared.cond_vars.CondEnd.{CondEnd}
 use Rattle.futex_table.specs.declared.futexes.FutexEnd.{FutexEnd}
-use Rattle.futex_table.specs.CondVars.{cond_answer, is_mutex_held, worn_cond}
+use Rattle.futex_table.specs.CondVars.{HasLetGo, cond_answer, is_mutex_held, worn_cond}
 use Rattle.futex_table.specs.FutexLeaves.{EndsFutexUntil}
-use Rattle.futex_table.specs.Mutexes.{HasFreedMutex, HasTriedMutex, LocksMutex, is_locked, worn_in}
+use Rattle.futex_table.specs.Mutexes.{HasTriedMutex, LocksMutex, is_locked, worn_in}
 
 -- the answer of a lock whose wait ended so, where the lock ends with it: it was left, or no place was left
 abbrev pub worn_until : Option Worn → Option (Until (Result (Unit {0}) Worn))
@@ -77,14 +73,10 @@ is_held_until (until.Left seen) = true
 -- As `WaitsForCond` says, but that the wait may be left, for this cause.
 pub record WaitsForCondUntil (A : Type 0) (old new : Known) (c m : ℕ) (st : SleepState)
     (result : Until (Result (Unit {0}) CondEnd)) : Type 0 where
-  pub seen : ℕ
-  pub loaded : Known
-  pub loads : loaded ≡ added old (item.Made (step.Load (watch.Plain c) seen))
-  pub unlocked : Known
-  pub gives : HasFreedMutex loaded unlocked m
+  pub let_go : HasLetGo old c m
   pub waited : Known
   pub end : Until (Result (Unit {0}) FutexEnd)
-  pub waits : EndsFutexUntil A unlocked waited c seen st end
+  pub waits : EndsFutexUntil A let_go.unlocked waited c let_go.seen st end
   pub lock : Result (Unit {0}) Worn
   pub locks : LocksMutex waited new m lock
   pub answers : result ≡ cond_until_answer end lock

@@ -15,6 +15,7 @@ use Rattle.wait_rule.specs.Transitions.{AreLooks, AreScansOf, IsMadeFor, IsStepF
 use Rattle.wait_rule.specs.Transitions.{after_step_or_look, by_look, by_step}
 use Rattle.wait_rule.proofs.SaidEvents.Fronts.{looks_history, step_history}
 use Rattle.wait_class.specs.Tables.{has_sleep}
+use Rattle.wait_event.proofs.LookedSteps.{looks_all}
 use Rattle.page_lock.specs.PageEnds.{are_calm}
 
 -- after a step, and after an event
@@ -43,18 +44,7 @@ looked_append b (e ∷ xs) ys = looked_append (looked_by e b) xs ys
 
 -- looks leave it
 looks_leave : (xs : List Item) → AreLooks xs → (b : Bool) → looked_in b (steps_of xs) ≡ b
-looks_leave [] l b = refl
-looks_leave (item.Made (step.Saw y w) ∷ xs) l b = looks_leave xs l.1 b
-looks_leave (item.Made e ∷ xs) l b = absurd l.0
-looks_leave (item.Awake w ∷ xs) l b = looks_leave xs l.1 b
-looks_leave (item.Bookmark t w ∷ xs) l b = looks_leave xs l.1 b
-looks_leave (item.Member ∷ xs) l b = looks_leave xs l.1 b
-looks_leave (item.Word w ∷ xs) l b = looks_leave xs l.1 b
-looks_leave (item.Drawn h w ∷ xs) l b = looks_leave xs l.1 b
-looks_leave (item.Serving h w ∷ xs) l b = looks_leave xs l.1 b
-looks_leave (item.Served ∷ xs) l b = looks_leave xs l.1 b
-looks_leave (item.Tally p n w ∷ xs) l b = absurd l.0
-looks_leave (item.Piped k a w ∷ xs) l b = absurd l.0
+looks_leave = looks_all (λ es. (b : Bool) → looked_in b es ≡ b) (λ b. refl) (λ x w es stays. stays)
 
 scans_leave : (h : ℕ) (xs : List Item) → AreScansOf h xs → (b : Bool) → looked_in b (steps_of xs) ≡ b
 scans_leave h [] l b = refl

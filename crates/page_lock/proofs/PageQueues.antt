@@ -46,6 +46,7 @@ use Rattle.wait_class.specs.declared.stages.Run.{Run}
 use Rattle.wait_class.specs.declared.stages.Turn.TheVariants as turn
 use Rattle.wait_class.specs.Tables.{IsAt, Turned, post_of}
 use Rattle.wait_class.specs.Laws.{turn_post}
+use Rattle.wait_event.proofs.LookedSteps.{looks_all}
 use Rattle.page_lock.specs.PageEnds.{are_calm}
 use Rattle.page_lock.specs.PageTables.{HasJoinedPage, IsQuiet, page_head_in, page_in, page_table}
 use Rattle.page_lock.specs.declared.waits.LockPage.{LockPage}
@@ -56,18 +57,7 @@ use Rattle.page_lock.proofs.PageTrails.{asks_more, quiet_on}
 
 -- the steps of looks are calm
 looks_calm : (xs : List Item) → AreLooks xs → are_calm (steps_of xs) ≡ true
-looks_calm [] l = refl
-looks_calm (item.Made (step.Saw x w) ∷ xs) l = looks_calm xs l.1
-looks_calm (item.Made e ∷ xs) l = absurd l.0
-looks_calm (item.Awake w ∷ xs) l = looks_calm xs l.1
-looks_calm (item.Bookmark t w ∷ xs) l = looks_calm xs l.1
-looks_calm (item.Member ∷ xs) l = looks_calm xs l.1
-looks_calm (item.Word w ∷ xs) l = looks_calm xs l.1
-looks_calm (item.Drawn h w ∷ xs) l = looks_calm xs l.1
-looks_calm (item.Serving h w ∷ xs) l = looks_calm xs l.1
-looks_calm (item.Served ∷ xs) l = looks_calm xs l.1
-looks_calm (item.Tally p n w ∷ xs) l = absurd l.0
-looks_calm (item.Piped k a w ∷ xs) l = absurd l.0
+looks_calm = looks_all (λ es. are_calm es ≡ true) refl (λ x w es calm. calm)
 
 looks_quiet : (r : LockPage) (old new : Known) → Looks old new → IsQuiet old → IsQuiet new
 looks_quiet r old new l = quiet_on old new r (steps_of l.items) (ap (λ (k : Known). k.view.number) l.is)

@@ -59,24 +59,8 @@ refused bytes old read.OutOfMemory le h = quiet (verdict_of bytes) old
 
 bad : (v : Verdict) (old new : Option (List ℕ)) (f : Fault) → IsFaultOf v old new f → status_of f ≡ 3 → IsBad v
 bad (BadLine line why) old new f h e = tt
-bad TooLong old new fault.Usage h e = absurd (omega arith)
-bad TooLong old new (fault.Script l w) h e = absurd h
-bad TooLong old new fault.Read h e = absurd (omega arith)
-bad TooLong old new (fault.NoFile name) h e = absurd h
-bad TooLong old new fault.Killed h e = absurd h
-bad TooLong old new (fault.Worn place) h e = absurd h
-bad TooLong old new fault.Write h e = absurd h
-bad TooLong old new fault.Memory h e = absurd (omega arith)
-bad TooLong old new fault.Long h e = absurd (omega arith)
-bad (Text text) old new fault.Usage h e = absurd (omega arith)
-bad (Text text) old new (fault.Script l w) h e = absurd h
-bad (Text text) old new fault.Read h e = absurd (omega arith)
-bad (Text text) old new (fault.NoFile name) h e = absurd h
-bad (Text text) old new fault.Killed h e = absurd h
-bad (Text text) old new (fault.Worn place) h e = absurd h
-bad (Text text) old new fault.Write h e = absurd (omega arith)
-bad (Text text) old new fault.Memory h e = absurd (omega arith)
-bad (Text text) old new fault.Long h e = absurd h
+bad v old new fault.Usage h e = absurd (omega arith)
+bad v old new f h e = absurd (grind arith)
 
 pub script_status : (verdict : Option Verdict) (old new : Option (List ℕ)) (f : Fault)
     → IfSome verdict (λ v. IsFaultOf v old new f) → status_of f ≡ 3 → IfSome verdict IsBad
@@ -85,15 +69,9 @@ script_status (Some v) old new f h e = bad v old new f h e
 
 -- nothing was written
 pub untouched : (old : Option (List ℕ)) (f : Fault) → LeavesUnwritten old old (Err f)
-untouched old fault.Usage = refl
-untouched old (fault.Script line why) = refl
-untouched old fault.Read = refl
-untouched old (fault.NoFile name) = refl
-untouched old fault.Killed = refl
-untouched old (fault.Worn place) = refl
-untouched old fault.Long = refl
 untouched old fault.Write = tt
 untouched old fault.Memory = tt
+untouched old f = refl
 
 -- a sink failed
 pub touched : (old new : Option (List ℕ)) (e : SinkFault) → LeavesUnwritten old new (Err (sink_fault e))
@@ -103,15 +81,9 @@ touched old new sink.OutOfMemory = tt
 -- by the status
 pub quiet_status : (old new : Option (List ℕ)) (f : Fault) (status : ℕ) → LeavesUnwritten old new (Err f)
     → status ≡ status_of f → is_quiet status ≡ true → new ≡ old
-quiet_status old new fault.Usage status h e q = h
-quiet_status old new (fault.Script line why) status h e q = h
-quiet_status old new fault.Read status h e q = h
-quiet_status old new (fault.NoFile name) status h e q = h
-quiet_status old new fault.Killed status h e q = h
-quiet_status old new (fault.Worn place) status h e q = h
-quiet_status old new fault.Long status h e q = h
 quiet_status old new fault.Write status h e q = absurd (cc (sym q ∙ ap is_quiet e))
 quiet_status old new fault.Memory status h e q = absurd (cc (sym q ∙ ap is_quiet e))
+quiet_status old new f status h e q = h
 
 -- by the status, of other commands than a copy
 pub usage_of : (o : Option Request) (status : ℕ) → may_end_with o status ≡ true → status ≡ 2 → o ≡ None
@@ -131,29 +103,15 @@ refused_of (Some r) status h e = cc
 
 pub read_of : (answer : Result (Unit {0}) Fault) → IsNoCopyEnd answer → exit_status answer ≡ 4
     → answer ≡ Err fault.Read
-read_of (Ok x) n e = absurd (omega arith)
-read_of (Err fault.Usage) n e = absurd (omega arith)
-read_of (Err (fault.Script line why)) n e = absurd (omega arith)
 read_of (Err fault.Read) n e = refl
-read_of (Err (fault.NoFile name)) n e = absurd n
-read_of (Err fault.Write) n e = absurd (omega arith)
-read_of (Err fault.Killed) n e = absurd (omega arith)
-read_of (Err fault.Memory) n e = absurd (omega arith)
-read_of (Err fault.Long) n e = absurd (omega arith)
-read_of (Err (fault.Worn place)) n e = absurd (omega arith)
+read_of answer n e = absurd (grind arith)
 
 pub drill_end : (seed count : ℕ) (answer : Result (Unit {0}) Fault)
     → may_end_with (Some (Drill seed count)) (exit_status answer) ≡ true → IsNoCopyEnd answer
-drill_end seed count (Ok x) h = tt
-drill_end seed count (Err fault.Usage) h = tt
-drill_end seed count (Err (fault.Script line why)) h = tt
-drill_end seed count (Err fault.Read) h = tt
 drill_end seed count (Err (fault.NoFile name)) h = absurd (false≢true h)
-drill_end seed count (Err fault.Write) h = tt
 drill_end seed count (Err fault.Killed) h = absurd (false≢true h)
-drill_end seed count (Err fault.Memory) h = tt
-drill_end seed count (Err fault.Long) h = tt
 drill_end seed count (Err (fault.Worn place)) h = absurd (false≢true h)
+drill_end seed count answer h = tt
 
 pub done_of : (verdict : Option Verdict) (old new : Option (List ℕ)) (answer : Result (Unit {0}) Fault)
     → IfSome verdict (λ v. Answers v old new answer) → exit_status answer ≡ 0
@@ -161,14 +119,7 @@ pub done_of : (verdict : Option Verdict) (old new : Option (List ℕ)) (answer :
 done_of None old new answer h e = tt
 done_of (Some v) old new (Ok x) h e = h
 done_of (Some v) old new (Err fault.Usage) h e = absurd (omega arith)
-done_of (Some v) old new (Err (fault.Script line why)) h e = absurd (omega arith)
-done_of (Some v) old new (Err fault.Read) h e = absurd (omega arith)
-done_of (Some v) old new (Err (fault.NoFile name)) h e = absurd (omega arith)
-done_of (Some v) old new (Err fault.Write) h e = absurd (omega arith)
-done_of (Some v) old new (Err fault.Killed) h e = absurd (omega arith)
-done_of (Some v) old new (Err fault.Memory) h e = absurd (omega arith)
-done_of (Some v) old new (Err fault.Long) h e = absurd (omega arith)
-done_of (Some v) old new (Err (fault.Worn place)) h e = absurd (omega arith)
+done_of (Some v) old new (Err f) h e = absurd (omega arith)
 
 pub script_of_answer : (verdict : Option Verdict) (old new : Option (List ℕ)) (answer : Result (Unit {0}) Fault)
     → IfSome verdict (λ v. Answers v old new answer) → exit_status answer ≡ 3 → IfSome verdict IsBad
@@ -177,24 +128,8 @@ script_of_answer verdict old new (Err f) h e = script_status verdict old new f h
 
 long_of : (v : Verdict) (old new : Option (List ℕ)) (f : Fault) → IsFaultOf v old new f → status_of f ≡ 8 → IsLong v
 long_of TooLong old new f h e = tt
-long_of (BadLine line why) old new fault.Usage h e = absurd (omega arith)
-long_of (BadLine line why) old new (fault.Script l w) h e = absurd (omega arith)
-long_of (BadLine line why) old new fault.Read h e = absurd (omega arith)
-long_of (BadLine line why) old new (fault.NoFile name) h e = absurd h
-long_of (BadLine line why) old new fault.Killed h e = absurd h
-long_of (BadLine line why) old new (fault.Worn place) h e = absurd h
-long_of (BadLine line why) old new fault.Write h e = absurd h
-long_of (BadLine line why) old new fault.Memory h e = absurd (omega arith)
-long_of (BadLine line why) old new fault.Long h e = absurd h
-long_of (Text text) old new fault.Usage h e = absurd (omega arith)
-long_of (Text text) old new (fault.Script l w) h e = absurd h
-long_of (Text text) old new fault.Read h e = absurd (omega arith)
-long_of (Text text) old new (fault.NoFile name) h e = absurd h
-long_of (Text text) old new fault.Killed h e = absurd h
-long_of (Text text) old new (fault.Worn place) h e = absurd h
-long_of (Text text) old new fault.Write h e = absurd (omega arith)
-long_of (Text text) old new fault.Memory h e = absurd (omega arith)
-long_of (Text text) old new fault.Long h e = absurd h
+long_of v old new fault.Usage h e = absurd (omega arith)
+long_of v old new f h e = absurd (grind arith)
 
 pub long_of_answer : (verdict : Option Verdict) (old new : Option (List ℕ)) (answer : Result (Unit {0}) Fault)
     → IfSome verdict (λ v. Answers v old new answer) → exit_status answer ≡ 8 → IfSome verdict IsLong

@@ -35,26 +35,11 @@ no_copy None P e = tt
 pub fine_status : (answer : Result (Unit {0}) Fault) → exit_status answer ≡ 0 → answer ≡ Ok tt
 fine_status (Ok x) e = refl
 fine_status (Err fault.Usage) e = absurd (omega arith)
-fine_status (Err (fault.Script line why)) e = absurd (omega arith)
-fine_status (Err fault.Read) e = absurd (omega arith)
-fine_status (Err (fault.NoFile name)) e = absurd (omega arith)
-fine_status (Err fault.Write) e = absurd (omega arith)
-fine_status (Err fault.Killed) e = absurd (omega arith)
-fine_status (Err fault.Memory) e = absurd (omega arith)
-fine_status (Err fault.Long) e = absurd (omega arith)
-fine_status (Err (fault.Worn place)) e = absurd (omega arith)
+fine_status answer e = absurd (omega arith)
 
 killed_status : (answer : Result (Unit {0}) Fault) → exit_status answer ≡ 6 → answer ≡ Err fault.Killed
-killed_status (Ok x) e = absurd (omega arith)
-killed_status (Err fault.Usage) e = absurd (omega arith)
-killed_status (Err (fault.Script line why)) e = absurd (omega arith)
-killed_status (Err fault.Read) e = absurd (omega arith)
-killed_status (Err (fault.NoFile name)) e = absurd (omega arith)
-killed_status (Err fault.Write) e = absurd (omega arith)
 killed_status (Err fault.Killed) e = refl
-killed_status (Err fault.Memory) e = absurd (omega arith)
-killed_status (Err fault.Long) e = absurd (omega arith)
-killed_status (Err (fault.Worn place)) e = absurd (omega arith)
+killed_status answer e = absurd (omega arith)
 
 -- the faults that a copy may answer
 abbrev pub IsCopyFault : Fault → Type 0
@@ -106,15 +91,9 @@ pub silent : (o : Option Fault) (text : List ℕ) (old new : Option (List ℕ)) 
     → is_quiet (exit_status answer) ≡ true → new ≡ old
 silent (Some w) text old new fo fn answer c q = c.1
 silent None text old new fo fn (Ok x) c q = absurd (false≢true q)
-silent None text old new fo fn (Err fault.Usage) c q = absurd c
-silent None text old new fo fn (Err (fault.Script line why)) c q = absurd c
-silent None text old new fo fn (Err fault.Read) c q = absurd c
-silent None text old new fo fn (Err (fault.NoFile name)) c q = absurd c
 silent None text old new fo fn (Err fault.Write) c q = absurd (false≢true q)
-silent None text old new fo fn (Err fault.Killed) c q = absurd c
 silent None text old new fo fn (Err fault.Memory) c q = absurd (false≢true q)
-silent None text old new fo fn (Err fault.Long) c q = absurd c
-silent None text old new fo fn (Err (fault.Worn place)) c q = absurd c
+silent None text old new fo fn (Err f) c q = absurd c
 
 fits : (src dst : List ℕ) (plan : List Planned) (answer : Result (Unit {0}) Fault)
     → ((why : Fault) → answer ≡ Err why → IsCopyFault why)

@@ -1,9 +1,3 @@
-use Rattle.std.proofs.Common.{List, arith, subst}
-use Rattle.std.proofs.lemmas.List.{take_all}
-use Rattle.copy_plan.specs.declared.plan.Planned.{Planned}
-use Rattle.copy_plan.specs.Plans.{due_in}
-use Rattle.copy_turns.specs.Raises.{sent_to}
-use Rattle.copy_turns.specs.Transfers.{SendsEach}
 use Rattle.copy_turns.proofs.Sends.{sends_before, sends_behind, sends_due}
 use Rattle.copy_turns.proofs.signals.send_due.Goals as goal
 use Rattle.copy_turns.proofs.signals.send_due.Goals.{then-from-planned+then-planned-to, else-from-planned}
@@ -27,11 +21,3 @@ loop-planned-preserved g c = elim c.if-from-planned.branch [
         c.loop-planned.task c.loop-planned.invariant c.if-from-planned.task w.task-is v.if-from-planned.false
   ]
 ]
-
-pub returns-clause-goes : goal.returns-clause-goes
-returns-clause-goes g c =
-    let end = c.loop-planned-test.false in
-    subst
-    (λ (ps : List Planned). SendsEach (sent_to c.args.targets (due_in c.args.from c.args.to ps)) c.args.task.now
-    c.loop-planned.task) (take_all c.loop-planned.planned-index c.args.plan.now (omega (arith, end)))
-    c.loop-planned.invariant.each

@@ -1,8 +1,8 @@
-use Rattle.std.proofs.Common.{◌∙◌, [], refl, take, arith}
+use Rattle.std.proofs.Common.{◌∙◌, [], refl, take}
 use Rattle.wait_rule.specs.Pipes.{read_end}
 use Rattle.copy_turns.proofs.Pieces.{got_apart, got_more, got_none, got_still, own_halts}
 use Rattle.copy_turns.specs.Transfers.{no_part}
-use Rattle.copy_turns.proofs.Trails.{gets_again, gets_halted, gets_piece}
+use Rattle.copy_turns.proofs.Trails.{gets_again, gets_halted}
 use Rattle.copy_turns.proofs.transfers.get.Goals as goal
 
 pub loop-init : goal.loop-init
@@ -11,10 +11,6 @@ loop-init g c = record {
   got = got_none (read_end c.args.pipe) c.args.task.now c.requires.work c.requires.settled;
   gets = no_part;
 }
-
-pub read_piece-requires-clause-buf : goal.read_piece-requires-clause-buf
-read_piece-requires-clause-buf g c =
-    let same = c.loop.invariant.same in let whole = c.requires.buf in omega arith
 
 pub returns-in-Ok-clause-got : goal.returns-in-Ok-clause-got
 returns-in-Ok-clause-got g c =
@@ -47,10 +43,6 @@ loop-preserved g c =
       gets = gets_again (read_end c.args.pipe) c.args.task.now c.loop.task c.read_piece.new.task c.loop.invariant.gets
           c.read_piece.new.buf c.halt_of.new.task c.in-Err.end e.goes c.in_default.ensures.halts;
     }
-
-pub returns-in-Ok-clause-goes : goal.returns-in-Ok-clause-goes
-returns-in-Ok-clause-goes g c = gets_piece (read_end c.args.pipe) c.args.task.now c.loop.task c.read_piece.new.task
-    c.loop.invariant.gets c.read_piece.new.buf c.in-Ok.n c.in-Ok.ensures.goes
 
 pub returns-in-Err-halt_of-clause-goes : goal.returns-in-Err-halt_of-clause-goes
 returns-in-Err-halt_of-clause-goes g c =

@@ -2,7 +2,7 @@ use Rattle.std.proofs.Common.{take, arith}
 use Rattle.wait_rule.specs.Pipes.{write_end}
 use Rattle.copy_turns.proofs.Pieces.{got_apart, got_none, got_still, put_front, put_more, rest_length}
 use Rattle.copy_turns.specs.Transfers.{all_left}
-use Rattle.copy_turns.proofs.Trails.{puts_again, puts_all, puts_halted, puts_more}
+use Rattle.copy_turns.proofs.Trails.{puts_again, puts_halted, puts_more}
 use Rattle.copy_turns.proofs.transfers.put_whole.Goals as goal
 
 pub loop-init : goal.loop-init
@@ -49,7 +49,3 @@ returns-in-Err-halt_of g c =
           c.loop.done c.loop.invariant.puts c.halt_of.new.task c.in-Err.end c.in-Err-halt_of.halt e.goes
           c.in-Err-halt_of.ensures.halts;
     }
-
-pub returns-then-done-bytes-clause-goes : goal.returns-then-done-bytes-clause-goes
-returns-then-done-bytes-clause-goes g c = puts_all (write_end c.args.pipe) c.args.bytes.now c.args.task.now c.loop.task
-    c.loop.done c.loop.invariant.puts c.if-done-bytes.true

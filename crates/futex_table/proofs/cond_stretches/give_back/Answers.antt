@@ -52,12 +52,14 @@ returns-in-Done-clause-came c b start x =
     let t = c.in-Done.ensures.turned x.stored x.walks in
     let new = c.wake_stretch.new.task in
     let e = c.begin_futex-first.ensures in record {
-      seen = c.args.seen;
-      loaded = x.loaded;
-      loads = x.loads;
-      unlocked = new;
-      gives = given_freed c.args.wait start c.args.task.now new c.args.seen c.args.wake c.wake_stretch.new.run
-          c.args.stage x t.aim c.in-Done.field-0 t.turns;
+      let_go = record {
+        seen = c.args.seen;
+        loaded = x.loaded;
+        loads = x.loads;
+        unlocked = new;
+        gives = given_freed c.args.wait start c.args.task.now new c.args.seen c.args.wake c.wake_stretch.new.run
+            c.args.stage x t.aim c.in-Done.field-0 t.turns;
+      };
       left = given_left c.args.wait start c.args.task.now new c.args.seen c.args.wake c.wake_stretch.new.run c.args.stage
           x t.aim c.in-Done.field-0 t.turns;
       told = e.told;

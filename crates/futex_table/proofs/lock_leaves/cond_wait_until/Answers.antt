@@ -31,11 +31,13 @@ futex_wait_until-end-requires-clause-out g c = sets_out (watch.Plain c.args.lock
 
 pub returns-clause-waited : goal.returns-clause-waited
 returns-clause-waited g c = record {
-  seen = c.cond_load-seen.result;
-  loaded = c.cond_load-seen.new.task;
-  loads = c.cond_load-seen.ensures.step;
-  unlocked = c.mutex_unlock.new.task;
-  gives = c.mutex_unlock.ensures.unlocked;
+  let_go = record {
+    seen = c.cond_load-seen.result;
+    loaded = c.cond_load-seen.new.task;
+    loads = c.cond_load-seen.ensures.step;
+    unlocked = c.mutex_unlock.new.task;
+    gives = c.mutex_unlock.ensures.unlocked;
+  };
   waited = c.futex_wait_until-end.new.task;
   end = c.futex_wait_until-end.result;
   waits = c.futex_wait_until-end.ensures.waited;

@@ -1,4 +1,4 @@
-use Rattle.std.proofs.Common.{◌∙◌, ℕ, ap, inl, inr, refl}
+use Rattle.std.proofs.Common.{◌∙◌, ℕ, ap, inr, refl}
 use Rattle.wait_model.specs.Tasks.{pending, state_mask, task_of}
 use Rattle.wait_model.specs.declared.layout.TheConstants.{HEADS}
 use Rattle.wait_class.proofs.Entries.{heed_holds, heed_owes, heed_stops, heeds_advances, heeds_falls, heed_law, not_there, off_falls}
@@ -45,9 +45,6 @@ returns-clause-turned g c =
 pub returns-clause-falls : goal.returns-clause-falls
 returns-clause-falls g c = off_falls g.C.Machine.table c.lawful.ensures c.args.run.now.of c.args.stage
     c.requires.here c.found_to.result c.found_to.ensures
-
-pub returns-then-is_some-clause-passes : goal.returns-then-is_some-clause-passes
-returns-then-is_some-clause-passes g c = inl c.requires.passes
 
 pub returns-clause-passes : goal.returns-clause-passes
 returns-clause-passes g c = inr (heed_stops g.C.Machine.table c.lawful.ensures c.args.run.now.of c.args.stage

@@ -1,4 +1,4 @@
-use Rattle.std.proofs.Common.{◌∙◌, sym, inl, inr, refl}
+use Rattle.std.proofs.Common.{◌∙◌, sym, inr, refl}
 use Rattle.wait_model.specs.declared.layout.TheConstants.{HEADS}
 use Rattle.wait_class.proofs.Entries.{gives_falls, not_there, pare_holds, pare_law, pare_may, pare_owes, pare_stops}
 use Rattle.wait_class.proofs.Entries.{takes_advances, takes_falls}
@@ -56,9 +56,6 @@ returns-clause-turned g c =
 pub returns-clause-falls : goal.returns-clause-falls
 returns-clause-falls g c = gives_falls g.C.Machine.table c.lawful.ensures c.args.run.now.of c.args.stage
     c.requires.here c.found_to-2.result c.found_to-2.ensures
-
-pub returns-then-is_some-clause-passes : goal.returns-then-is_some-clause-passes
-returns-then-is_some-clause-passes g c = inl c.requires.passes
 
 pub returns-clause-passes : goal.returns-clause-passes
 returns-clause-passes g c = inr (pare_stops g.C.Machine.table c.lawful.ensures c.args.run.now.of c.args.stage

@@ -1,16 +1,12 @@
-use Rattle.std.proofs.Common.{◌∙◌, ap, inl, inr, refl}
+use Rattle.std.proofs.Common.{◌∙◌, ap, inr, refl}
 use Rattle.wait_model.specs.Tasks.{state_mask}
 use Rattle.wait_model.specs.declared.layout.TheConstants.{HEADS}
-use Rattle.wait_class.proofs.Queues.{join_advances, join_falls, mid_holds, queue_at, queue_may, queue_out, queue_seen}
+use Rattle.wait_class.proofs.Queues.{join_advances, join_falls, mid_holds, queue_at, queue_out, queue_seen}
 use Rattle.wait_class.proofs.Queues.{stay_advances, stay_falls, worn_advances, worn_falls, worn_owes, worn_stops}
 use Rattle.wait_model.specs.declared.steps.Step.TheVariants as step
 use Rattle.wait_class.proofs.Handed.{given_as, given_back, given_joined, given_on, given_seen, given_member_looks, given_step}
 use Rattle.wait_class.proofs.AwakeSteps.{awake_back, awake_joined, awake_looked, awake_seen, awake_step, sleeps_not_on}
 use Rattle.wait_class.proofs.events.queue_event.Goals as goal
-
-pub set_state-requires-clause-may : goal.set_state-requires-clause-may
-set_state-requires-clause-may g c = queue_may g.C.Machine.table c.lawful.ensures c.args.task.now c.own_entry-entry.new.task
-    c.args.run.now c.args.stage c.requires.here c.requires.at c.own_entry-entry.result c.own_entry-entry.ensures c.mask.result (c.mask.ensures ∙ ap state_mask c.state.ensures)
 
 pub returns-then-is_some-clause-turned : goal.returns-then-is_some-clause-turned
 returns-then-is_some-clause-turned g c = stay_advances g.C.Machine.table c.lawful.ensures c.args.task.now c.own_entry-entry.new.task
@@ -65,12 +61,6 @@ returns-in-Err-clause-turned g c = worn_advances g.C.Machine.table c.lawful.ensu
 pub returns-in-Err-clause-falls : goal.returns-in-Err-clause-falls
 returns-in-Err-clause-falls g c = worn_falls g.C.Machine.table c.lawful.ensures c.args.run.now.of c.args.stage
     c.requires.here c.added_to-next-in-Err.result c.added_to-next-in-Err.ensures
-
-pub returns-then-is_some-clause-passes : goal.returns-then-is_some-clause-passes
-returns-then-is_some-clause-passes g c = inl c.requires.passes
-
-pub returns-in-Ok-clause-passes : goal.returns-in-Ok-clause-passes
-returns-in-Ok-clause-passes g c = inl c.requires.passes
 
 pub returns-in-Err-clause-passes : goal.returns-in-Err-clause-passes
 returns-in-Err-clause-passes g c = inr (worn_stops g.C.Machine.table c.lawful.ensures c.args.run.now.of c.args.stage

@@ -1,8 +1,7 @@
-use Rattle.std.proofs.Common.{ap, inl, inr}
+use Rattle.std.proofs.Common.{inl, inr}
 use Rattle.wait_class.proofs.Sleeps.{again_falls, down_falls, sleep_again, sleep_down, sleep_free, sleep_up, up_falls}
 use Rattle.wait_model.specs.declared.steps.Step.TheVariants as step
-use Rattle.wait_rule.specs.Says.{history_of}
-use Rattle.wait_class.proofs.Handed.{given_step, given_still}
+use Rattle.wait_class.proofs.Handed.{given_step}
 use Rattle.wait_class.proofs.events.sleep_event.Goals as goal
 
 pub sleep_try-requires-clause-free : goal.sleep_try-requires-clause-free
@@ -62,7 +61,3 @@ returns-in-Some-Stay-clause-given g c = given_step c.args.task.now c.sleep_try.n
 pub returns-in-Some-Signal-clause-given : goal.returns-in-Some-Signal-clause-given
 returns-in-Some-Signal-clause-given g c = given_step c.args.task.now c.sleep_try.new.task
     (step.Sleep c.in-Some-Signal.ensures.step.0) c.in-Some-Signal.ensures.step.2
-
-pub returns-in-None-clause-given : goal.returns-in-None-clause-given
-returns-in-None-clause-given g c = given_still c.args.task.now c.sleep_try.new.task
-    (ap history_of c.in-None.ensures.same)

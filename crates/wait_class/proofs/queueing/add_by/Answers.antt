@@ -10,7 +10,6 @@ use Rattle.wait_model.specs.declared.queues.Form.{Form}
 use Rattle.wait_rule.specs.Queues.{IsPriorityPlace, IsTailPlace}
 use Rattle.wq_head.specs.Adds.{HasAdded, HasAddedTail, tail_entry, IsFormPlace}
 use Rattle.wait_class.specs.Queueing.{IsForBy, form_entry}
-use Rattle.wq_head.proofs.PermitHeads.{found_low}
 use Rattle.wait_class.proofs.EntryForms.{for_flags}
 use Rattle.wait_class.proofs.queueing.add_by.Goals as goal
 
@@ -25,18 +24,6 @@ plain_tail (watch.Done d) old new entry r other added = absurd (other d refl)
 plain_tail (watch.Plain c) old new entry r other added = added
 plain_tail (watch.Bit n b) old new entry r other added = added
 plain_tail (watch.Var v o) old new entry r other added = added
-
-pub add_front-requires-clause-suits : goal.add_front-requires-clause-suits
-add_front-requires-clause-suits c = subst (λ (f : Form). IsForBy f c.args.watch c.args.kind) c.in-Front.is
-    c.requires.plain
-
-pub add_tail-requires-clause-suits : goal.add_tail-requires-clause-suits
-add_tail-requires-clause-suits c = subst (λ (f : Form). IsForBy f c.args.watch c.args.kind) c.in-Tail.is
-    c.requires.plain
-
-pub add_priority-requires-clause-plain : goal.add_priority-requires-clause-plain
-add_priority-requires-clause-plain c = subst (λ (f : Form). IsForBy f c.args.watch c.args.kind) c.in-Priority.is
-    c.requires.plain
 
 pub returns-in-Front-clause-queued : goal.returns-in-Front-clause-queued
 returns-in-Front-clause-queued c = subst (λ (f : Form). IfOk c.add_front.result (λ _. HasAdded (IsFormPlace f)
@@ -63,6 +50,3 @@ returns-in-Priority-clause-queued c = subst (λ (f : Form). IfOk c.add_priority.
       kind = c.args.kind;
     }))) (for_flags c.args.watch c.args.kind (subst (λ (f : Form). IsForBy f c.args.watch c.args.kind) c.in-Priority.is
     c.requires.plain)) c.add_priority.ensures.queued)
-
-pub add_tail-requires-clause-permits : goal.add_tail-requires-clause-permits
-add_tail-requires-clause-permits c = found_low c.args.task.now 0 _ (sym c.requires.head) c.requires.low

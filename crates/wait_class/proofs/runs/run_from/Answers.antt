@@ -1,19 +1,10 @@
-use Rattle.std.proofs.Common.{◌∙◌}
 use Rattle.wait_class.specs.declared.stages.Turn.TheVariants as turn
-use Rattle.wait_class.proofs.Turns.{advances_none, advances_on, again, same_domain}
+use Rattle.wait_class.proofs.Turns.{advances_none, advances_on, again}
 use Rattle.wait_class.proofs.runs.run_from.Goals as goal
 
 pub loop-init : goal.loop-init
 loop-init g c = advances_none g.C.Machine.table c.lawful.ensures c.args.task.now c.args.run.now c.args.stage
     c.requires.at
-
-pub three_events-requires-clause-of : goal.three_events-requires-clause-of
-three_events-requires-clause-of g c = same_domain g.C.Machine.table c.lawful.ensures c.args.task.now c.loop.task
-    c.args.run.now.of c.loop.run.of (turn.Again c.args.stage) (turn.Again c.loop.at) c.loop.invariant.went
-    ∙ c.requires.of
-
-pub three_events-requires-clause-at : goal.three_events-requires-clause-at
-three_events-requires-clause-at g c = c.loop.invariant.lands
 
 pub loop-preserved-in-Again : goal.loop-preserved-in-Again
 loop-preserved-in-Again g c =
@@ -32,13 +23,6 @@ loop-preserved-in-Asleep g c =
     c.args.run.now c.three_events.new.run c.three_events.new.run c.args.stage c.in-Asleep.next
     (turn.Again c.in-Asleep.next) a.same
     (record { runs = a.went.runs; tells = a.went.tells; keeps = a.went.keeps }) c.rise.ensures.rises
-
-pub rise-requires-clause-of : goal.rise-requires-clause-of
-rise-requires-clause-of g c = same_domain g.C.Machine.table c.lawful.ensures c.loop.task c.three_events.new.task
-    c.loop.run.of c.three_events.new.run.of (turn.Again c.loop.at) (turn.Asleep c.in-Asleep.next)
-    c.in-Asleep.ensures.went
-    ∙ (same_domain g.C.Machine.table c.lawful.ensures c.args.task.now c.loop.task
-    c.args.run.now.of c.loop.run.of (turn.Again c.args.stage) (turn.Again c.loop.at) c.loop.invariant.went ∙ c.requires.of)
 
 pub loop-preserved : goal.loop-preserved
 loop-preserved g c =

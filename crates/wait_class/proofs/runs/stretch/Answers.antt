@@ -1,7 +1,7 @@
 use Rattle.std.proofs.Common.{◌∙◌, arith, inl, inr, refl, sym}
 use Rattle.wait_model.specs.PointFacts.{holds}
 use Rattle.wait_class.specs.declared.stages.Turn.TheVariants as turn
-use Rattle.wait_class.proofs.Falling.{falls_by, held_yes, unheld}
+use Rattle.wait_class.proofs.Falling.{falls_by, held_yes}
 use Rattle.wait_class.proofs.Falling.{goes_made, goes_shown, other_shown, other_stops}
 use Rattle.wq_head.proofs.PassedOn.{none_yet}
 use Rattle.wait_class.proofs.Turns.{advances_none, advances_on, same_domain}
@@ -20,14 +20,6 @@ loop-turn-init g c = (
   },
   c.requires.passes,
 )
-
-pub advance-requires-clause-of : goal.advance-requires-clause-of
-advance-requires-clause-of g c = same_domain g.C.Machine.table c.lawful.ensures c.args.task.now c.loop-turn.task
-    c.args.run.now.of c.loop-turn.run.of (turn.Again c.args.stage) (turn.Again c.loop-turn.at) c.loop-turn.invariant.0.way.went
-    ∙ c.requires.of
-
-pub advance-requires-clause-at : goal.advance-requires-clause-at
-advance-requires-clause-at g c = c.loop-turn.invariant.0.way.lands
 
 pub loop-turn-preserved : goal.loop-turn-preserved
 loop-turn-preserved g c =
@@ -64,10 +56,6 @@ returns-then-is_free-clause-turned g c =
           c.loop-turn.run c.advance.new.run c.in-Again.next i.begun c.in-Again.ensures.turned.shows;
     }
 
-pub returns-then-is_free-clause-stops : goal.returns-then-is_free-clause-stops
-returns-then-is_free-clause-stops g c = unheld (holds (g.C.Machine.table.point_of c.in-Again.next)) c.is_free.result
-    c.is_free.ensures c.if-is_free.true
-
 pub returns-in_default-clause-turned : goal.returns-in_default-clause-turned
 returns-in_default-clause-turned g c =
     let t = g.C.Machine.table in
@@ -82,9 +70,6 @@ returns-in_default-clause-turned g c =
 pub returns-in_default-clause-stops : goal.returns-in_default-clause-stops
 returns-in_default-clause-stops g c = other_stops g.C.Machine.table c.loop-turn.at c.advance.result
     c.in_default.not-Again c.advance.ensures.falls
-
-pub unreachable-requires : goal.unreachable-requires
-unreachable-requires g c = let low = c.loop-turn.invariant.0.low in absurd (omega (arith, low))
 
 pub returns-then-is_free-clause-given : goal.returns-then-is_free-clause-given
 returns-then-is_free-clause-given g c = given_on c.args.task.now c.loop-turn.task c.advance.new.task c.advance.new.passing.head
@@ -113,12 +98,6 @@ pub returns-in_default-clause-came : goal.returns-in_default-clause-came
 returns-in_default-clause-came g c = λ start f s a. came_on g.C.Machine.table c.lawful.ensures start c.args.task.now
     c.advance.new.task f c.args.run.now c.advance.new.run s c.args.stage c.advance.result a
     (returns-in_default-clause-turned g c).advances
-
-pub returns-then-is_free-clause-of : goal.returns-then-is_free-clause-of
-returns-then-is_free-clause-of g c = same_domain g.C.Machine.table c.lawful.ensures c.args.task.now c.advance.new.task
-    c.args.run.now.of c.advance.new.run.of (turn.Again c.args.stage) (turn.Again c.in-Again.next)
-    (returns-then-is_free-clause-turned g c).advances.went
-    ∙ c.requires.of
 
 pub returns-in_default-clause-of : goal.returns-in_default-clause-of
 returns-in_default-clause-of g c = same_domain g.C.Machine.table c.lawful.ensures c.args.task.now c.advance.new.task

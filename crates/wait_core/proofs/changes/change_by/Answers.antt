@@ -1,5 +1,5 @@
 use Rattle.std.proofs.Common.{refl, arith}
-use Rattle.wait_model.proofs.WordLaws.ShownSteps.{event_shown, event_found}
+use Rattle.wait_model.proofs.WordLaws.ShownSteps.{event_shown}
 use Rattle.wait_model.specs.Points.{given_at}
 use Rattle.wait_core.proofs.changes.change_by.Goals as goal
 
@@ -12,9 +12,3 @@ returns-clause-shown c = λ s n shown sound allowed joins marked.
     )
     (event_shown c.args.words.now s shown c.args.me (given_at c.args.call c.args.point) (omega arith) c.args.event
     allowed joins)
-
-pub returns-clause-found : goal.returns-clause-found
-returns-clause-found c = λ s shown allowed.
-    rw c.position-at.ensures (event_found c.args.words.now s shown c.args.me (given_at c.args.call c.args.point) (omega
-    arith)
-    c.args.event allowed)

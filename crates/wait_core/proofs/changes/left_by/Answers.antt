@@ -6,7 +6,6 @@ use Rattle.wait_model.specs.Watches.{page}
 use Rattle.wait_model.specs.Reached.{Allows, Joins}
 use Rattle.wait_core.proofs.BitWords.{set_leaves, clear_leaves}
 use Rattle.wait_model.specs.Points.{given_at}
-use Rattle.wait_core.proofs.FoundMembers.{task_found, spent_found, flag_is}
 use Rattle.wait_core.proofs.changes.left_by.Goals as goal
 
 pub returns-in-Tas : goal.returns-in-Tas
@@ -29,30 +28,3 @@ returns-in-TasFor c = λ s n me mine was shown sound a j marked.
     rw c.in-TasFor.is (set_leaves c.args.words.now s.table shown c.in-TasFor.word 0 _ may.0 (omega arith)
     (was ∙ ap (λ (e : Event). slice_index c.args.words.now (position_of (location_of me e))) c.in-TasFor.is) _
     c.with_bit-in-TasFor.ensures (page c.in-TasFor.word) refl)
-
-pub returns-in-State : goal.returns-in-State
-returns-in-State c = grind (arith, task_found)
-
-pub returns-in-Sleep : goal.returns-in-Sleep
-returns-in-Sleep c = grind (arith, task_found)
-
-pub returns-in-Wake : goal.returns-in-Wake
-returns-in-Wake c = grind (arith, task_found)
-
-pub returns-in-Signal : goal.returns-in-Signal
-returns-in-Signal c = grind (arith, task_found)
-
-pub returns-in-Accept : goal.returns-in-Accept
-returns-in-Accept c = grind (arith, task_found)
-
-pub returns-in-Lock : goal.returns-in-Lock
-returns-in-Lock c = grind (arith, spent_found)
-
-pub returns-in-Unlock : goal.returns-in-Unlock
-returns-in-Unlock c = grind (arith, spent_found)
-
-pub returns-in-Woken : goal.returns-in-Woken
-returns-in-Woken c = grind (arith, flag_is)
-
-pub returns-in-Unflag : goal.returns-in-Unflag
-returns-in-Unflag c = grind (arith, flag_is)

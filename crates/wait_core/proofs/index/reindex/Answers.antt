@@ -6,7 +6,7 @@ use Rattle.wait_model.specs.Locations.{Entry, Bookmark, position_of}
 use Rattle.wait_core.specs.Scan.{shown_stand}
 use Rattle.wait_core.specs.Index.{IsClass}
 use Rattle.wait_core.proofs.IndexChanges.{entry_changed, mark_changed, entry_stood, mark_stood, emptied, entry_class}
-use Rattle.wait_core.proofs.IndexChanges.{mark_class, untouched}
+use Rattle.wait_core.proofs.IndexChanges.{mark_class}
 use Rattle.wait_core.proofs.index.reindex.Goals as goal
 
 pub put_in-requires-clause-index : goal.put_in-requires-clause-index
@@ -48,7 +48,3 @@ returns-in-Bookmark-clause-index c = λ l there is.
     rw (mark_class l t (is ∙ c.in-Bookmark.is)) (mark_changed c.args.words.now c.requires.count
     (position_of (Bookmark t)) c.args.left c.put_in-in-Bookmark.new.index.items n (omega arith)
     (omega arith) (omega arith) (rw c.mark_by.ensures.mark at new))
-
-pub returns-in-Other-clause-index : goal.returns-in-Other-clause-index
-returns-in-Other-clause-index c = λ l there is. untouched c.args.words.now l c.args.left c.args.index.now.items
-    c.requires.index there (is ∙ c.in-Other.is)

@@ -1,9 +1,7 @@
-use Rattle.std.proofs.Common.{refl}
 use Rattle.wait_model.specs.declared.steps.Step.TheVariants as step
 use Rattle.wait_class.proofs.Handed.{given_step}
 use Rattle.wait_leave.proofs.Leaving.{rested_by, still_by}
 use Rattle.std.specs.Prelude.{true}
-use Rattle.wait_class.proofs.AwakeSteps.{sleeps_not_same}
 use Rattle.wait_leave.proofs.Awake.{rest_awake}
 use Rattle.wait_leave.proofs.leaves.go_out.Goals as goal
 
@@ -31,6 +29,3 @@ returns-else-exit-clause-falls g c = (c.may_leave.ensures.at c.args.call.now.of 
 
 pub returns-then-exit-clause-awake : goal.returns-then-exit-clause-awake
 returns-then-exit-clause-awake g c = rest_awake c.args.task.now c.set_state.new.task true c.set_state.ensures.step
-
-pub returns-else-exit-clause-awake : goal.returns-else-exit-clause-awake
-returns-else-exit-clause-awake g c = sleeps_not_same c.args.task.now c.args.task.now refl

@@ -29,9 +29,6 @@ loop-preserved-in-Again g c = (
   sleeps_not_on c.args.task.now c.loop.task c.event_out.new.task c.loop.invariant.1 c.in-Again.ensures.awake,
 )
 
-pub unreachable-requires : goal.unreachable-requires
-unreachable-requires g c = absurd c.in-Asleep.ensures.up
-
 pub loop-preserved : goal.loop-preserved
 loop-preserved g c = (
   way_again (Unit {0}) g.C.Machine.table g.C.Leavable.exits c.may_leave.ensures c.lawful.ensures

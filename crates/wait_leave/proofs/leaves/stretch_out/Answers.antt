@@ -2,7 +2,7 @@ use Rattle.std.proofs.Common.{◌∙◌, arith, refl, sym}
 use Rattle.wait_model.specs.declared.layout.TheConstants.{HEADS}
 use Rattle.wait_model.specs.PointFacts.{holds}
 use Rattle.wait_class.specs.declared.stages.Turn.TheVariants as turn
-use Rattle.wait_class.proofs.Falling.{falls_by, held_yes, other_stops, unheld}
+use Rattle.wait_class.proofs.Falling.{falls_by, held_yes, other_stops}
 use Rattle.wait_class.proofs.Handed.{given_as, given_on, given_still}
 use Rattle.wq_head.proofs.PassedOn.{none_yet}
 use Rattle.wait_leave.proofs.Ways.{on_way_then, way_domain, way_lands, way_none, way_then}
@@ -52,16 +52,9 @@ loop-turn-preserved g c =
       none,
     )
 
-pub returns-then-is_free-clause-stops : goal.returns-then-is_free-clause-stops
-returns-then-is_free-clause-stops g c = unheld (holds (g.C.Machine.table.point_of c.in-Again.next)) c.is_free.result
-    c.is_free.ensures c.if-is_free.true
-
 pub returns-in_default-clause-stops : goal.returns-in_default-clause-stops
 returns-in_default-clause-stops g c = other_stops g.C.Machine.table c.loop-turn.at c.turn_out.result
     c.in_default.not-Again c.turn_out.ensures.falls
-
-pub unreachable-requires : goal.unreachable-requires
-unreachable-requires g c = let low = c.loop-turn.invariant.0.low in absurd (omega (arith, low))
 
 pub returns-then-is_free-clause-way : goal.returns-then-is_free-clause-way
 returns-then-is_free-clause-way g c = way_then _ _ _ c.may_leave.ensures c.lawful.ensures _ _ _ _ _ _ _ _ _

@@ -1,45 +1,17 @@
 use Rattle.std.proofs.Common.{◌∙◌, sym}
-use Rattle.wait_model.specs.declared.layout.TheConstants.{HEADS}
-use Rattle.wait_class.proofs.Handed.{given_as}
 use Rattle.wait_leave.specs.OnTheWay.{straight}
-use Rattle.wait_leave.proofs.Ways.{way_domain, way_lands, way_out}
-use Rattle.wait_leave.proofs.Awake.{awake_turn, up_plain, up_turn}
+use Rattle.wait_leave.proofs.Ways.{way_out}
+use Rattle.wait_leave.proofs.Awake.{awake_turn, up_turn}
 use Rattle.wait_leave.proofs.leaves.turn_out.Goals as goal
-
-pub go_out-requires-clause-exits : goal.go_out-requires-clause-exits
-go_out-requires-clause-exits g c = sym c.exit-found.ensures ∙ c.in-Some.is
 
 pub returns-in-Some-clause-way : goal.returns-in-Some-clause-way
 returns-in-Some-clause-way g c = way_out (Unit {0}) g.C.Machine.table g.C.Leavable.exits c.may_leave.ensures c.lawful.ensures
     c.args.task.now c.args.call.now c.args.stage c.go_out.new.task c.go_out.new.call c.in-Some.exit.to tt c.requires.at
     c.go_out.ensures.leaves
 
-pub returns-in-Some-clause-of : goal.returns-in-Some-clause-of
-returns-in-Some-clause-of g c = way_domain (Unit {0}) g.C.Machine.table g.C.Leavable.exits c.may_leave.ensures c.lawful.ensures
-    c.args.task.now c.args.call.now c.args.stage c.go_out.new.task c.go_out.new.call c.in-Some.exit.to
-    (returns-in-Some-clause-way g c) ∙ c.requires.of
-
-pub returns-in-Some-clause-lands : goal.returns-in-Some-clause-lands
-returns-in-Some-clause-lands g c = way_lands (Unit {0}) g.C.Machine.table g.C.Leavable.exits c.may_leave.ensures c.lawful.ensures
-    c.args.task.now c.args.call.now c.args.stage c.go_out.new.task c.go_out.new.call c.in-Some.exit.to
-    (returns-in-Some-clause-way g c)
-
-pub returns-in-Some-clause-given : goal.returns-in-Some-clause-given
-returns-in-Some-clause-given g c = given_as c.args.task.now c.go_out.new.task HEADS c.args.passing.now.head
-    c.requires.passes c.go_out.ensures.given
-
 pub returns-in-None-clause-way : goal.returns-in-None-clause-way
 returns-in-None-clause-way g c = straight c.advance.new.task c.advance.new.run c.advance.result
     c.advance.ensures.turned.advances
-
-pub returns-in-None-clause-of : goal.returns-in-None-clause-of
-returns-in-None-clause-of g c = way_domain (Unit {0}) g.C.Machine.table g.C.Leavable.exits c.may_leave.ensures c.lawful.ensures
-    c.args.task.now c.args.call.now c.args.stage c.advance.new.task c.advance.new.run c.advance.result
-    (returns-in-None-clause-way g c) ∙ c.requires.of
-
-pub returns-in-Some-clause-up : goal.returns-in-Some-clause-up
-returns-in-Some-clause-up g c = up_plain g.C.Machine.table c.in-Some.exit.to (c.may_leave.ensures.at
-    c.args.call.now.of c.args.stage c.in-Some.exit (sym c.exit-found.ensures ∙ c.in-Some.is)).plain
 
 pub returns-in-None-clause-awake : goal.returns-in-None-clause-awake
 returns-in-None-clause-awake g c = awake_turn g.C.Machine.table g.C.Leavable.exits c.may_leave.ensures c.args.task.now

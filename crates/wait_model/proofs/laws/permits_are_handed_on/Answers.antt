@@ -1,10 +1,7 @@
 use Rattle.wait_model.proofs.PermitLaws.PermitScripts.{worked_permits}
-use Rattle.wait_model.proofs.PermitLaws.PermitSteps.{accounted_start, accounted_step, accounted_handed}
+use Rattle.wait_model.proofs.PermitLaws.PermitSteps.{accounted_step, accounted_handed}
 use Rattle.wait_model.proofs.PermitLaws.PermitRuns.{every_run_hands_on}
 use Rattle.wait_model.proofs.laws.permits_are_handed_on.Goals as goal
-
-pub returns-clause-start : goal.returns-clause-start
-returns-clause-start c = accounted_start
 
 pub returns-clause-step : goal.returns-clause-step
 returns-clause-step c = accounted_step

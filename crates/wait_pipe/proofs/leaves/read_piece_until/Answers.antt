@@ -1,24 +1,8 @@
 use Rattle.std.proofs.Common.{rules}
 use Rattle.std.specs.Prelude.{true}
-use Rattle.wait_pipe.specs.Pieces.{IsReadyAtPipe}
-use Rattle.wait_pipe.proofs.Fills.{waited_settled}
-use Rattle.wait_pipe.proofs.PieceChanges.{ready_on}
 use Rattle.wait_pipe.proofs.Turns.{then_rests}
-use Rattle.wait_pipe.proofs.UntilTurns.{got_until_then, read_until, until_none, until_on}
+use Rattle.wait_pipe.proofs.UntilTurns.{got_until_then, read_until, until_on}
 use Rattle.wait_pipe.proofs.leaves.read_piece_until.Goals as goal
-
-pub loop-init : goal.loop-init
-loop-init g c =
-    let ready : IsReadyAtPipe c.args.domain.now c.args.task.now
-    = record { of = c.requires.of; up = c.requires.up; idle = c.requires.idle; out = c.requires.out } in
-    until_none ready
-
-pub read_turn_until-requires-clause-ready : goal.read_turn_until-requires-clause-ready
-read_turn_until-requires-clause-ready g c = ready_on c.loop.invariant.waits.rests
-    (record { of = c.requires.of; up = c.requires.up; idle = c.requires.idle; out = c.requires.out })
-
-pub read_turn_until-requires-clause-settled : goal.read_turn_until-requires-clause-settled
-read_turn_until-requires-clause-settled g c = waited_settled c.loop.invariant.waits c.requires.settled
 
 pub loop-preserved : goal.loop-preserved
 loop-preserved g c = until_on c.loop.invariant c.in-None-read_turn_until.ensures.turn c.in-None-read_turn_until.ensures.goes

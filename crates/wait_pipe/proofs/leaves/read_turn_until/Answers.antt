@@ -1,16 +1,7 @@
-use Rattle.std.proofs.Common.{arith}
 use Rattle.wait_pipe.proofs.Fills.{waited_none}
-use Rattle.wait_pipe.proofs.PieceChanges.{ready_on, waits_on}
+use Rattle.wait_pipe.proofs.PieceChanges.{waits_on}
 use Rattle.wait_pipe.proofs.UntilTurns.{left_none, until_turn}
 use Rattle.wait_pipe.proofs.leaves.read_turn_until.Goals as goal
-
-pub wait_for_until-requires : goal.wait_for_until-requires
-wait_for_until-requires g c = record {
-  ready = ready_on c.read_now.ensures.rests c.requires.ready;
-  own = let few = c.requires.pipe in omega arith;
-  none = c.in-Err.ensures.look.none;
-  asks = c.requires.asks;
-}
 
 pub returns-in-Over-Ok : goal.returns-in-Over-Ok
 returns-in-Over-Ok g c =

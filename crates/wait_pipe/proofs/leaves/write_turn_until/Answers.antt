@@ -1,31 +1,10 @@
-use Rattle.std.proofs.Common.{arith}
 use Rattle.std.specs.Prelude.{true}
 use Rattle.wait_rule.specs.Pipes.{write_end}
 use Rattle.wait_pipe.proofs.Fills.{waited_none}
-use Rattle.wait_pipe.proofs.PieceChanges.{ready_on, waits_on}
+use Rattle.wait_pipe.proofs.PieceChanges.{waits_on}
 use Rattle.wait_pipe.proofs.Turns.{wait_cause}
 use Rattle.wait_pipe.proofs.UntilTurns.{left_none, until_stops, until_turn}
 use Rattle.wait_pipe.proofs.leaves.write_turn_until.Goals as goal
-
-pub wait_for_until-requires : goal.wait_for_until-requires
-wait_for_until-requires g c = record {
-  ready = ready_on c.write_now.ensures.rests c.requires.ready;
-  own = let few = c.requires.pipe in omega arith;
-  none = c.in-Err.ensures.look.none;
-  asks = c.requires.asks;
-}
-
-pub returns-in-Ok-Some-clause-turn : goal.returns-in-Ok-Some-clause-turn
-returns-in-Ok-Some-clause-turn g c = rw c.in-Ok-Some.field-0-is at c.in-Ok-Some.ensures.look
-
-pub returns-in-Ok-None-clause-turn : goal.returns-in-Ok-None-clause-turn
-returns-in-Ok-None-clause-turn g c = rw c.in-Ok-None.field-0-is at c.in-Ok-None.ensures.look
-
-pub returns-in-Ok-Some-clause-goes : goal.returns-in-Ok-Some-clause-goes
-returns-in-Ok-Some-clause-goes g c = rw c.in-Ok-Some.field-0-is at c.in-Ok-Some.ensures.goes
-
-pub returns-in-Ok-None-clause-goes : goal.returns-in-Ok-None-clause-goes
-returns-in-Ok-None-clause-goes g c = rw c.in-Ok-None.field-0-is at c.in-Ok-None.ensures.goes
 
 pub returns-in-Over-Ok : goal.returns-in-Over-Ok
 returns-in-Over-Ok g c =

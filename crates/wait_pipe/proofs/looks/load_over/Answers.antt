@@ -6,11 +6,8 @@ use Rattle.wait_rule.specs.Pipes.{End, word_counts}
 use Rattle.wait_pipe.specs.Pieces.{HasSeen}
 use Rattle.wait_pipe.specs.PipeStates.{OnlyLooked}
 use Rattle.wait_pipe.specs.declared.looks.Look.{Look}
-use Rattle.wait_pipe.proofs.Looking.{free_agreed, loaded_own, look_loads, look_only, look_seen, other_is, pipe_is}
+use Rattle.wait_pipe.proofs.Looking.{loaded_own, look_only, look_seen, other_is, pipe_is}
 use Rattle.wait_pipe.proofs.looks.load_over.Goals as goal
-
-pub cond_load-word-requires-clause-agreed : goal.cond_load-word-requires-clause-agreed
-cond_load-word-requires-clause-agreed c = free_agreed c.args.task.now c.requires.free
 
 pub own_load-own-requires-clause-mine : goal.own_load-own-requires-clause-mine
 own_load-own-requires-clause-mine c = ap (λ (e : End). e.mine)
@@ -44,10 +41,3 @@ returns-clause-seen c =
     (other_is c.args.pipe c.args.end c.requires.end) (pipe_is c.args.pipe c.args.end c.requires.end)
     c.cond_load-word.ensures.step c.requires.still l c.own_load-own.result c.own_load-own.ensures.word
     c.own_load-own.ensures.sound refl other refl refl)
-
-pub returns-clause-loads : goal.returns-clause-loads
-returns-clause-loads c = c.own_load-own.ensures.same
-    ∙ look_loads (PIPE_ENDS * c.args.pipe + c.args.end) (PIPE_ENDS * c.args.pipe + (1 - c.args.end))
-    c.cond_load-word.result c.args.task.now c.cond_load-word.new.task
-    (other_is c.args.pipe c.args.end c.requires.end) (pipe_is c.args.pipe c.args.end c.requires.end)
-    c.cond_load-word.ensures.step c.cond_load-word.result refl

@@ -1,14 +1,10 @@
 use Rattle.std.proofs.Common.{◌∙◌, ap, subst, sym}
-use Rattle.std.specs.Prelude.{ℕ, ◌<◌, ◌/◌, IfErr, Result}
-use Rattle.wait_model.specs.declared.layout.TheConstants.{PIPE_ENDS, VARIABLES}
-use Rattle.wait_pipe.proofs.Looking.{other_apart, other_below, other_pipe, wait_awaits, wait_caused, wait_waits}
+use Rattle.std.specs.Prelude.{ℕ, ◌/◌, IfErr, Result}
+use Rattle.wait_model.specs.declared.layout.TheConstants.{PIPE_ENDS}
+use Rattle.wait_pipe.proofs.Looking.{other_apart, other_pipe, wait_caused, wait_waits}
 use Rattle.wait_pipe.specs.declared.pieces.PipeEnd.{PipeEnd}
 use Rattle.wait_pipe.specs.Pieces.{IsReadCause}
 use Rattle.wait_pipe.proofs.looks.wait_for.Goals as goal
-
-pub wait_var-waited-requires-clause-there : goal.wait_var-waited-requires-clause-there
-wait_var-waited-requires-clause-there g c = subst (λ (v : ℕ). v < VARIABLES) (sym c.other_of-var.ensures)
-    (other_below c.args.own c.requires.own)
 
 pub returns-clause-waits : goal.returns-clause-waits
 returns-clause-waits g c = wait_waits c.args.own c.other_of-var.result c.args.word _ c.args.task.now
@@ -26,8 +22,3 @@ returns-clause-cause g c = subst (λ (r : Result (Unit {0}) PipeEnd). IfErr r (I
     (wait_caused c.args.own c.other_of-var.result c.args.word c.args.task.now c.wait_var-waited.new.task
     c.wait_var-waited.result c.other_of-var.ensures c.wait_var-waited.ensures.waited (returns-clause-waits g c)
     c.requires.none)
-
-pub returns-clause-awaits : goal.returns-clause-awaits
-returns-clause-awaits g c = wait_awaits c.args.own c.other_of-var.result c.args.word c.args.task.now
-    c.wait_var-waited.new.task c.wait_var-waited.result _ c.other_of-var.ensures c.wait_var-waited.ensures.waited
-    c.answer_of.ensures c.requires.none c.requires.ready.out

@@ -1,16 +1,12 @@
 use Rattle.std.proofs.Common.{◌∙◌, ap, subst, sym}
-use Rattle.std.specs.Prelude.{ℕ, ◌<◌, ◌/◌, Result, true}
-use Rattle.wait_model.specs.declared.layout.TheConstants.{PIPE_ENDS, VARIABLES}
+use Rattle.std.specs.Prelude.{ℕ, ◌/◌, Result, true}
+use Rattle.wait_model.specs.declared.layout.TheConstants.{PIPE_ENDS}
 use Rattle.wait_leave.specs.declared.exits.Until.{Until}
-use Rattle.wait_pipe.proofs.LeftWaits.{until_awaits, until_caused, until_waits}
-use Rattle.wait_pipe.proofs.Looking.{other_apart, other_below, other_pipe}
+use Rattle.wait_pipe.proofs.LeftWaits.{until_caused, until_waits}
+use Rattle.wait_pipe.proofs.Looking.{other_apart, other_pipe}
 use Rattle.wait_pipe.specs.declared.pieces.PipeEnd.{PipeEnd}
-use Rattle.wait_pipe.specs.PieceLeaves.{AwaitsUntil, IsPieceUntil}
+use Rattle.wait_pipe.specs.PieceLeaves.{IsPieceUntil}
 use Rattle.wait_pipe.proofs.looks.wait_for_until.Goals as goal
-
-pub wait_var_until-waited-requires-clause-there : goal.wait_var_until-waited-requires-clause-there
-wait_var_until-waited-requires-clause-there g c = subst (λ (v : ℕ). v < VARIABLES) (sym c.other_of-var.ensures)
-    (other_below c.args.own c.requires.own)
 
 pub returns-clause-waits : goal.returns-clause-waits
 returns-clause-waits g c = until_waits (g.Q.Fn.post c.args.asks tt true) c.args.own c.other_of-var.result c.args.word _
@@ -29,11 +25,3 @@ returns-clause-cause g c = subst (λ (r : Until (Result (Unit {0}) PipeEnd)).
     (until_caused (g.Q.Fn.post c.args.asks tt true) c.args.own c.other_of-var.result c.args.word c.args.task.now
     c.wait_var_until-waited.new.task c.wait_var_until-waited.result c.other_of-var.ensures
     c.wait_var_until-waited.ensures.waited (returns-clause-waits g c) c.requires.none)
-
-pub returns-clause-awaits : goal.returns-clause-awaits
-returns-clause-awaits g c = subst (λ (r : Until (Result (Unit {0}) PipeEnd)).
-    AwaitsUntil (g.Q.Fn.post c.args.asks tt true) c.args.own c.args.word c.args.task.now
-    c.wait_var_until-waited.new.task r) (sym c.until_of.ensures)
-    (until_awaits (g.Q.Fn.post c.args.asks tt true) c.args.own c.other_of-var.result c.args.word c.args.task.now
-    c.wait_var_until-waited.new.task c.wait_var_until-waited.result c.other_of-var.ensures
-    c.wait_var_until-waited.ensures.waited c.requires.none c.requires.ready.out)

@@ -4,17 +4,12 @@ use Rattle.wait_model.specs.declared.watches.Watch.TheVariants as watch
 use Rattle.wait_rule.specs.Pipes.{read_end}
 use Rattle.wait_rule.specs.Stays.{publish_change}
 use Rattle.wait_rule.proofs.KnownLaws.CarriedTasks.{unchanged_first}
-use Rattle.wait_event.proofs.Setting.{set_idle}
 use Rattle.wait_pipe.specs.Pieces.{LeavesAside}
 use Rattle.wait_pipe.proofs.Asides.{quiet_on, quiet_publish}
-use Rattle.wait_pipe.proofs.Fills.{drain_all, drain_begins, drain_ends, drain_goes, drain_loads}
-use Rattle.wait_pipe.proofs.PieceChanges.{idle_still, leaves_made}
+use Rattle.wait_pipe.proofs.Fills.{drain_all, drain_ends, drain_goes, drain_loads}
+use Rattle.wait_pipe.proofs.PieceChanges.{leaves_made}
 use Rattle.wait_pipe.proofs.pieces.drain.Goals.{then-loop-left-test+else-done-buf, else-loop-left-test}
 use Rattle.wait_pipe.proofs.pieces.drain.Goals as goal
-
-pub loop-left-init : goal.loop-left-init
-loop-left-init c = drain_begins c.args.pipe c.args.task.now c.args.buf.now c.args.count c.args.there
-    c.requires.settled c.requires.count c.requires.there c.requires.some_cell
 
 pub loop-left-preserved : goal.loop-left-preserved
 loop-left-preserved c =
@@ -27,14 +22,6 @@ loop-left-preserved c =
     c.unpack-done.ensures.same c.unpack-done.ensures.bytes c.cell_load-word.ensures.step
     c.cell_load-word.ensures.becomes
     c.cell_load-word.ensures.carries
-
-pub advance-requires-clause-idle : goal.advance-requires-clause-idle
-advance-requires-clause-idle c = idle_still c.loop-left.invariant.same c.requires.ready.idle
-
-pub returns-clause-idle : goal.returns-clause-idle
-returns-clause-idle c = set_idle (watch.Var (read_end c.args.pipe) 0) c.loop-left.task c.advance.new.task
-    (idle_still c.loop-left.invariant.same c.requires.ready.idle)
-    c.advance.ensures.carries
 
 pub returns-clause-drained : goal.returns-clause-drained
 returns-clause-drained c = λ last r.

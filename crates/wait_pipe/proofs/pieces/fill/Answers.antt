@@ -1,24 +1,18 @@
 use Rattle.std.proofs.Common.{◌<◌, ◌≤◌, ◌∙◌, ◌+◌, ◌⊎◌, inl, inr, add-zero, arith, length, subst, sym}
-use Rattle.std.specs.Prelude.{ℕ, ◌≡◌, ◌+◌, ◌*◌, ◌%◌}
+use Rattle.std.specs.Prelude.{ℕ, ◌≡◌, ◌+◌, ◌*◌}
 use Rattle.wait_model.specs.declared.layout.TheConstants.{PIPE_ENDS}
 use Rattle.wait_model.specs.declared.watches.Watch.TheVariants as watch
-use Rattle.wait_rule.specs.Pipes.{word_counts, write_end}
-use Rattle.wait_rule.specs.PipeSays.{IsOpen, end_at}
+use Rattle.wait_rule.specs.Pipes.{write_end}
 use Rattle.wait_rule.specs.Stays.{Carries, publish_change}
 use Rattle.wait_rule.proofs.KnownLaws.CarriedTasks.{unchanged_first}
-use Rattle.wait_event.proofs.Setting.{set_idle}
 use Rattle.wait_pipe.specs.Pieces.{LeavesAside}
 use Rattle.wait_pipe.proofs.Asides.{quiet_on, quiet_publish}
-use Rattle.wait_pipe.proofs.Fills.{advanced_write, fill_begins, fill_cells, fill_ended, fill_ends, fill_full, fill_goes}
+use Rattle.wait_pipe.proofs.Fills.{advanced_write, fill_cells, fill_ended, fill_ends, fill_full, fill_goes}
 use Rattle.wait_pipe.proofs.Fills.{fill_stores}
-use Rattle.wait_pipe.proofs.PieceChanges.{idle_still, leaves_made}
+use Rattle.wait_pipe.proofs.PieceChanges.{leaves_made}
 use Rattle.wait_pipe.proofs.pieces.fill.Goals.{then-bytes-done-lt7, else-bytes-done-lt7}
 use Rattle.wait_pipe.proofs.pieces.fill.Goals.{then-loop-left-test+else-done-bytes, else-loop-left-test}
 use Rattle.wait_pipe.proofs.pieces.fill.Goals as goal
-
-pub loop-left-init : goal.loop-left-init
-loop-left-init c = fill_begins c.args.pipe c.args.task.now c.args.bytes.now c.args.count c.args.free
-    c.requires.settled c.requires.count c.requires.free c.requires.room
 
 pub loop-left-preserved : goal.loop-left-preserved
 loop-left-preserved c =
@@ -44,21 +38,6 @@ loop-left-preserved c =
     c.loop-left.left c.loop-left.done c.if-bytes-done-lt7.end c.pack.result c.loop-left.invariant
     c.loop-left-test.true low high most ends c.pack.ensures.bytes c.cell_store.ensures.step
     c.cell_store.ensures.becomes c.cell_store.ensures.carries
-
-pub advance-requires-clause-idle : goal.advance-requires-clause-idle
-advance-requires-clause-idle c = idle_still c.loop-left.invariant.same c.requires.ready.idle
-
-pub advance-requires-clause-still : goal.advance-requires-clause-still
-advance-requires-clause-still c = subst (λ (k : ℕ). IsOpen (end_at k c.loop-left.task))
-    (sym (add-zero (PIPE_ENDS * c.args.pipe))) c.loop-left.invariant.midway.still
-
-pub advance-requires-clause-count : goal.advance-requires-clause-count
-advance-requires-clause-count c = subst (λ (k : ℕ). c.loop-left.at ≡ length (end_at k c.loop-left.task).cells
-    % word_counts) (sym (add-zero (PIPE_ENDS * c.args.pipe))) c.loop-left.invariant.place
-
-pub returns-clause-idle : goal.returns-clause-idle
-returns-clause-idle c = set_idle (watch.Var (PIPE_ENDS * c.args.pipe + 0) 0) c.loop-left.task
-    c.advance.new.task (idle_still c.loop-left.invariant.same c.requires.ready.idle) c.advance.ensures.carries
 
 pub returns-clause-filled : goal.returns-clause-filled
 returns-clause-filled c = λ last r.

@@ -1,17 +1,6 @@
 use Rattle.std.proofs.Common.{rules}
-use Rattle.wait_pipe.proofs.Fills.{waited_settled}
-use Rattle.wait_pipe.proofs.PieceChanges.{ready_on}
-use Rattle.wait_pipe.proofs.Turns.{got_piece, got_then, then_rests, turning_none, turning_on}
+use Rattle.wait_pipe.proofs.Turns.{got_piece, got_then, then_rests, turning_on}
 use Rattle.wait_pipe.proofs.pieces.read_on.Goals as goal
-
-pub loop-init : goal.loop-init
-loop-init g c = turning_none c.requires.ready
-
-pub read_turn-requires-clause-ready : goal.read_turn-requires-clause-ready
-read_turn-requires-clause-ready g c = ready_on c.loop.invariant.waits.rests c.requires.ready
-
-pub read_turn-requires-clause-settled : goal.read_turn-requires-clause-settled
-read_turn-requires-clause-settled g c = waited_settled c.loop.invariant.waits c.requires.settled
 
 pub loop-preserved : goal.loop-preserved
 loop-preserved g c = turning_on c.loop.invariant c.in-None-read_turn.ensures.turn c.in-None-read_turn.ensures.goes

@@ -1,16 +1,5 @@
-use Rattle.wait_pipe.proofs.Fills.{waited_settled}
-use Rattle.wait_pipe.proofs.PieceChanges.{ready_on}
-use Rattle.wait_pipe.proofs.Turns.{put_then, then_rests, turning_none, turning_on, wrote_piece}
+use Rattle.wait_pipe.proofs.Turns.{put_then, then_rests, turning_on, wrote_piece}
 use Rattle.wait_pipe.proofs.pieces.write_on.Goals as goal
-
-pub loop-init : goal.loop-init
-loop-init g c = turning_none c.requires.ready
-
-pub write_turn-requires-clause-ready : goal.write_turn-requires-clause-ready
-write_turn-requires-clause-ready g c = ready_on c.loop.invariant.waits.rests c.requires.ready
-
-pub write_turn-requires-clause-settled : goal.write_turn-requires-clause-settled
-write_turn-requires-clause-settled g c = waited_settled c.loop.invariant.waits c.requires.settled
 
 pub loop-preserved : goal.loop-preserved
 loop-preserved g c = turning_on c.loop.invariant c.in-None-write_turn.ensures.turn c.in-None-write_turn.ensures.goes

@@ -1,4 +1,3 @@
-use Rattle.wait_rule.proofs.KnownLaws.CalledPermits.{newcomers_leave_none}
 use Rattle.wait_rule.proofs.KnownLaws.HandedPermits.{all_hand_on, rule_hands_on, steps_hand_on}
 use Rattle.wait_rule.proofs.KnownLaws.OtherCalls.{others_stay_off}
 use Rattle.wait_rule.proofs.laws.permits_are_handed_on.Goals as goal
@@ -11,9 +10,6 @@ returns-clause-steps c = steps_hand_on
 
 pub returns-clause-all : goal.returns-clause-all
 returns-clause-all c = all_hand_on
-
-pub returns-clause-newcomers : goal.returns-clause-newcomers
-returns-clause-newcomers c = newcomers_leave_none
 
 pub returns-clause-others : goal.returns-clause-others
 returns-clause-others c = others_stay_off

@@ -1,10 +1,7 @@
-use Rattle.wait_rule.proofs.KnownLaws.FoundTallies.{rule_sums_tallies, all_sum_tallies}
-use Rattle.wait_rule.proofs.KnownLaws.CountedTallies.{adds_count, joins_count, newcomers_count_none, forks_count_none}
+use Rattle.wait_rule.proofs.KnownLaws.FoundTallies.{all_sum_tallies}
+use Rattle.wait_rule.proofs.KnownLaws.CountedTallies.{adds_count, joins_count, newcomers_count_none}
 use Rattle.wait_rule.proofs.KnownLaws.CountedTallies.{programs_add_none, programs_keep_numbers}
 use Rattle.wait_rule.proofs.laws.tallies_are_sums.Goals as goal
-
-pub returns-clause-rule : goal.returns-clause-rule
-returns-clause-rule c = rule_sums_tallies
 
 pub returns-clause-all : goal.returns-clause-all
 returns-clause-all c = all_sum_tallies
@@ -17,9 +14,6 @@ returns-clause-joins c = joins_count
 
 pub returns-clause-newcomers : goal.returns-clause-newcomers
 returns-clause-newcomers c = newcomers_count_none
-
-pub returns-clause-forks : goal.returns-clause-forks
-returns-clause-forks c = forks_count_none
 
 pub returns-clause-programs : goal.returns-clause-programs
 returns-clause-programs c = programs_add_none

@@ -1,11 +1,5 @@
-use Rattle.wait_rule.proofs.WornHeads.WornNotes.{holds_note, notes_stay, join_keeps_notes, own_late, joined_late}
+use Rattle.wait_rule.proofs.WornHeads.WornNotes.{join_keeps_notes, own_late, joined_late}
 use Rattle.wait_rule.proofs.laws.worn_stays.Goals as goal
-
-pub returns-clause-notes : goal.returns-clause-notes
-returns-clause-notes c = holds_note
-
-pub returns-clause-stays : goal.returns-clause-stays
-returns-clause-stays c = notes_stay
 
 pub returns-clause-own : goal.returns-clause-own
 returns-clause-own c = own_late

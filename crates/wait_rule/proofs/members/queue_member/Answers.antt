@@ -1,19 +1,10 @@
-use Rattle.std.proofs.Common.{◌∙◌, true, refl, ap, sym, arith}
-use Rattle.std.specs.Prelude.{ℕ, Some}
+use Rattle.std.proofs.Common.{◌∙◌, ap}
 use Rattle.wait_rule.specs.Known.{Known}
-use Rattle.wait_rule.proofs.KnownLaws.MemberBits.{may_store}
 use Rattle.wait_rule.proofs.KnownLaws.CarriedStores.{entry_put_as}
 use Rattle.wait_rule.specs.Says.{added}
 use Rattle.wait_rule.specs.Queues.{index}
 use Rattle.wait_rule.specs.declared.journal.Item.TheVariants as item
 use Rattle.wait_rule.proofs.members.queue_member.Goals as goal
-
-pub member_store-requires-clause-may : goal.member_store-requires-clause-may
-member_store-requires-clause-may c =
-    let n = c.number.ensures in
-    may_store c.args.task.now c.queue_store.new.task c.task.inside.head _ true _ c.queue_store.ensures.step.2
-    (c.requires.held ∙ ap (λ (k : Known). Some k.at) (sym c.task.view_is))
-    (ap (λ (x : ℕ). Some x) (omega (arith, n.number, c.from.ensures, c.from-2.ensures))) refl
 
 pub returns-clause-stores : goal.returns-clause-stores
 returns-clause-stores c e is =

@@ -1,11 +1,10 @@
 use Rattle.std.proofs.Common.{◌∙◌, ap}
-use Rattle.std.specs.Prelude.{ℕ, ◌≡◌, ◌+◌, ◌*◌}
+use Rattle.std.specs.Prelude.{◌+◌, ◌*◌}
 use Rattle.wait_model.specs.declared.layout.TheConstants.{PIPE_ENDS}
 use Rattle.wait_rule.specs.Known.{Known}
-use Rattle.wait_rule.specs.Pipes.{end_word}
-use Rattle.wait_rule.specs.PipeSays.{IsSoundEnd, end_at}
+use Rattle.wait_rule.specs.PipeSays.{end_at}
 use Rattle.wait_rule.proofs.TableSteps.PipeMoves.{own_moves}
-use Rattle.wait_rule.proofs.KnownLaws.StepCalls.{end_spot, known_tells, may_step, known_same}
+use Rattle.wait_rule.proofs.KnownLaws.StepCalls.{end_spot, may_step}
 use Rattle.wait_rule.proofs.pipes.own_load.Goals as goal
 
 pub load-requires : goal.load-requires
@@ -15,15 +14,3 @@ load-requires c =
     may_step c.task.view_is c.requires.of c.domain.view_is c.domain.invariant spot.small
     (own_moves _ _ _ c.task.invariant.1 _ k spot.few
     (ap (λ (j : Known). (end_at k j).mine) c.task.view_is ∙ c.requires.mine) spot.is)
-
-pub returns : goal.returns
-returns c =
-    let k = PIPE_ENDS * c.args.pipe + c.args.end in
-    let e = c.load.ensures in
-    let spot = end_spot c.args.pipe c.args.end _ c.requires.pipe c.requires.end c.cond_at-at.ensures in
-    record {
-      same = known_same e.0 e.2.0 c.task.view_is;
-      word = known_tells (λ (j : Known) (i : ℕ). c.load.result ≡ end_word (end_at i j).count (end_at i j).shut) spot.names
-          c.task.view_is e.2.1.0;
-      sound = known_tells (λ (j : Known) (i : ℕ). IsSoundEnd i (end_at i j)) spot.names c.task.view_is e.2.1.1;
-    }

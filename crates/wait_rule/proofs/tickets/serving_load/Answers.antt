@@ -1,10 +1,7 @@
-use Rattle.std.proofs.Common.{ap, subst, arith}
-use Rattle.std.specs.Prelude.{ℕ, ◌≡◌, ◌-◌}
+use Rattle.std.proofs.Common.{arith}
+use Rattle.std.specs.Prelude.{◌≡◌, ◌-◌}
 use Rattle.wait_model.specs.declared.layout.TheConstants.{SERVING_AT}
 use Rattle.wait_rule.specs.declared.journal.Item.TheVariants as item
-use Rattle.wait_rule.specs.Known.{Known}
-use Rattle.wait_rule.specs.declared.journal.Journal.{Journal}
-use Rattle.wait_rule.specs.Says.{ServesUnlocks}
 use Rattle.wait_rule.proofs.TableSteps.TicketMoves.{serving_moves}
 use Rattle.wait_rule.proofs.KnownLaws.CarriedSteps.{serving_carried}
 use Rattle.wait_rule.proofs.KnownLaws.StepCalls.{may_step, known_by}
@@ -23,13 +20,6 @@ returns-clause-step c =
     let there : c.serving_at-at.result - SERVING_AT ≡ c.args.head =
     (let at = c.serving_at-at.ensures in omega arith) in
     known_by e.0 e.2.0 (λ j. item.Serving (there j) c.load.result) c.task.view_is
-
-pub returns-clause-counts : goal.returns-clause-counts
-returns-clause-counts c =
-    let there : c.serving_at-at.result - SERVING_AT ≡ c.args.head =
-    (let at = c.serving_at-at.ensures in omega arith) in
-    subst (λ (v : Journal). ServesUnlocks v c.args.head c.load.result) (ap (λ (k : Known). k.view) c.task.view_is)
-    (subst (λ (h : ℕ). ServesUnlocks c.task.inside.seat.me.0 h c.load.result) there c.load.ensures.2.1)
 
 pub returns-clause-carries : goal.returns-clause-carries
 returns-clause-carries c = serving_carried c.args.task.now _ c.args.head c.load.result (returns-clause-step c)

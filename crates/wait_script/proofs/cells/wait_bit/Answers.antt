@@ -1,6 +1,6 @@
 use Rattle.wait_model.specs.declared.calls.Call.TheVariants as call
 use Rattle.wait_script.specs.Fields.{bit_at, state_at}
-use Rattle.wait_script.proofs.WordCounts.{few2, many2, ok2, err2}
+use Rattle.wait_script.proofs.WordCounts.{few2, many2, err2}
 use Rattle.wait_script.proofs.cells.wait_bit.Goals as goal
 
 pub returns-in_default : goal.returns-in_default
@@ -13,8 +13,3 @@ pub returns-in_err-word : goal.returns-in_err-word
 returns-in_err-word c =
     err2 bit_at state_at (λ b state. call.WaitBit b.0 b.1 state) c.args.words.now _ c.in-len2.len_at_least c.in-len2.len_below
     c.in_err-word.ensures c.bit.ensures c.state.ensures c.from_residual.ensures.1
-
-pub returns : goal.returns
-returns c =
-    ok2 bit_at state_at (λ b state. call.WaitBit b.0 b.1 state) c.args.words.now _ c.in-len2.len_at_least c.in-len2.len_below
-    c.in_ok-word.ensures c.bit.ensures c.state.ensures

@@ -1,13 +1,10 @@
 use Rattle.wait_model.specs.declared.calls.Call.TheVariants as call
 use Rattle.wait_script.specs.Fields.{state_at, value_at, var_at}
-use Rattle.wait_script.proofs.WordCounts.{few3, many3, ok3, err3}
+use Rattle.wait_script.proofs.WordCounts.{few3, ok3, err3}
 use Rattle.wait_script.proofs.cells.wait_var.Goals as goal
 
 pub returns-in_default : goal.returns-in_default
 returns-in_default c = few3 var_at value_at state_at (λ var old state. call.WaitVar var old state) c.args.words.now c.in_default.len_below
-
-pub returns-in_default-2 : goal.returns-in_default-2
-returns-in_default-2 c = many3 var_at value_at state_at (λ var old state. call.WaitVar var old state) c.args.words.now c.in_default.len_at_least
 
 pub returns-in_err-var : goal.returns-in_err-var
 returns-in_err-var c =

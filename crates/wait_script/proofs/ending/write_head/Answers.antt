@@ -14,20 +14,6 @@ returns-in_err-write_head_front-clause-text g c =
     c.if-is_none.false)
     c.in_err-write_head_front.ensures.text)
 
-pub members-init : goal.members-init
-members-init g c = record {
-  partway = record {
-    least = 0;
-    met = c.member_from-next.ensures.member;
-    midway = went_on _ _ _ _ _ _ _ (begun (g.K.Sink.held c.args.out.now) _)
-        (head_line c.args.head _ _ c.member_from-next.ensures.member c.is_none.result c.is_none.ensures
-        c.if-is_none.false)
-        c.in_ok-write_head_front.ensures.text;
-  };
-  fits = fits_of 0 c.member_from-next.result c.member_from-next.ensures.fits;
-  later = omega (arith, c.write_head_front.ensures.later);
-}
-
 pub returns-in_err-write_member-clause-text : goal.returns-in_err-write_member-clause-text
 returns-in_err-write_member-clause-text g c =
     let part = c.members.invariant.partway in

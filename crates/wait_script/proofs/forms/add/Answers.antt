@@ -1,13 +1,7 @@
 use Rattle.wait_model.specs.declared.calls.Call.TheVariants as call
 use Rattle.wait_script.specs.Fields.{cond_field, form_at, kind_field, last_full}
-use Rattle.wait_script.proofs.WordCounts.{few3, many3, ok3, err3}
+use Rattle.wait_script.proofs.WordCounts.{ok3, err3}
 use Rattle.wait_script.proofs.forms.add.Goals as goal
-
-pub returns-in_default : goal.returns-in_default
-returns-in_default c = few3 (cond_field 0 last_full) kind_field form_at (λ cond kind form. call.Add cond kind form) c.args.words.now c.in_default.len_below
-
-pub returns-in_default-2 : goal.returns-in_default-2
-returns-in_default-2 c = many3 (cond_field 0 last_full) kind_field form_at (λ cond kind form. call.Add cond kind form) c.args.words.now c.in_default.len_at_least
 
 pub returns-in_err-cond : goal.returns-in_err-cond
 returns-in_err-cond c =

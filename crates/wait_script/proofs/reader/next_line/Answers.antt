@@ -1,14 +1,11 @@
 use Rattle.wait_script.proofs.CarriedLines.{read_first}
-use Rattle.wait_script.proofs.SpelledLines.{spelled_first, shorter}
+use Rattle.wait_script.proofs.SpelledLines.{spelled_first}
 use Rattle.wait_script.proofs.reader.next_line.Goals as goal
 
 pub returns-in-Some-clause-some : goal.returns-in-Some-clause-some
 returns-in-Some-clause-some c =
     spelled_first c.args.version c.args.bytes.now c.in-Some.line c.in-Some.more.now
     c.in-Some.ensures.fits c.in-Some.ensures.spelled
-
-pub returns-in-Some-clause-shorter : goal.returns-in-Some-clause-shorter
-returns-in-Some-clause-shorter c = shorter c.args.bytes.now _ c.in-Some.more.now c.in-Some.ensures.spelled
 
 pub returns-clause-some : goal.returns-clause-some
 returns-clause-some c =

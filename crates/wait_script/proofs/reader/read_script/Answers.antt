@@ -1,9 +1,6 @@
 use Rattle.wait_script.proofs.Spelled.{spelled, fits, plays, again}
 use Rattle.wait_script.proofs.reader.read_script.Goals as goal
 
-pub returns-clause-script : goal.returns-clause-script
-returns-clause-script c = c.read_headed.ensures
-
 pub returns-clause-spelled : goal.returns-clause-spelled
 returns-clause-spelled c = spelled c.args.bytes.now c.read_headed.result c.read_headed.ensures
 

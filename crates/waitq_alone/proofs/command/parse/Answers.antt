@@ -1,7 +1,6 @@
-use Rattle.std.proofs.Common.{ap, sym, ◌∙◌, map, string_bytes, inl, inr}
+use Rattle.std.proofs.Common.{ap, sym, ◌∙◌, map, string_bytes}
 use Rattle.clap.specs.Words.{App, fault_of, is_simple, is_simple_and_free, subcommand_of}
 use Rattle.waitq_alone.specs.Parsed.{entry_of}
-use Rattle.waitq_alone.proofs.ReadWords.{unpassed}
 use Rattle.waitq_alone.proofs.command.parse.Goals as goal
 
 pub returns-in-Ok-clause-found : goal.returns-in-Ok-clause-found
@@ -14,14 +13,3 @@ pub returns-in-Ok-clause-passes : goal.returns-in-Ok-clause-passes
 returns-in-Ok-clause-passes c =
     sym (ap (λ (a : App). fault_of a (map string_bytes c.args.words.now)) c.in_ok-all.ensures)
     ∙ c.in-Ok.ensures.kinds (ap is_simple_and_free c.in_ok-all.ensures)
-
-pub returns-in-Err-clause-refused : goal.returns-in-Err-clause-refused
-returns-in-Err-clause-refused c =
-    elim c.refusal.ensures [
-      | inl h ↦ inl h
-      | inr h ↦ inr (
-        h.0,
-        λ f. unpassed _ c.in-Err.error (c.in-Err.ensures.kinds (ap is_simple_and_free c.in_ok-all.ensures)) h.1
-            (ap (λ (a : App). fault_of a (map string_bytes c.args.words.now)) c.in_ok-all.ensures ∙ f),
-      )
-    ]

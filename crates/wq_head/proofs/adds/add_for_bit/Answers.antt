@@ -2,17 +2,9 @@ use Rattle.std.proofs.Common.{refl, sym, true}
 use Rattle.std.proofs.lemmas.Result.{IfOk-weaker}
 use Rattle.wait_model.specs.declared.watches.Kind.TheVariants as kind
 use Rattle.wq_head.specs.Adds.{tail_entry}
-use Rattle.wq_head.proofs.AddedEntries.{tail_after}
-use Rattle.wq_head.proofs.HashedAdds.{added_for_bit, bit_stands}
+use Rattle.wq_head.proofs.HashedAdds.{added_for_bit}
 use Rattle.wq_head.proofs.PermitHeads.{bit_low, found_low}
 use Rattle.wq_head.proofs.adds.add_for_bit.Goals as goal
-
-pub add-requires-clause-standing : goal.add-requires-clause-standing
-add-requires-clause-standing c k p is = bit_stands c.args.task.now.view.number true c.args.watch kind.Bit p
-    c.requires.suits (tail_after is.0 p is.2)
-
-pub add-requires-clause-asks : goal.add-requires-clause-asks
-add-requires-clause-asks c uses = absurd (cc)
 
 pub add-requires-clause-permits : goal.add-requires-clause-permits
 add-requires-clause-permits c = found_low c.args.task.now 0 _ (sym c.requires.head)

@@ -1,15 +1,10 @@
 use Rattle.std.proofs.Common.{sym}
 use Rattle.std.proofs.lemmas.Result.{IfErr-weaker, IfOk-weaker}
 use Rattle.wait_rule.proofs.KnownLaws.AskedPages.{asks_no_page}
-use Rattle.wq_head.proofs.AddedEntries.{tail_after}
 use Rattle.wq_head.proofs.AskedHolds.{looks_unasked}
-use Rattle.wq_head.proofs.HashedAdds.{added_for_page, page_stands}
+use Rattle.wq_head.proofs.HashedAdds.{added_for_page}
 use Rattle.wq_head.proofs.PermitHeads.{found_low, page_low}
 use Rattle.wq_head.proofs.adds.add_for_page.Goals as goal
-
-pub add-requires-clause-standing : goal.add-requires-clause-standing
-add-requires-clause-standing c k p is = page_stands c.args.task.now.view.number c.args.word p c.requires.word
-    (tail_after is.0 p is.2)
 
 pub add-requires-clause-permits : goal.add-requires-clause-permits
 add-requires-clause-permits c = found_low c.args.task.now 0 _ (sym c.requires.head) (page_low c.args.word)

@@ -4,13 +4,8 @@ use Rattle.wait_model.specs.declared.queues.Form.{Form}
 use Rattle.wait_model.specs.Places.{front_for, priority_for, tail_for}
 use Rattle.wait_rule.specs.Queues.{IsHighest, IsLowest}
 use Rattle.wq_head.specs.Adds.{IsFormPlace, IsFormWorn}
-use Rattle.wq_head.proofs.AddedEntries.{highest_of, lowest_of, prior_of, priority_low, spot_found, spot_worn}
+use Rattle.wq_head.proofs.AddedEntries.{highest_of, lowest_of, prior_of, spot_found, spot_worn}
 use Rattle.wq_head.proofs.adds.spot.Goals as goal
-
-pub priority_place-requires : goal.priority_place-requires
-priority_place-requires c p is = priority_low c.survey-ends-in-Priority.new.task c.survey-ends-in-Priority.ensures.stands
-    c.survey-ends-in-Priority.result.last c.last_place-last.result p c.survey-ends-in-Priority.ensures.last
-    c.last_place-last.ensures is
 
 pub returns-in-Front-clause-place : goal.returns-in-Front-clause-place
 returns-in-Front-clause-place c =
@@ -19,17 +14,6 @@ returns-in-Front-clause-place c =
     (spot_found (IsLowest k MEMBERS MIDDLE PLACES) front_for _ _ _
     (lowest_of k MIDDLE PLACES c.survey-ends.result.first c.survey-ends.ensures.first)
     c.first_place-lowest.ensures c.front_place.ensures c.left.result c.left.ensures.place)
-
-pub returns-in-Front-clause-worn : goal.returns-in-Front-clause-worn
-returns-in-Front-clause-worn c =
-    let k = c.survey-ends.new.task in
-    let s = c.survey-ends.ensures in
-    let l = c.left.ensures in
-    subst (λ (f : Form). IfErr c.left.result (λ w. IsFormWorn f c.args.task.now k w)) (sym c.in-Front.is)
-    (spot_worn (IsLowest k MEMBERS MIDDLE PLACES) front_for _ _ _
-    (lowest_of k MIDDLE PLACES c.survey-ends.result.first s.first) c.first_place-lowest.ensures c.front_place.ensures
-    c.left.result FIRST_PLACE refl c.args.task.now k c.args.head c.requires.head s.looks s.whole s.below l.none l.head
-    l.end)
 
 pub returns-in-Tail-clause-place : goal.returns-in-Tail-clause-place
 returns-in-Tail-clause-place c =

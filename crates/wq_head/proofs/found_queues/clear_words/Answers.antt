@@ -1,13 +1,9 @@
-use Rattle.std.proofs.Common.{ℕ, ◌≡◌, ◌*◌, subst, refl, false, arith}
-use Rattle.wait_model.specs.declared.layout.TheConstants.{MEMBER_WORDS, WORD_BITS}
-use Rattle.wq_head.specs.Looking.{AreNone}
+use Rattle.std.proofs.Common.{refl, false, arith}
+use Rattle.wait_model.specs.declared.layout.TheConstants.{WORD_BITS}
 use Rattle.wq_head.proofs.BitLooks.{clear_on, saw_word}
-use Rattle.wq_head.proofs.FoundMembers.{found_none_yet, found_none}
+use Rattle.wq_head.proofs.FoundMembers.{found_none}
 use Rattle.wq_head.proofs.OneMoreLook.{holding_on, looks_on}
 use Rattle.wq_head.proofs.found_queues.clear_words.Goals as goal
-
-pub loop-i-init : goal.loop-i-init
-loop-i-init c = found_none_yet c.args.task.now
 
 pub loop-i-preserved : goal.loop-i-preserved
 loop-i-preserved c =
@@ -33,12 +29,4 @@ returns-then-next_bit-lt-WORD_BITS c =
       looks = looks_on old now new c.loop-i.invariant.looks looks.looks;
       within = omega (arith, c.loop-i-test.true, c.loop-i.auto.i-end);
       none = λ m over under. clear_on now new looks.looks m (c.loop-i.invariant.told m over under);
-    }
-
-pub returns : goal.returns
-returns c =
-    let all : c.loop-i.i ≡ MEMBER_WORDS = omega (arith, c.loop-i.auto.i-end, c.loop-i-test.false) in record {
-      looks = c.loop-i.invariant.looks;
-      within = omega arith;
-      none = subst (λ (n : ℕ). AreNone c.loop-i.task 0 (WORD_BITS * n)) all c.loop-i.invariant.told;
     }

@@ -1,8 +1,8 @@
-use Rattle.std.proofs.Common.{ℕ, ◌*◌, ap, sym, subst, inl, inr, arith, Some}
+use Rattle.std.proofs.Common.{ℕ, ◌*◌, ap, subst, inl, inr, Some}
 use Rattle.wait_model.specs.declared.layout.TheConstants.{MEMBERS, WORD_BITS}
 use Rattle.wait_rule.specs.Known.{Known}
 use Rattle.wq_head.specs.declared.looking.Looking.{Looking}
-use Rattle.wq_head.specs.Looking.{AreNone, IsLookingBy, IsNextSet}
+use Rattle.wq_head.specs.Looking.{AreNone, IsNextSet}
 use Rattle.wq_head.specs.Looks.{Looks}
 use Rattle.wq_head.proofs.BitLooks.{clear_on, set_on}
 use Rattle.wq_head.proofs.FirstAndLast.{below_or}
@@ -22,13 +22,6 @@ returns-then-words-eq-MEMBER_WORDS-clause-finds c =
     let k = c.clear_words-words.new.task in
     none_found k (subst (λ (n : ℕ). AreNone k 0 (WORD_BITS * n)) c.if-words-eq-MEMBER_WORDS.true
     c.clear_words-words.ensures.none)
-
-pub next_set-requires-clause-looked : goal.next_set-requires-clause-looked
-next_set-requires-clause-looked c = subst (IsLookingBy c.clear_words-words.new.task) (sym c.behind-looking.ensures)
-    (record {
-      within = let few = c.clear_words-words.ensures.within in omega (arith, few);
-      loaded = λ some. absurd (omega (arith, some));
-    })
 
 pub returns-in-None-clause-finds : goal.returns-in-None-clause-finds
 returns-in-None-clause-finds c =

@@ -6,7 +6,6 @@ use Rattle.wait_rule.specs.Known.{Known}
 use Rattle.wq_head.specs.Roused.{RousesNone}
 use Rattle.wq_head.specs.Walking.{IsNextEntry, HasCalled, WakesOff}
 use Rattle.wq_head.proofs.BitEntries.{bit_here, tested_next, bit_called, set_passed}
-use Rattle.wq_head.proofs.EntryOffs.{off_bit}
 use Rattle.wq_head.proofs.RousedTasks.{none_added, roused_none, roused_then, then_roused}
 use Rattle.wq_head.proofs.functions.bit_wake.Goals as goal
 
@@ -26,10 +25,6 @@ returns-then-misses-clause-rouses c =
     (subst (RousesNone k) (sym c.cond_load.ensures.step)
     (none_added k (item.Made (step.Load c.args.aim.watch c.cond_load.result)) refl))
     (ap (λ (j : Known). j.domain) c.cond_load.ensures.step)
-
--- it is clear
-pub wake_off-requires-clause-takes : goal.wake_off-requires-clause-takes
-wake_off-requires-clause-takes c = off_bit c.args.visit.entry.kind c.requires.kind
 
 pub wake_off-requires-clause-next : goal.wake_off-requires-clause-next
 wake_off-requires-clause-next c =

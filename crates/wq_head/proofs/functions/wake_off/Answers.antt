@@ -1,9 +1,9 @@
-use Rattle.std.proofs.Common.{◌∙◌, Bool, if◌then◌else◌, ap, sym, refl, subst}
+use Rattle.std.proofs.Common.{◌∙◌, ap, sym, refl, subst}
 use Rattle.wait_model.specs.declared.steps.Step.TheVariants as step
 use Rattle.wait_model.specs.Fold.{met_task}
 use Rattle.wait_rule.specs.declared.journal.Item.TheVariants as item
 use Rattle.wait_rule.specs.Known.{Known}
-use Rattle.wait_rule.specs.Says.{added, stored_with}
+use Rattle.wait_rule.specs.Says.{added}
 use Rattle.wait_rule.specs.Queues.{MayUnqueue, index}
 use Rattle.wq_head.specs.Roused.{RousesNone}
 use Rattle.wq_head.specs.Walking.{woke_by}
@@ -24,20 +24,6 @@ unqueue_member-requires-clause-may c =
     (off_may c.args.aim k c.args.visit c.requires.full c.requires.next.0 c.requires.next.1 s.0 c.requires.takes same
     slot c.slot.ensures.slot))
 
-pub returns-then-yes-clause-off : goal.returns-then-yes-clause-off
-returns-then-yes-clause-off c =
-    let s = c.in_ok-yes.ensures.step in
-    let k = c.args.task.now in
-    let x = index c.owner-then-yes.result c.slot.result in
-    let at_v = ap (λ (o : _). index o c.slot.result) c.owner-then-yes.ensures.owner ∙ c.slot.ensures.slot in
-    let is = s.2 ∙ (λ i. added k (item.Made (step.Wake (c.owner.ensures.owner i) (c.mask.ensures i) s.0))) in record {
-      found = s.0;
-      met = s.3 ∙ (λ i. met_task (c.mask.ensures i) s.0);
-      is = c.unqueue_member.ensures.step ∙ ((λ i. stored_with (is i) (step.Unqueue (at_v i)))
-          ∙ ap (λ (b : Bool). if b then stored_with (woke_by c.args.aim k c.args.visit s.0)
-          (step.Unqueue c.args.visit.member) else woke_by c.args.aim k c.args.visit s.0) (sym c.if-yes.true));
-    }
-
 pub returns-then-yes-clause-rouses : goal.returns-then-yes-clause-rouses
 returns-then-yes-clause-rouses c =
     let x = index c.owner-then-yes.result c.slot.result in
@@ -45,14 +31,3 @@ returns-then-yes-clause-rouses c =
     c.wake_later.new.rousing c.wake_later.ensures.rouses
     (subst (RousesNone c.wake_later.new.task) (sym c.unqueue_member.ensures.step)
     (none_stored c.wake_later.new.task (step.Unqueue x) refl)) (ap (λ (k : Known). k.domain) c.unqueue_member.ensures.step)
-
-pub returns-else-yes-clause-off : goal.returns-else-yes-clause-off
-returns-else-yes-clause-off c =
-    let s = c.in_ok-yes.ensures.step in
-    let k = c.args.task.now in
-    let is = s.2 ∙ (λ i. added k (item.Made (step.Wake (c.owner.ensures.owner i) (c.mask.ensures i) s.0))) in record {
-      found = s.0;
-      met = s.3 ∙ (λ i. met_task (c.mask.ensures i) s.0);
-      is = is ∙ ap (λ (b : Bool). if b then stored_with (woke_by c.args.aim k c.args.visit s.0)
-          (step.Unqueue c.args.visit.member) else woke_by c.args.aim k c.args.visit s.0) (sym c.if-yes.false);
-    }

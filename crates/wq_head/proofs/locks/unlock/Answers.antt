@@ -1,9 +1,5 @@
 use Rattle.wq_head.proofs.LockWaits.{unlocked}
-use Rattle.wq_head.proofs.CarriedHolds.{unlock_carried}
 use Rattle.wq_head.proofs.locks.unlock.Goals as goal
-
-pub returns-clause-carries : goal.returns-clause-carries
-returns-clause-carries g c = unlock_carried c.args.task.now c.give_back.new.task c.args.spent c.give_back.ensures.given
 
 pub returns-clause-unlocked : goal.returns-clause-unlocked
 returns-clause-unlocked g c = unlocked c.args.task.now c.give_back.new.task c.args.spent c.give_back.ensures.given

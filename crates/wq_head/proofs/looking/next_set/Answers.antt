@@ -32,17 +32,6 @@ returns-then-bit-lt-WORD_BITS-clause-next c =
           (b.set inside),
     )
 
-pub returns-then-bit-lt-WORD_BITS-clause-within : goal.returns-then-bit-lt-WORD_BITS-clause-within
-returns-then-bit-lt-WORD_BITS-clause-within c =
-    let e = c.load_first.ensures in
-    omega (arith, e.same, c.loop-looking-test.true, c.if-bit-lt-WORD_BITS.true)
-
-pub returns-then-bit-lt-WORD_BITS-clause-loaded : goal.returns-then-bit-lt-WORD_BITS-clause-loaded
-returns-then-bit-lt-WORD_BITS-clause-loaded c =
-    let i = c.loop-looking.invariant in
-    let e = c.load_first.ensures in
-    omega (arith, i.loaded, e.loaded, e.same, c.if-bit-lt-WORD_BITS.true)
-
 pub loop-looking-preserved : goal.loop-looking-preserved
 loop-looking-preserved c =
     let i = c.loop-looking.invariant in

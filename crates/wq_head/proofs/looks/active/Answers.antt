@@ -1,11 +1,8 @@
 use Rattle.std.proofs.Common.{◌≡◌, arith, subst}
 use Rattle.wait_model.specs.declared.layout.TheConstants.{MEMBER_WORDS}
-use Rattle.wq_head.proofs.HeadLooks.{HasFoundNone, none_yet, none_more, bit_found, few_looks, carried, none_scanned}
+use Rattle.wq_head.proofs.HeadLooks.{HasFoundNone, none_more, bit_found, few_looks, carried, none_scanned}
 use Rattle.wq_head.proofs.HeadLooks.{none_ended, none_looks}
 use Rattle.wq_head.proofs.looks.active.Goals as goal
-
-pub loop-i-init : goal.loop-i-init
-loop-i-init c = none_yet c.args.task.now c.args.head
 
 pub returns-then-member_load-ne0 : goal.returns-then-member_load-ne0
 returns-then-member_load-ne0 c =

@@ -6,9 +6,8 @@ use Rattle.wait_rule.specs.Queues.{index}
 use Rattle.wq_head.specs.Looks.{IsLow, entry_place, bookmark_place, is_seen_member}
 use Rattle.wq_head.proofs.OneMoreLook.{entry_low, mark_low, saw_looks, saw_is_seen, saw_is_placed, mark_looks}
 use Rattle.wq_head.proofs.OneMoreLook.{mark_is_seen, mark_is_placed}
-use Rattle.wq_head.proofs.MemberStands.{few, far, saw_stands, mark_stands, saw_book, entry_reads, mark_reads}
+use Rattle.wq_head.proofs.MemberStands.{few, far, saw_stands, mark_stands, saw_book, entry_reads}
 use Rattle.wq_head.specs.Members.{IsShownMember, IsWordOf}
-use Rattle.wait_rule.specs.Known.{Known}
 use Rattle.wq_head.proofs.looks.look_at.Goals as goal
 
 there : (m : ℕ) → index (m / SLOTS) (m % SLOTS) ≡ m
@@ -86,9 +85,3 @@ returns-then-m-lt-ENTRIES-clause-reads c =
     c.entry_load-word.ensures.step
     c.entry_load-word.ensures.knew)
     (sym (c.entry_place.ensures ∙ (λ i. entry_place (c.requires.head i) (c.entry_of.ensures i))) ∙ at))
-
-pub returns-else-m-lt-ENTRIES-clause-reads : goal.returns-else-m-lt-ENTRIES-clause-reads
-returns-else-m-lt-ENTRIES-clause-reads c =
-    λ p at. mark_reads c.mark_load-word.new.task c.args.task.now.at c.args.m c.mark_load-word.result p
-    c.if-m-lt-ENTRIES.false (ap (λ (k : Known). k.at) c.mark_load-word.ensures.step)
-    (sym (c.bookmark_place.ensures ∙ (λ i. bookmark_place (c.requires.head i) (c.mark_of.ensures i))) ∙ at)

@@ -1,4 +1,4 @@
-use Rattle.std.proofs.Common.{◌≡◌, ◌+◌, ◌<◌, ◌≤◌, ◌∙◌, ℕ, ap, sym, subst, inl, inr, length, List, arith, slice_index_or}
+use Rattle.std.proofs.Common.{◌≡◌, ◌+◌, ◌<◌, ◌≤◌, ◌∙◌, ℕ, ap, sym, subst, inr, length, List, arith, slice_index_or}
 use Rattle.std.proofs.lemmas.List.{length-map}
 use Rattle.wait_model.specs.declared.layout.TheConstants.{FIRST_SIMPLE_HEAD}
 use Rattle.wait_model.specs.declared.queues.Member.{Member}
@@ -99,19 +99,6 @@ loop-i-preserved c =
       ],
     )
 
-pub returns-then-selected-most-clause-selected : goal.returns-then-selected-most-clause-selected
-returns-then-selected-most-clause-selected c =
-    let i = c.loop-i.invariant in
-    let inside = ap length (sym i.1) ∙ length-map (members_in c.members.new.into) stand_in in
-    let in_queue : c.loop-i.i < length (shown_queue i.0) =
-    omega (arith, inside, c.loop-i-test.true, c.len-i-end.ensures) in
-    let here = subst (λ (q : List Member). member_of c.stand-stand.result ≡ slice_index_or q c.loop-i.i
-    (member_of c.stand-stand.result)) i.1 c.stand-stand.ensures in
-    let h = takes_entry c.args.task.now c.loop-i.task i.0 c.loop-i.i c.loop-i.selected i.2 c.stand-stand.result
-    in_queue here c.if-stand-lt-ENTRIES.true c.take_first.new.task c.in_ok-take_first.ensures.taken in
-    selection_is c.args.task.now c.take_first.new.task i.0 (c.loop-i.i + 1) (c.loop-i.selected + 1) h c.args.most
-    (inl ((λ none. omega (arith, none, c.if-selected-most.true)), c.if-selected-most.true))
-
 pub returns-then-selected-most-clause-rises : goal.returns-then-selected-most-clause-rises
 returns-then-selected-most-clause-rises c =
     let i = c.loop-i.invariant in
@@ -146,9 +133,6 @@ pub returns-then-selected-most-clause-hold : goal.returns-then-selected-most-cla
 returns-then-selected-most-clause-hold c = hold_on c.args.task.now c.loop-i.task c.take_first.new.task
     c.loop-i.invariant.2.keeps c.in_ok-take_first.ensures.taken.keeps
 
-pub returns-clause-hold : goal.returns-clause-hold
-returns-clause-hold c = c.loop-i.invariant.2.keeps
-
 -- whom it is to rouse
 pub take_first-requires-clause-room : goal.take_first-requires-clause-room
 take_first-requires-clause-room c =
@@ -158,19 +142,3 @@ take_first-requires-clause-room c =
     let room = i.5 in
     let all = queue_few i.0 in
     omega (arith, few, room, all, inside, c.loop-i-test.true, c.len-i-end.ensures)
-
-pub returns-then-selected-most-clause-rouses : goal.returns-then-selected-most-clause-rouses
-returns-then-selected-most-clause-rouses c start told =
-    c.take_first.ensures.rouses.tells start (c.loop-i.invariant.4 start told)
-
-pub returns-in_err-take_first-clause-rouses : goal.returns-in_err-take_first-clause-rouses
-returns-in_err-take_first-clause-rouses c start told =
-    c.take_first.ensures.rouses.tells start (c.loop-i.invariant.4 start told)
-
-pub returns-clause-rouses : goal.returns-clause-rouses
-returns-clause-rouses c = c.loop-i.invariant.4
-
--- where the tries of a wake failed
-pub returns-in_err-take_first-clause-hold : goal.returns-in_err-take_first-clause-hold
-returns-in_err-take_first-clause-hold c = hold_on c.args.task.now c.loop-i.task c.take_first.new.task
-    c.loop-i.invariant.2.keeps c.in_err-take_first.ensures.taken.1

@@ -17,7 +17,7 @@ use Rattle.wq_head.specs.Selecting.{HasSelectedSole, IsFirstEntry}
 use Rattle.wq_head.specs.Selects.{EndsSelection, HasSelected, IsSimpleHold, KeepsHold, ShowsNoEntry}
 use Rattle.wq_head.proofs.FirstAndLast.{below_or}
 use Rattle.wq_head.proofs.KeptHolds.{hold_carried, hold_holds, hold_looks, hold_on, hold_simple}
-use Rattle.wq_head.proofs.OneMoreLook.{holding_on, looks_on}
+use Rattle.wq_head.proofs.OneMoreLook.{looks_on}
 use Rattle.wq_head.proofs.RousedTasks.{rousing_looked}
 use Rattle.wq_head.proofs.SelectingHold.{InSelection, selection_starts, first_here, passes_mark, takes_entry}
 use Rattle.wq_head.proofs.SelectingHold.{selection_is, selection_rises, none_left}
@@ -114,9 +114,6 @@ take_sole-requires-clause-first c low = sole_first c.args.task.now c.find_queue.
     (subst (λ (h : ℕ). FIRST_SIMPLE_HEAD ≤ h) c.requires.head c.requires.simple) c.in-Sole.ensures.looks
     c.in-Sole.ensures.finds low
 
-pub take_sole-requires-clause-room : goal.take_sole-requires-clause-room
-take_sole-requires-clause-room c = let none = ap length c.requires.none in omega (arith, none)
-
 pub returns-in-Sole : goal.returns-in-Sole
 returns-in-Sole c =
     let old = c.args.task.now in
@@ -157,10 +154,6 @@ module _ (old mid : Known) (looks : Looks old mid) (new : Known) where
       → IfOk r (λ (n : ℕ). 0 < n → IsSimpleHold old → MayRise new true)
   several_rises (Ok n) s = λ some was. s some (hold_simple old mid (hold_looks old mid looks) was)
   several_rises (Err failed) s = tt
-
-pub select_several-requires-clause-held : goal.select_several-requires-clause-held
-select_several-requires-clause-held c = holding_on c.args.task.now c.find_queue.new.task c.in-Several.ensures.looks
-    c.requires.held
 
 pub returns-in-Several : goal.returns-in-Several
 returns-in-Several c =

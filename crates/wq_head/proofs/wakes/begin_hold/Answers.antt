@@ -10,15 +10,9 @@ use Rattle.wq_head.specs.Turns.{InWalk}
 use Rattle.wq_head.specs.Walking.{with_left}
 use Rattle.wq_head.proofs.FullHeads.{head_small}
 use Rattle.wq_head.proofs.RousedTasks.{none_added, none_marked}
-use Rattle.wq_head.proofs.WakeTurns.{not_next, begins_turn, begins_up, begins_resumes, begins_walks, goes_turn, goes_up}
+use Rattle.wq_head.proofs.WakeTurns.{not_next, begins_turn, begins_up, begins_resumes, begins_walks, goes_turn}
 use Rattle.wq_head.proofs.WakeTurns.{goes_resumes, goes_takes, goes_walks}
 use Rattle.wq_head.proofs.wakes.begin_hold.Goals as goal
-
--- behind a break
-pub lock_step-requires-clause-up : goal.lock_step-requires-clause-up
-lock_step-requires-clause-up c =
-    let v = c.requires.served in
-    goes_up v.0 c.args.task.now c.args.run.now c.args.stage v.1 c.args.head c.requires.head c.in-NextTurn.is
 
 pub lock_step-requires-clause-turn : goal.lock_step-requires-clause-turn
 lock_step-requires-clause-turn c =

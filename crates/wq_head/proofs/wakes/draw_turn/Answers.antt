@@ -4,7 +4,7 @@ use Rattle.wq_head.specs.Roused.{RousesNone}
 use Rattle.wq_head.specs.Turns.{IsAtWake}
 use Rattle.wq_head.proofs.FullHeads.{head_small}
 use Rattle.wq_head.proofs.RousedTasks.{none_added}
-use Rattle.wq_head.proofs.WakeTurns.{draws_next, up_first, up_next}
+use Rattle.wq_head.proofs.WakeTurns.{draws_next}
 use Rattle.wq_head.proofs.wakes.draw_turn.Goals as goal
 
 pub draw-run-requires-clause-head : goal.draw-run-requires-clause-head
@@ -12,16 +12,6 @@ draw-run-requires-clause-head c =
     let small = (head_small c.args.run.now.aim.watch c.requires.at.1.full) in
     let is = c.requires.head in
     omega (arith, small, is)
-
-pub draw-run-requires-clause-up : goal.draw-run-requires-clause-up
-draw-run-requires-clause-up c =
-    let at = c.requires.at in
-    up_first at.0 c.args.task.now c.args.run.now (subst (IsAtWake at.0 c.args.task.now c.args.run.now) c.in-First.is at.1)
-
-pub draw-run-requires-in-Next-clause-up : goal.draw-run-requires-in-Next-clause-up
-draw-run-requires-in-Next-clause-up c =
-    let at = c.requires.at in
-    up_next at.0 c.args.task.now c.args.run.now (subst (IsAtWake at.0 c.args.task.now c.args.run.now) c.in-Next.is at.1)
 
 pub draw-run-requires-in-Next-clause-head : goal.draw-run-requires-in-Next-clause-head
 draw-run-requires-in-Next-clause-head c =

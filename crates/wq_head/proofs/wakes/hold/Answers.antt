@@ -97,13 +97,6 @@ returns-in-Breaks-clause-rouses c =
     (subst (RousesNone mid) (sym c.break_off-run.ensures.made) (none_unlocked (stored_with mid mark) mid.at false
     ∙ none_stored mid mark refl)) c.walk_hold.ensures.rouses
 
-pub returns-in-Starved-clause-turned : goal.returns-in-Starved-clause-turned
-returns-in-Starved-clause-turned c start up idle tries i = record {
-  aim = refl;
-  outside = tt;
-  turns = c.in-Starved.ensures.over;
-}
-
 -- its head is none of a completion
 pub give_back-requires-clause-permits : goal.give_back-requires-clause-permits
 give_back-requires-clause-permits c = walk_owes c.args.run.now.aim.watch c.walk_hold.new.task c.requires.full

@@ -10,10 +10,10 @@ use Rattle.wq_head.specs.declared.wakes.WakeStage.{WakeStage}
 use Rattle.wq_head.specs.declared.wakes.WakeStage.TheVariants as stage
 use Rattle.wq_head.specs.Roused.{RousesNone}
 use Rattle.wq_head.specs.Turns.{InWalk, drawn_by}
-use Rattle.wq_head.specs.Walks.{IsFull, MayWake}
+use Rattle.wq_head.specs.Walks.{MayWake}
 use Rattle.wq_head.proofs.FullHeads.{head_small}
 use Rattle.wq_head.proofs.RousedTasks.{none_added, rousing_on, rousing_from, rousing_none}
-use Rattle.wq_head.proofs.WakeTurns.{up_drawn, outside_on, waits_on, served_on, rests_of}
+use Rattle.wq_head.proofs.WakeTurns.{outside_on, waits_on, served_on, rests_of}
 use Rattle.wq_head.proofs.wakes.wake_stretch.Goals as goal
 
 pub serving_load-run-requires-clause-head : goal.serving_load-run-requires-clause-head
@@ -21,12 +21,6 @@ serving_load-run-requires-clause-head c =
     let small = (head_small c.args.run.now.aim.watch c.requires.at.1.full) in
     let is = c.head_of-head.ensures in
     omega (arith, small, is)
-
-pub serving_load-run-requires-clause-up : goal.serving_load-run-requires-clause-up
-serving_load-run-requires-clause-up c =
-    let d = c.draw_turn-at in
-    up_drawn c.requires.at.0 d.new.task d.new.run d.result d.ensures.turn
-    (d.ensures.drawn c.requires.at.0 c.requires.at.1)
 
 -- another number is served
 pub returns-then-run-clause-turned : goal.returns-then-run-clause-turned
@@ -70,11 +64,6 @@ returns-then-run-clause-refused c =
       other = c.if-run.true;
     }
 
--- the ticket is served
-pub begin_hold-requires-clause-head : goal.begin_hold-requires-clause-head
-begin_hold-requires-clause-head c =
-    c.head_of-head.ensures ∙ ap (λ (a : Aim). head_of a.watch) (sym c.draw_turn-at.ensures.aim)
-
 pub begin_hold-requires-clause-served : goal.begin_hold-requires-clause-served
 begin_hold-requires-clause-served c =
     let d = c.draw_turn-at in
@@ -84,16 +73,6 @@ begin_hold-requires-clause-served c =
           c.serving_load-run.result at_h c.serving_load-run.ensures.step d.result d.ensures.turn
           (d.ensures.drawn c.requires.at.0 c.requires.at.1) c.if-run.false,
     )
-
-pub hold-requires-clause-full : goal.hold-requires-clause-full
-hold-requires-clause-full c = subst (λ (a : Aim). IsFull a.watch)
-    (sym (c.begin_hold.ensures.aim ∙ c.draw_turn-at.ensures.aim)) c.requires.at.1.full
-
-pub hold-requires-clause-small : goal.hold-requires-clause-small
-hold-requires-clause-small c =
-    let is = ap (λ (a : Aim). a.count) (c.begin_hold.ensures.aim ∙ c.draw_turn-at.ensures.aim) in
-    let small = c.requires.at.1.small in
-    omega (arith, is, small)
 
 pub hold-requires-clause-walks : goal.hold-requires-clause-walks
 hold-requires-clause-walks c =

@@ -28,16 +28,6 @@ loop-i-init c =
       refl,
     )
 
--- what a hold keeps, and whom it is to rouse, by the turn of its loop
-pub returns-then-walk-gt-BREAK-clause-rouses : goal.returns-then-walk-gt-BREAK-clause-rouses
-returns-then-walk-gt-BREAK-clause-rouses c = c.loop-i.invariant.1
-
-pub returns-then-walk-gt-BREAK-clause-of : goal.returns-then-walk-gt-BREAK-clause-of
-returns-then-walk-gt-BREAK-clause-of c = c.loop-i.invariant.3 ∙ c.requires.of
-
-pub call_next-requires-clause-of : goal.call_next-requires-clause-of
-call_next-requires-clause-of c = c.loop-i.invariant.3 ∙ c.requires.of
-
 pub call_next-requires-clause-calling : goal.call_next-requires-clause-calling
 call_next-requires-clause-calling c =
     let x = c.requires.starting in
@@ -48,9 +38,6 @@ call_next-requires-clause-going c =
     let x = c.requires.starting in
     (c.loop-i.invariant.0 x.0 x.1 x.2).going
 
-pub call_next-requires-clause-room : goal.call_next-requires-clause-room
-call_next-requires-clause-room c = c.loop-i.invariant.2
-
 pub returns-in-Err-clause-walks : goal.returns-in-Err-clause-walks
 returns-in-Err-clause-walks c start is looks =
     let new = c.call_next.new.task in
@@ -59,24 +46,6 @@ returns-in-Err-clause-walks c start is looks =
       subst (HoldKeeps c.args.aim start new) (sym c.halted.ensures) h.0,
       subst (IsHoldOver c.args.aim start new c.args.walk) (sym c.halted.ensures) h.1,
     )
-
-pub returns-in-Err-clause-rouses : goal.returns-in-Err-clause-rouses
-returns-in-Err-clause-rouses c start told = c.call_next.ensures.rouses.tells start (c.loop-i.invariant.1 start told)
-
-pub returns-in-Err-clause-of : goal.returns-in-Err-clause-of
-returns-in-Err-clause-of c = c.call_next.ensures.rouses.domain ∙ (c.loop-i.invariant.3 ∙ c.requires.of)
-
-pub returns-then-walk-clause-rouses : goal.returns-then-walk-clause-rouses
-returns-then-walk-clause-rouses c start told = c.call_next.ensures.rouses.tells start (c.loop-i.invariant.1 start told)
-
-pub returns-then-walk-clause-of : goal.returns-then-walk-clause-of
-returns-then-walk-clause-of c = c.call_next.ensures.rouses.domain ∙ (c.loop-i.invariant.3 ∙ c.requires.of)
-
-pub returns-clause-rouses : goal.returns-clause-rouses
-returns-clause-rouses c = c.loop-i.invariant.1
-
-pub returns-clause-of : goal.returns-clause-of
-returns-clause-of c = c.loop-i.invariant.3 ∙ c.requires.of
 
 pub returns-then-walk-gt-BREAK-clause-walks : goal.returns-then-walk-gt-BREAK-clause-walks
 returns-then-walk-gt-BREAK-clause-walks c start is looks =

@@ -41,9 +41,6 @@ is-Fresh c = progress_is c.self.inside.run.items c.args.self.now c.self.inside.p
     (subst (λ (p : Progress). p ≡ slice_index_or c.self.inside.progress.items c.from.result p) c.in-Fresh.is
     c.index.ensures)
 
-pub returns-in-Fresh-clause-call : goal.returns-in-Fresh-clause-call
-returns-in-Fresh-clause-call c = ap call_shown (sym (is-Fresh c))
-
 pub returns-in-Fresh-clause-never : goal.returns-in-Fresh-clause-never
 returns-in-Fresh-clause-never c = never_of c.args.self.now c.args.task now.Fresh (is-Fresh c)
 

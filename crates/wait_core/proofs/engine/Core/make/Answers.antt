@@ -1,6 +1,6 @@
 use Rattle.std.specs.Prelude.{◌<◌}
 use Rattle.wait_model.specs.declared.layout.TheConstants.{TASKS}
-use Rattle.std.proofs.Common.{arith, sym, append-nil, length, ap, ◌∙◌}
+use Rattle.std.proofs.Common.{arith, sym, append-nil, ap}
 use Rattle.wait_model.specs.Runs.{state_of}
 use Rattle.wait_core.proofs.KeptCore.{sound}
 use Rattle.wait_core.proofs.StepAnswers.{planned_here, opened_again, shown_in, busy, full, made}
@@ -108,13 +108,3 @@ returns c =
           c.args.planned.event c.change_by-change.result.found c.self.view_is was c.log.ensures.items;
       setters = left_by c.log.new.run.items (invariant_of-self c).core;
     }
-
-pub held_head-requires-clause-count : goal.held_head-requires-clause-count
-held_head-requires-clause-count c = ap length c.deref.ensures.value ∙ c.self.invariant.core.shown.count
-
-pub change_by-change-requires-clause-count : goal.change_by-change-requires-clause-count
-change_by-change-requires-clause-count c = ap length c.deref-2.ensures.value ∙ c.self.invariant.core.shown.count
-
-pub change_by-change-requires-clause-index : goal.change_by-change-requires-clause-index
-change_by-change-requires-clause-index c =
-    rw c.deref-2.ensures.value (rw c.deref-3.ensures.value c.self.invariant.indexed)

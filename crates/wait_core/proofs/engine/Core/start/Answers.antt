@@ -1,7 +1,7 @@
-use Rattle.std.proofs.Common.{◌<◌, arith, sym, append-nil}
+use Rattle.std.proofs.Common.{◌<◌, arith}
 use Rattle.wait_model.specs.declared.layout.TheConstants.{TASKS}
 use Rattle.wait_core.proofs.StepAnswers.{read_here, closed_here, room_to_open, queued_refused, lacking_refused}
-use Rattle.wait_core.proofs.StepAnswers.{may_open, loose_refused, started_core, started_keepers, started_taken}
+use Rattle.wait_core.proofs.StepAnswers.{may_open, started_core, started_keepers, started_taken}
 use Rattle.wait_core.proofs.StepAnswers.{started_ok}
 use Rattle.wait_core.proofs.engine.Core.start.Goals as goal
 
@@ -62,23 +62,3 @@ returns-then-lacks_entry-clause-answer c =
     c.self.invariant.kept c.deref.ensures.value c.keeps_of.ensures c.lacks_bit.ensures c.if-lacks_bit.false
     (read_here core c.deref-2.ensures.value c.read_entry-entry.ensures) c.is_queued_twice.ensures
     c.if-is_queued_twice.false c.lacks_entry.ensures c.if-lacks_entry.true
-
-pub returns-then-lacks_bit-clause-answer : goal.returns-then-lacks_bit-clause-answer
-returns-then-lacks_bit-clause-answer c =
-    let core = c.self.invariant.core in
-    let mine : c.args.task < TASKS = omega arith in
-    let closed = closed_here core mine c.from-slot.ensures c.index.ensures c.is_open_at.ensures c.if-is_open_at.false in
-    loose_refused core mine closed c.args.call c.self.view_is c.is_in_range.ensures c.if-not-is_in_range.false
-    c.self.invariant.kept c.deref.ensures.value c.keeps_of.ensures c.lacks_bit.ensures c.if-lacks_bit.true
-
-pub returns-then-lacks_bit-clause-run : goal.returns-then-lacks_bit-clause-run
-returns-then-lacks_bit-clause-run c = sym (append-nil c.args.self.now)
-
-pub returns-then-lacks_entry-clause-run : goal.returns-then-lacks_entry-clause-run
-returns-then-lacks_entry-clause-run c = sym (append-nil c.args.self.now)
-
-pub returns-then-is_queued_twice-clause-run : goal.returns-then-is_queued_twice-clause-run
-returns-then-is_queued_twice-clause-run c = sym (append-nil c.args.self.now)
-
-pub returns-then-is_open_at-clause-run : goal.returns-then-is_open_at-clause-run
-returns-then-is_open_at-clause-run c = sym (append-nil c.args.self.now)

@@ -40,15 +40,6 @@ step_open-requires c =
     may_step _ _ _ _ _ core c.args.task mine c.args.self.now c.self.view_is c.in-Open.call c.in-Open.point stands
     (running _ _ record_is c.if-not-read_task.false)
 
-pub returns-clause-answer : goal.returns-clause-answer
-returns-clause-answer c = c.step_open.ensures.answer
-
-pub returns-clause-run : goal.returns-clause-run
-returns-clause-run c = c.step_open.ensures.run
-
-pub returns-clause-setters : goal.returns-clause-setters
-returns-clause-setters c = c.step_open.ensures.setters
-
 pub returns-clause-sentence : goal.returns-clause-sentence
 returns-clause-sentence c =
     let core = c.self.invariant.core in

@@ -83,19 +83,7 @@ twice = record {
                           sleep.Stay,
                           (
                             refl,
-                            (
-                              refl,
-                              (
-                                true,
-                                (
-                                  refl,
-                                  (
-                                    refl,
-                                    (1, (refl, (refl, (false, (refl, refl))))),
-                                  ),
-                                ),
-                              ),
-                            ),
+                            (refl, (true, (refl, (refl, (1, (refl, (refl, (false, (refl, refl))))))))),
                           ),
                         ),
                       ),

@@ -1,11 +1,11 @@
 //! What waits make that are left, as phrases of the model say it.
 
-ghost use Rattle.std.specs.Prelude.{true};
 ghost use Rattle.left_sentences.specs.BitWays.{LeftBitLocksFollow, LeftBitWaitsFollow};
 ghost use Rattle.left_sentences.specs.CellWays.{LeftAwaitsFollow};
 ghost use Rattle.left_sentences.specs.CondWays.{AskedWaitsFollow, LeftSimplesFollow, LeftVarsFollow, LeftWaitsFollow};
 ghost use Rattle.left_sentences.specs.PageWays.{LeftPagesFollow};
 ghost use Rattle.left_sentences.specs.WorkedWays.{WorkedWays};
+ghost use Rattle.std.specs.Prelude.{true};
 
 /// A wait for a plain condition (`wait_event_until`, and `leave_wait` behind stretches), for one with a simple queue
 /// (`swait_event_until`) or for a variable (`wait_var_until`) that was left, where `asks` answered true, has made a

@@ -100,13 +100,7 @@ module _ (k : Known) where
   prior_none none None h = refl
   prior_none none (Some m) h =
       let q = of_entry m h.0 in
-      absurd (none m.place (record {
-        member = m.at;
-        counts = q.0;
-        stands = q.1;
-        above = h.1;
-        below = h.2;
-      }))
+      absurd (none m.place (record { member = m.at; counts = q.0; stands = q.1; above = h.1; below = h.2 }))
 
   prior_by : (o : Option ℕ) → IsHighest k ENTRIES 0 MIDDLE o → (p : ℕ) → priority_for o ≡ Some p
       → place_for forms.Priority (shown_queue k) ≡ p

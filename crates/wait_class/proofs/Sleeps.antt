@@ -183,11 +183,7 @@ module _ {C S O : Type 0} (t : CallTable C S O) (law : IsLawfulCallTable t) wher
       went = (advances_none t law old r s a).went;
       lands = record { fits = a.fits; up = a.up; stands = a.stands; trail = a.trail };
     });
-    shows = inr (record {
-      count = more;
-      still = ap history_of is;
-      free = (sleep_law r.of s here).free;
-    });
+    shows = inr (record { count = more; still = ap history_of is; free = (sleep_law r.of s here).free });
   }
 
   -- it goes on where no head is held

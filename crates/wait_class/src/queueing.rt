@@ -1,10 +1,12 @@
 //! The own entry: how it is looked at, and how it is added in a hold, by its form.
 
 ghost use Rattle.std.specs.Prelude.{◌≡◌, ◌<◌, not, true, Some, None, IfOk, IfErr};
-ghost use Rattle.wait_model.specs.declared.layout.TheConstants.{FIRST_DONE_HEAD, PRIORITY_TASKS};
-ghost use Rattle.wait_model.specs.declared.watches.Kind.TheVariants as kinds;
+ghost use Rattle.wait_class.specs.Posts.{HasSeenOwn};
+ghost use Rattle.wait_class.specs.Queueing.{IsForBy, TellsFirst, form_entry, wait_form};
 ghost use Rattle.wait_model.specs.Queues.{is_priority};
 ghost use Rattle.wait_model.specs.Watches.{head_of, is_simple};
+ghost use Rattle.wait_model.specs.declared.layout.TheConstants.{FIRST_DONE_HEAD, PRIORITY_TASKS};
+ghost use Rattle.wait_model.specs.declared.watches.Kind.TheVariants as kinds;
 ghost use Rattle.wait_rule.specs.Ends.{WasWorn};
 ghost use Rattle.wait_rule.specs.Queues.{index};
 ghost use Rattle.wait_rule.specs.Says.{AsksNoPage, IsUp, told_of};
@@ -12,8 +14,6 @@ ghost use Rattle.wait_rule.specs.Stays.{Carries, only_looks};
 ghost use Rattle.wq_head.specs.Adds.{HasAdded, IsFormPlace, IsFormWorn};
 ghost use Rattle.wq_head.specs.Holds.{IsHolding};
 ghost use Rattle.wq_head.specs.Looks.{Looks};
-ghost use Rattle.wait_class.specs.Posts.{HasSeenOwn};
-ghost use Rattle.wait_class.specs.Queueing.{IsForBy, TellsFirst, form_entry, wait_form};
 
 use wait_model::queues::Form;
 use wait_model::tasks::How;

@@ -102,10 +102,7 @@ module _ (s : State) (me : ℕ) (g : Given) where
   still_same (event.Active h hit) i j n = all_peeks_same s.table.entry
   still_same (event.Set c x) i j n = stored_same g.watch x (value_of s.table.words g.watch) n
   still_same (event.Take c x) i j n = taken_same g.watch c (value_of s.table.words g.watch) j
-  still_same (event.Tas c x y) i j n = absurd i
-  still_same (event.Clear c x) i j n = absurd i
-  still_same event.Unflag i j n = absurd i
-  still_same e i j n = λ v w b. refl
+  still_same e i j n = grind arith
 
 -- a test of two bits
 both_same : (w b i k : ℕ) (t : Bool) → ((w == i) && (b == k)) ≡ t → w < BIT_WORDS → b < WORD_BITS → i < BIT_WORDS

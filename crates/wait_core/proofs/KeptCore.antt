@@ -53,24 +53,8 @@ allowed_in_range s me (event.State v) a = elim a [
     | inr y ↦ elim y [ inl x ↦ omega arith | inr x ↦ omega arith ]
   ]
 ]
-allowed_in_range s me (event.Wake who hit) a = a
-allowed_in_range s me (event.Signal who fatal) a = a
-allowed_in_range s me (event.Lock head) a = a
-allowed_in_range s me (event.Unlock head used) a = a
 allowed_in_range s me (event.Queue head form) a = a.0
-allowed_in_range s me (event.Unqueue who) a = a
-allowed_in_range s me (event.Mark h) a = a
-allowed_in_range s me (event.Unmark h) a = a
-allowed_in_range s me (event.Load c v) a = a
-allowed_in_range s me (event.Set c v) a = a
-allowed_in_range s me (event.Take c v) a = a
-allowed_in_range s me (event.Tas w b v) a = a
-allowed_in_range s me (event.Clear w b) a = a
-allowed_in_range s me (event.Active h hit) a = a
-allowed_in_range s me (event.Woken who) a = a
-allowed_in_range s me (event.TasFor p who v) a = a
-allowed_in_range s me (event.Handed who) a = a
-allowed_in_range s me e a = tt
+allowed_in_range s me e a = assumption
 
 -- what the state has to let a call be opened
 abbrev pub MayOpen : State → ℕ → Call → Type 0

@@ -65,15 +65,11 @@ WalksPage call _ = Unit {0}
 -- watches that are no bits
 plain_no_bit : (c : Watch) → IsPlain c → is_bit c ≡ false
 plain_no_bit (watch.Plain c) p = refl
-plain_no_bit (watch.Done d) p = absurd p
-plain_no_bit (watch.Bit w b) p = absurd p
-plain_no_bit (watch.Var v o) p = absurd p
+plain_no_bit _ p = absurd p
 
 done_no_bit : (c : Watch) → is_done c ≡ true → is_bit c ≡ false
-done_no_bit (watch.Plain c) d = refl
-done_no_bit (watch.Done k) d = refl
 done_no_bit (watch.Bit w b) d = absurd (cc)
-done_no_bit (watch.Var v o) d = refl
+done_no_bit _ d = refl
 
 await_no_bit : (call : Call) → is_await call ≡ true → is_bit (call_watch call) ≡ false
 await_no_bit (calls.WaitFor d st) h = refl
@@ -102,12 +98,7 @@ module _ (me : ℕ) (call : Call) (seen : Seen) where
   -- the function of an entry
   entry_noted : (w : Walking) (c : CalledEntry) (k : Kind) (hit : Bool) → N (call_entry (call_aim call) w c k seen hit)
   entry_noted w c kind.Default hit = tt
-  entry_noted w c kind.Autoremove hit = tt
-  entry_noted w c kind.Woken hit = tt
-  entry_noted w c kind.Bit hit = tt
-  entry_noted w c kind.Var hit = tt
-  entry_noted w c kind.Simple hit = tt
-  entry_noted w c kind.Page hit = tt
+  entry_noted w c _ hit = tt
 
   next_noted : (w : Walking) (c : Option CalledEntry) (hit : Bool) → N (call_next (call_aim call) w c seen hit)
   next_noted w None hit = tt
@@ -116,9 +107,7 @@ module _ (me : ℕ) (call : Call) (seen : Seen) where
   hands_noted : (st : PageStage) (w : Walking) (c : CalledEntry) → call_watch call ≡ page (word_of (call_watch call))
       → N (hands_event (call_aim call) st w c seen)
   hands_noted staging.Try w c pg = (refl, pg)
-  hands_noted staging.Hand w c pg = tt
-  hands_noted staging.Wake w c pg = tt
-  hands_noted staging.Off w c pg = tt
+  hands_noted _ w c pg = tt
 
   -- a wait for a page
   page_noted : (p : PagePoint) → N (page_event me call p seen)
@@ -128,14 +117,12 @@ module _ (me : ℕ) (call : Call) (seen : Seen) where
       (go (event.Queue (call_head call) (form_of call)) (at.Page paging.Try)) tt tt
   page_noted paging.Try = refl
   page_noted (paging.Unlock true) = tt
-  page_noted (paging.Unlock false) = tt
   page_noted (paging.Finish finishing.Look) = either (is_some seen.entry)
       (go (event.Queued true) (at.Page (paging.Finish finishing.Lock)))
       (go (event.Queued false) (at.Page paging.Last)) tt tt
   page_noted (paging.Finish finishing.Queue) = either (is_some seen.entry)
       (go (event.Unqueue me) (at.Page (paging.Finish finishing.Unlock)))
       (go (event.Unlock (call_head call) false) (at.Page paging.Last)) tt tt
-  page_noted (paging.Finish p) = tt
   page_noted paging.Last = either seen.flag (go (event.Flag true) (at.Page paging.Clear))
       (ends_with (event.Flag false) interrupted) tt tt
   page_noted p = tt
@@ -220,19 +207,11 @@ module _ (me : ℕ) (call : Call) (seen : Seen) where
   noted at.Publish fit pg = publish_noted call fit
   noted at.Active fit pg = active_noted seen.members
   noted (at.Walk p) fit pg = walk_noted p pg
-  noted (at.Add adding.Lock) fit pg = tt
   noted (at.Add adding.Queue) fit pg = either seen.worn
       (ends_with (event.Unlock (call_head call) false) answer.Worn)
       (go (event.Queue (call_head call) (form_of call)) (at.Add adding.Unlock)) tt tt
-  noted (at.Add adding.Unlock) fit pg = tt
   noted (at.Remove removing.Lock) fit pg = tt
-  noted (at.Remove (removing.Queue c)) fit pg = tt
-  noted (at.Remove (removing.Unlock c)) fit pg = tt
   noted (at.Woken hearing.State) fit pg = tt
-  noted (at.Woken hearing.Flag) fit pg = tt
-  noted (at.Woken hearing.Sleep) fit pg = tt
-  noted (at.Woken hearing.Run) fit pg = tt
-  noted (at.Woken hearing.Clear) fit pg = tt
   noted (at.Select selecting.Store) fit pg = done_no_bit (call_watch call) fit
   noted (at.Select (selecting.Next n)) fit pg = either (is_enough call n) (select_ends call n true)
       (select_next call n seen.called (meets (mask_of mode.Normal) seen.other.state)) tt

@@ -3,17 +3,17 @@
 ghost use Rattle.std.specs.Prelude.{◌≡◌, ◌+◌, ◌<◌, ◌≤◌, ◌++◌, ◌∷◌, ◌^◌, [], IfOk, IfSome, IsTrue, ◌↔◌, length};
 ghost use Rattle.std.specs.Prelude.{vec_capacity, nat_lt};
 ghost use Rattle.std.specs.Prelude.{◌*◌, ℕ, slice_index, slice_get};
-ghost use Rattle.wait_model.specs.declared.layout.TheConstants.{MEMBERS, WORDS, PLACES};
-ghost use Rattle.wait_model.specs.Locations.{Shows};
-ghost use Rattle.wait_model.specs.Tables.{start};
-ghost use Rattle.wait_model.specs.Followed.{LeavesNobody};
-ghost use Rattle.wait_model.specs.Runs.{is_open, progress_at};
-ghost use Rattle.wait_model.specs.Programs.{program};
-ghost use Rattle.wait_model.specs.Admission.{IsListed};
-ghost use Rattle.wait_model.specs.declared.points.Point.{Point};
-ghost use Rattle.wait_model.specs.declared.points.Progress.TheVariants as now;
 ghost use Rattle.wait_core.specs.Ended.{answer_of};
 ghost use Rattle.wait_core.specs.Spoken.{EndsSentence};
+ghost use Rattle.wait_model.specs.Admission.{IsListed};
+ghost use Rattle.wait_model.specs.Followed.{LeavesNobody};
+ghost use Rattle.wait_model.specs.Locations.{Shows};
+ghost use Rattle.wait_model.specs.Programs.{program};
+ghost use Rattle.wait_model.specs.Runs.{is_open, progress_at};
+ghost use Rattle.wait_model.specs.Tables.{start};
+ghost use Rattle.wait_model.specs.declared.layout.TheConstants.{MEMBERS, WORDS, PLACES};
+ghost use Rattle.wait_model.specs.declared.points.Point.{Point};
+ghost use Rattle.wait_model.specs.declared.points.Progress.TheVariants as now;
 
 use crate::changes::{change_by, class_at};
 use crate::index::{RankedMember, reindex};
@@ -73,8 +73,8 @@ pub struct Core {
 
 impl Model for Core {
     ghost use Rattle.std.specs.Prelude.{List, vec_capacity};
-    ghost use Rattle.wait_model.specs.declared.calls.Ran.{Ran};
     ghost use Rattle.wait_core.specs.Core.{IsIndexedCore};
+    ghost use Rattle.wait_model.specs.declared.calls.Ran.{Ran};
 
     ghost Value = { List Ran };
 
@@ -85,23 +85,23 @@ impl Model for Core {
 }
 
 impl Core {
-    ghost use Rattle.wait_model.specs.Runs.{state_of, made_in};
     ghost use Rattle.std.specs.Prelude.{IsNone};
-    ghost use Rattle.wait_model.specs.Openings.{IsOpened};
-    ghost use Rattle.wait_model.specs.Laws.{NoLostWake, NoLostFlag};
-    ghost use Rattle.wait_model.specs.Completions.{CountsAreBalanced};
-    ghost use Rattle.wait_model.specs.Permits.{PermitsAreHanded};
-    ghost use Rattle.wait_model.specs.BitKeepers.{AreKept};
-    ghost use Rattle.wait_model.specs.Lent.{NoPageIsLeft};
-    ghost use Rattle.wait_model.specs.Selections.{IsOrderly};
-    ghost use Rattle.wait_model.specs.Spoken.{BeginsOpen};
-    ghost use Rattle.wait_model.specs.Queues.{member_from, rank, IsInOrder};
-    ghost use Rattle.wait_model.specs.Locations.{Location, IsLocation, position_of, word_in};
-    ghost use Rattle.wait_model.specs.Wakes.{NoWakeIsLost};
-    ghost use Rattle.wait_model.specs.Waiters.{NoWaiterIsLost};
     ghost use Rattle.wait_core.specs.Members.{IsNextAt};
     ghost use Rattle.wait_core.specs.Stepped.{stepped, items_of, started, opened_by, call_shown};
     ghost use Rattle.wait_core.specs.Stepped.{MayStep, IsFound, IsStep};
+    ghost use Rattle.wait_model.specs.BitKeepers.{AreKept};
+    ghost use Rattle.wait_model.specs.Completions.{CountsAreBalanced};
+    ghost use Rattle.wait_model.specs.Laws.{NoLostWake, NoLostFlag};
+    ghost use Rattle.wait_model.specs.Lent.{NoPageIsLeft};
+    ghost use Rattle.wait_model.specs.Locations.{Location, IsLocation, position_of, word_in};
+    ghost use Rattle.wait_model.specs.Openings.{IsOpened};
+    ghost use Rattle.wait_model.specs.Permits.{PermitsAreHanded};
+    ghost use Rattle.wait_model.specs.Queues.{member_from, rank, IsInOrder};
+    ghost use Rattle.wait_model.specs.Runs.{state_of, made_in};
+    ghost use Rattle.wait_model.specs.Selections.{IsOrderly};
+    ghost use Rattle.wait_model.specs.Spoken.{BeginsOpen};
+    ghost use Rattle.wait_model.specs.Waiters.{NoWaiterIsLost};
+    ghost use Rattle.wait_model.specs.Wakes.{NoWakeIsLost};
 
     /// The run: the calls that were opened and the events that were made.
     pub fn ran(&self) -> &[Ran]

@@ -67,10 +67,7 @@ quiet_told r q x quiet same queued seen = record {
 
 pub told_on : (r q w : WaitCall) (ts us : List Transition) → TellsWait r q ts → TellsWait q w us → TellsWait r w (ts ++ us)
 told_on r q w ts us a b = record {
-  same = record {
-    watch_is = b.same.watch_is ∙ a.same.watch_is;
-    how = b.same.how ∙ a.same.how;
-  };
+  same = record { watch_is = b.same.watch_is ∙ a.same.watch_is; how = b.same.how ∙ a.same.how };
   queued = b.queued ∙ (ap (λ (c : Bool). c || has_queued_in us) a.queued ∙ queues_append r.queued ts us);
   seen = b.seen ∙ (ap (λ (o : Option ℕ). last_loaded o us) a.seen ∙ loaded_append (Some r.seen) ts us);
 }

@@ -45,11 +45,7 @@ wait_awake (at.Finish x false) = true
 wait_awake _ = false
 
 abbrev pub wait_exits : Exits WaitCall WaitStage WaitOutcome
-wait_exits = record {
-  asks = λ r. record r { asked = true };
-  exit = λ r s. wait_exit s;
-  awake = wait_awake;
-}
+wait_exits = record { asks = λ r. record r { asked = true }; exit = λ r s. wait_exit s; awake = wait_awake }
 
 -- the answer: one that left its queue was asked to, or a signal had sent it out
 abbrev pub parted_in : Bool → WaitCall → Bool → WaitUntil (Result (Unit {0}) WaitEnd)

@@ -28,10 +28,7 @@ after_unlock v (Some w) spent =
     then record v {
       hold = no_hold;
       walk = None;
-      duty = record (v.duty) {
-        owes = λ c σ. v.duty.owes c σ
-            && not (concerns w c σ);
-      };
+      duty = record (v.duty) { owes = λ c σ. v.duty.owes c σ && not (concerns w c σ) };
     }
     else record v { hold = no_hold; walk = paused v w v.mark }
 

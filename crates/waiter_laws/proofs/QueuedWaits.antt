@@ -251,15 +251,7 @@ module _ (me : ℕ) (call : Call) (is : is_queued call ≡ true) where
         → LeftQueued x h (es ++ e ∷ [])
     gives i sp (step.Unlock j s) made q = (
       q.0,
-      record {
-        hold = es;
-        head = j;
-        spent = s;
-        later = [];
-        split = refl;
-        gripped = q.1;
-        mild = tt;
-      },
+      record { hold = es; head = j; spent = s; later = []; split = refl; gripped = q.1; mild = tt },
     )
     gives i sp e made q = absurd made
 

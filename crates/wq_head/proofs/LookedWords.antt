@@ -32,10 +32,7 @@ module _ (old new : Known) (l : Looks old new) (from next word bit : ℕ) (few :
 
   -- the look goes on at the end of the word, or behind a set bit
   pub looked_on : bit ≡ WORD_BITS → IsLookingBy new (record { word = word; next = index })
-  looked_on end = record {
-    within = omega arith;
-    loaded = λ more. absurd (omega arith);
-  }
+  looked_on end = record { within = omega arith; loaded = λ more. absurd (omega arith) }
 
   pub looked_past : bit < WORD_BITS → IsLookingBy new (record { word = word; next = index + 1 })
   looked_past inside = record {

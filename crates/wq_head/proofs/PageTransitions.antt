@@ -90,11 +90,7 @@ module _ (a : Aim) (v : ShownEntry) (w real : Walking) where
       (added k (item.Made (step.Wake (owner v.member) (mask_of mode.Normal) found)))
       (next.Go (at.Walk (at_stage staging.Off)))
   rouse_goes k found = one_transition (walk_program a) (at.Walk (at_stage staging.Wake)) k (rouse_transition k found)
-      (record {
-        looks = only_none k;
-        is = (refl, refl);
-        finds = (refl, tt, tt);
-      })
+      (record { looks = only_none k; is = (refl, refl); finds = (refl, tt, tt) })
 
   -- and the entry is taken off, whatever the wake met
   abbrev pub leave_transition : Known → Transition

@@ -133,11 +133,7 @@ module _ (me slot : ℕ) (call : Call) where
         (wake_notes s.seen (owner x) (mask_of mode.Normal) s.found) refl m i) MEMBERS)) ∙ s.first
 
     off_is : IsTransition f (at.Select (selecting.Off (n + 1) (owner x))) woke off_transition
-    off_is = record {
-      looks = only_none woke;
-      is = refl;
-      finds = (tt, tt, (s.member, still_first, refl));
-    }
+    off_is = record { looks = only_none woke; is = refl; finds = (tt, tt, (s.member, still_first, refl)) }
 
     behind : OnlyLooks (added woke (item.Made (step.Unqueue x))) new
     behind = subst (OnlyLooks (added woke (item.Made (step.Unqueue x)))) (sym s.is) (bit_looks woke (step.Unqueue x))
@@ -152,10 +148,7 @@ module _ (me slot : ℕ) (call : Call) where
   -- so many selections
   pub selects_go : (most : ℕ) → count_of call ≡ most → (old new : Known) (n : ℕ) → SelectsMany old n new
       → (most ≢ 0 → n ≤ most) → (ts : List Transition) × Goes f old (at_next 0) ts new (at_next n)
-  selects_go most counts old new zero is few = (
-    [],
-    (subst (OnlyLooks old) (sym is) (only_none old), refl),
-  )
+  selects_go most counts old new zero is few = ([], (subst (OnlyLooks old) (sym is) (only_none old), refl))
   selects_go most counts old new (suc n) s few =
       let less = few_less in
       let before = selects_go most counts old s.0 n s.1 (λ some. let l = few some in omega (arith, l)) in

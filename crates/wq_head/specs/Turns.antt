@@ -60,15 +60,7 @@ pub record InWalk (a : Aim) (start now : Known) (w : Walking) : Type 0 where
 
 -- the counts of a walk before its first call
 abbrev pub first_counts : Aim → Walking
-first_counts a = record {
-  place = 0;
-  woken = 0;
-  selected = 0;
-  left = a.count;
-  spent = false;
-  calls = 0;
-  holds = 1;
-}
+first_counts a = record { place = 0; woken = 0; selected = 0; left = a.count; spent = false; calls = 0; holds = 1 }
 
 -- the same counts in the walk's next hold, which goes on at a place
 abbrev pub next_at : ℕ → Walking → Walking

@@ -153,10 +153,7 @@ signals_stay_raised n s a (step.Accept w) t lt al r = record {
 signals_stay_raised n s a e t lt al r = still n s a e t lt refl refl (refl, refl) r
 
 pub signals_start_raised : SignalsStartRaised
-signals_start_raised n t = record {
-  fatal = omega arith;
-  any = omega arith;
-}
+signals_start_raised n t = record { fatal = omega arith; any = omega arith }
 
 pub no_run_invents_signals : NoRunInventsSignals
 no_run_invents_signals run r few t = table_law (λ (s : Table). AreRaised TASKS s t)

@@ -44,15 +44,7 @@ find (e ∷ es) v x c n h = by (find es (after e v) x c n h)
         absurd (let z : cond (stores_own e x) None (cond (fails e c) (Some (v.checks.found (head_of c)))
         (v.checks.failed x c)) ≡ None = rw p refl in cc)
     at false p true q h r = inl (
-      record {
-        before = [];
-        load = e;
-        later = es;
-        split = refl;
-        is_load = q;
-        is_no_store = p;
-        quiet = r;
-      },
+      record { before = []; load = e; later = es; split = refl; is_load = q; is_no_store = p; quiet = r },
       (let z : Some (v.checks.found (head_of c)) ≡ Some n = (rw (p, q) at h)
           in cc),
     )
@@ -149,14 +141,7 @@ owed (e ∷ es) v c σ h = by (owed es (after e v) c σ h)
     at : (b : Bool) → publishes e c ≡ b → (f : Bool) → ends_wake e v c σ ≡ f
         → (publishes e c || (v.duty.owes c σ && not (ends_wake e v c σ))) ≡ true → Unended c σ (after e v) es
         → OwingFrom v (e ∷ es) c σ ⊎ ((v.duty.owes c σ ≡ true) × Unended c σ v (e ∷ es))
-    at true p f q h u = inl (record {
-      before = [];
-      publish = e;
-      later = es;
-      split = refl;
-      is_publish = p;
-      unended = u;
-    })
+    at true p f q h u = inl (record { before = []; publish = e; later = es; split = refl; is_publish = p; unended = u })
     at false p true q h u = absurd (grind arith)
     at false p false q h u = inr (grind arith, (q, u))
 

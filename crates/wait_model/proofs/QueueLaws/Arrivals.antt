@@ -155,11 +155,7 @@ module _ (key : Member → Bool) where
   }
   reached_here calls m ms false false t u l o h =
       let r = h (one_more calls m t) in
-      record {
-        called = r.called;
-        calls = r.calls;
-        ahead = behind r;
-      }
+      record { called = r.called; calls = r.calls; ahead = behind r }
     where
       behind : IsReached ms (arrive key (if is_entry m then calls + 1 else calls) ms) → (x : Member)
           → IsIn x (m ∷ ms) → is_called x ≡ true
@@ -170,10 +166,6 @@ module _ (key : Member → Bool) where
 
   pub arrives : (calls : ℕ) (q : List Member) → calls ≤ BREAK + 1 → IsInOrder q
       → IsReached q (arrive key calls q)
-  arrives calls [] l o = record {
-    called = λ m e f. absurd (cc);
-    calls = l;
-    ahead = λ x i k. absurd i;
-  }
+  arrives calls [] l o = record { called = λ m e f. absurd (cc); calls = l; ahead = λ x i k. absurd i }
   arrives calls (m ∷ ms) l o = reached_here calls m ms (nat_lt BREAK calls) (is_called m) refl refl l o
       (λ k. arrives (if is_entry m then calls + 1 else calls) ms k o.1)

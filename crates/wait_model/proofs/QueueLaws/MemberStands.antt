@@ -23,11 +23,7 @@ near_later n p (b, l, u) = (b, omega (arith, l), omega (arith, u))
 -- one more event, and perhaps another queue that has the member still
 moved : (queue queue2 : ℕ → List Member) (n x : ℕ) (k : Mark) → IsInside queue n x k
     → IsIn (record { at = x; place = k.place }) (queue2 k.head) → IsInside queue2 (n + 1) x k
-moved queue queue2 n x k q i = record {
-  number = q.number;
-  near = near_later n k.place q.near;
-  inside = i;
-}
+moved queue queue2 n x k q i = record { number = q.number; near = near_later n k.place q.near; inside = i }
 
 pub ordered_later : (stand : ℕ → Option Mark) (queue : ℕ → List Member) (n : ℕ) → IsOrdered stand queue n
     → IsOrdered stand queue (n + 1)

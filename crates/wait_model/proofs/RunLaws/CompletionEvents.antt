@@ -217,12 +217,7 @@ module _ (s : State) (n me : ℕ) (call : Call) (sound : IsSound s n) (mine : me
   select_fine (selecting.Next j) k pl = select_turn_fine j k pl (is_enough call j)
   select_fine (selecting.Off j who) k pl = unqueue_fine s n me call sound mine (at.Select (selecting.Off j who)) pl
       (at.Select (selecting.Next j)) who k.walk.1
-      (record {
-        it = t.it;
-        stands = t.stands;
-        head = pl.head ∙ t.head;
-        goes = inr t.kind;
-      })
+      (record { it = t.it; stands = t.stands; head = pl.head ∙ t.head; goes = inr t.kind })
       (to s n me call sound mine (at.Select (selecting.Off j who)) (at.Select (selecting.Next j)) k refl
       (let l : j ≤ n = k.walk.0 in omega arith) k.fitted)
       refl refl refl

@@ -316,10 +316,7 @@ module _ (s : State) (n me : ℕ) (call : Call) (sound : IsSound s n) (mine : me
   hands_counted staging.Off w c z = by (past w c true).spent
     where
       ends : MayEndSpent (after (step.Unqueue (own c.who)) v) call
-      ends = record {
-        shared = ap is_var z.1;
-        picked = λ b u i. or_left v.hold.picked _ (z.2 refl u i);
-      }
+      ends = record { shared = ap is_var z.1; picked = λ b u i. or_left v.hold.picked _ (z.2 refl u i) }
 
       by : (b : Bool) → W (walking.Page staging.Off w c) (go (event.Unqueue c.who)
           (if b then at.Walk (walking.Spent (past w c true)) else at.Walk (walking.Call (past w c true))))

@@ -170,10 +170,7 @@ module _ (me w b : ℕ) (st : SleepState) where
       let (t, q) = sleeping h.1.1.0 in (
         record (sees m) { own = t },
         (fair waiter m, tt),
-        (
-          h.1.1.1.0 ∙ ap event.Sleep (sym q),
-          slept_w m h.1.0 (looks_in st) refl h.0 v a h.1.1.1.1,
-        ),
+        (h.1.1.1.0 ∙ ap event.Sleep (sym q), slept_w m h.1.0 (looks_in st) refl h.0 v a h.1.1.1.1),
       )
   back_w (at.Bit biting.First) m x v a h =
       let y = first_w m h.1.0 (misses (watch.Bit w b) h.1.0) v a h.1.1.1 in
@@ -370,10 +367,7 @@ module _ (me w b : ℕ) (st : SleepState) where
       let (t, q) = sleeping h.1.1.0 in (
         record (sees m) { own = t },
         (fair locker m, tt),
-        (
-          h.1.1.1.0 ∙ ap event.Sleep (sym q),
-          slept_l m h.1.0 (looks_in st) refl h.0 v a h.1.1.1.1,
-        ),
+        (h.1.1.1.0 ∙ ap event.Sleep (sym q), slept_l m h.1.0 (looks_in st) refl h.0 v a h.1.1.1.1),
       )
   back_l (at.Bit biting.First) m x v a h =
       let (value, y) = by_bit (λ k. Leads LeftL m (event.Tas w b (flag h.1.0)) (if k

@@ -110,17 +110,7 @@ add_made me c k f (x ∷ y ∷ z ∷ w) a (q, (false, h)) =
       sees none_noted,
       (fair call none_noted, tt),
       q,
-      (
-        sees m,
-        (fair call m, tt),
-        h.0,
-        (
-          sees n,
-          (fair call n, tt),
-          h.1.0,
-          h.1.1,
-        ),
-      ),
+      (sees m, (fair call m, tt), h.0, (sees n, (fair call n, tt), h.1.0, h.1.1)),
     )
 
 remove_made : (me : ℕ) (w : List Event) (a : Answer) → Follows me calls.Remove w a

@@ -311,11 +311,7 @@ module _ (me d : ℕ) where
   load_back m count false true q w a r h = (refl, (tt, h))
   load_back m count false false q w a r h = (
     refl,
-    (
-      (refl, r),
-      λ _. subst (λ (n : ℕ). stores (watch.Done d) n
-          (λ _. over_by d true) w a) (sym (q refl)) h,
-    ),
+    ((refl, r), λ _. subst (λ (n : ℕ). stores (watch.Done d) n (λ _. over_by d true) w a) (sym (q refl)) h),
   )
 
   unlock_back : (m : Noted) (hit : Bool) (x : Event) (w : List Event) (a : Answer) → over_by d hit (x ∷ w) a

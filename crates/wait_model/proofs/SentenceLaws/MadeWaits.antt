@@ -226,10 +226,7 @@ module _ (me : ℕ) (call : Call) (k : IsLoop call) where
           h.1.1.1.0 ∙ ap event.Sleep (sym q),
           subst (λ p. Left (record m { loaded = false }) p w a) (sym k.slept) (
             tt,
-            (
-              h.1.0,
-              subst (λ (b : Bool). turns h.1.0 (loops.body me call) b ends w a) (sym h.0) h.1.1.1.1,
-            ),
+            (h.1.0, subst (λ (b : Bool). turns h.1.0 (loops.body me call) b ends w a) (sym h.0) h.1.1.1.1),
           ),
         ),
       )

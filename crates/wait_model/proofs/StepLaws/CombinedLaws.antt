@@ -239,9 +239,5 @@ no_lost_from s a ev k k2 moves tried x e on m σ z = go (moves x e on m σ z)
       ]
     ]
     go (inr (inl f)) =
-        inl (
-          a,
-          own_view s a (after ev (s.view a))
-              (λ v. IsTrue (covers v x e σ)) f.0,
-        )
+        inl (a, own_view s a (after ev (s.view a)) (λ v. IsTrue (covers v x e σ)) f.0)
     go (inr (inr f)) = elim f.1 [ inl c ↦ inl c | inr sp ↦ inr (inl sp) ]

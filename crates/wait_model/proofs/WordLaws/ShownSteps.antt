@@ -95,10 +95,7 @@ same_word t u same (Var v) = ap (λ (w : Words). w.vars v) (sym same.words)
 same_word t u same l = refl
 
 pub shows_same : (words : List ℕ) (t u : Table) → SameWords t u → Shows words u → Shows words t
-shows_same words t u same h = record {
-  count = h.count;
-  each = λ l is. h.each l is ∙ same_word t u same l;
-}
+shows_same words t u same h = record { count = h.count; each = λ l is. h.each l is ∙ same_word t u same l }
 
 -- what one changed record, entry, head, plain condition or done count leaves of the words
 module _ (t : Table) (k : ℕ) (history : ℕ → List Step) (view : ℕ → View) where

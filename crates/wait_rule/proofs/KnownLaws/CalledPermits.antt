@@ -26,10 +26,7 @@ shows_none k out d o = ap (shows_at (done_head d)) ((moment_of (table_of o.steps
 -- who holds no lock and has left its own entry off
 pub away_of : (d : ℕ) (k : Known) → (told_of k).hold.head ≡ None → LeftOff d k → OrderOf k
     → IsAwayAt d k.view.number (history_of k)
-away_of d k out left o = record {
-  left = left o;
-  away = shows_none k out d o;
-}
+away_of d k out left o = record { left = left o; away = shows_none k out d o }
 
 -- an order that leads to the history of the same task
 pub order_as : (a : ℕ) (k : Known) (front : List Step) → k.view.number ≡ a → history_of k ≡ front → OrderOf k

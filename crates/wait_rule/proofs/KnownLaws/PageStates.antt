@@ -207,10 +207,7 @@ module _ (s z : Table) (differs after : ℕ → Difference) (asked now : ℕ →
     done = same.done p i.taken i.done;
     off = λ e is. i.off e (sym same.entry ∙ is);
     asked = elim i.asked [
-      | inl w ↦ inl (
-        same.waits ∙ w.0,
-        subst (λ (o : Option Entry). IsPageEntry o p) (sym same.stored) w.1,
-      )
+      | inl w ↦ inl (same.waits ∙ w.0, subst (λ (o : Option Entry). IsPageEntry o p) (sym same.stored) w.1)
       | inr g ↦ inr (same.given ∙ g)
     ];
   }

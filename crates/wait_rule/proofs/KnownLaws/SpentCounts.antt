@@ -63,10 +63,7 @@ spent_step s a e h k = one_more (spent_in h s.history) (s.spent h) false k
 
 pub spent_of : (xs : List TaskStep) → AreAllowed xs → (h : ℕ)
     → SpentIs (spent_in h (table_of xs).history) ((table_of xs).spent h)
-spent_of [] may h = inl (
-  let z : spent_in h (table_of []).history ≡ 0 = none in omega (arith, z),
-  sym none,
-)
+spent_of [] may h = inl (let z : spent_in h (table_of []).history ≡ 0 = none in omega (arith, z), sym none)
   where
     none : spent_in h (table_of []).history ≡ 0
     none = sum_zero TASKS (λ a. total (spends_at h) ((table_of []).history a)) (λ a few. refl)

@@ -87,11 +87,7 @@ slept_fits t b up f = by (t.state == 0) refl (pending t.state t)
     by : (y : Bool) → (t.state == 0) ≡ y → (z : Bool)
         → Fits (if y then t else if z then record t { state = 0 } else record t { runnable = false })
         (after_sleep (if y then sleep.Stay else if z then sleep.Signal else sleep.Asleep) b)
-    by true q z = record {
-      up = f.up;
-      stored = inl (of_zero t.state q);
-      rose = λ h. awake_not_down h;
-    }
+    by true q z = record { up = f.up; stored = inl (of_zero t.state q); rose = λ h. awake_not_down h }
     by false q true = record { up = f.up; stored = inl refl; rose = λ h. awake_not_down h }
     by false q false = record { up = λ h. absurd (cc); stored = f.stored; rose = λ h r. absurd (cc) }
 

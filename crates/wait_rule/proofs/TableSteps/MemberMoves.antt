@@ -92,13 +92,7 @@ knew_entry s items me x ruled own d = record {
 
 -- whatever head the task took last
 pub knew_at : (d : TableId) (v : Journal) (h x w : ℕ) → KnewEntry (known d v 0) x w → KnewEntry (known d v h) x w
-knew_at d v h x w k = record {
-  shown = k.shown;
-  own = k.own;
-  stands = k.stands;
-  foreign = k.foreign;
-  apart = k.apart;
-}
+knew_at d v h x w k = record { shown = k.shown; own = k.own; stands = k.stands; foreign = k.foreign; apart = k.apart }
 
 module _ (slots id : ℕ) (me : Sat) (lives : me.0.lives ≡ true) (x p : ℕ) (small : x < ENTRIES)
     (at : p ≡ ENTRY_AT + x) where

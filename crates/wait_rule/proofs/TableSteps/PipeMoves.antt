@@ -289,10 +289,7 @@ module _ (slots id : ℕ) (me : Sat) (lives : me.0.lives ≡ true) (at : ℕ) wh
             (subst (λ (xs : List Item). m ≤ length (end_of k xs).cells) (sym own) (between sound).1)
             (subst (λ (xs : List Item). (end_of k xs).shut ≡ true → (b ≡ true) × (m ≡ (end_of k xs).count)) (sym own)
             after),
-        (
-          law.table.words.vars k,
-          (refl, sound),
-        ),
+        (law.table.words.vars k, (refl, sound)),
       ))) s r long at_id less in
       told_as a (λ _ _ t. (
         t.2.0,

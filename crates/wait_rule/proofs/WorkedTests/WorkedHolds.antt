@@ -45,10 +45,7 @@ unlocked v w is passed c σ = ap (λ o. (after_unlock v o false).duty.owes c σ)
     there : after_unlock v (Some w) false ≡ record v {
       hold = no_hold;
       walk = None;
-      duty = record (v.duty) {
-        owes = λ d s. v.duty.owes d s
-            && not (concerns w d s);
-      };
+      duty = record (v.duty) { owes = λ d s. v.duty.owes d s && not (concerns w d s) };
     }
     there = first (all_passed v w (λ _. false)) _ _ passed
 

@@ -113,11 +113,7 @@ woken_allowed = (
   (
     omega arith,
     refl,
-    (
-      omega arith,
-      (refl, refl, refl, refl),
-      (omega arith, (refl, λ b. absurd (cc), refl), slept_allowed),
-    ),
+    (omega arith, (refl, refl, refl, refl), (omega arith, (refl, λ b. absurd (cc), refl), slept_allowed)),
   ),
 )
 

@@ -119,10 +119,7 @@ module _ (me d : ℕ) (st : SleepState) where
       → Finds t.knew f p t.did t.seen → InRange t.did → ShowsLoad t.seen.value ev → Few m → Few (notes m ev)
   few_after t p m (event.Load c v) made finds ranged shows few = λ _. subst (λ (n : ℕ). n ≤ ALL_DONE) (sym shows)
       (loaded_is t.knew f p (f.given p) c v t.did t.seen made finds ranged)
-  few_after t p m (event.State v) made finds ranged shows few = few
-  few_after t p m (event.Look hit) made finds ranged shows few = few
-  few_after t p m (event.Unqueue who) made finds ranged shows few = few
-  few_after t p m ev made finds ranged shows few = λ l. absurd (cc)
+  few_after t p m ev made finds ranged shows few = grind arith
 
   uses_taking : (p : Point) → uses_at call p ≡ true → is_taking p ≡ true
   uses_taking (at.Await (awaiting.Off false)) is = refl
@@ -138,9 +135,7 @@ module _ (me d : ℕ) (st : SleepState) where
 
   here_cell : (p : Point) → is_here p ≡ true → is_cell_point p ≡ true
   here_cell (at.Prepare p) is = refl
-  here_cell at.Sleep is = refl
-  here_cell (at.Await p) is = refl
-  here_cell p is = absurd (cc)
+  here_cell p is = cc
 
   elsewhere : (m : Noted) (p : Point) → is_here p ≡ false → (w : List Event) (a : Answer) → rest_of me call m p w a
   elsewhere m (at.Prepare p) is w a = absurd (cc)
@@ -321,11 +316,9 @@ module _ (me d : ℕ) (st : SleepState) where
       (eqb-true seen.value 0) h (at.Await (awaiting.Run false)) (λ t. tt)
   cell_leads (at.Await (awaiting.Load false)) seen trail h = zero_led (seen.value == 0) (looks_in st) seen.value trail
       (eqb-true seen.value 0) h (at.Await (awaiting.Last false)) (λ t. tt)
-  cell_leads (at.Await (awaiting.Run stopped)) seen trail h = tt
   cell_leads (at.Await (awaiting.Off stopped)) seen trail h =
       one_of (is_some seen.entry) _ _ trail tt (ends_led stopped seen trail)
   cell_leads (at.Await (awaiting.Last stopped)) seen trail h = ends_led stopped seen trail
-  cell_leads (at.Await awaiting.Unlock) seen trail h = tt
   cell_leads (at.Prepare preparing.Lock) seen trail h = absurd h
   cell_leads (at.Prepare preparing.Look) seen trail h = look_led (pending (state_mask st) seen.own) trail h
   cell_leads (at.Prepare preparing.Queue) seen trail h =
@@ -333,8 +326,7 @@ module _ (me d : ℕ) (st : SleepState) where
   cell_leads (at.Prepare preparing.State) seen trail h = (trail, refl)
   cell_leads (at.Prepare preparing.Unlock) seen trail h =
       (h.0, ap (λ (w : List Event). event.Unlock (head_of c) false ∷ w) h.1)
-  cell_leads at.Sleep seen trail h = tt
-  cell_leads p seen trail h = absurd h
+  cell_leads p seen trail h = grind arith
 
   -- what is left of the sentence where it goes on to its next hold
   abbrev loaded_by : ℕ → Bool → ℕ → Rest
@@ -396,8 +388,6 @@ module _ (me d : ℕ) (st : SleepState) where
   exit_takes : (s : AwaitStage) (e : Exit AwaitStage AwaitOutcome) → await_exit s ≡ Some e
       → is_taking (await_point_at s) ≡ true → ⊥
   exit_takes stage.Look e is z = absurd (cc)
-  exit_takes stage.Queue e is z = absurd (cc)
-  exit_takes stage.Sleep e is z = absurd (cc)
   exit_takes s e is z = absurd (cc)
 
   cell_speech : Speech await_table await_exits me call (cell_ways me d st) CellAt Fine

@@ -45,18 +45,14 @@ pub entry_word_is : (words : List ℕ) (t : Table) (x : ℕ) → Shows words t �
     → slice_index words (position_of (EntryWord x)) ≡ entry_word (t.entry x)
 entry_word_is words t x shown inside = shown.each (EntryWord x) inside
 
-pub head_word_is : (words : List ℕ) (t : Table) (h : ℕ) → Shows words t → h < HEADS
-    → slice_index words (position_of (Head h)) ≡ head_word (t.holder h) (t.spent h)
-head_word_is words t h shown inside = shown.each (Head h) inside
-
 pub held_word_is : (words : List ℕ) (t : Table) (h : ℕ) → Shows words t → h < HEADS
     → held_of (slice_index words (position_of (Head h))) ≡ t.holder h
-held_word_is words t h shown inside = ap held_of (head_word_is words t h shown inside)
+held_word_is words t h shown inside = ap held_of (shown.each (Head h) inside)
     ∙ held_read (t.holder h) (t.spent h)
 
 pub spent_word_is : (words : List ℕ) (t : Table) (h : ℕ) → Shows words t → h < HEADS
     → spent_of (slice_index words (position_of (Head h))) ≡ t.spent h
-spent_word_is words t h shown inside = ap spent_of (head_word_is words t h shown inside)
+spent_word_is words t h shown inside = ap spent_of (shown.each (Head h) inside)
     ∙ spent_read (t.holder h) (t.spent h)
 
 pub cond_word_is : (words : List ℕ) (t : Table) (c : ℕ) → Shows words t → c < CONDITIONS

@@ -68,19 +68,12 @@ module _ (s : State) (me : ℕ) (call : Call) (seen : Seen) (walk : Arrived) whe
   entry_unmarked : (w : Walking) (c : CalledEntry) (k : Kind) (hit : Bool)
       → IsUnmarked (call_entry (call_aim call) w c k seen hit).event
   entry_unmarked w c kind.Default hit = tt
-  entry_unmarked w c kind.Autoremove hit = tt
-  entry_unmarked w c kind.Woken hit = tt
-  entry_unmarked w c kind.Bit hit = tt
-  entry_unmarked w c kind.Var hit = tt
-  entry_unmarked w c kind.Simple hit = tt
-  entry_unmarked w c kind.Page hit = tt
+  entry_unmarked w c _ hit = tt
 
   hands_unmarked : (st : PageStage) (w : Walking) (c : CalledEntry)
       → IsUnmarked (hands_event (call_aim call) st w c seen).event
   hands_unmarked staging.Try w c = tt
-  hands_unmarked staging.Hand w c = tt
-  hands_unmarked staging.Wake w c = tt
-  hands_unmarked staging.Off w c = tt
+  hands_unmarked _ w c = tt
 
   next_unmarked : (w : Walking) (o : Option CalledEntry) (hit : Bool)
       → IsUnmarked (call_next (call_aim call) w o seen hit).event
@@ -258,19 +251,13 @@ pub read_here : {words now' : List ℕ} {points : List Progress} {items : List R
 read_here {items = items} core same reads =
     reads (state_of items) _ (shown_in _ _ (state_of items) same core.shown) (sound _ _ _ _ _ core)
 
-pub stopped : (t u : TaskRecord) → t ≡ u → not t.runnable ≡ true → u.runnable ≡ false
-stopped t u e h = subst (λ (x : TaskRecord). x.runnable ≡ false) e (turned t.runnable h)
+-- the record that is read tells whether the task in the state runs
+pub runs_not : (b : Bool) (t u : TaskRecord) → t ≡ u → not t.runnable ≡ b → u.runnable ≡ not b
+runs_not b t u e h = subst (λ (x : TaskRecord). x.runnable ≡ not b) e (turned t.runnable h)
   where
-    turned : (b : Bool) → not b ≡ true → b ≡ false
-    turned true h = cc
-    turned false h = refl
-
-pub running : (t u : TaskRecord) → t ≡ u → not t.runnable ≡ false → u.runnable ≡ true
-running t u e h = subst (λ (x : TaskRecord). x.runnable ≡ true) e (turned t.runnable h)
-  where
-    turned : (b : Bool) → not b ≡ false → b ≡ true
-    turned true h = refl
-    turned false h = cc
+    turned : (c : Bool) → not c ≡ b → c ≡ not b
+    turned true h = ap not h
+    turned false h = ap not h
 
 -- what a sound call says of its point's numbers
 pub call_limit : (n : ℕ) (call : Call) (p : Point) → IsSoundCall n (now.Open call p)

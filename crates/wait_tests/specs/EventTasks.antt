@@ -4,33 +4,11 @@ use Rattle.std.specs.Prelude.{◌≡◌, Option, Some, None}
 use Rattle.wait_model.specs.declared.tasks.SleepState.TheVariants as states
 use Rattle.wait_rule.specs.Known.{Known}
 use Rattle.wait_rule.specs.Says.{IsFree, IsUp, OwesBut, no_excuse}
-use Rattle.wait_rule.specs.Queues.{IsIdle}
 use Rattle.wait_rule.specs.Stays.{with_entry}
-use Rattle.wait_class.specs.Posts.{IsOut, own_of}
-use Rattle.wait_class.specs.Tables.{Lands}
-use Rattle.wait_class.specs.declared.stages.Run.{Run}
-use Rattle.wait_class.specs.declared.stages.Turn.{Turn}
+use Rattle.wait_class.specs.Posts.{own_of}
 use Rattle.wait_event.specs.Entries.{HasWokenEntry}
-use Rattle.wait_event.specs.Waits.{wait_table}
 use Rattle.wait_event.specs.WokenWaits.{LandsHearing}
-use Rattle.wait_event.specs.declared.waits.WaitCall.{WaitCall}
-use Rattle.wait_event.specs.declared.waits.WaitOutcome.{WaitOutcome}
-use Rattle.wait_event.specs.declared.waits.WaitStage.{WaitStage}
 use Rattle.wait_event.specs.declared.woken_waits.WokenTurn.{WokenTurn}
-
--- a wait stands where its last turn left it
-abbrev pub IsTestedWait : Known → Run WaitCall → Turn WaitStage WaitOutcome → Type 0
-IsTestedWait k r last = Lands wait_table k r last
-
--- a waker between two wakes
-pub record IsWaker (k : Known) : Type 0 where
-  pub up : IsUp k
-  pub idle : IsIdle k
-
--- a task that may begin a wait
-pub record IsReadyForEvent (k : Known) : Type 0 where
-  pub waker : IsWaker k
-  pub out : IsOut k
 
 -- A task with an entry of kind Woken between two waits for its flag, and one that owes nothing but that entry.
 pub record IsHearer (k : Known) : Type 0 where

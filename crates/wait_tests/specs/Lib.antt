@@ -1,3 +1,3 @@
 pub mod EventTasks
 pub mod CompletionTasks
-pub mod BitTasks
+pub mod TurnTasks

@@ -1,6 +1,5 @@
 //! The tests of the crates of waits and wakes: a module for each crate. They use its public calls alone, so that those
 //! crates, which have no tests of their own, are proved once. This crate has nothing but tests.
-#![tactic(auto)]
 
 #[cfg(test)]
 mod bits;
@@ -26,5 +25,3 @@ mod simple_queues;
 mod turns;
 #[cfg(test)]
 mod variables;
-#[cfg(test)]
-mod wants;

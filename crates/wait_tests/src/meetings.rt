@@ -7,21 +7,19 @@ mod parts;
 pub(crate) mod rows;
 mod shares;
 
-ghost use Rattle.std.specs.Prelude.{◌≡◌};
 ghost use Rattle.wait_rule.specs.Says.{RestsIn};
 
 pub(crate) use crate::meetings::founds::Found;
 pub(crate) use crate::meetings::parts::Part;
 use crate::meetings::parts::Played;
 pub(crate) use crate::meetings::shares::Shared;
-use crate::wants::all_so;
 use std::alloc::Global;
-use std::process::Abort;
 use std::sync::Wait;
 use std::sync::atomic::Ordering;
 use std::test::Fail;
 use std::thread::Threads;
 use test_tasks::meetings;
+use test_tasks::wants::all_so;
 use wait_rule::{Domain, Task};
 
 /// How many rounds most tests make.
@@ -40,7 +38,7 @@ pub(crate) struct Meeting {
 }
 
 /// So many rounds, each of which plays these meetings one after the other, and each goes as it says.
-pub(crate) fn meet_often<R: Abort + Threads + Wait + Sync>(
+pub(crate) fn meet_often<R: Threads + Wait + Sync>(
     rt: &R,
     alloc: Global,
     rounds: u32,
@@ -55,7 +53,7 @@ pub(crate) fn meet_often<R: Abort + Threads + Wait + Sync>(
 }
 
 /// A round, in a Domain of its own, goes as its row says: what its tasks counted together.
-pub(crate) fn meet_once<R: Abort + Threads + Wait + Sync>(
+pub(crate) fn meet_once<R: Threads + Wait + Sync>(
     rt: &R,
     alloc: Global,
     round: u32,
@@ -63,29 +61,38 @@ pub(crate) fn meet_once<R: Abort + Threads + Wait + Sync>(
 ) -> Result<u64, Fail> {
     let (domain, task) = Domain::with_looks(alloc, 0)?;
     let shared = Shared::new(round);
-    meet(rt, &domain, task, row, &shared);
+    meet(rt, &domain, task, row, &shared)?;
     Ok(shared.count.load(Ordering::SeqCst))
 }
 
 /// The tasks of a round play their parts, and go as these say.
-fn meet<R: Abort + Threads + Wait + Sync>(
+fn meet<R: Threads + Wait + Sync>(
     rt: &R,
     domain: &Domain,
     task: Task,
     row: &Meeting,
     shared: &Shared,
-)
+) -> Result<(), Fail>
     requires rests { RestsIn domain.now task }
 {
     let mut task = task;
     let began = row.before.play(rt, domain, &mut task, shared);
     let own = both(row.own, shared);
     let task = match row.others {
-        None => two_meet(rt, domain, task, own),
-        Some(others) => four_meet(rt, domain, task, own, both(others, shared)),
+        None => {
+            let (task, went) = meetings::two_meet(rt, domain, task, own);
+            all_so(&went)?;
+            task
+        }
+        Some(others) => {
+            let others = both(others, shared);
+            let (task, went) = meetings::four_meet(rt, domain, task, own, others);
+            all_so(&went)?;
+            task
+        }
     };
     let found = row.found.is_so(rt, domain, task, shared);
-    all_so(rt, &[began, found]);
+    all_so(&[began, found])
 }
 
 /// Two parts of a round.
@@ -100,36 +107,4 @@ pub(crate) fn both<'a>(parts: (Part, Part), shared: &'a Shared) -> (Played<'a>, 
             shared,
         },
     )
-}
-
-/// A task and a new one, number 1 where the task was the only one, play these parts, and go as they say: the task, which
-/// takes the other one in.
-fn two_meet<R: Abort + Threads + Wait + Sync>(
-    rt: &R,
-    domain: &Domain,
-    task: Task,
-    parts: (Played, Played),
-) -> Task
-    requires rests { RestsIn domain.now task }
-    ensures rests { RestsIn domain.now result }
-{
-    let (task, went) = meetings::two_meet(rt, domain, task, parts);
-    all_so(rt, &went);
-    task
-}
-
-/// The same of a task and three new ones.
-fn four_meet<R: Abort + Threads + Wait + Sync>(
-    rt: &R,
-    domain: &Domain,
-    task: Task,
-    own: (Played, Played),
-    others: (Played, Played),
-) -> Task
-    requires rests { RestsIn domain.now task }
-    ensures rests { RestsIn domain.now result }
-{
-    let (task, went) = meetings::four_meet(rt, domain, task, own, others);
-    all_so(rt, &went);
-    task
 }

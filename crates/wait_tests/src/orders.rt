@@ -2,11 +2,12 @@
 //! an executor does.
 
 ghost use Rattle.std.specs.Prelude.{◌≡◌, false};
-ghost use Rattle.wait_class.specs.Tables.{IsAt, Lands};
+ghost use Rattle.wait_class.specs.Tables.{IsAt};
 ghost use Rattle.wait_event.specs.Waits.{wait_table};
 ghost use Rattle.wait_event.specs.declared.waits.WaitStage.TheVariants as stage;
 ghost use Rattle.wait_model.specs.Tasks.{is_killable};
 ghost use Rattle.wait_rule.specs.Says.{IsClean, RestsIn};
+ghost use Rattle.wait_tests.specs.TurnTasks.{StandsIn};
 
 use crate::completions::calls::{complete, try_wait};
 use crate::completions::threads::CELL;
@@ -16,15 +17,14 @@ use crate::simple_queues::threads::{COND, swake_all_or_two};
 use crate::turns::go_on;
 use crate::variables::alone::{VAR, announce};
 use crate::variables::stretches::{VALUE, has_found};
-use crate::wants::another;
 use completion_cell::await_calls::begin_await;
 use completion_cell::awaits::{AwaitOutcome, AwaitStage};
 use std::alloc::Global;
-use std::process::Abort;
 use std::sync::Wait;
 use std::test::Fail;
 use swait_queue::waits::begin_swait;
 use test_tasks::draws::next_number;
+use test_tasks::wants::all_so;
 use var_wait::waits::begin_var;
 use wait_class::machines::Machine;
 use wait_class::stages::{Run, Turn};
@@ -137,11 +137,7 @@ fn play<R: Wait>(
     second: &mut Task,
     seed: u32,
 ) -> bool
-    requires of { (waker.old.domain ≡ domain.now) × (first.old.domain ≡ domain.now)
-        × (second.old.domain ≡ domain.now) }
-    requires waker { IsClean waker.old }
-    requires first { IsClean first.old }
-    requires second { IsClean second.old }
+    requires rest { RestsIn domain.now waker.old × RestsIn domain.now first.old × RestsIn domain.now second.old }
 {
     let begins = (Turn::Again(WaitStage::First), Turn::Again(WaitStage::First));
     let mut one = begin(first, wakes, true);
@@ -162,11 +158,7 @@ fn play_cells<R: Wait>(
     second: &mut Task,
     seed: u32,
 ) -> bool
-    requires of { (waker.old.domain ≡ domain.now) × (first.old.domain ≡ domain.now)
-        × (second.old.domain ≡ domain.now) }
-    requires waker { IsClean waker.old }
-    requires first { IsClean first.old }
-    requires second { IsClean second.old }
+    requires rest { RestsIn domain.now waker.old × RestsIn domain.now first.old × RestsIn domain.now second.old }
 {
     let begins = (
         Turn::Again(AwaitStage::First),
@@ -195,11 +187,11 @@ fn in_order(wakes: Wakes, order: u32) -> Wakes {
 }
 
 /// Plays each order in a Domain of its own: both waits end.
-pub(crate) fn play_each<R: Abort + Wait>(rt: &R, alloc: Global, wakes: Wakes) -> Result<(), Fail> {
+pub(crate) fn play_each<R: Wait>(rt: &R, alloc: Global, wakes: Wakes) -> Result<(), Fail> {
     for order in 0..ORDERS {
         let (domain, mut waker) = Domain::new(alloc)?;
-        let mut first = another(rt, &domain, &mut waker);
-        let mut second = another(rt, &domain, &mut waker);
+        let mut first = waker.fork(&domain, 0)?;
+        let mut second = waker.fork(&domain, 0)?;
         let (wakes, seed) = (in_order(wakes, order), order + 1);
         let well = match wakes {
             Wakes::Cell => play_cells(rt, &domain, &mut waker, &mut first, &mut second, seed),
@@ -213,7 +205,7 @@ pub(crate) fn play_each<R: Abort + Wait>(rt: &R, alloc: Global, wakes: Wakes) ->
                 seed,
             ),
         };
-        assert!(rt; well);
+        all_so(&[well])?;
     }
     Ok(())
 }
@@ -231,13 +223,10 @@ fn play_two<R: Wait, C: Machine>(
     begins: (Turn<C::Stage, C::Outcome>, Turn<C::Stage, C::Outcome>),
     seed: u32,
 ) -> (Turn<C::Stage, C::Outcome>, Turn<C::Stage, C::Outcome>, u32)
-    requires of { (waker.old.domain ≡ domain.now) × (first.old.domain ≡ domain.now)
-        × (second.old.domain ≡ domain.now) }
-    requires waker { IsClean waker.old }
-    requires one { Lands C.table first.old one.old begins.0 }
-    requires two { Lands C.table second.old two.old begins.1 }
-    ensures of { waker.new.domain ≡ domain.now }
-    ensures waker { IsClean waker.new }
+    requires rests { RestsIn domain.now waker.old }
+    requires one { StandsIn domain.now C.table first.old one.old begins.0 }
+    requires two { StandsIn domain.now C.table second.old two.old begins.1 }
+    ensures rests { RestsIn domain.now waker.new }
 {
     let (mut one_at, mut two_at) = begins;
     let mut seed = seed;

@@ -3,12 +3,10 @@
 
 pub(crate) mod threads;
 
-ghost use Rattle.std.specs.Prelude.{◌≡◌};
 ghost use Rattle.wait_rule.specs.Says.{RestsIn};
 
 use crate::bits::alone::take;
 use crate::completions::calls::wait_for;
-use crate::wants::another;
 use bit_wait::{BitEnd, wait_on_bit, wait_on_bit_lock};
 use std::sync::Wait;
 use std::test::Fail;
@@ -136,8 +134,8 @@ fn is_ended<R: Wait>(rt: &R, domain: &Domain, task: &mut Task, waits: Waits) -> 
 fn signal_ends_each_wait(rt: HostRuntime) -> Result<(), Fail> {
     for row in ROWS {
         let (domain, mut keeper) = Domain::new(rt.alloc())?;
-        let mut waiter = another(&rt, &domain, &mut keeper);
-        let mut sender = another(&rt, &domain, &mut keeper);
+        let mut waiter = keeper.fork(&domain, 0)?;
+        let mut sender = keeper.fork(&domain, 0)?;
         let taken = take(&domain, &mut keeper, 2, 5);
         send_signal(&rt, &domain, &mut sender, waiter.number(), row.fatal);
         let ended = is_ended(&rt, &domain, &mut waiter, row.waits);

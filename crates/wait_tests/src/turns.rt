@@ -1,8 +1,7 @@
 //! One turn of a wait that others take turns with on one thread.
 
-ghost use Rattle.std.specs.Prelude.{◌≡◌};
 ghost use Rattle.wait_rule.specs.PassedLocks.{PassesNone};
-ghost use Rattle.wait_class.specs.Tables.{Lands};
+ghost use Rattle.wait_tests.specs.TurnTasks.{StandsIn};
 
 use wait_class::machines::Machine;
 use wait_class::runs::{stretch, woke};
@@ -18,11 +17,9 @@ fn turn<C: Machine>(
     last: Turn<C::Stage, C::Outcome>,
     passing: &mut Passing,
 ) -> Turn<C::Stage, C::Outcome>
-    requires of { task.old.domain ≡ domain.now }
     requires passes { PassesNone passing.old }
-    requires waiting { Lands C.table task.old run.old last }
-    ensures of { task.new.domain ≡ domain.now }
-    ensures waiting { Lands C.table task.new run.new result }
+    requires waiting { StandsIn domain.now C.table task.old run.old last }
+    ensures waiting { StandsIn domain.now C.table task.new run.new result }
 {
     C::lawful();
     match last {
@@ -46,10 +43,8 @@ pub(crate) fn go_on<C: Machine>(
     run: &mut Run<C>,
     last: Turn<C::Stage, C::Outcome>,
 ) -> Turn<C::Stage, C::Outcome>
-    requires of { task.old.domain ≡ domain.now }
-    requires waiting { Lands C.table task.old run.old last }
-    ensures of { task.new.domain ≡ domain.now }
-    ensures waiting { Lands C.table task.new run.new result }
+    requires waiting { StandsIn domain.now C.table task.old run.old last }
+    ensures waiting { StandsIn domain.now C.table task.new run.new result }
 {
     let mut passing = Passing::none();
     let next = turn(domain, task, run, last, &mut passing);
@@ -66,10 +61,8 @@ pub(crate) fn go_often<C: Machine>(
     last: Turn<C::Stage, C::Outcome>,
     turns: u32,
 ) -> Turn<C::Stage, C::Outcome>
-    requires of { task.old.domain ≡ domain.now }
-    requires waiting { Lands C.table task.old run.old last }
-    ensures of { task.new.domain ≡ domain.now }
-    ensures waiting { Lands C.table task.new run.new result }
+    requires waiting { StandsIn domain.now C.table task.old run.old last }
+    ensures waiting { StandsIn domain.now C.table task.new run.new result }
 {
     let mut at = last;
     for _ in 0..turns {

@@ -1,6 +1,5 @@
 //! The calls of a driver, each by a task that owes nothing before it and after it.
 
-ghost use Rattle.std.specs.Prelude.{◌≡◌};
 ghost use Rattle.wait_rule.specs.Says.{RestsIn};
 
 use completion_cell::await_calls::wait_for;

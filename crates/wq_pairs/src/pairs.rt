@@ -1,6 +1,5 @@
 //! Two calls of a driver, one after the other.
 
-ghost use Rattle.std.specs.Prelude.{◌≡◌};
 ghost use Rattle.wait_rule.specs.Says.{RestsIn};
 
 use crate::calls::{Call, make};

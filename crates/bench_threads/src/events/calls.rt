@@ -1,6 +1,6 @@
 //! The calls that are timed, by a task that owes nothing before and after each.
 
-ghost use Rattle.std.specs.Prelude.{◌≡◌, ◌<◌};
+ghost use Rattle.std.specs.Prelude.{◌<◌};
 ghost use Rattle.wait_model.specs.declared.layout.TheConstants.{COMPLETIONS, FIRST_SIMPLE};
 ghost use Rattle.wait_rule.specs.Says.{RestsIn};
 

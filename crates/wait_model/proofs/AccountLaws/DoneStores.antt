@@ -45,15 +45,13 @@ all_peeks_stored entry = peeks_stored entry ENTRIES
 -- a store of a plain condition, of a done count or of a variable
 set_stored : (c : Watch) (value found : ℕ) → IsThere c → ((d : ℕ) → c ≡ watch.Done d → IsStored value found)
     → IsDoneStore (set_step c value found)
-set_stored (watch.Plain c) value found there h = tt
 set_stored (watch.Done d) value found there h = by (is_publishing (watch.Done d) found value)
   where
     by : (b : Bool) → IsDoneStore (if b then step.Publish (watch.Done d) value found
         else step.Consume (watch.Done d) value found)
     by true = h d refl
     by false = h d refl
-set_stored (watch.Bit i b) value found there h = tt
-set_stored (watch.Var v o) value found there h = tt
+set_stored _ value found there h = tt
 
 take_stored : (c : Watch) (k found : ℕ) → c ≡ watch.Plain k → IsDoneStore (step.Consume c 0 found)
 take_stored c k found e = subst (λ (w : Watch). IsDoneStore (step.Consume w 0 found)) (sym e) tt

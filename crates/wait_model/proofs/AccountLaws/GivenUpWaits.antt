@@ -194,16 +194,13 @@ module _ (s : State) (me : ℕ) (call : Call) (trail : List Event) where
   broken_finish finishing.Unlock h = broken_finished _ (is_lock call) refl h
 
   pub broken_step : (p : Point) → IsFitted call p → IsBroken call p trail → B (planned s me call p)
-  broken_step (at.Prepare preparing.Lock) f h = tt
   broken_step (at.Prepare preparing.Look) f h = both (λ b. B (look_event call b))
       (pending (state_mask (state_in call)) (s.table.task me)) (broken_signalled call _) tt
   broken_step (at.Prepare preparing.Queue) f h = either B (is_some (s.table.entry (own me))) _ _ tt tt
-  broken_step (at.Prepare preparing.State) f h = tt
   broken_step (at.Prepare preparing.Unlock) f h = broken_prepared call
   broken_step at.Test f h = either (Led (event.Load (call_number call) found)) (unset s call) _ _ tt tt
   broken_step at.Sleep f h = broken_slept call (event.Sleep (sleep_of (s.table.task me)) ∷ trail)
   broken_step (at.Leave leaving.Queue) f h = either B (is_some (s.table.entry (own me))) _ _ tt tt
-  broken_step (at.Leave leaving.Unlock) f h = tt
   broken_step (at.Finish p true) f h = broken_finish p h
   broken_step (at.Bit biting.Load) f h = broken_load (unset s call) refl f h.0 h.1
   broken_step (at.Bit biting.Sleep) f h = broken_sleep (sleep_of (s.table.task me)) (looks_in (state_in call)) h
@@ -212,11 +209,9 @@ module _ (s : State) (me : ℕ) (call : Call) (trail : List Event) where
   broken_step (at.Bit (biting.Again failed)) f h = broken_again
       (ask call (seen_by s me call (at.Bit (biting.Again failed)))) (unset s call) failed h
       (ask_finishes (seen_by s me call (at.Bit (biting.Again failed))) (is_lock call) refl)
-  broken_step (at.Await (awaiting.Lock waited)) f h = tt
   broken_step (at.Await (awaiting.Load waited)) f h = broken_await waited _ _
-  broken_step (at.Await (awaiting.Run true)) f h = tt
   broken_step (at.Await (awaiting.Off true)) f h = either B (is_some (s.table.entry (own me))) _ _ tt tt
-  broken_step p f h = aside_step s me call B (λ e a. tt) (λ e q. broken_aside q e) p tt
+  broken_step p f h = grind arith
 
 -- a call that is opened is in no such turn
 pub start_broken : (call : Call) (trail : List Event) → IsBroken call (program_start call) trail

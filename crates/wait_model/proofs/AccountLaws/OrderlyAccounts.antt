@@ -119,24 +119,15 @@ call_told call w false o seen hit x e = next_told call w o seen hit x e
 
 walk_told : (s : State) (me : ℕ) (call : Call) (p : WalkPoint) (k : ℕ) (x : Walked) → IsChosen call (at.Walk p) k
     → (planned s me call (at.Walk p)).next ≡ next.Ends (answer.Walk x) → x.selected ≡ k
-walk_told s me call walking.Lock k x h e = absurd (goes_on _ x refl e)
 walk_told s me call (walking.Call w) k x h e = call_told call (reached w seen.calls) seen.breaks seen.called seen
     (meets (mask_of (mode_of call)) seen.other.state) x e ∙ sym h.0
   where
     seen : Seen
     seen = seen_by s me call (at.Walk (walking.Call w))
-walk_told s me call (walking.Bit w c) k x h e = absurd (goes_on _ x refl e)
-walk_told s me call (walking.Wake w c) k x h e = absurd (goes_on _ x refl e)
 walk_told s me call (walking.Page staging.Try w c) k x h e = absurd (goes_on _ x refl e)
-walk_told s me call (walking.Page staging.Hand w c) k x h e = absurd (goes_on _ x refl e)
-walk_told s me call (walking.Page staging.Wake w c) k x h e = absurd (goes_on _ x refl e)
-walk_told s me call (walking.Page staging.Off w c) k x h e = absurd (goes_on _ x refl e)
 walk_told s me call (walking.Stopped w) k x h e = sym (ap walked_of e) ∙ sym h.0
-walk_told s me call (walking.Unqueue w who) k x h e = absurd (goes_on _ x refl e)
 walk_told s me call (walking.Spent w) k x h e = sym (ap walked_of e) ∙ sym h.0
-walk_told s me call (walking.BreakUnlock w) k x h e = absurd (goes_on _ x refl e)
-walk_told s me call (walking.BreakLock w) k x h e = absurd (goes_on _ x refl e)
-walk_told s me call (walking.Unmark w) k x h e = absurd (goes_on _ x refl e)
+walk_told s me call _ k x h e = absurd (goes_on _ x refl e)
 
 module _ (s : State) (me : ℕ) (call : Call) (a : Account) where
   abbrev Interrupts : Planned → Type 0

@@ -204,9 +204,7 @@ ArePageTrails s a = (t : ℕ) → PageTrailAt (s.progress t) (s.table.flag (own 
 
 away_trail : (q : Progress) (set : Bool) (l : List Event) → is_paging q ≡ false → PageTrailAt q set l
 away_trail (now.Open call (at.Page p)) set l h = absurd (cc)
-away_trail (now.Open call p) set l h = tt
-away_trail now.Idle set l h = tt
-away_trail now.Fresh set l h = tt
+away_trail _ set l h = tt
 
 start_trail : (call : Call) (set : Bool) (l : List Event) → PageTrailAt (now.Open call (program_start call)) set l
 start_trail (calls.LockPage w st) set l = tt

@@ -114,18 +114,10 @@ module _ (s : State) (me : ℕ) (call : Call) (trail : List Event) where
   -- the places aside of a wait's turns say nothing of them
   turn_aside : (q : Point) (e : Event) → is_aside q ≡ true → Led e q
   turn_aside (at.Prepare preparing.Lock) e h = tt
-  turn_aside (at.Prepare preparing.Look) e h = absurd (cc)
-  turn_aside (at.Leave leaving.Queue) e h = absurd (cc)
-  turn_aside (at.Leave leaving.Unlock) e h = absurd (cc)
-  turn_aside (at.Leave leaving.Load) e h = absurd (cc)
-  turn_aside (at.Await (awaiting.Load waited)) e h = absurd (cc)
-  turn_aside (at.Await (awaiting.Run true)) e h = absurd (cc)
-  turn_aside (at.Await (awaiting.Off true)) e h = absurd (cc)
-  turn_aside (at.Await (awaiting.Last true)) e h = absurd (cc)
   turn_aside (at.Await (awaiting.Run false)) e h = tt
   turn_aside (at.Await (awaiting.Off false)) e h = tt
   turn_aside (at.Await (awaiting.Last false)) e h = tt
-  turn_aside q e h = tt
+  turn_aside q e h = grind arith
 
   -- the load of a wait for a completion in its hold
   turn_load : (waited zero : Bool) (v : ℕ) → (v == 0) ≡ zero → is_await call ≡ true
@@ -166,10 +158,8 @@ module _ (s : State) (me : ℕ) (call : Call) (trail : List Event) where
     earlier = h.0;
     turn = inr (ap (λ l. event.Unlock (call_head call) false ∷ l) h.1);
   }
-  turn_step (at.Finish finishing.State true) f h = tt
   turn_step (at.Finish finishing.Look true) f h = either T (is_some (s.table.entry (own me))) _ _ tt
       (turn_finished true _)
-  turn_step (at.Finish finishing.Lock true) f h = tt
   turn_step (at.Finish finishing.Queue true) f h = either T (is_some (s.table.entry (own me))) _ _ tt
       (turn_finished true _)
   turn_step (at.Finish finishing.Unlock true) f h = turn_finished true _
@@ -179,8 +169,6 @@ module _ (s : State) (me : ℕ) (call : Call) (trail : List Event) where
       (λ q. IsTurn call q me (event.Look true ∷ trail)) (is_lock call) _ _ tt tt) tt
   turn_step (at.Bit (biting.Again failed)) f h = either
       (Led (ask call (seen_by s me call (at.Bit (biting.Again failed))))) (unset s call && not failed) _ _ tt tt
-  turn_step (at.Bit biting.Load) f h = tt
-  turn_step (at.Bit biting.Sleep) f h = tt
   turn_step (at.Await (awaiting.Lock waited)) f h = (trail, refl)
   turn_step (at.Await (awaiting.Load waited)) f h = turn_load waited (value_of s.table.words (call_watch call) == 0)
       (value_of s.table.words (call_watch call)) refl f h.0 h.1
@@ -191,7 +179,7 @@ module _ (s : State) (me : ℕ) (call : Call) (trail : List Event) where
       (at.Await (awaiting.Run false)) tt
   turn_step (at.Await (awaiting.Off false)) f h = aside_step s me call T (λ e a. tt) (λ e q. turn_aside q e)
       (at.Await (awaiting.Off false)) tt
-  turn_step p f h = aside_step s me call T (λ e a. tt) (λ e q. turn_aside q e) p tt
+  turn_step p f h = grind arith
 
 -- the member that a walk calls is an entry of the queue
 abbrev IsCalled : List Member → Option Member → Type 0
@@ -482,10 +470,8 @@ module _ (s : State) (n me : ℕ) (call : Call) (k : ℕ) (sound : IsSound s n) 
   page_chosen paging.First = either C (unset s call) _ _ tt tt
   page_chosen paging.Queue = both (λ b. C (page_queue call b)) (seen_by s me call (at.Page paging.Queue)).worn tt tt
   page_chosen (paging.Unlock true) = tt
-  page_chosen (paging.Unlock false) = tt
   page_chosen (paging.Finish finishing.Look) = either C (is_some (s.table.entry (own me))) _ _ tt tt
   page_chosen (paging.Finish finishing.Queue) = either C (is_some (s.table.entry (own me))) _ _ tt tt
-  page_chosen (paging.Finish p) = tt
   page_chosen paging.Last = both (λ b. C (page_last b)) (seen_by s me call (at.Page paging.Last)).flag tt tt
   page_chosen p = tt
 
@@ -501,11 +487,8 @@ module _ (s : State) (n me : ℕ) (call : Call) (k : ℕ) (sound : IsSound s n) 
   chosen_step at.Test pl h = either (λ q. IsChosen call q (k + 0)) (unset s call) _ _ tt tt
   chosen_step (at.Leave leaving.Queue) pl h = either C (is_some (s.table.entry (own me))) _ _ tt tt
   chosen_step (at.Leave leaving.Load) pl h = either C (unset s call) _ _ tt tt
-  chosen_step (at.Leave leaving.Unlock) pl h = tt
-  chosen_step (at.Finish finishing.State failed) pl h = tt
   chosen_step (at.Finish finishing.Look failed) pl h = either C (is_some (s.table.entry (own me))) _ _ tt
       (chosen_finished failed _)
-  chosen_step (at.Finish finishing.Lock failed) pl h = tt
   chosen_step (at.Finish finishing.Queue failed) pl h = either C (is_some (s.table.entry (own me))) _ _ tt
       (chosen_finished failed _)
   chosen_step (at.Finish finishing.Unlock failed) pl h = chosen_finished failed _
@@ -520,32 +503,16 @@ module _ (s : State) (n me : ℕ) (call : Call) (k : ℕ) (sound : IsSound s n) 
   chosen_step at.Publish pl h = omega (arith, h, published_selects call)
   chosen_step at.Active pl h = chosen_active (seen_by s me call at.Active).members h
   chosen_step (at.Add adding.Lock) pl h = tt
-  chosen_step (at.Add adding.Queue) pl h = tt
-  chosen_step (at.Add adding.Unlock) pl h = tt
   chosen_step (at.Remove removing.Lock) pl h = tt
-  chosen_step (at.Remove (removing.Queue c)) pl h = tt
-  chosen_step (at.Remove (removing.Unlock c)) pl h = tt
   chosen_step (at.Woken hearing.State) pl h = tt
-  chosen_step (at.Select selecting.Lock) pl h = tt
-  chosen_step (at.Select selecting.Load) pl h = tt
-  chosen_step (at.Select selecting.Store) pl h = tt
   chosen_step (at.Select (selecting.Next i)) pl h = either C (is_enough call i) _ _ tt (chosen_select i _ _)
-  chosen_step (at.Select (selecting.Off i who)) pl h = tt
-  chosen_step (at.Await (awaiting.Lock waited)) pl h = tt
   chosen_step (at.Await (awaiting.Load waited)) pl h = chosen_await waited _ _
-  chosen_step (at.Await (awaiting.Run stopped)) pl h = tt
   chosen_step (at.Await (awaiting.Off true)) pl h = either C (is_some (s.table.entry (own me))) _ _ tt tt
   chosen_step (at.Await (awaiting.Off false)) pl h = either C (is_some (s.table.entry (own me))) _ _ tt
       (either C (is_at_end (value_of s.table.words (call_watch call))) _ _ tt tt)
-  chosen_step (at.Await (awaiting.Last true)) pl h = tt
   chosen_step (at.Await (awaiting.Last false)) pl h =
       either C (is_at_end (value_of s.table.words (call_watch call))) _ _ tt tt
-  chosen_step (at.Await awaiting.Unlock) pl h = tt
   chosen_step (at.Count counting.Peek) pl h = either C (value_of s.table.words (call_watch call) == 0) _ _ tt tt
-  chosen_step (at.Count counting.Lock) pl h = tt
-  chosen_step (at.Count counting.Load) pl h = tt
-  chosen_step (at.Count counting.Store) pl h = tt
-  chosen_step (at.Count (counting.Unlock hit)) pl h = tt
   chosen_step (at.Page p) pl h = page_chosen p
   chosen_step p pl h = tt
 
@@ -556,6 +523,4 @@ start_turn call me trail = tt
 
 pub start_chosen : (call : Call) → IsChosen call (program_start call) 0
 start_chosen (calls.Wake c m n) = refl
-start_chosen (calls.ClearBit w b) = refl
-start_chosen (calls.SetVar v x) = refl
-start_chosen call = tt
+start_chosen call = cc

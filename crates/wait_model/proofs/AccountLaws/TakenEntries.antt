@@ -114,9 +114,6 @@ module _ (s : State) (me : ℕ) (call : Call) (k : ℕ) where
 
   prepared_off : (c : Call) (j : ℕ) → is_selection c ≡ false → TookOff c (prepared_at c) j
   prepared_off (calls.WaitFor d st) j h = h
-  prepared_off (calls.WaitBit w b st) j h = h
-  prepared_off (calls.LockBit w b st) j h = h
-  prepared_off calls.Remove j h = h
   prepared_off c j h = h
 
   slept_off : (c : Call) (j : ℕ) → is_selection c ≡ false → TookOff c (slept_at c) j
@@ -147,11 +144,7 @@ module _ (s : State) (me : ℕ) (call : Call) (k : ℕ) where
     entry_off : (w : Walking) (c : CalledEntry) (j : Kind) (seen : Seen) (hit : Bool)
         → T (call_entry (call_aim call) w c j seen hit)
     entry_off w c kind.Autoremove seen hit = h
-    entry_off w c kind.Woken seen hit = h
-    entry_off w c kind.Bit seen hit = h
-    entry_off w c kind.Var seen hit = h
-    entry_off w c kind.Page seen hit = h
-    entry_off w c j seen hit = onward_off (past w c hit) _
+    entry_off w c j seen hit = grind arith
 
     called_off : (w : Walking) (o : Option CalledEntry) (seen : Seen) (hit : Bool)
         → T (call_next (call_aim call) w o seen hit)
@@ -169,9 +162,6 @@ module _ (s : State) (me : ℕ) (call : Call) (k : ℕ) where
     walk_off (walking.Spent w) = tt
     walk_off (walking.Stopped w) = tt
     walk_off (walking.Page staging.Off w c) = onward_off (past w c true) _
-    walk_off (walking.Page staging.Try w c) = h
-    walk_off (walking.Page staging.Hand w c) = h
-    walk_off (walking.Page staging.Wake w c) = h
     walk_off p = h
 
   pub off_step : (p : Point) → TookOff call p k → T (planned s me call p)
@@ -182,17 +172,13 @@ module _ (s : State) (me : ℕ) (call : Call) (k : ℕ) where
       (pending (state_mask (state_in call)) (s.table.task me)) (signalled_off call _ h) h
   off_step (at.Prepare preparing.Queue) h = either T (is_some (s.table.entry (own me))) _ _ h h
   off_step (at.Prepare preparing.Unlock) h = prepared_off call _ h
-  off_step (at.Prepare p) h = h
   off_step at.Sleep h = slept_off call _ h
   off_step at.Test h = either (λ q. TookOff call q (k + 0)) (unset s call) _ _ h h
   off_step at.Worn h = either T (unset s call) _ _ tt (either T (is_lock call) _ _ tt h)
   off_step (at.Leave leaving.Queue) h = either T (is_some (s.table.entry (own me))) _ _ h h
   off_step (at.Leave leaving.Load) h = either T (unset s call) _ _ tt h
-  off_step (at.Leave leaving.Unlock) h = h
-  off_step (at.Finish finishing.State failed) h = h
   off_step (at.Finish finishing.Look failed) h = either T (is_some (s.table.entry (own me))) _ _ h
       (finished_off h failed _)
-  off_step (at.Finish finishing.Lock failed) h = h
   off_step (at.Finish finishing.Queue failed) h = either T (is_some (s.table.entry (own me))) _ _ h
       (finished_off h failed _)
   off_step (at.Finish finishing.Unlock failed) h = finished_off h failed _
@@ -205,37 +191,26 @@ module _ (s : State) (me : ℕ) (call : Call) (k : ℕ) where
   off_step (at.Bit (biting.Again failed)) h = either
       (λ q. TookOff call q (k + unqueues (ask call (seen_by s me call (at.Bit (biting.Again failed))))))
       (unset s call && not failed) _ _ h h
-  off_step (at.Bit p) h = h
   off_step at.Active h = active_off h (seen_by s me call at.Active).members
   off_step (at.Add adding.Unlock) h = tt
-  off_step (at.Add p) h = h
   off_step (at.Remove (removing.Unlock c)) h = tt
-  off_step (at.Remove p) h = h
   off_step (at.Woken hearing.Clear) h = tt
-  off_step (at.Woken p) h = h
   off_step (at.Await (awaiting.Load waited)) h = await_off h waited _ _
   off_step (at.Await (awaiting.Off stopped)) h = either T (is_some (s.table.entry (own me))) _ _ h
       (ends_off h stopped _)
   off_step (at.Await (awaiting.Last stopped)) h = ends_off h stopped _
   off_step (at.Await awaiting.Unlock) h = tt
-  off_step (at.Await p) h = h
   off_step (at.Count counting.Peek) h = either T (value_of s.table.words (call_watch call) == 0) _ _ tt h
   off_step (at.Count (counting.Unlock hit)) h = tt
-  off_step (at.Count p) h = h
   off_step (at.Page paging.First) h = either T (unset s call) _ _ h tt
   off_step (at.Page paging.Queue) h = both (λ b. T (page_queue call b))
       (seen_by s me call (at.Page paging.Queue)).worn h h
   off_step (at.Page (paging.Unlock true)) h = tt
-  off_step (at.Page (paging.Unlock false)) h = h
   off_step (at.Page (paging.Finish finishing.Look)) h = either T (is_some (s.table.entry (own me))) _ _ h h
   off_step (at.Page (paging.Finish finishing.Queue)) h = either T (is_some (s.table.entry (own me))) _ _ h h
-  off_step (at.Page (paging.Finish p)) h = h
   off_step (at.Page paging.Last) h = both (λ b. T (page_last b)) (seen_by s me call (at.Page paging.Last)).flag h tt
   off_step (at.Page paging.Clear) h = tt
-  off_step (at.Page p) h = h
-  off_step at.Publish h = h
-  off_step at.Raise h = h
-  off_step p h = tt
+  off_step p h = assumption
 
   -- no event takes off more than the count leaves
   abbrev Below : Planned → Type 0
@@ -247,15 +222,12 @@ module _ (s : State) (me : ℕ) (call : Call) (k : ℕ) where
 
   pub off_below : (p : Point) → TookOff call p k → is_selection call ≡ true → 0 < count_of call
       → Below (planned s me call p)
-  off_below (at.Select selecting.Lock) h is c = omega (arith, h)
-  off_below (at.Select selecting.Load) h is c = omega (arith, h)
-  off_below (at.Select selecting.Store) h is c = omega (arith, h)
   off_below (at.Select (selecting.Next i)) h is c =
       let l : i ≤ count_of call = h.1 c in
       either Below (is_enough call i) _ _ (omega (arith, h.0)) (next_below i _ _ (omega (arith, h.0)))
   off_below (at.Select (selecting.Off i who)) h is c =
       let l : i ≤ count_of call = h.1 c in omega (arith, h.0)
-  off_below p h is c = absurd (both_ways true (sym is ∙ h) refl)
+  off_below p h is c = grind arith
 
 -- whether a call ends there, and what it answers then
 abbrev ends : Next → Bool
@@ -287,10 +259,6 @@ module _ (s : State) (me c : ℕ) (all : Bool) (k : ℕ) where
 
   pub off_told : (p : Point) (x : Answer) → TookOff call p k → (planned s me call p).next ≡ next.Ends x
       → x ≡ answer.Number (pos k)
-  off_told (at.Select selecting.Lock) x h e = absurd (both_ways false refl (ap ends e))
-  off_told (at.Select selecting.Load) x h e = absurd (both_ways false refl (ap ends e))
-  off_told (at.Select selecting.Store) x h e = absurd (both_ways false refl (ap ends e))
   off_told (at.Select (selecting.Next i)) x h e = either Told (is_enough call i) _ _ (λ y. ended i y h.0)
       (next_told i _ _ h.0) x e
-  off_told (at.Select (selecting.Off i who)) x h e = absurd (both_ways false refl (ap ends e))
-  off_told p x h e = absurd (both_ways true h refl)
+  off_told p x h e = grind arith

@@ -18,16 +18,12 @@ use Rattle.wait_model.specs.declared.watches.Watch.TheVariants as watch
 
 -- a store of a watch that exists, and an exchange
 published_low : (w : Words) (c : Watch) (n : ℕ) → AreBitsLow w → AreBitsLow (publish w c n)
-published_low w (watch.Plain c) n low = low
-published_low w (watch.Done d) n low = low
 published_low w (watch.Bit i b) n low = low_published w i b n low
-published_low w (watch.Var v o) n low = low
+published_low w _ n low = low
 
 consumed_low : (w : Words) (c : Watch) (n : ℕ) → IsThere c → AreBitsLow w → AreBitsLow (consume w c n)
-consumed_low w (watch.Plain c) n there low = low
-consumed_low w (watch.Done d) n there low = low
 consumed_low w (watch.Bit i b) n there low = low_consumed w i b n there.1 low
-consumed_low w (watch.Var v o) n there low = low
+consumed_low w _ n there low = low
 
 module _ (s : State) (me : ℕ) (g : Given) (low : AreBitsLow s.table.words) where
   stored_low : (b : Bool) (n found : ℕ) → IsThere g.watch → AreBitsLow (next s.table me (if b

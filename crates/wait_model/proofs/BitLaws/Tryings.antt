@@ -33,9 +33,7 @@ told_by r set unset eq es s = ap (λ (t : List Step). r (view_of t)) s.split
 
 bit_same : (w b : ℕ) (c : Watch) → (is_bit c && same (watch.Bit w b) c) ≡ same (watch.Bit w b) c
 bit_same w b (watch.Plain c) = refl
-bit_same w b (watch.Done c) = refl
-bit_same w b (watch.Bit v a) = refl
-bit_same w b (watch.Var v o) = refl
+bit_same w b _ = refl
 
 -- the entries that the task has queued for the bit and knows to be queued
 queued : ℕ → ℕ → ℕ → View → Bool

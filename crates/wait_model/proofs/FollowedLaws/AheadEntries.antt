@@ -115,9 +115,7 @@ walk_mode call h = refl
 
 walk_done : (call : Call) → is_walk call ≡ true → is_done (call_watch call) ≡ false
 walk_done (calls.Wake c m n) h = refl
-walk_done (calls.ClearBit w b) h = refl
-walk_done (calls.SetVar v x) h = refl
-walk_done call h = absurd (cc)
+walk_done call h = cc
 
 pub walks_none_done : (call : Call) (on : Watch) → walks_for call on ≡ true → is_done on ≡ true → ⊥
 walks_none_done call on h d =

@@ -310,9 +310,7 @@ module _ (me : ℕ) (on : Watch) where
 
     done_publish : (v : View) (d : Watch) → is_done d ≡ true → MayPublish v d → v.hold.head ≡ Some (head_of d)
     done_publish v (watch.Done d) h may = may
-    done_publish v (watch.Plain d) h may = absurd (cc)
-    done_publish v (watch.Bit i b) h may = absurd (cc)
-    done_publish v (watch.Var i o) h may = absurd (cc)
+    done_publish v _ h may = absurd (cc)
 
     holds_head : is_done on ≡ true → (s.table.view me).hold.head ≡ Some (head_of on)
     holds_head d =

@@ -96,19 +96,12 @@ goes_on p a h = cc
 entry_on : (aim : Aim) (w : Walking) (c : CalledEntry) (k : Kind) (seen : Seen) (hit : Bool) (a : Answer)
     → (call_entry aim w c k seen hit).next ≡ next.Ends a → ⊥
 entry_on aim w c kind.Default seen hit a h = goes_on _ a h
-entry_on aim w c kind.Autoremove seen hit a h = goes_on _ a h
-entry_on aim w c kind.Woken seen hit a h = goes_on _ a h
-entry_on aim w c kind.Bit seen hit a h = goes_on _ a h
-entry_on aim w c kind.Var seen hit a h = goes_on _ a h
-entry_on aim w c kind.Simple seen hit a h = goes_on _ a h
-entry_on aim w c kind.Page seen hit a h = goes_on _ a h
+entry_on aim w c _ seen hit a h = goes_on _ a h
 
 hands_on : (aim : Aim) (st : PageStage) (w : Walking) (c : CalledEntry) (seen : Seen) (a : Answer)
     → (hands_event aim st w c seen).next ≡ next.Ends a → ⊥
 hands_on aim staging.Try w c seen a h = goes_on _ a h
-hands_on aim staging.Hand w c seen a h = goes_on _ a h
-hands_on aim staging.Wake w c seen a h = goes_on _ a h
-hands_on aim staging.Off w c seen a h = goes_on _ a h
+hands_on aim _ w c seen a h = goes_on _ a h
 
 -- a walk that ended otherwise, and a selection that used up its count, did not come to their ends
 not_whole : (w : Walked) (e : Event) (a : Answer) → next.Ends (answers.Walk w) ≡ next.Ends a → is_end w.end ≡ false
@@ -197,19 +190,13 @@ module _ (s : State) (n me : ℕ) (call : Call) (on : Watch) (sound : IsSound s 
   walk_ends : (p : WalkPoint) → IsCallSound n call (at.Walk p) → is_at_home call (at.Walk p) ≡ true
       → Ends (at.Walk p) (planned s me call (at.Walk p))
   walk_ends (walking.Call w) k home a end whole = turn_ends w k home (r w k home).breaks refl a end whole
-  walk_ends (walking.Wake w c) k home a end whole = absurd (goes_on _ a end)
-  walk_ends (walking.Unqueue w who) k home a end whole = absurd (goes_on _ a end)
   walk_ends (walking.Spent w) k home a end whole = absurd (not_whole _ (event.Unlock (call_head call) true) a end
       refl whole)
   walk_ends (walking.Stopped w) k home a end whole = absurd (not_whole _ (event.Unlock (call_head call) false) a end
       refl whole)
   walk_ends (walking.Page st w c) k home a end whole = absurd (hands_on (call_aim call) st w c
       (seen_by s me call (at.Walk (walking.Page st w c))) a end)
-  walk_ends walking.Lock k home a end whole = absurd (goes_on _ a end)
-  walk_ends (walking.Bit w c) k home a end whole = absurd (goes_on _ a end)
-  walk_ends (walking.BreakUnlock w) k home a end whole = absurd (goes_on _ a end)
-  walk_ends (walking.BreakLock w) k home a end whole = absurd (goes_on _ a end)
-  walk_ends (walking.Unmark w) k home a end whole = absurd (goes_on _ a end)
+  walk_ends _ k home a end whole = absurd (goes_on _ a end)
 
   -- the end of a selection: no entry is left
   none_first : (o : Option Member) → IsFirstFrom is_entry 0 (s.queue (call_head call)) o
@@ -246,10 +233,7 @@ module _ (s : State) (n me : ℕ) (call : Call) (on : Watch) (sound : IsSound s 
       by true a end whole = absurd (not_selected (call_head call) call j a end whole)
       by false a end whole = chosen_ends j (called_by s.table.entry (entry_from 0 (s.queue (call_head call)))) refl _
           a end whole
-  select_ended selecting.Lock a end whole = absurd (goes_on _ a end)
-  select_ended selecting.Load a end whole = absurd (goes_on _ a end)
-  select_ended selecting.Store a end whole = absurd (goes_on _ a end)
-  select_ended (selecting.Off j who) a end whole = absurd (goes_on _ a end)
+  select_ended _ a end whole = absurd (goes_on _ a end)
 
   -- a look without the lock that finds no member
   active_ends : (b : Bool) → has_members (s.queue (call_head call)) ≡ b → Ends at.Active (active_event call b)

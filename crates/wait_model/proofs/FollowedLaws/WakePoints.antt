@@ -139,7 +139,6 @@ next_step aim w None seen hit = record { event = refl; next = refl }
 next_step aim w (Some c) seen hit = entry_step aim w c c.kind seen hit
 
 pub walk_step : (aim : Aim) (p : WalkPoint) (seen : Seen) → IsWalkStep (walk_event aim p seen)
-walk_step aim walking.Lock seen = record { event = refl; next = refl }
 walk_step aim (walking.Call w) seen = by seen.breaks
   where
     by : (b : Bool) → IsWalkStep (if b then go (event.Mark (head_of aim.watch))
@@ -151,11 +150,7 @@ walk_step aim (walking.Wake w c) seen = on_step _ (past w c (meets (mask_of aim.
 walk_step aim (walking.Bit w c) seen = off_step _ (meets (mask_of aim.mode) seen.other.state) _ _ refl
 walk_step aim (walking.Unqueue w who) seen = on_step _ w.spent _ _ refl
 walk_step aim (walking.Page st w c) seen = hands_step aim st w c seen
-walk_step aim (walking.Spent w) seen = record { event = refl; next = refl }
-walk_step aim (walking.Stopped w) seen = record { event = refl; next = refl }
-walk_step aim (walking.BreakUnlock w) seen = record { event = refl; next = refl }
-walk_step aim (walking.BreakLock w) seen = record { event = refl; next = refl }
-walk_step aim (walking.Unmark w) seen = record { event = refl; next = refl }
+walk_step aim _ seen = record { event = refl; next = refl }
 
 -- a selection stays one or ends
 chosen_step : (call : Call) (k : ℕ) (o : Option CalledEntry) (hit : Bool)

@@ -46,9 +46,7 @@ renews _ = false
 renews_of : (e : Step) → turns_lock e ≡ false → is_publish e ≡ false → renews e ≡ false
 unfolding renews
 renews_of (step.Lock h aim w) t p = absurd (cc)
-renews_of (step.Unlock h sp) t p = absurd (cc)
-renews_of (step.Publish c n r) t p = absurd (cc)
-renews_of e t p = refl
+renews_of e t p = cc
 
 turns_of : (e : Step) → renews e ≡ false → turns_lock e ≡ false
 unfolding renews
@@ -66,9 +64,6 @@ abbrev pub cleared : Watch → ℕ → View → Bool
 cleared c x v = v.duty.cleared c x
 
 cleared_by : (c : Watch) (x : ℕ) → IsSetBy (cleared c x) (λ e v. finds_off_head c x e) (looks_anew c)
-cleared_by c x (step.Lock h aim w) v = grind arith
-cleared_by c x (step.Publish d n r) v = grind arith
-cleared_by c x (step.Peek y w) v = grind arith
 cleared_by c x (step.Scan h i w) v = by_scan (head_of c == h) (w == 0) (part_of x == i) (v.duty.cleared c x)
   where
     by_scan : (at clear has old : Bool)
@@ -76,7 +71,7 @@ cleared_by c x (step.Scan h i w) v = by_scan (head_of c == h) (w == 0) (part_of 
         ≡ ((at && (clear && has)) || (old && not (at && not clear)))
     by_scan at clear has old = grind arith
 cleared_by c x (step.Unlock h sp) v = unlock_cleared v v.walk sp c x ∙ kept_so (v.duty.cleared c x)
-cleared_by c x e v = kept_so (v.duty.cleared c x)
+cleared_by c x e v = grind arith
 
 -- calls of entries
 called : ℕ → View → Bool

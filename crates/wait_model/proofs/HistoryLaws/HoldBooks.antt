@@ -33,10 +33,7 @@ book_kept : (e : Step) (v : View) (x : ℕ) → turns_lock e ≡ false → tells
     → (after e v).hold.book x ≡ v.hold.book x
 book_kept (step.Lock i aim w) v x t n = absurd (cc)
 book_kept (step.Unlock i sp) v x t n = absurd (cc)
-book_kept (step.Saw y w) v x t n = rw n refl
-book_kept (step.Queue y e) v x t n = rw n refl
-book_kept (step.Unqueue y) v x t n = rw n refl
-book_kept e v x t n = refl
+book_kept e v x t n = cc
 
 book_set : (e : Step) (v : View) (h x : ℕ) → v.hold.head ≡ Some h → tells x e ≡ true
     → (after e v).hold.book x ≡ look_of h e

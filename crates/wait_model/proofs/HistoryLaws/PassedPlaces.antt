@@ -108,15 +108,12 @@ all_past gone_at stop until es c σ k w at by is h = all_passed_of (view_of es) 
 -- a walk that its last unlock left at the bookmark
 goes_on : (a : Aim) (w : Walk) (e : Step) (v : View) → same a.watch w.watch ≡ true → w.mask ≡ mask_of a.mode
     → leaves a e ≡ false → v.walk ≡ Some w → (after e v).walk ≡ Some w
-goes_on a w (step.Lock h None f) v s m l is = absurd (cc)
 goes_on a w (step.Lock h (Some b) f) v s m l is =
     let g : same b.watch a.watch ≡ true = grind arith in
     let n : (mask_of a.mode == mask_of b.mode) ≡ true = grind arith in
     let t : same b.watch w.watch ≡ true = sym (same_trans b.watch a.watch w.watch g) ∙ s in
     ap (λ (o : Option Walk). begun o (Some b)) is ∙ rw (t, m, n) refl
-goes_on a w (step.Unlock h sp) v s m l is = absurd (cc)
-goes_on a w (step.Publish c n r) v s m l is = absurd (cc)
-goes_on a w e v s m l is = is
+goes_on a w e v s m l is = grind arith
 
 stays_on : (a : Aim) (w : Walk) (es : List Step) (v : View) → same a.watch w.watch ≡ true
     → w.mask ≡ mask_of a.mode → Lacks (leaves a) es → v.walk ≡ Some w → (after_all v es).walk ≡ Some w

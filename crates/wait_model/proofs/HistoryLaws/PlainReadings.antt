@@ -104,25 +104,7 @@ owes_after (step.Publish d n r) v c σ = grind arith
 owes_after (step.Unlock h sp) v c σ = owes_unlocked v v.walk sp c σ
 owes_after (step.Peek y w) v c σ = refl
 owes_after (step.Scan h i w) v c σ = refl
-owes_after (step.State τ) v c σ = stays (v.duty.owes c σ)
-owes_after (step.Queue y d) v c σ = stays (v.duty.owes c σ)
-owes_after (step.Load l r) v c σ = stays (v.duty.owes c σ)
-owes_after (step.Sleep w) v c σ = stays (v.duty.owes c σ)
-owes_after (step.Wake who mask w) v c σ = stays (v.duty.owes c σ)
-owes_after (step.Signal who fatal w) v c σ = stays (v.duty.owes c σ)
-owes_after (step.Accept w) v c σ = stays (v.duty.owes c σ)
-owes_after (step.Look w) v c σ = stays (v.duty.owes c σ)
-owes_after (step.Lock h aim w) v c σ = stays (v.duty.owes c σ)
-owes_after (step.Saw y w) v c σ = stays (v.duty.owes c σ)
-owes_after (step.Unqueue y) v c σ = stays (v.duty.owes c σ)
-owes_after (step.Mark h q) v c σ = stays (v.duty.owes c σ)
-owes_after step.Unmark v c σ = stays (v.duty.owes c σ)
-owes_after (step.Consume d n r) v c σ = stays (v.duty.owes c σ)
-owes_after (step.Woken y) v c σ = stays (v.duty.owes c σ)
-owes_after (step.Unflag y o) v c σ = stays (v.duty.owes c σ)
-owes_after (step.TasFor y p r) v c σ = stays (v.duty.owes c σ)
-owes_after (step.Handed y) v c σ = stays (v.duty.owes c σ)
-owes_after (step.Flag y w) v c σ = stays (v.duty.owes c σ)
+owes_after _ v c σ = stays (v.duty.owes c σ)
 
 -- a publish of the steps that is still owed, or one from before them
 pub record OwingFrom (v : View) (es : List Step) (c : Watch) (σ : ℕ) : Type 0 where

@@ -88,7 +88,6 @@ load_apart d x v w (watch.Var i o) r h = refl
 
 pub store_apart : (d x : ℕ) (v : View) (w : Dealt) (c : Watch) (n r : ℕ) → same c (watch.Done d) ≡ false
     → (deals d x v w (step.Publish c n r) ≡ w) × (deals d x v w (step.Consume c n r) ≡ w)
-store_apart d x v w (watch.Plain c) n r h = (refl, refl)
 store_apart d x v w (watch.Done c) n r h =
     let same : (deals d x v w (step.Publish (watch.Done c) n r)) ≡ w = ap (λ (b : Bool). record {
       left = w.left;
@@ -96,8 +95,7 @@ store_apart d x v w (watch.Done c) n r h =
       count = if b then Some n else w.count;
     }) h in
     (same, same)
-store_apart d x v w (watch.Bit i b) n r h = (refl, refl)
-store_apart d x v w (watch.Var i o) n r h = (refl, refl)
+store_apart d x v w _ n r h = (refl, refl)
 
 pub set_apart : (d x : ℕ) (v : View) (w : Dealt) (c : Watch) (n r : ℕ) → same c (watch.Done d) ≡ false
     → deals d x v w (set_step c n r) ≡ w

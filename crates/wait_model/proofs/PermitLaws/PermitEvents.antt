@@ -52,10 +52,8 @@ use Rattle.wait_model.proofs.PermitLaws.OwnTurns.{clash, flag_small, held_is}
 
 -- a book that shows an entry at the head tells that it stands there
 pub shows_stands : (h : ℕ) (l : Look) (o : Option Entry) → Agrees h l o → shows_at h l ≡ true → stands_at o h ≡ true
-shows_stands h unseen o ag sh = absurd (cc)
-shows_stands h off o ag sh = absurd (cc)
-shows_stands h elsewhere o ag sh = absurd (cc)
 shows_stands h (shown e) o ag sh = ap (λ (p : Option Entry). stands_at p h) ag.0 ∙ sh
+shows_stands h _ o ag sh = absurd (cc)
 
 pub shows_none : (h : ℕ) (l : Look) (o : Option Entry) → Agrees h l o → stands_at o h ≡ false → shows_at h l ≡ false
 shows_none h l o ag st = by (shows_at h l) refl
@@ -77,12 +75,8 @@ await_points call h = absurd (cc)
 -- how many entries a call about a completion selects
 pub count_cases : (call : Call) (d : ℕ) → is_about d call ≡ true → (count_of call ≡ 0) ⊎ (count_of call ≡ 1)
 count_cases (calls.Complete c) d h = inr refl
-count_cases (calls.Wake c m n) d h = absurd (cc)
-count_cases (calls.SimpleWake c all) d h = absurd (cc)
 count_cases calls.Remove d h = inl refl
-count_cases (calls.ClearBit w b) d h = absurd (cc)
-count_cases (calls.SetVar v x) d h = absurd (cc)
-count_cases call d h = inl refl
+count_cases call d h = grind arith
 
 pub select_begins : (call : Call) (d : ℕ) (w : Dealt) → is_about d call ≡ true → is_await call ≡ false → w.debt ≡ 0
     → DealtAt call (at.Select (select_from call)) w

@@ -67,10 +67,8 @@ watch_of_head (watch.Var v o) d h e =
     absurd (let l : hashed (BIT_WORDS + v) < HASHED_HEADS = hashed_small (BIT_WORDS + v) in omega (arith, l, e))
 
 about_is : (c : Watch) (d : ℕ) → same c (watch.Done d) ≡ true → c ≡ watch.Done d
-about_is (watch.Plain c) d h = absurd (cc)
 about_is (watch.Done c) d h = let q : c ≡ d = grind arith in ap watch.Done q
-about_is (watch.Bit i b) d h = absurd (cc)
-about_is (watch.Var v o) d h = absurd (cc)
+about_is _ d h = absurd (cc)
 
 -- a call that is about something else
 module _ (s : State) (me : ℕ) (call : Call) (p : Point) (d : ℕ) (k : Kept s.table) (there : IsThere (call_watch call))
@@ -217,13 +215,8 @@ others_stand s me t d call p e ne st = st
 
 -- where a call begins
 start_place : (call : Call) (d : ℕ) (w : Dealt) → is_about d call ≡ true → DealtAt call (program_start call) w
-start_place (calls.Complete c) d w h = refl
-start_place (calls.CompleteAll c) d w h = refl
-start_place (calls.Reinit c) d w h = refl
 start_place (calls.WaitFor c st) d w h = tt
-start_place (calls.TryWait c) d w h = refl
-start_place (calls.IsDone c) d w h = refl
-start_place call d w h = absurd (cc)
+start_place call d w h = cc
 
 closed_dealt : (d : ℕ) (entry : ℕ → Option Entry) (t : ℕ) (q : Progress) (w : Dealt) → is_open q ≡ false
     → IsDealt d entry t q w → (w.left ≡ false) × (stands_at (entry (own t)) (done_head d) ≡ false) × (w.debt ≡ 0)

@@ -50,15 +50,11 @@ seen_shows h (shown e) o ag ne st = let q : head_of e.watch ≡ h = ag.1 in grin
 
 pub seen_of : (l : Look) → l ≢ unseen → is_seen l ≡ true
 seen_of unseen ne = absurd (ne refl)
-seen_of off ne = refl
-seen_of elsewhere ne = refl
-seen_of (shown e) ne = refl
+seen_of _ ne = refl
 
 pub not_unseen : (l : Look) → is_seen l ≡ true → l ≢ unseen
 not_unseen unseen s q = cc
-not_unseen off s q = cc
-not_unseen elsewhere s q = cc
-not_unseen (shown e) s q = cc
+not_unseen _ s q = cc
 
 pub look_seen : (h : ℕ) (o : Option Entry) → is_seen (look_at (Some h) o) ≡ true
 look_seen h None = refl

@@ -100,10 +100,8 @@ module _ (entry : ℕ → Option Entry) (mark : ℕ → Option Mark) (queue : �
 
     shared : (c : Watch) → (is_var c ≡ true → is_exclusive form ≡ false) → is_var (bare c) ≡ true
         → (is_exclusive form && not (is_simple g.kind)) ≡ false
-    shared (watch.Plain c) w v = absurd (cc)
-    shared (watch.Done d) w v = absurd (cc)
-    shared (watch.Bit i b) w v = absurd (cc)
     shared (watch.Var u o) w v = ap (λ b. b && not (is_simple g.kind)) (w refl)
+    shared _ w v = absurd (cc)
 
     queued : IsQueued (n + 1) (own me) it
     queued = record {

@@ -45,10 +45,8 @@ no_await (calls.WaitFor d st) h = absurd (cc)
 no_await call h = refl
 
 bit_is : (c : Watch) → is_bit c ≡ true → c ≡ watch.Bit (word_of c) (bit_of c)
-bit_is (watch.Plain c) h = absurd (cc)
-bit_is (watch.Done d) h = absurd (cc)
 bit_is (watch.Bit w b) h = refl
-bit_is (watch.Var v o) h = absurd (cc)
+bit_is _ h = absurd (cc)
 
 module _ (s : State) (n me : ℕ) (call : Call) (sound : IsSound s n) (mine : me < TASKS) where
   abbrev F : Point → Planned → Type 0

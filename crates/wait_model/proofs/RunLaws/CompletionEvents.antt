@@ -69,10 +69,8 @@ count_begins call h = record { held = refl; numbers = λ n. tt; fitted = h; take
 
 -- a done count is no word of bits
 done_word : (c : Watch) → is_done c ≡ true → is_bit c ≡ false
-done_word (watch.Plain c) h = refl
-done_word (watch.Done d) h = refl
 done_word (watch.Bit i b) h = absurd (cc)
-done_word (watch.Var v o) h = refl
+done_word _ h = refl
 
 completed_counts : (call : Call) (done : ℕ) → IsStored (completed call done) done
 completed_counts (calls.CompleteAll d) done = (omega arith, inr (inr (inr refl)))

@@ -75,14 +75,7 @@ IsStill _ = Unit {0}
 module _ (s : State) (me : ℕ) (g : Given) where
   still_entry : (e : Event) → IsStill e → (steps s.table me (event_steps s me g e)).entry ≡ s.table.entry
   still_entry (event.Lock h) i = absurd i
-  still_entry (event.Unlock h used) i = absurd i
-  still_entry (event.Queue h form) i = absurd i
-  still_entry (event.Unqueue who) i = absurd i
-  still_entry (event.Set c v) i = absurd i
-  still_entry (event.Mark h) i = absurd i
-  still_entry (event.Unmark h) i = absurd i
-  still_entry (event.Active h hit) i = absurd i
-  still_entry e i = refl
+  still_entry e i = grind arith
 
   still_head : (e : Event) (v : View) → IsStill e → (after_all v (event_steps s me g e)).hold.head ≡ v.hold.head
   still_head (event.Lock h) v i = absurd i
@@ -106,14 +99,7 @@ module _ (s : State) (me : ℕ) (g : Given) where
 
   still_changes : (e : Event) → IsStill e → Changes s me e
   still_changes (event.Lock h) i = absurd i
-  still_changes (event.Unlock h used) i = absurd i
-  still_changes (event.Queue h form) i = absurd i
-  still_changes (event.Unqueue who) i = absurd i
-  still_changes (event.Set c v) i = absurd i
-  still_changes (event.Mark h) i = absurd i
-  still_changes (event.Unmark h) i = absurd i
-  still_changes event.Unflag i = absurd i
-  still_changes e i = tt
+  still_changes e i = grind arith
 
 module _ (s : State) (n me : ℕ) (call : Call) (sound : IsSound s n) (mine : me < TASKS) where
   -- the event is allowed, so are its word steps unless its lock is held, and the task stands where the
@@ -161,8 +147,6 @@ module _ (s : State) (n me : ℕ) (call : Call) (sound : IsSound s n) (mine : me
   unflagged : (q : Progress) (entry : ℕ → Option Entry) → stands_between q ≡ false → (c : CalledEntry)
       → flagged_by q ≡ Some c → IsFlagged entry c (held_at q) (aimed_by q)
   unflagged (now.Open d (at.Walk (walking.Wake w u))) entry none c t = absurd (cc)
-  unflagged (now.Open d (at.Walk (walking.Bit w u))) entry none c t = absurd (cc)
-  unflagged (now.Open d (at.Walk (walking.Page st w u))) entry none c t = absurd (cc)
   unflagged q entry none c t = absurd (cc)
 
   module _ (p : Point) (pl : IsPlaced s.table.entry (s.table.view me) me (now.Open call p)) where

@@ -54,13 +54,10 @@ goes_not_stands k is s = absurd (both_ways true (sym s ∙ is) refl)
 -- where such an entry may be queued, it may be off too, but for a page's in the hold in which it was queued
 home_dropped : (z : Zone) (c : Watch) (e : Entry) → IsGoing e.kind → (z ≡ seated → ⊥) → IsHome z c (Some e)
     → IsHome z c None
-home_dropped absent c e k n h = tt
-home_dropped waits c e k n h = tt
-home_dropped free c e k n h = tt
 home_dropped stands c e k n h = goes_not_stands e.kind k h
-home_dropped pages c e k n h = tt
 home_dropped seated c e k n h = n refl
 home_dropped (parts m) c e k n h = goes_not_stands e.kind k h.0
+home_dropped _ c e k n h = tt
 
 seated_holds : (call : Call) (p : Point) (e : Entry) → zone p ≡ seated → IsHome (zone p) (call_watch call) (Some e)
     → held_at (now.Open call p) ≡ Some (head_of e.watch)
@@ -96,12 +93,9 @@ holds_home (now.Open call (at.Prepare preparing.Look)) e pr h = ap (λ n. Some n
     (sym (head_of_bare (call_watch call)) ∙ ap head_of (sym h.0))
 holds_home (now.Open call (at.Prepare preparing.Queue)) e pr h = ap (λ n. Some n)
     (sym (head_of_bare (call_watch call)) ∙ ap head_of (sym h.0))
-holds_home (now.Open call (at.Add adding.Queue)) e pr h = absurd h
-holds_home (now.Open call (at.Page paging.Queue)) e pr h = absurd h
 holds_home (now.Open call (at.Await (awaiting.Load true))) e pr h = ap (λ n. Some n)
     (sym (head_of_bare (call_watch call)) ∙ ap head_of (sym h.0))
-holds_home (now.Open call (at.Await (awaiting.Load false))) e pr h = absurd h
-holds_home q e pr h = absurd (cc)
+holds_home q e pr h = grind arith
 
 module _ (entry : ℕ → Option Entry) (v : View) (b : ℕ) (p : Progress) (pl : IsPlaced entry v b p) where
   -- another task queues its entry

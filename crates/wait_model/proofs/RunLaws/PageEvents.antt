@@ -38,9 +38,7 @@ use Rattle.wait_model.specs.declared.steps.Step.TheVariants as step
 
 page_suits : (c : Watch) → IsThere c → c ≡ page (word_of c) → Suited (bare c) kind.Page
 page_suits (watch.Bit w b) h e = (h.0, h.1, inr (refl, ap bit_of e))
-page_suits (watch.Plain c) h e = absurd (both_ways false refl (ap is_bit e))
-page_suits (watch.Done d) h e = absurd (both_ways false refl (ap is_bit e))
-page_suits (watch.Var v o) h e = absurd (both_ways false refl (ap is_bit e))
+page_suits _ h e = absurd (both_ways false refl (ap is_bit e))
 
 seated_pages : (c : Watch) (o : Option Entry) → IsHome seated c o → IsHome pages c o
 seated_pages c None h = absurd h

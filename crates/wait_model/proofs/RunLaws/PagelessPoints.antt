@@ -97,7 +97,6 @@ module _ (call : Call) (me : ℕ) (seen : Seen) where
   next_apart w (Some c) hit = entry_apart w c c.kind hit
 
   walk_apart : (p : WalkPoint) → IsElsewhere (at.Walk p) → IsApart (walk_event (call_aim call) p seen)
-  walk_apart walking.Lock o = record { event = tt; next = refl }
   walk_apart (walking.Call w) o = either IsApart seen.breaks _ _ (record { event = tt; next = refl })
       (next_apart (reached w seen.calls) seen.called (meets (mask_of (mode_of call)) seen.other.state))
   walk_apart (walking.Wake w c) o = onward_apart (past w c (meets (mask_of (mode_of call)) seen.other.state))
@@ -105,11 +104,7 @@ module _ (call : Call) (me : ℕ) (seen : Seen) where
   walk_apart (walking.Bit w c) o = off_apart w c (meets (mask_of (mode_of call)) seen.other.state)
   walk_apart (walking.Page st w c) o = absurd o
   walk_apart (walking.Unqueue w who) o = onward_apart w (event.Unqueue who) tt
-  walk_apart (walking.Spent w) o = record { event = tt; next = refl }
-  walk_apart (walking.Stopped w) o = record { event = tt; next = refl }
-  walk_apart (walking.BreakUnlock w) o = record { event = tt; next = refl }
-  walk_apart (walking.BreakLock w) o = record { event = tt; next = refl }
-  walk_apart (walking.Unmark w) o = record { event = tt; next = refl }
+  walk_apart _ o = record { event = tt; next = refl }
 
   -- each event of a program outside locks of pages, and outside the stages in which a walk hands one
   pub program_apart : (p : Point) → IsElsewhere p → IsApart (program me call p seen)

@@ -366,11 +366,9 @@ module _ (me : ℕ) (call : Call) (seen : Seen) where
   Here taken x = HandsAt taken me (progress_at call x.next)
 
   finish_sober : (p : FinishPoint) → IsSober (page_finish_event me call p seen).event
-  finish_sober finishing.State = tt
   finish_sober finishing.Look = either Sober (is_some seen.entry) _ _ tt tt
-  finish_sober finishing.Lock = tt
   finish_sober finishing.Queue = either Sober (is_some seen.entry) _ _ tt tt
-  finish_sober finishing.Unlock = tt
+  finish_sober _ = tt
 
   page_sober : (p : PagePoint) → IsSober (page_event me call p seen).event
   page_sober paging.First = either Sober (call_fails call seen) _ _ tt tt
@@ -383,11 +381,9 @@ module _ (me : ℕ) (call : Call) (seen : Seen) where
 
   -- only one of its places queues an entry
   finish_queues : (p : FinishPoint) (x : ℕ) (f : Form) → (page_finish_event me call p seen).event ≡ event.Queue x f → ⊥
-  finish_queues finishing.State x f q = cc
   finish_queues finishing.Look x f q = either (QueuesNot x f) (is_some seen.entry) _ _ (λ r. cc) (λ r. cc) q
-  finish_queues finishing.Lock x f q = cc
   finish_queues finishing.Queue x f q = either (QueuesNot x f) (is_some seen.entry) _ _ (λ r. cc) (λ r. cc) q
-  finish_queues finishing.Unlock x f q = cc
+  finish_queues _ x f q = cc
 
   page_queues : (taken : ℕ → Option ℕ) (p : PagePoint) (x : ℕ) (f : Form)
       → (page_event me call p seen).event ≡ event.Queue x f → HandsAt taken me (now.Open call (at.Page p))
@@ -405,11 +401,9 @@ module _ (me : ℕ) (call : Call) (seen : Seen) where
   -- where it goes
   finish_here : (taken : ℕ → Option ℕ) (p : FinishPoint)
       → HandsAt taken me (progress_at call (page_finish_event me call p seen).next)
-  finish_here taken finishing.State = tt
   finish_here taken finishing.Look = either (Here taken) (is_some seen.entry) _ _ tt tt
-  finish_here taken finishing.Lock = tt
   finish_here taken finishing.Queue = either (Here taken) (is_some seen.entry) _ _ tt tt
-  finish_here taken finishing.Unlock = tt
+  finish_here taken _ = tt
 
   page_here : (taken taken2 : ℕ → Option ℕ) (p : PagePoint) → HandsAt taken me (now.Open call (at.Page p))
       → (taken (own me) ≡ None → taken2 (own me) ≡ None)

@@ -38,15 +38,11 @@ IsPlainPoint _ = Unit {0}
 plain_number : {A : Type 0} (c : Watch) → IsThere c → IsPlain c → FIRST_DONE ≤ number_of c
     → number_of c < FIRST_BIT_WORD → A
 plain_number (watch.Plain c) h p l u = absurd (omega (arith, h, l))
-plain_number (watch.Done d) h p l u = absurd p
-plain_number (watch.Bit i b) h p l u = absurd p
-plain_number (watch.Var v o) h p l u = absurd p
+plain_number _ h p l u = absurd p
 
 plain_word : (c : Watch) → IsPlain c → is_bit c ≡ false
 plain_word (watch.Plain c) p = refl
-plain_word (watch.Done d) p = absurd p
-plain_word (watch.Bit i b) p = absurd p
-plain_word (watch.Var v o) p = absurd p
+plain_word _ p = absurd p
 
 module _ (s : State) (n me : ℕ) (call : Call) (sound : IsSound s n) (mine : me < TASKS) where
   abbrev F : Point → Planned → Type 0
@@ -75,10 +71,6 @@ module _ (s : State) (n me : ℕ) (call : Call) (sound : IsSound s n) (mine : me
   plain_fine at.Publish k pl i keeps rests run = publish_fine s n me call sound mine k pl keeps (rests refl run)
   plain_fine at.Active k pl i keeps rests run = members_fine s n me call sound mine
       (has_members (s.queue (call_head call))) k pl
-  plain_fine (at.Walk p) k pl i keeps rests run = absurd i
-  plain_fine (at.Select p) k pl i keeps rests run = absurd i
-  plain_fine (at.Await p) k pl i keeps rests run = absurd i
-  plain_fine (at.Count p) k pl i keeps rests run = absurd i
   plain_fine (at.Add p) k pl i keeps rests run = add_fine s n me call sound mine p k pl
   plain_fine (at.Remove p) k pl i keeps rests run = remove_fine s n me call sound mine p k pl
   plain_fine (at.Woken p) k pl i keeps rests run = woken_fine s n me call sound mine p k pl
@@ -106,3 +98,4 @@ module _ (s : State) (n me : ℕ) (call : Call) (sound : IsSound s n) (mine : me
       (record { same = refl; home = pl.home; calm = refl; taken = refl })
   plain_fine at.RaiseWake k pl i keeps rests run = still_fine s n me call sound mine at.RaiseWake pl _ tt k.who tt
       (other_read (who_of call), tt) tt (record { same = refl; home = pl.home; calm = refl; taken = refl })
+  plain_fine _ k pl i keeps rests run = absurd i

@@ -221,14 +221,10 @@ module _ (call : Call) where
     page_moved : (p : PagePoint) → IsMoved (stirs call (at.Page p)) call (page_event me call p seen)
     page_moved paging.First = both false (call_fails call seen) _ _ (record { state = λ _. refl; next = refl })
         (record { state = λ _. refl; next = refl })
-    page_moved paging.Unflag = record { state = λ _. refl; next = refl }
-    page_moved paging.Lock = record { state = λ _. refl; next = refl }
     page_moved paging.Queue = both false seen.worn _ _ (record { state = λ _. refl; next = refl })
         (record { state = λ _. refl; next = refl })
     page_moved paging.Try = tried_moved (exchange call seen) (call_fails call seen) (λ b _. refl)
-    page_moved paging.Off = record { state = λ _. refl; next = refl }
     page_moved (paging.Unlock true) = record { state = λ _. refl; next = refl }
-    page_moved (paging.Unlock false) = record { state = λ _. refl; next = refl }
     page_moved paging.State = record { state = inr refl; next = refl }
     page_moved paging.Flag = read_moved seen.flag (looks_in (state_in call))
     page_moved paging.Look = looked_moved (pending (state_mask (state_in call)) seen.own)
@@ -236,7 +232,7 @@ module _ (call : Call) where
     page_moved (paging.Finish p) = page_finish_moved p
     page_moved paging.Last = both false seen.flag _ _ (record { state = λ _. refl; next = refl })
         (record { state = λ _. refl; next = refl })
-    page_moved paging.Clear = record { state = λ _. refl; next = refl }
+    page_moved _ = record { state = λ _. refl; next = refl }
 
     onward_moved : (w : Walking) (e : Event) → ((behind : Bool) → KeepsState false e behind)
         → IsMoved false call (go e (onward w))
@@ -247,18 +243,12 @@ module _ (call : Call) where
         → IsMoved false call (call_entry (call_aim call) w c k seen hit)
     entry_moved w c kind.Default hit = onward_moved (past w c hit) (event.Wake c.who hit) (λ b _. refl)
     entry_moved w c kind.Simple hit = onward_moved (past w c hit) (event.Wake c.who hit) (λ b _. refl)
-    entry_moved w c kind.Autoremove hit = record { state = λ _. refl; next = refl }
-    entry_moved w c kind.Woken hit = record { state = λ _. refl; next = refl }
-    entry_moved w c kind.Bit hit = record { state = λ _. refl; next = refl }
-    entry_moved w c kind.Var hit = record { state = λ _. refl; next = refl }
-    entry_moved w c kind.Page hit = record { state = λ _. refl; next = refl }
+    entry_moved w c _ hit = record { state = λ _. refl; next = refl }
 
     hands_moved : (st : PageStage) (w : Walking) (c : CalledEntry)
         → IsMoved false call (hands_event (call_aim call) st w c seen)
-    hands_moved staging.Try w c = record { state = λ _. refl; next = refl }
-    hands_moved staging.Hand w c = record { state = λ _. refl; next = refl }
-    hands_moved staging.Wake w c = record { state = λ _. refl; next = refl }
     hands_moved staging.Off w c = onward_moved (past w c true) (event.Unqueue c.who) (λ b _. refl)
+    hands_moved _ w c = record { state = λ _. refl; next = refl }
 
     next_moved : (w : Walking) (o : Option CalledEntry) (hit : Bool)
         → IsMoved false call (call_next (call_aim call) w o seen hit)
@@ -266,20 +256,14 @@ module _ (call : Call) where
     next_moved w (Some c) hit = entry_moved w c c.kind hit
 
     walk_moved : (p : WalkPoint) → IsMoved false call (walk_event (call_aim call) p seen)
-    walk_moved walking.Lock = record { state = λ _. refl; next = refl }
     walk_moved (walking.Call w) = both false seen.breaks _ _ (record { state = λ _. refl; next = refl })
         (next_moved (reached w seen.calls) seen.called (meets (mask_of (mode_of call)) seen.other.state))
     walk_moved (walking.Page st w c) = hands_moved st w c
-    walk_moved (walking.Stopped w) = record { state = λ _. refl; next = refl }
-    walk_moved (walking.Bit w c) = record { state = λ _. refl; next = refl }
     walk_moved (walking.Wake w c) =
         onward_moved (past w c (meets (mask_of (mode_of call)) seen.other.state))
         (event.Wake c.who (meets (mask_of (mode_of call)) seen.other.state)) (λ b _. refl)
     walk_moved (walking.Unqueue w who) = onward_moved w (event.Unqueue who) (λ b _. refl)
-    walk_moved (walking.Spent w) = record { state = λ _. refl; next = refl }
-    walk_moved (walking.BreakUnlock w) = record { state = λ _. refl; next = refl }
-    walk_moved (walking.BreakLock w) = record { state = λ _. refl; next = refl }
-    walk_moved (walking.Unmark w) = record { state = λ _. refl; next = refl }
+    walk_moved _ = record { state = λ _. refl; next = refl }
 
     chosen_moved : (j : ℕ) (o : Option CalledEntry) (hit : Bool) → IsMoved false call (select_next call j o hit)
     chosen_moved j None hit = record { state = λ _. refl; next = refl }

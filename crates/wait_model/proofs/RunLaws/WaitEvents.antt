@@ -95,11 +95,7 @@ mask_state states.Killable = inr (inr (inr refl))
 pub stands_suited : (c : ℕ) (k : Kind) → c < FIRST_SIMPLE → IsStandingKind k → Suited (watch.Plain c) k
 stands_suited c kind.Default h s = (omega (arith, h), inl refl, λ l. absurd (omega (arith, h)))
 stands_suited c kind.Woken h s = (omega (arith, h), inr (inr (inl refl)), λ l. absurd (omega (arith, h)))
-stands_suited c kind.Autoremove h s = absurd (cc)
-stands_suited c kind.Bit h s = absurd (cc)
-stands_suited c kind.Var h s = absurd (cc)
-stands_suited c kind.Simple h s = absurd (cc)
-stands_suited c kind.Page h s = absurd (cc)
+stands_suited c _ h s = absurd (cc)
 
 -- an entry that stands is one of a plain condition
 not_standing : (k j : Kind) → k ≡ j → is_standing j ≡ false → IsStandingKind k → ⊥

@@ -132,9 +132,7 @@ one_of_vars _ _ s h = absurd (cc)
 
 not_var : (c : Watch) → (is_var c ≡ true → ⊥) → is_var c ≡ false
 not_var (watch.Var v o) h = absurd (h refl)
-not_var (watch.Plain c) h = refl
-not_var (watch.Done d) h = refl
-not_var (watch.Bit w b) h = refl
+not_var _ h = refl
 
 abbrev of_bits : Kind → Bool
 of_bits kind.Bit = true
@@ -433,12 +431,10 @@ module _ (s : State) (n me : ℕ) (call : Call) (sound : IsSound s n) (mine : me
       g : IsFlagged s.table.entry c (Some (call_head call)) (call_watch call)
       g = pl.flagged c refl
   walk_counted (walking.Page st w c) k pl z = hands_counted st w c z
-  walk_counted (walking.Stopped w) k pl z = tt
   walk_counted (walking.Unqueue w who) k pl z = take_counted w who k.walk.1 pl z
-  walk_counted (walking.Spent w) k pl z = tt
-  walk_counted (walking.BreakUnlock w) k pl z = tt
   walk_counted (walking.BreakLock w) k pl z = lock_counted _ (call_head call) _ refl
   walk_counted (walking.Unmark w) k pl z = resume_counted w (s.table.mark me) z
+  walk_counted _ k pl z = tt
 
   outside_counted : (p : Point) → IsOutside p → T p (planned s me call p)
   outside_counted p o =
@@ -475,9 +471,7 @@ kept_counted entry entry2 v (now.Open call (at.Walk (walking.Unqueue w who))) ke
       },
 )
 kept_counted entry entry2 v (now.Open call (at.Walk p)) keep z = z
-kept_counted entry entry2 v (now.Open call p) keep z = z
-kept_counted entry entry2 v now.Idle keep z = z
-kept_counted entry entry2 v now.Fresh keep z = z
+kept_counted entry entry2 v _ keep z = z
 
 same_entries : (entry entry2 : ℕ → Option Entry) (v : View) (p : Progress) → entry2 ≡ entry → CountedBy entry v p
     → CountedBy entry2 v p

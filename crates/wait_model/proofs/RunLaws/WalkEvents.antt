@@ -120,9 +120,7 @@ reached_counted n w calls k few = record { woken = k.woken; selected = k.selecte
 bit_going : (c : Watch) (k : Kind) → Suited c k → is_bit c ≡ true → IsGoing k
 bit_going (watch.Bit w b) k s h =
     elim s.2 [ inl e ↦ going_kind k kind.Bit e refl | inr e ↦ going_kind k kind.Page e.0 refl ]
-bit_going (watch.Plain c) k s h = absurd (cc)
-bit_going (watch.Done d) k s h = absurd (cc)
-bit_going (watch.Var v o) k s h = absurd (cc)
+bit_going _ k s h = absurd (cc)
 
 -- a walk that may end with its count used up may spend
 walk_spends : (v : View) (call : Call) → WalksFor call v → MayEndSpent v call → MaySpend v true

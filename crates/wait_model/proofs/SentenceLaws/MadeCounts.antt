@@ -395,10 +395,6 @@ module _ (me d : ℕ) where
 
   none_d : (p : Point) (m : Noted) (a : Answer) → LeftD m p [] a → ⊥
   none_d (at.Count counting.Peek) m a h = h.1.1
-  none_d (at.Count counting.Lock) m a h = h
-  none_d (at.Count (counting.Unlock hit)) m a h = h
-  none_d (at.Count counting.Load) m a h = h
-  none_d (at.Count counting.Store) m a h = h
   none_d p m a h = h
 
   pub is_done_made : (w : List Event) (a : Answer) → Follows me (calls.IsDone d) w a

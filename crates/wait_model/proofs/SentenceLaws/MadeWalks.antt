@@ -248,13 +248,8 @@ module _ (call : Call) (plain : is_done (call_watch call) ≡ false) (R : Noted 
 
   function_empty : (n : ℕ) (w : Walking) (c : CalledEntry) (k : Kind) (a : Answer)
       → calls_function (call_watch call) k c.who (walks.judged_rest call (is_page k) n w c) [] a → ⊥
-  function_empty n w c kind.Default a h = h.1
-  function_empty n w c kind.Simple a h = h.1
-  function_empty n w c kind.Autoremove a h = h.1
-  function_empty n w c kind.Var a h = h.1
   function_empty n w c kind.Woken a h = h
-  function_empty n w c kind.Bit a h = h.1
-  function_empty n w c kind.Page a h = h.1
+  function_empty n w c _ a h = h.1
 
   ahead_empty : (n : ℕ) (w : Walking) (calls : ℕ) (next : Ahead) (a : Answer)
       → comes_to (call_watch call) (record (tally w) { calls = calls }) next (walks.over call n) [] a → ⊥
@@ -274,12 +269,7 @@ module _ (call : Call) (plain : is_done (call_watch call) ≡ false) (R : Noted 
   walk_none (walking.Wake w c) a h = h.1.1
   walk_none (walking.Bit w c) a h = h.1.1
   walk_none (walking.Page staging.Try w c) a h = h.1.1
-  walk_none (walking.Page staging.Hand w c) a h = h.1
   walk_none (walking.Page staging.Wake w c) a h = h.1.1
-  walk_none (walking.Page staging.Off w c) a h = h.1
   walk_none (walking.Stopped w) a h = h
-  walk_none (walking.Unqueue w who) a h = h.1
   walk_none (walking.Spent w) a h = h
-  walk_none (walking.BreakUnlock w) a h = h.1
-  walk_none (walking.BreakLock w) a h = h.1
-  walk_none (walking.Unmark w) a h = h.1
+  walk_none _ a h = h.1

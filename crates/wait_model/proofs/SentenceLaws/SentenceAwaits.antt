@@ -193,11 +193,8 @@ module _ (me d : ℕ) (st : SleepState) where
         let (n, x) = look_said (pending (state_mask st) seen.own) w a h in
         (n, (pending (state_mask st) seen.own, (refl, x)))
     await_said (at.Prepare preparing.Queue) seen k w a h = queue_said seen.entry m.queued seen.worn (k.off refl) w a h
-    await_said (at.Prepare preparing.State) seen k w a h = (h.0, (refl, h.1))
-    await_said (at.Prepare preparing.Unlock) seen k w a h = (h.0, (refl, h.1))
     await_said at.Sleep seen k w a h = (h.0, (sleep_of seen.own, (refl, h.1)))
     await_said (at.Await (awaiting.Lock false)) seen k w a h = (refl, h)
-    await_said (at.Await (awaiting.Lock true)) seen k w a h = (h.0, (refl, h.1))
     await_said (at.Await (awaiting.Load false)) seen k w a h =
         (seen.value, first_said seen.value (seen.value == 0) (k.range refl) w a h)
     await_said (at.Await (awaiting.Load true)) seen k w a h =
@@ -213,4 +210,4 @@ module _ (me d : ℕ) (st : SleepState) where
     await_said (at.Await (awaiting.Last false)) seen k w a h =
         λ l. count_said seen (k.range refl) (k.count refl l refl) w a h
     await_said (at.Await awaiting.Unlock) seen k w a h = (refl, h)
-    await_said p seen k w a h = tt
+    await_said p seen k w a h = grind arith

@@ -117,11 +117,9 @@ module _ (me : ℕ) (m : Noted) where
 
   hear_said : (st : SleepState) (p : WokenPoint) (seen : Seen) → Says (rest_of me (calls.Woken st)) m
       (woken_event (calls.Woken st) p seen) (hear_rest st p)
-  hear_said st hearing.State seen w a h = (refl, h)
   hear_said st hearing.Flag seen w a h = flag_said st seen.flag w a h
   hear_said st hearing.Sleep seen w a h = (sleep_of seen.own, (refl, h))
-  hear_said st hearing.Run seen w a h = (refl, h)
-  hear_said st hearing.Clear seen w a h = (refl, h)
+  hear_said st _ seen w a h = (refl, h)
 
   remove_said : (p : RemovePoint) (seen : Seen) → Says (rest_of me calls.Remove) m (remove_event me p seen)
       (remove_rest me p)

@@ -156,28 +156,21 @@ module _ (c : Watch) where
   hold_end spent b = first (event.Unlock (head_of c) spent) (ends b) (over b)
 
   one_end : (A : Bool → Answer) (p : SelectPoint) → CanEnd (one_rest c A p)
-  one_end A selecting.Lock = unsaid
-  one_end A selecting.Load = unsaid
-  one_end A selecting.Store = unsaid
   one_end A (selecting.Next zero) = let (w, a, h) = hold_end false (A false) in (w, a, (false, h))
   one_end A (selecting.Next (suc zero)) = hold_end true (A true)
-  one_end A (selecting.Next (suc (suc n))) = unsaid
-  one_end A (selecting.Off zero who) = unsaid
   one_end A (selecting.Off (suc zero) who) = first (event.Unqueue who) (first_is (event.Unlock (head_of c) true)
       (ends (A true))) (hold_end true (A true))
-  one_end A (selecting.Off (suc (suc n)) who) = unsaid
+  one_end A _ = unsaid
 
   each_end : (A : ℕ → Answer) (n : ℕ) → CanEnd (turns 1 more n (λ n. unlocks c (λ _. ends (A n))))
   each_end A n = let (w, a, h) = hold_end false (A n) in (w, a, (false, h))
 
   all_end : (A : ℕ → Answer) (p : SelectPoint) → CanEnd (all_rest c A p)
-  all_end A selecting.Lock = unsaid
-  all_end A selecting.Load = unsaid
-  all_end A selecting.Store = unsaid
   all_end A (selecting.Next n) = some (λ k. turns k more n (λ n. unlocks c (λ _. ends (A n)))) 1 (each_end A n)
   all_end A (selecting.Off n who) =
       some (λ k. first_is (event.Unqueue who) (turns k more n (λ n. unlocks c (λ _. ends (A n))))) 1
       (first (event.Unqueue who) (turns 1 more n (λ n. unlocks c (λ _. ends (A n)))) (each_end A n))
+  all_end A _ = unsaid
 
 -- `swake`, `complete`, `completeall`
 raised_end : (d : ℕ) → CanEnd (counts (watch.Done d) (λ count. (when count == ALL_DONE then nothing

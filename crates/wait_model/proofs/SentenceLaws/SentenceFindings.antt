@@ -74,12 +74,6 @@ ranged_step b a (step.Publish (watch.Done c) n r) q k d = put_at (λ (v : ℕ). 
     d (λ _. q.0) (λ _. k d)
 ranged_step b a (step.Consume (watch.Done c) n r) q k d = put_at (λ (v : ℕ). v ≤ ALL_DONE) b.words.dones c n
     d (λ _. q.0) (λ _. k d)
-ranged_step b a (step.Publish (watch.Plain c) n r) q k d = k d
-ranged_step b a (step.Publish (watch.Bit i j) n r) q k d = k d
-ranged_step b a (step.Publish (watch.Var v o) n r) q k d = k d
-ranged_step b a (step.Consume (watch.Plain c) n r) q k d = k d
-ranged_step b a (step.Consume (watch.Bit i j) n r) q k d = k d
-ranged_step b a (step.Consume (watch.Var v o) n r) q k d = k d
 ranged_step b a e q k d = k d
 
 ranged_steps : (b : Table) (a : ℕ) (es : List Step) → AllSteps IsDoneStore es → IsRangedAt b → IsRangedAt (steps b a es)
@@ -108,12 +102,6 @@ count_step b a t d (step.Publish (watch.Done c) n r) ne f al h = put_other b.wor
 count_step b a t d (step.Consume (watch.Done c) n r) ne f al h = put_other b.words.dones c n d
     (λ q. ne (f.one_holder t a (head_of (watch.Done d)) h
     (subst (λ (i : ℕ). (b.view a).hold.head ≡ Some (head_of (watch.Done i))) (sym q) al.1)))
-count_step b a t d (step.Publish (watch.Plain c) n r) ne f al h = refl
-count_step b a t d (step.Publish (watch.Bit i j) n r) ne f al h = refl
-count_step b a t d (step.Publish (watch.Var v o) n r) ne f al h = refl
-count_step b a t d (step.Consume (watch.Plain c) n r) ne f al h = refl
-count_step b a t d (step.Consume (watch.Bit i j) n r) ne f al h = refl
-count_step b a t d (step.Consume (watch.Var v o) n r) ne f al h = refl
 count_step b a t d e ne f al h = refl
 
 count_steps : (b : Table) (a t d : ℕ) (es : List Step) → t ≢ a → Kept b → AllAllowed b a es
@@ -124,10 +112,8 @@ count_steps b a t d (e ∷ es) ne k al h = count_steps (step_to b a e) a t d es 
 
 value_steps : (b : Table) (a t : ℕ) (c : Watch) (es : List Step) → t ≢ a → Kept b → AllAllowed b a es → is_done c ≡ true
     → (b.view t).hold.head ≡ Some (head_of c) → value_of (steps b a es).words c ≡ value_of b.words c
-value_steps b a t (watch.Plain c) es ne k al q h = absurd (cc)
 value_steps b a t (watch.Done d) es ne k al q h = count_steps b a t d es ne k al h
-value_steps b a t (watch.Bit i j) es ne k al q h = absurd (cc)
-value_steps b a t (watch.Var v o) es ne k al q h = absurd (cc)
+value_steps b a t _ es ne k al q h = absurd (cc)
 
 pub other_ready : (b : Table) (a t : ℕ) (es : List Step) (m : Noted) (p : Progress) → t ≢ a → Kept b → AllAllowed b a es
     → ReadyBy b t m p → ReadyBy (steps b a es) t m p
@@ -158,10 +144,8 @@ own_entry s me g m e q o = o
 
 -- a count stays as it was loaded, or is loaded
 reads_value : (w : Words) (c : Watch) (r : ℕ) → is_done c ≡ true → Reads w c r → value_of w c ≡ r
-reads_value w (watch.Plain c) r d h = absurd (cc)
 reads_value w (watch.Done c) r d h = sym h
-reads_value w (watch.Bit i j) r d h = absurd (cc)
-reads_value w (watch.Var v o) r d h = absurd (cc)
+reads_value w _ r d h = absurd (cc)
 
 own_value : (s : State) (me : ℕ) (call : Call) (p : Point) (m : Noted) (e : Event)
     → AllAllowed s.table me (event_steps s me (given_at call p) e) → is_done (call_watch call) ≡ true
@@ -350,10 +334,8 @@ walk_known s n t call (at.Walk (walking.Call w)) l there =
 walk_known s n t call p l there = tt
 
 done_range : (b : Table) (c : Watch) → IsRangedAt b → is_done c ≡ true → value_of b.words c ≤ ALL_DONE
-done_range b (watch.Plain c) r d = absurd (cc)
 done_range b (watch.Done c) r d = r c
-done_range b (watch.Bit i j) r d = absurd (cc)
-done_range b (watch.Var v o) r d = absurd (cc)
+done_range b _ r d = absurd (cc)
 
 -- a task knows what it needs of what it finds
 abbrev pub KnowsBy : State → ℕ → Progress → Noted → Type 0

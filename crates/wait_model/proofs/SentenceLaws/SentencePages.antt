@@ -179,11 +179,9 @@ module _ (me p : ℕ) (st : SleepState) where
 
     finish_said : (q : FinishPoint) (seen : Seen) → L (page_finish_event me locker q seen)
         (finish_rest me locker true q last)
-    finish_said finishing.State seen v a h = (refl, h)
     finish_said finishing.Look seen v a h = stands_said (is_some seen.entry) v a h
-    finish_said finishing.Lock seen v a h = (refl, h)
     finish_said finishing.Queue seen v a h = off_said (is_some seen.entry) v a h
-    finish_said finishing.Unlock seen v a h = (refl, h)
+    finish_said _ seen v a h = (refl, h)
 
     last_said : (hit : Bool) → L (page_last hit) last
     last_said true v a h = (true, (refl, h))
@@ -191,20 +189,16 @@ module _ (me p : ℕ) (st : SleepState) where
 
     point_said : (q : PagePoint) (seen : Seen) → L (page_event me locker q seen) (point_rest q)
     point_said paging.First seen v a h = begin_said (bit_at seen.value 0) v a h
-    point_said paging.Unflag seen v a h = (refl, h)
-    point_said paging.Lock seen v a h = (refl, h)
     point_said paging.Queue seen v a h = queue_said seen.worn v a h
     point_said paging.Try seen v a h = try_said (bit_at seen.value 0) v a h
-    point_said paging.Off seen v a h = (refl, h)
     point_said (paging.Unlock true) seen v a h = (refl, h)
-    point_said (paging.Unlock false) seen v a h = (refl, h)
     point_said paging.State seen v a h = (suc h.0, (refl, h.1))
     point_said paging.Flag seen v a h = flag_said seen.flag v a h
     point_said paging.Look seen v a h = look_said (pending (state_mask st) seen.own) v a h
     point_said paging.Sleep seen v a h = (h.0, (sleep_of seen.own, (refl, h.1)))
     point_said (paging.Finish q) seen v a h = finish_said q seen v a h
     point_said paging.Last seen v a h = last_said seen.flag v a h
-    point_said paging.Clear seen v a h = (refl, h)
+    point_said _ seen v a h = (refl, h)
 
     pub page_said : (q : Point) (seen : Seen) → Knows locker q m seen → L (program me locker q seen) (page_rest m q)
     page_said (at.Page q) seen k v a h = point_said q seen v a h

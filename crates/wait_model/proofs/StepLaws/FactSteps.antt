@@ -173,9 +173,7 @@ done_of c (watch.Var v o) i h = absurd (cc)
 
 pub publish_held : (v : View) (c : Watch) → is_done c ≡ true → MayPublish v c → v.hold.head ≡ Some (head_of c)
 publish_held v (watch.Done d) i al = al
-publish_held v (watch.Plain d) i al = absurd (cc)
-publish_held v (watch.Bit w b) i al = absurd (cc)
-publish_held v (watch.Var u o) i al = absurd (cc)
+publish_held v _ i al = absurd (cc)
 
 pub publish_facts : (s : Table) (a : ℕ) (c : Watch) (n r : ℕ) → Facts s → BitFacts s
     → Allowed s a (step.Publish c n r) → Facts (next s a (step.Publish c n r))

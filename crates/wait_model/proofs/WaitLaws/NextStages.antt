@@ -90,9 +90,6 @@ signalled_goes c = (refl, refl, tt)
 prepared_staged : (c : Call) (t : TaskRecord) (o : Option Entry) (es : List Step) (x : ℕ) → t.runnable ≡ true
     → is_some o ≡ true → IsAt (stage (prepared_at c)) t o es x c
 prepared_staged (calls.WaitFor d st) t o es x up i = (up, λ d. i, λ w. absurd (cc))
-prepared_staged (calls.WaitBit w b st) t o es x up i = (up, λ d. i)
-prepared_staged (calls.LockBit w b st) t o es x up i = (up, λ d. i)
-prepared_staged calls.Remove t o es x up i = (up, λ d. i)
 prepared_staged c t o es x up i = (up, λ d. i)
 
 prepared_goes : (c : Call) → (taken_off (prepared_at c) ≡ None) × FitsStage (now.Open c (prepared_at c))

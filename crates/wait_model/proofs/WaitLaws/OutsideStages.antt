@@ -111,23 +111,16 @@ module _ (s : State) (me : ℕ) (call : Call) (P : Planned → Type 0) (ends : (
   at_walk p = seen_by s me call (at.Walk p)
 
   walk_aside : (p : WalkPoint) → P (planned s me call (at.Walk p))
-  walk_aside walking.Lock = goes _ _ refl
   walk_aside (walking.Call w) = either P (at_walk (walking.Call w)).breaks _ _ (goes _ _ refl)
       (next_aside (reached w (at_walk (walking.Call w)).calls) (at_walk (walking.Call w)).called
       (at_walk (walking.Call w)) (meets (mask_of (mode_of call)) (at_walk (walking.Call w)).other.state))
   walk_aside (walking.Wake w c) = onward_aside _
       (past w c (meets (mask_of (mode_of call)) (at_walk (walking.Wake w c)).other.state))
-  walk_aside (walking.Bit w c) = goes _ _ refl
-  walk_aside (walking.Page staging.Try w c) = goes _ _ refl
-  walk_aside (walking.Page staging.Hand w c) = goes _ _ refl
-  walk_aside (walking.Page staging.Wake w c) = goes _ _ refl
   walk_aside (walking.Page staging.Off w c) = onward_aside _ (past w c true)
   walk_aside (walking.Stopped w) = ends _ _
   walk_aside (walking.Unqueue w who) = onward_aside _ w
   walk_aside (walking.Spent w) = ends _ _
-  walk_aside (walking.BreakUnlock w) = goes _ _ refl
-  walk_aside (walking.BreakLock w) = goes _ _ refl
-  walk_aside (walking.Unmark w) = goes _ _ refl
+  walk_aside _ = goes _ _ refl
 
   active_aside : (b : Bool) → P (active_event call b)
   active_aside true = goes _ _ refl
@@ -138,11 +131,8 @@ module _ (s : State) (me : ℕ) (call : Call) (P : Planned → Type 0) (ends : (
   chosen_aside j (Some c) hit = goes _ _ refl
 
   select_aside : (p : SelectPoint) → P (planned s me call (at.Select p))
-  select_aside selecting.Lock = goes _ _ refl
   select_aside (selecting.Next j) = either P (is_enough call j) _ _ (ends _ _) (chosen_aside j _ _)
-  select_aside selecting.Load = goes _ _ refl
-  select_aside selecting.Store = goes _ _ refl
-  select_aside (selecting.Off j who) = goes _ _ refl
+  select_aside _ = goes _ _ refl
 
   lowered_aside : (b : Bool) (e d : Event) (a : Answer)
       → P (if b then ends_with e a else go d (at.Await awaiting.Unlock))

@@ -123,9 +123,6 @@ told_hands q u h = absurd (cc)
 
 pub roused_told : (q : Progress) (u : ℕ) → roused_by q ≡ Some u → told_by q ≡ Some u
 roused_told (now.Open call (at.Walk (walking.Page staging.Off w c))) u h = h
-roused_told (now.Open call (at.Walk (walking.Page staging.Wake w c))) u h = absurd (cc)
-roused_told (now.Open call (at.Walk (walking.Page staging.Try w c))) u h = absurd (cc)
-roused_told (now.Open call (at.Walk (walking.Page staging.Hand w c))) u h = absurd (cc)
 roused_told q u h = absurd (cc)
 
 -- a place outside pages, and one that a program leads to which is none of theirs
@@ -245,12 +242,8 @@ pub page_lands : (me : ℕ) (call : Call) (p : PagePoint) (seen : Seen) → seen
 page_lands me call paging.First seen w = lands_if (call_fails call seen) _ _ tt tt
 page_lands me call paging.Queue seen w = subst (λ (b : Bool). Lands (page_queue call b).next) (sym w) tt
 page_lands me call (paging.Unlock true) seen w = tt
-page_lands me call (paging.Unlock false) seen w = tt
-page_lands me call (paging.Finish finishing.State) seen w = tt
 page_lands me call (paging.Finish finishing.Look) seen w = lands_if (is_some seen.entry) _ _ tt tt
-page_lands me call (paging.Finish finishing.Lock) seen w = tt
 page_lands me call (paging.Finish finishing.Queue) seen w = lands_if (is_some seen.entry) _ _ tt tt
-page_lands me call (paging.Finish finishing.Unlock) seen w = tt
 page_lands me call paging.Last seen w = lands_if seen.flag _ _ tt tt
 page_lands me call p seen w = tt
 
@@ -416,11 +409,6 @@ module _ (s : State) (me : ℕ) (call : Call) (runs : (s.table.task me).runnable
       (misses (call_watch call) (value_of s.table.words (call_watch call))) _ _ (λ z. cc) (λ z. cc) t)
   leads_to_turn paging.Try t = inr refl
   leads_to_turn (paging.Unlock true) t = absurd (cc)
-  leads_to_turn (paging.Unlock false) t = inl refl
-  leads_to_turn paging.State t = inl refl
-  leads_to_turn paging.Flag t = inl refl
-  leads_to_turn paging.Look t = inl refl
-  leads_to_turn paging.Sleep t = inl refl
   leads_to_turn (paging.Finish finishing.State) t = absurd (cc)
   leads_to_turn (paging.Finish finishing.Look) t = absurd (not_if (is_some (s.table.entry (own me))) _ _ (λ z. cc)
       (λ z. cc) t)
@@ -429,18 +417,12 @@ module _ (s : State) (me : ℕ) (call : Call) (runs : (s.table.task me).runnable
       (λ z. cc) t)
   leads_to_turn (paging.Finish finishing.Unlock) t = absurd (cc)
   leads_to_turn paging.Last t = absurd (not_if (s.table.flag (own me)) _ _ (λ z. cc) (λ z. cc) t)
-  leads_to_turn p t = absurd (cc)
+  leads_to_turn p t = grind arith
 
   -- the entry and the found page of a turn
   turn_entry : (p : PagePoint) → IsTurnPoint p → (B p).entry (own me) ≡ s.table.entry (own me)
-  turn_entry paging.Try t = refl
-  turn_entry (paging.Unlock false) t = refl
-  turn_entry paging.State t = refl
-  turn_entry paging.Flag t = refl
-  turn_entry paging.Look t = refl
-  turn_entry paging.Sleep t = refl
   turn_entry (paging.Unlock true) t = absurd (elim t [ inl q ↦ cc | inr q ↦ cc ])
-  turn_entry p t = absurd (elim t [ inl q ↦ cc | inr q ↦ cc ])
+  turn_entry p t = grind arith
 
   pub page_found : (p : PagePoint) → call_watch call ≡ page (word_of (call_watch call))
       → FoundSet (now.Open call (at.Page p)) (s.table.view me) me → is_turning (N p) ≡ true → IsTurnPoint p
@@ -456,12 +438,8 @@ module _ (s : State) (me : ℕ) (call : Call) (runs : (s.table.task me).runnable
       by false m z = absurd (cc)
   page_found (paging.Unlock false) f h t k = ap (λ (c : Checks). c.tas_failed (own me) (call_watch call))
       (unlock_checks (s.table.view me) (s.table.view me).walk false) ∙ h refl
-  page_found paging.State f h t k = h refl
-  page_found paging.Flag f h t k = h refl
-  page_found paging.Look f h t k = h refl
-  page_found paging.Sleep f h t k = h refl
   page_found (paging.Unlock true) f h t k = absurd (elim k [ inl q ↦ cc | inr q ↦ cc ])
-  page_found p f h t k = absurd (elim k [ inl q ↦ cc | inr q ↦ cc ])
+  page_found p f h t k = grind arith
 
   -- a task in a turn whose entry is off was told
   pub turn_off : (p : PagePoint) → IsTurnPoint p → HomeAt (now.Open call (at.Page p)) (s.table.entry (own me))
@@ -485,13 +463,8 @@ module _ (s : State) (me : ℕ) (call : Call) (runs : (s.table.task me).runnable
       no_unflag p q u = cc
 
 pub turning_page : (q : Progress) (d : Entry) → is_turning q ≡ true → HomeAt q (Some d) → is_page d.kind ≡ true
-turning_page (now.Open call (at.Page (paging.Unlock false))) d t h = ap is_page h.1
-turning_page (now.Open call (at.Page paging.State)) d t h = ap is_page h.1
-turning_page (now.Open call (at.Page paging.Flag)) d t h = ap is_page h.1
-turning_page (now.Open call (at.Page paging.Look)) d t h = ap is_page h.1
-turning_page (now.Open call (at.Page paging.Sleep)) d t h = ap is_page h.1
 turning_page (now.Open call (at.Page (paging.Unlock true))) d t h = absurd (cc)
-turning_page q d t h = absurd (cc)
+turning_page q d t h = grind arith
 
 pub hands_not : (call : Call) (p : Point) (v : ℕ) → IsElsewhere p → handed_by (now.Open call p) ≡ Some v → ⊥
 hands_not call (at.Walk (walking.Page st w c)) v o h = absurd o

@@ -85,15 +85,8 @@ module _ (s : State) (me : ℕ) (call : Call) where
 
     zero_aside : (q : Point) (e : Event) → is_aside q ≡ true → Led e q
     zero_aside (at.Prepare preparing.Lock) e h = tt
-    zero_aside (at.Prepare preparing.Look) e h = absurd (cc)
-    zero_aside (at.Prepare preparing.Queue) e h = absurd (cc)
-    zero_aside (at.Prepare preparing.State) e h = absurd (cc)
-    zero_aside (at.Prepare preparing.Unlock) e h = absurd (cc)
-    zero_aside at.Test e h = absurd (cc)
-    zero_aside at.Sleep e h = absurd (cc)
-    zero_aside (at.Await (awaiting.Lock true)) e h = absurd (cc)
     zero_aside (at.Await (awaiting.Lock false)) e h = tt
-    zero_aside q e h = tt
+    zero_aside q e h = grind arith
 
     zero_finished : (failed : Bool) (e : Event) → Z (finished call failed e)
     zero_finished failed e = either Z (failed && is_lock call) _ _ tt tt
@@ -160,16 +153,11 @@ module _ (s : State) (me : ℕ) (call : Call) where
   zero_step at.Sleep f held h = zero_slept call _ (own me) h
   zero_step (at.Leave leaving.Queue) f held h = either (Z (at.Leave leaving.Queue))
       (is_some (s.table.entry (own me))) _ _ tt tt
-  zero_step (at.Leave leaving.Unlock) f held h = tt
-  zero_step (at.Finish finishing.State true) f held h = tt
   zero_step (at.Finish finishing.Look true) f held h = either (Z (at.Finish finishing.Look true))
       (is_some (s.table.entry (own me))) _ _ tt (zero_finished (at.Finish finishing.Look true) true _)
-  zero_step (at.Finish finishing.Lock true) f held h = tt
   zero_step (at.Finish finishing.Queue true) f held h = either (Z (at.Finish finishing.Queue true))
       (is_some (s.table.entry (own me))) _ _ tt (zero_finished (at.Finish finishing.Queue true) true _)
   zero_step (at.Finish finishing.Unlock true) f held h = zero_finished (at.Finish finishing.Unlock true) true _
-  zero_step (at.Bit biting.Load) f held h = tt
-  zero_step (at.Bit biting.Sleep) f held h = tt
   zero_step (at.Bit biting.Look) f held h = both
       (λ b. Led (at.Bit biting.Look) (event.Look b) (acted call b))
       (pending (state_mask (state_in call)) (s.table.task me))
@@ -177,14 +165,12 @@ module _ (s : State) (me : ℕ) (call : Call) where
   zero_step (at.Bit (biting.Again failed)) f held h = either
       (Led (at.Bit (biting.Again failed)) (ask call (seen_by s me call (at.Bit (biting.Again failed)))))
       (unset s call && not failed) _ _ tt tt
-  zero_step (at.Await (awaiting.Lock waited)) f held h = tt
   zero_step (at.Await (awaiting.Load waited)) f held h = zero_load waited
       (value_of s.table.words (call_watch call) == 0) (not (is_bit_wait call) && looks_in (state_in call))
       (value_of s.table.words (call_watch call)) refl held
-  zero_step (at.Await (awaiting.Run true)) f held h = tt
   zero_step (at.Await (awaiting.Off true)) f held h = either (Z (at.Await (awaiting.Off true)))
       (is_some (s.table.entry (own me))) _ _ tt tt
-  zero_step p f held h = aside_step s me call (Z p) (λ e a. tt) (λ e q. zero_aside p q e) p tt
+  zero_step p f held h = grind arith
 
 pub start_zero : (call : Call) (v : View) (x : ℕ) → IsZero call (program_start call) v x
 start_zero calls.Remove v x = tt

@@ -41,10 +41,8 @@ pub cond_position : (c : ℕ) → c < CONDITIONS → position_of (cond_at c) ≡
 cond_position c fits = grind (arith, nat_tests)
 
 pub number_below : (c : Watch) → IsThere c → number_of c < CONDITIONS
-number_below (watch.Plain c) h = omega (arith, h)
-number_below (watch.Done d) h = omega (arith, h)
 number_below (watch.Bit w b) h = omega (arith, h.0)
-number_below (watch.Var v o) h = omega (arith, h)
+number_below _ h = omega (arith, h)
 
 pub plain_at : (c : ℕ) → c < PLAIN_CONDITIONS → cond_at c ≡ Plain c
 plain_at c h = let a : nat_lt c FIRST_DONE ≡ true = grind (arith, nat_tests) in rw a refl
@@ -79,18 +77,14 @@ number_value t (watch.Bit w b) h = ap (word_in t) (bits_at w h.0)
 number_value t (watch.Var v o) h = ap (word_in t) (var_at v h)
 
 pub reads_value : (w : Words) → AreBitsLow w → (c : Watch) → IsThere c → Reads w c (value_of w c)
-reads_value w low (watch.Plain c) h = refl
-reads_value w low (watch.Done d) h = refl
 reads_value w low (watch.Bit i b) h = bit_word_reads w i b (low i)
-reads_value w low (watch.Var v o) h = refl
+reads_value w low _ h = refl
 
 -- heads
 pub head_of_bare : (c : Watch) → head_of (bare c) ≡ head_of c
 unfolding head_of
 head_of_bare (watch.Plain c) = refl
-head_of_bare (watch.Done d) = refl
-head_of_bare (watch.Bit w b) = refl
-head_of_bare (watch.Var v o) = refl
+head_of_bare _ = refl
 
 hashed_below : (n : ℕ) → hashed n < HASHED_HEADS
 unfolding hashed
@@ -137,10 +131,8 @@ simple_counted (watch.Bit i b) h = absurd h
 simple_counted (watch.Var v o) h = absurd h
 
 pub done_simple : (c : Watch) → is_done c ≡ true → IsSimpleHead c
-done_simple (watch.Plain c) h = absurd (cc)
 done_simple (watch.Done d) h = tt
-done_simple (watch.Bit w b) h = absurd (cc)
-done_simple (watch.Var v o) h = absurd (cc)
+done_simple _ h = absurd (cc)
 
 pub await_done : (call : Call) → is_await call ≡ true → is_done (call_watch call) ≡ true
 await_done (calls.WaitFor d st) h = refl
@@ -236,9 +228,7 @@ module _ (s : Table) (a : ℕ) where
   pub plain_store : (c : Watch) → IsPlain c → (s.view a).hold.head ≡ None → (value : ℕ)
       → Allowed s a (set_step c value (value_of s.words c))
   plain_store (watch.Plain c) h out value = (out, (λ b. absurd (cc)), refl)
-  plain_store (watch.Done d) h out value = absurd h
-  plain_store (watch.Bit i b) h out value = absurd h
-  plain_store (watch.Var v o) h out value = absurd h
+  plain_store _ h out value = absurd h
 
   -- a store of a variable, and the steps that set a bit and clear it
   pub var_store : (v o : ℕ) → (s.view a).hold.head ≡ None → (value : ℕ)
@@ -264,9 +254,7 @@ module _ (s : Table) (a : ℕ) where
       by true e p q = (held, (λ b. absurd (cc)), refl)
       by false true p q = (held, (λ b. absurd (cc)), refl)
       by false false p q = ((λ z. grind (arith, nat_tests)), held, refl)
-  done_store (watch.Plain c) h held value = absurd (cc)
-  done_store (watch.Bit i b) h held value = absurd (cc)
-  done_store (watch.Var v o) h held value = absurd (cc)
+  done_store _ h held value = absurd (cc)
 
   pub take_store : (c : Watch) (k : ℕ) → c ≡ watch.Plain k → Allowed s a (step.Consume c 0 (value_of s.words c))
   take_store c k e = rw e (tt, tt, refl)

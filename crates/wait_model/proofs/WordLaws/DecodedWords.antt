@@ -45,21 +45,11 @@ module _ (key code prio excl place : ℕ) (hk : key < 2 ^ 14) (hc : code < 8) (h
 
 kind_read : (k : Kind) → kind_numbered (kind_code k) ≡ k
 kind_read kind.Default = refl
-kind_read kind.Autoremove = refl
-kind_read kind.Woken = refl
-kind_read kind.Bit = refl
-kind_read kind.Var = refl
-kind_read kind.Simple = refl
-kind_read kind.Page = refl
+kind_read _ = refl
 
 code_small : (k : Kind) → kind_code k < 8
 code_small kind.Default = omega arith
-code_small kind.Autoremove = omega arith
-code_small kind.Woken = omega arith
-code_small kind.Bit = omega arith
-code_small kind.Var = omega arith
-code_small kind.Simple = omega arith
-code_small kind.Page = omega arith
+code_small _ = omega arith
 
 flag_small : (b : Bool) → flag b < 2
 flag_small true = omega arith
@@ -70,19 +60,13 @@ flag_read true = refl
 flag_read false = refl
 
 key_small : (c : Watch) (k : Kind) → Suited c k → key_of c < 2 ^ 14
-key_small (watch.Plain c) k h = omega (arith, h.0)
-key_small (watch.Done d) k h = omega (arith, h.0)
 key_small (watch.Bit w b) k h = omega (arith, h.0, h.1)
-key_small (watch.Var v o) k h = omega (arith, h.0)
+key_small _ k h = omega (arith, h.0)
 
 -- a plain condition's entry is of none of the kinds of bits and variables
 plain_code : (k : Kind) → (k ≡ kind.Default)
     ⊎ ((k ≡ kind.Autoremove) ⊎ ((k ≡ kind.Woken) ⊎ (k ≡ kind.Simple)))
     → (((kind_code k == 3) || (kind_code k == 6)) ≡ false) × ((kind_code k == 4) ≡ false)
-plain_code kind.Default h = (refl, refl)
-plain_code kind.Autoremove h = (refl, refl)
-plain_code kind.Woken h = (refl, refl)
-plain_code kind.Simple h = (refl, refl)
 plain_code kind.Bit h =
     absurd (elim h [
       | inl a ↦ cc
@@ -98,6 +82,7 @@ plain_code kind.Var h =
       | inl a ↦ cc
       | inr b ↦ elim b [ inl a ↦ cc | inr d ↦ elim d [ inl a ↦ cc | inr a ↦ cc ] ]
     ])
+plain_code _ h = (refl, refl)
 
 watch_read : (c : Watch) (k : Kind) → Suited c k → watch_at (kind_code k) (key_of c) ≡ c
 watch_read (watch.Plain c) k h =

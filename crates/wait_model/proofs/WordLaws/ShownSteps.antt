@@ -192,11 +192,8 @@ written_as words t u k v shown is left same =
 module _ (words : List ℕ) (s : State) (shown : Shows words s.table) (me : ℕ) (g : Given)
     (mine : me < TASKS) where
   pub event_located : (e : Event) → Allows s me e → IsLocation (location_of me e)
-  event_located (event.Wake who hit) a = omega (arith, a)
-  event_located (event.Signal who fatal) a = omega (arith, a)
   event_located (event.Lock h) a = a
   event_located (event.Unlock h used) a = a
-  event_located (event.Unqueue who) a = omega (arith, a)
   event_located (event.Mark h) a = mine
   event_located (event.Unmark h) a = mine
   event_located (event.Load c v) a = cond_located c a
@@ -205,10 +202,8 @@ module _ (words : List ℕ) (s : State) (shown : Shows words s.table) (me : ℕ)
   event_located (event.Tas w b v) a = a.0
   event_located (event.Clear w b) a = a.0
   event_located (event.Active h hit) a = tt
-  event_located (event.Woken who) a = omega (arith, a)
   event_located (event.TasFor p who v) a = a.0
-  event_located (event.Handed who) a = omega (arith, a)
-  event_located e a = omega arith
+  event_located e a = grind arith
 
   -- a record that an event changes, and a flag
   own_record : (who : ℕ) (x : tasks.TaskRecord) (history : ℕ → List Step) (view : ℕ → View)
@@ -290,11 +285,8 @@ module _ (words : List ℕ) (s : State) (shown : Shows words s.table) (me : ℕ)
 
   pub event_shown : (e : Event) → Allows s me e → Joins g e
       → Shows (slice_set words (position_of (location_of me e)) (left_of s me g e)) (after_event s me g e).table
-  event_shown (event.State v) a j = own_record me _ _ _ mine
-  event_shown (event.Sleep x) a j = own_record me _ _ _ mine
   event_shown (event.Wake who hit) a j = own_record who _ _ _ a
   event_shown (event.Signal who fatal) a j = own_record who _ _ _ a
-  event_shown (event.Accept x) a j = own_record me _ _ _ mine
   event_shown (event.Look hit) a j = written_as words s.table _ (Task me) _ shown (omega arith) refl
       (λ l ne. refl)
   event_shown (event.Lock h) a j =
@@ -343,6 +335,7 @@ module _ (words : List ℕ) (s : State) (shown : Shows words s.table) (me : ℕ)
   event_shown (event.Flag hit) a j = written_as words s.table _ (Flag (SLOTS * me)) _ shown (omega arith) refl
       (λ l ne. refl)
   event_shown event.Unflag a j = flag_record me false false _ _ _ mine
+  event_shown _ a j = own_record me _ _ _ mine
 
   -- the word before it
   pub event_found : (e : Event) → Allows s me e

@@ -64,11 +64,9 @@ HandsSame old new = (new ≡ old) ⊎ ((taken_entry old ≡ None) × (taken_entr
 
 -- it stored a member bit, and so had no page to hand over
 pub named_hands : (me x : ℕ) (d : Difference) → index_named me d ≡ Some x → HandsSame d nothing
-named_hands me x nothing is = none_some x is
 named_hands me x (at_entry y on) is = inr (refl, refl)
 named_hands me x (at_mark on) is = inr (refl, refl)
-named_hands me x (page_taken y) is = none_some x is
-named_hands me x (page_told y) is = none_some x is
+named_hands me x _ is = none_some x is
 
 pub pages_seen : (s : Table) (a : ℕ) (d : Difference) (differs : ℕ → Difference) (asked : ℕ → Asked)
     → HandsSame (differs a) d → ArePageStates s differs asked → ArePageStates s (put differs a d) asked

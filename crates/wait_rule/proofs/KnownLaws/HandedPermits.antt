@@ -99,19 +99,10 @@ count_next d v m n (step.Unlock h sp) same held = absurd (let z : None ≡ Some 
     sym (ap (λ (k : Hold). k.head) (unlock_hold v v.walk sp)) ∙ held in cc)
 count_next d v m n (step.Load (watch.Done c) r) same held = loads_count (c == d) (is_in d v) r m n
     (held_is v.hold.head (done_head d) (done_head d) held ∙ same_number (done_head d) (done_head d) refl) (same held)
-count_next d v m n (step.Load (watch.Plain c) r) same held = same held
-count_next d v m n (step.Load (watch.Bit c b) r) same held = same held
-count_next d v m n (step.Load (watch.Var c o) r) same held = same held
 count_next d v m n (step.Publish (watch.Done c) k r) same held = ap (λ (o : Option ℕ). if c == d then Some k else o)
     (same held)
-count_next d v m n (step.Publish (watch.Plain c) k r) same held = same held
-count_next d v m n (step.Publish (watch.Bit c b) k r) same held = same held
-count_next d v m n (step.Publish (watch.Var c o) k r) same held = same held
 count_next d v m n (step.Consume (watch.Done c) k r) same held = ap (λ (o : Option ℕ). if c == d then Some k else o)
     (same held)
-count_next d v m n (step.Consume (watch.Plain c) k r) same held = same held
-count_next d v m n (step.Consume (watch.Bit c b) k r) same held = same held
-count_next d v m n (step.Consume (watch.Var c o) k r) same held = same held
 count_next d v m n e same held = same held
 
 counts_from : (d x : ℕ) (v : View) (w : Dealt) (n : Option ℕ) (es : List Step)

@@ -85,9 +85,7 @@ load_own s a (watch.Done c) r reads stand d n held counts = by (eqb_tells c d)
         (sym (ap (λ (b : Bool). if b then Some r else count_in d (s.history a)) q.0) ∙ counts))
     by (inr q) = stand a d n held
         (sym (ap (λ (b : Bool). if b then Some r else count_in d (s.history a)) q.0) ∙ counts)
-load_own s a (watch.Plain c) r reads stand d n held counts = stand a d n held counts
-load_own s a (watch.Bit w b) r reads stand d n held counts = stand a d n held counts
-load_own s a (watch.Var v o) r reads stand d n held counts = stand a d n held counts
+load_own s a _ r reads stand d n held counts = stand a d n held counts
 
 -- a store of a done count in a hold of its head
 module _ (s : Table) (a c n : ℕ) (held : (s.view a).hold.head ≡ Some (head_of (watch.Done c))) (one : OneHolder s)

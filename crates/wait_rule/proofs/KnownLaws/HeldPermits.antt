@@ -56,9 +56,7 @@ AreInside (e ∷ es) = IsInside e × AreInside es
 
 inside_head : (v : View) (e : Step) → IsInside e → (after e v).hold.head ≡ v.hold.head
 inside_head v (step.Lock h aim w) is = absurd is
-inside_head v (step.Unlock h sp) is = absurd is
-inside_head v (step.Queue x e) is = absurd is
-inside_head v e is = refl
+inside_head v e is = grind arith
 
 inside_adds : (e : Step) → IsInside e → AddsLow e
 inside_adds (step.Queue x e) is = absurd is
@@ -74,9 +72,6 @@ none_found false c l is = refl
 
 inside_debt : (d x : ℕ) (v : View) (w : Dealt) (n : ℕ) (e : Step) → IsInside e → TakesOthers x e → w.left ≡ false
     → w.debt ≡ n → debt_after d x v w e ≡ owed d e n
-inside_debt d x v w n (step.Lock h aim f) is others left debt = absurd is
-inside_debt d x v w n (step.Unlock h sp) is others left debt = absurd is
-inside_debt d x v w n (step.Queue y e) is others left debt = absurd is
 inside_debt d x v w n (step.Saw y f) is others left debt =
     let z = none_found (is_in d v && (y == x)) (not (is_seen (v.hold.book x)) && not (stands_at (entry_of f)
     (done_head d))) w.left left in
@@ -92,7 +87,7 @@ inside_debt d x v w n (step.Publish (watch.Done c) m r) is others left debt =
     ap (λ (k : ℕ). if c == d then after_store m r k else k) debt
 inside_debt d x v w n (step.Consume (watch.Done c) m r) is others left debt =
     ap (λ (k : ℕ). if c == d then after_store m r k else k) debt
-inside_debt d x v w n e is others left debt = debt
+inside_debt d x v w n e is others left debt = grind arith
 
 -- the hold takes off entries of its head alone, and the own one is off
 takes_others : (d a : ℕ) (front : List Step) (e : Step) → OrderStep a front e

@@ -113,10 +113,8 @@ module _ (s : Table) (k : Known) (h : ℕ) (agrees : (x : ℕ) → Agrees h ((to
 
       by : (l : Look) → Agrees h l (s.entry m) → look_place l ≡ Some p
           → (e : Entry) × (s.entry m ≡ Some e) × (head_of e.watch ≡ h) × (e.place ≡ p)
-      by unseen a q = absurd (cc)
-      by off a q = absurd (cc)
-      by elsewhere a q = absurd (cc)
       by (shown e) a q = (e, a.0, a.1, cc)
+      by _ a q = absurd (cc)
 
   -- a bookmark that stands there
   stands_mark : (m p : ℕ) → ENTRIES ≤ m → place_by k m ≡ Some p

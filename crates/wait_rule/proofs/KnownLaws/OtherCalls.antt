@@ -129,9 +129,7 @@ all_low (e ∷ es) k = (one e k.0, all_low es k.1)
 bare_low : (w : Watch) → head_of w < FIRST_DONE_HEAD → head_of (bare w) < FIRST_DONE_HEAD
 unfolding head_of
 bare_low (watch.Plain c) low = low
-bare_low (watch.Done d) low = low
-bare_low (watch.Bit w b) low = low
-bare_low (watch.Var v o) low = low
+bare_low _ low = low
 
 never_own : {A : Type 0} (o : Option ℕ) (x : ℕ) → o ≡ None → o ≡ Some x → A
 never_own o x none is = absurd (none-some x (sym none ∙ is))

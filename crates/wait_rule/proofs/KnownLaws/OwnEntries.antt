@@ -28,9 +28,7 @@ IsFair s a e = IsDoneStore e
 
 pub done_store : (s : Table) (a : ℕ) (e : Step) → IsFair s a e → IsDoneStore e
 done_store s a (step.Unqueue x) f = tt
-done_store s a (step.Unlock h sp) f = tt
-done_store s a (step.Queue x e) f = tt
-done_store s a e f = f
+done_store s a e f = assumption
 
 pub hands_on : (s : Table) (a : ℕ) (e : Step) → IsFair s a e → HandsOn s a e
 hands_on s a (step.Unlock h sp) f = f

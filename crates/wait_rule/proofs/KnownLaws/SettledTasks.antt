@@ -69,14 +69,7 @@ step_tells e v is = absurd (cc)
 
 settled_begins_none : (e : Step) → stays_settled e ≡ true → begins_none e ≡ true
 settled_begins_none (step.State σ) is = refl
-settled_begins_none (step.Sleep w) is = refl
-settled_begins_none (step.Wake who mask w) is = refl
-settled_begins_none (step.Signal who fatal w) is = refl
-settled_begins_none (step.Accept w) is = refl
-settled_begins_none (step.Look w) is = refl
-settled_begins_none (step.Lock h aim w) is = refl
-settled_begins_none (step.Unlock h spent) is = refl
-settled_begins_none e is = absurd (cc)
+settled_begins_none e is = cc
 
 -- What a task owes stays where its bookmark, entries, kept bits and debts stay, and it tries no more bits.
 pub owes_told : (old new : Known) → (told_of new).mark ≡ (told_of old).mark

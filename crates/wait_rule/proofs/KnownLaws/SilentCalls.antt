@@ -97,35 +97,23 @@ module _ (Raises Takes Stores : Type 0) where
 
     entry_quiet : (w : Walking) (c : CalledEntry) (d : Kind) (hit : Bool) → IsQuiet (call_entry aim w c d seen hit)
     entry_quiet w c kind.Default hit = (tt, on _)
-    entry_quiet w c kind.Autoremove hit = (tt, tt)
-    entry_quiet w c kind.Woken hit = (tt, tt)
-    entry_quiet w c kind.Bit hit = (tt, tt)
-    entry_quiet w c kind.Var hit = (tt, tt)
     entry_quiet w c kind.Simple hit = (tt, on _)
-    entry_quiet w c kind.Page hit = (tt, tt)
+    entry_quiet w c _ hit = (tt, tt)
 
     next_quiet : (w : Walking) (o : Option CalledEntry) (hit : Bool) → IsQuiet (call_next aim w o seen hit)
     next_quiet w None hit = (tt, tt)
     next_quiet w (Some c) hit = entry_quiet w c c.kind hit
 
     hands_quiet : (st : PageStage) (w : Walking) (c : CalledEntry) → IsQuiet (hands_event aim st w c seen)
-    hands_quiet staging.Try w c = (tt, tt)
-    hands_quiet staging.Hand w c = (tt, tt)
-    hands_quiet staging.Wake w c = (tt, tt)
     hands_quiet staging.Off w c = (tt, on _)
+    hands_quiet _ w c = (tt, tt)
 
     pub walk_quiet : (p : WalkPoint) → IsQuiet (walk_event aim p seen)
-    walk_quiet walking.Lock = (tt, tt)
     walk_quiet (walking.Call w) = either seen.breaks _ _ (tt, tt) (next_quiet _ seen.called _)
-    walk_quiet (walking.Bit w c) = (tt, tt)
     walk_quiet (walking.Page st w c) = hands_quiet st w c
-    walk_quiet (walking.Stopped w) = (tt, tt)
     walk_quiet (walking.Wake w c) = (tt, on _)
     walk_quiet (walking.Unqueue w who) = (tt, on w)
-    walk_quiet (walking.Spent w) = (tt, tt)
-    walk_quiet (walking.BreakUnlock w) = (tt, tt)
-    walk_quiet (walking.BreakLock w) = (tt, tt)
-    walk_quiet (walking.Unmark w) = (tt, tt)
+    walk_quiet _ = (tt, tt)
 
   -- where calls go on
   signalled_on : (call : Call) → IsElsewhere (signalled_at call)
@@ -134,8 +122,6 @@ module _ (Raises Takes Stores : Type 0) where
 
   prepared_on : (call : Call) → IsElsewhere (prepared_at call)
   prepared_on (calls.WaitFor d st) = tt
-  prepared_on (calls.WaitBit w b st) = tt
-  prepared_on (calls.LockBit w b st) = tt
   prepared_on call = tt
 
   slept_on : (call : Call) → IsElsewhere (slept_at call)
@@ -199,27 +185,17 @@ module _ (Raises Takes Stores : Type 0) where
         (either (is_lock call) _ _ (ask_silent, tt) (ask_silent, tt))
 
     page_finish_quiet : (p : FinishPoint) → IsQuiet (page_finish_event me call p seen)
-    page_finish_quiet finishing.State = (tt, tt)
     page_finish_quiet finishing.Look = either (is_some seen.entry) _ _ (tt, tt) (tt, tt)
-    page_finish_quiet finishing.Lock = (tt, tt)
     page_finish_quiet finishing.Queue = either (is_some seen.entry) _ _ (tt, tt) (tt, tt)
-    page_finish_quiet finishing.Unlock = (tt, tt)
+    page_finish_quiet _ = (tt, tt)
 
     page_quiet : (p : PagePoint) → IsQuiet (page_event me call p seen)
     page_quiet paging.First = either (call_fails call seen) _ _ (tt, tt) (tt, tt)
-    page_quiet paging.Unflag = (tt, tt)
-    page_quiet paging.Lock = (tt, tt)
     page_quiet paging.Queue = either seen.worn _ _ (tt, tt) (tt, tt)
-    page_quiet paging.Try = (tt, tt)
-    page_quiet paging.Off = (tt, tt)
     page_quiet (paging.Unlock got) = either got _ _ (tt, tt) (tt, tt)
-    page_quiet paging.State = (tt, tt)
-    page_quiet paging.Flag = (tt, tt)
-    page_quiet paging.Look = (tt, tt)
-    page_quiet paging.Sleep = (tt, tt)
     page_quiet (paging.Finish p) = page_finish_quiet p
     page_quiet paging.Last = either seen.flag _ _ (tt, tt) (tt, tt)
-    page_quiet paging.Clear = (tt, tt)
+    page_quiet _ = (tt, tt)
 
     active_quiet : (hit : Bool) → IsQuiet (active_event call hit)
     active_quiet true = (tt, tt)
@@ -237,40 +213,31 @@ module _ (Raises Takes Stores : Type 0) where
 
     woken_quiet : (p : WokenPoint) → IsQuiet (woken_event call p seen)
     woken_quiet hearing.State = (tt, tt)
-    woken_quiet hearing.Flag = (tt, tt)
-    woken_quiet hearing.Sleep = (tt, tt)
-    woken_quiet hearing.Run = (tt, tt)
-    woken_quiet hearing.Clear = (tt, tt)
+    woken_quiet _ = (tt, tt)
 
     selects_quiet : (n : ℕ) (o : Option CalledEntry) (hit : Bool) → IsQuiet (select_next call n o hit)
     selects_quiet n None hit = (tt, tt)
     selects_quiet n (Some c) hit = (tt, tt)
 
     select_quiet : (p : SelectPoint) → IsQuiet (select_event call p seen)
-    select_quiet selecting.Lock = (tt, tt)
-    select_quiet selecting.Load = (tt, tt)
     select_quiet selecting.Store = (stores, tt)
     select_quiet (selecting.Next n) = either (is_enough call n) _ _ (tt, tt) (selects_quiet n seen.called _)
-    select_quiet (selecting.Off n who) = (tt, tt)
+    select_quiet _ = (tt, tt)
 
     awaited_quiet : (stopped : Bool) → IsQuiet (await_ends call stopped seen)
     awaited_quiet true = (tt, tt)
     awaited_quiet false = either (is_at_end seen.value) _ _ (tt, tt) (stores, tt)
 
     await_quiet : (p : AwaitPoint) → IsQuiet (await_event me call p seen)
-    await_quiet (awaiting.Lock waited) = (tt, tt)
     await_quiet (awaiting.Load waited) = (tt, either_at (seen.value == 0) (prepares_from call) _ tt tt)
-    await_quiet (awaiting.Run stopped) = (tt, tt)
     await_quiet (awaiting.Off stopped) = either (is_some seen.entry) _ _ (tt, tt) (awaited_quiet stopped)
     await_quiet (awaiting.Last stopped) = awaited_quiet stopped
-    await_quiet awaiting.Unlock = (tt, tt)
+    await_quiet _ = (tt, tt)
 
     count_quiet : (p : CountPoint) → IsQuiet (count_event call p seen)
     count_quiet counting.Peek = either (seen.value == 0) _ _ (tt, tt) (tt, tt)
-    count_quiet counting.Lock = (tt, tt)
-    count_quiet counting.Load = (tt, tt)
     count_quiet counting.Store = (stores, tt)
-    count_quiet (counting.Unlock hit) = (tt, tt)
+    count_quiet _ = (tt, tt)
 
     pub program_quiet : (p : Point) → IsElsewhere p → IsQuiet (program me call p seen)
     program_quiet at.First on = either (call_fails call seen) _ _ (tt, tt) (tt, tt)
@@ -292,12 +259,9 @@ module _ (Raises Takes Stores : Type 0) where
     program_quiet (at.Await p) on = await_quiet p
     program_quiet (at.Count p) on = count_quiet p
     program_quiet at.Store on = (stores, tt)
-    program_quiet at.Take on = (tt, tt)
-    program_quiet at.Read on = (tt, tt)
     program_quiet at.Accept on = (on, tt)
-    program_quiet at.Kick on = (tt, tt)
     program_quiet at.Raise on = (on, tt)
-    program_quiet at.RaiseWake on = (tt, tt)
+    program_quiet _ on = (tt, tt)
 
 -- none raised, none taken, nothing published
 abbrev pub RaisesNone : Event → Type 0

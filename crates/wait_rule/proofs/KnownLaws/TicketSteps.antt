@@ -114,11 +114,8 @@ flag_set true is = refl
 flag_set false is = absurd (omega arith)
 
 given_is : (h : ℕ) (t : Ticket) → is_given h t ≡ true → (is_ticket_of h t ≡ true) × (is_served t ≡ true)
-given_is h no_ticket is = absurd (cc)
-given_is h (drawn g n) is = absurd (cc)
-given_is h (served g n) is = absurd (cc)
-given_is h (taken g) is = absurd (cc)
 given_is h (given g) is = (is, refl)
+given_is h _ is = absurd (cc)
 
 pub one_unserved : (s : Table) (tickets : ℕ → Ticket) (beside : place.Location → ℕ) → AreTickets s tickets beside
     → (h : ℕ) → unserved h tickets ≤ 1

@@ -217,12 +217,10 @@ module _ (aim : Aim) where
       (event.Wake c.who (meets (mask_of aim.mode) seen.other.state)) refl
       (past w c (meets (mask_of aim.mode) seen.other.state))
   walk_holds o (walking.Page st w c) seen held = hands_holds o held st w c seen
-  walk_holds o (walking.Stopped w) seen held = tt
   walk_holds o (walking.Unqueue w who) seen held = onward_holds o held (event.Unqueue who) refl w
-  walk_holds o (walking.Spent w) seen held = tt
-  walk_holds o (walking.BreakUnlock w) seen held = tt
   walk_holds o (walking.BreakLock w) seen held = refl
   walk_holds o (walking.Unmark w) seen held = held
+  walk_holds o _ seen held = tt
 
 module _ (s : Table) (all : IsInterleaved s) (me c n : ℕ) (mode : Mode) (small : c < PLAIN_CONDITIONS) where
   abbrev aim : Aim

@@ -350,21 +350,16 @@ module _ (aim : Aim) where
   IsHeard x = Hears (tells_page x.event) x.next
 
   walk_heard : (p : WalkPoint) (seen : Seen) → IsHeard (walk_event aim p seen)
-  walk_heard walking.Lock seen = refl
   walk_heard (walking.Call w) seen = either IsHeard seen.breaks _ _ refl
       (next_heard (reached w seen.calls) seen.called seen (meets (mask_of aim.mode) seen.other.state))
   walk_heard (walking.Bit w c) seen = either_heard (meets (mask_of aim.mode) seen.other.state) _ _ refl refl
   walk_heard (walking.Page staging.Try w c) seen = either_heard (misses aim.watch seen.value) _ _ refl refl
-  walk_heard (walking.Page staging.Hand w c) seen = refl
-  walk_heard (walking.Page staging.Wake w c) seen = refl
   walk_heard (walking.Page staging.Off w c) seen = onward_heard (past w c true)
   walk_heard (walking.Stopped w) seen = tt
   walk_heard (walking.Wake w c) seen = onward_heard (past w c (meets (mask_of aim.mode) seen.other.state))
   walk_heard (walking.Unqueue w who) seen = onward_heard w
   walk_heard (walking.Spent w) seen = tt
-  walk_heard (walking.BreakUnlock w) seen = refl
-  walk_heard (walking.BreakLock w) seen = refl
-  walk_heard (walking.Unmark w) seen = refl
+  walk_heard _ seen = refl
 
   -- whole walks
   abbrev f : Program

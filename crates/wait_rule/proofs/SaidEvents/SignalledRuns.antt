@@ -68,9 +68,7 @@ is_loop call is = absurd (cc)
 
 start_first : (call : Call) → is_turning call ≡ true → program_start call ≡ at.First
 start_first (calls.Wait c how) is = refl
-start_first (calls.SimpleWait c st) is = refl
-start_first (calls.WaitVar v old st) is = refl
-start_first call is = absurd (cc)
+start_first call is = cc
 
 zero_not : {A : Type 0} → zero_answer ≡ signalled → A
 zero_not is = absurd (let z : refusal (next.Ends zero_answer) ≡ refusal (next.Ends signalled) =

@@ -106,10 +106,8 @@ unfolding shown_queue
 placed_in k m i = placed_below (place_by k) MEMBERS m i
 
 seen_there : (l : Look) (p : ℕ) → look_place l ≡ Some p → (e : Entry) × (l ≡ shown e)
-seen_there unseen p is = absurd (cc)
-seen_there off p is = absurd (cc)
-seen_there elsewhere p is = absurd (cc)
 seen_there (shown e) p is = (e, refl)
+seen_there _ p is = absurd (cc)
 
 module _ (me : ℕ) (k : Known) (z : Moment me (history_of k)) (c : ℕ) (small : c < PLAIN_CONDITIONS)
     (held : (told_of k).hold.head ≡ Some (head_of (watch.Plain c))) where

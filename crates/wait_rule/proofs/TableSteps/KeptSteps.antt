@@ -198,12 +198,7 @@ table_word s beside l plain = ap (λ (b : Bool). if b then beside l else word_in
 -- a word that some call changes by a step is one of the table
 pub stepped_plain : (l : Location) → is_stepped l ≡ true → is_beside l ≡ false
 stepped_plain (place.Member k) is = absurd (cc)
-stepped_plain (place.Next h) is = absurd (cc)
-stepped_plain (place.Serving h) is = absurd (cc)
-stepped_plain (place.Tally p) is = absurd (cc)
-stepped_plain (place.Cell k) is = absurd (cc)
-stepped_plain (place.Claim k) is = absurd (cc)
-stepped_plain l is = refl
+stepped_plain l is = cc
 
 -- the tickets after a step
 pub tickets_on : (c : Scene) (law : Law c) (a : ℕ) (e : Step) → a < TASKS → Allowed law.table a e

@@ -8,13 +8,13 @@ ghost use Rattle.wait_rule.specs.Says.{IsClean, RestsIn};
 ghost use Rattle.bit_wait.specs.Holders.{IsHolder};
 ghost use Rattle.wq_head.specs.Readied.{IsUpAndIdle};
 
-use crate::wants::{all_so, another};
 use bit_wait::clears::clear_and_wake_bit;
 use bit_wait::lock_calls::wait_on_bit_lock;
 use bit_wait::tries::test_and_set;
 use bit_wait::wait_calls::wait_on_bit;
 use std::sync::Wait;
 use std::test::Fail;
+use test_tasks::wants::all_so;
 use wait_model::tasks::SleepState;
 use wait_rule::bits::bit_clear;
 use wait_rule::{Domain, Task};
@@ -71,7 +71,7 @@ pub(crate) fn unlock<R: Wait>(rt: &R, domain: &Domain, task: &mut Task, word: u8
 #[test]
 fn takes_no_lock_for_nobody(rt: HostRuntime) -> Result<(), Fail> {
     let (domain, mut task) = Domain::new(rt.alloc())?;
-    let mut worker = another(&rt, &domain, &mut task);
+    let mut worker = task.fork(&domain, 0)?;
     if lock(&domain, &mut worker, 5, 0) {
         assert!(rt; unlock(&rt, &domain, &mut worker, 5, 0) == 0);
         task.join(&domain, worker);
@@ -89,7 +89,7 @@ fn takes_a_bit_once(rt: HostRuntime) -> Result<(), Fail> {
         take(&domain, &mut task, 127, 63),
         !take(&domain, &mut task, 127, 63),
     ];
-    all_so(&rt, &seen);
+    all_so(&seen)?;
     if !take(&domain, &mut task, 5, 63) {
         panic!(rt; "the bit is clear")
     }
@@ -97,8 +97,7 @@ fn takes_a_bit_once(rt: HostRuntime) -> Result<(), Fail> {
         !take(&domain, &mut task, 5, 63),
         take(&domain, &mut task, 5, 0),
     ];
-    all_so(&rt, &seen);
-    Ok(())
+    all_so(&seen)
 }
 
 /// After it was given back the bit is clear.
@@ -130,6 +129,5 @@ fn takes_a_clear_bit_at_once(rt: HostRuntime) -> Result<(), Fail> {
         !take(&domain, &mut task, 127, 63),
         take(&domain, &mut task, 127, 62),
     ];
-    all_so(&rt, &seen);
-    Ok(())
+    all_so(&seen)
 }

@@ -1,16 +1,13 @@
 //! A wait for a bit and the task that gives it back on one thread, which goes on with one of them at a time; the wait is
 //! roused again and again.
 
-ghost use Rattle.std.specs.Prelude.{◌≡◌};
 ghost use Rattle.wait_model.specs.declared.watches.Watch.TheVariants as watch;
 ghost use Rattle.wait_rule.specs.Bits.{KeepsBitOf};
-ghost use Rattle.wait_class.specs.Tables.{Lands};
-ghost use Rattle.wq_head.specs.Readied.{IsUpAndIdle};
-ghost use Rattle.wait_tests.specs.BitTasks.{IsReadyForBit};
+ghost use Rattle.wait_rule.specs.Says.{RestsIn};
+ghost use Rattle.wait_tests.specs.TurnTasks.{IsIdleIn, StandsIn};
 
 use crate::bits::alone::{give, take};
 use crate::turns::{go_often, go_on};
-use crate::wants::another;
 use bit_wait::lock_calls::begin_lock;
 use bit_wait::lock_waits::{LockOutcome, LockTest};
 use bit_wait::wait_calls::begin_bit;
@@ -38,10 +35,8 @@ const TURNS: u32 = 200;
 
 /// Wakes the waiter's task, as a walk would.
 fn rouse<R: Wait>(rt: &R, domain: &Domain, waker: &mut Task, who: u8)
-    requires of { waker.old.domain ≡ domain.now }
-    requires rest { IsUpAndIdle waker.old }
-    ensures of { waker.new.domain ≡ domain.now }
-    ensures rest { IsUpAndIdle waker.new }
+    requires rest { IsIdleIn domain.now waker.old }
+    ensures rest { IsIdleIn domain.now waker.new }
 {
     wake_task(rt, domain, waker, who, Mode::Normal);
 }
@@ -56,11 +51,9 @@ fn rouse_and_go<R: Wait, C: Machine>(
     last: Turn<C::Stage, C::Outcome>,
     seed: u32,
 ) -> Turn<C::Stage, C::Outcome>
-    requires of { (waker.old.domain ≡ domain.now) × (waiter.old.domain ≡ domain.now) }
-    requires rest { IsUpAndIdle waker.old }
-    requires waiting { Lands C.table waiter.old run.old last }
-    ensures of { waker.new.domain ≡ domain.now }
-    ensures rest { IsUpAndIdle waker.new }
+    requires rest { IsIdleIn domain.now waker.old }
+    requires waiting { StandsIn domain.now C.table waiter.old run.old last }
+    ensures rest { IsIdleIn domain.now waker.new }
 {
     let who = waiter.number();
     let mut at = last;
@@ -87,12 +80,10 @@ fn play_order<R: Wait, C: Machine>(
     begins: Turn<C::Stage, C::Outcome>,
     seed: u32,
 ) -> Turn<C::Stage, C::Outcome>
-    requires of { (holder.old.domain ≡ domain.now) × (waiter.old.domain ≡ domain.now) }
-    requires rest { IsUpAndIdle holder.old }
+    requires rest { IsIdleIn domain.now holder.old }
     requires keeps { KeepsBitOf holder.old (watch.Bit 0 0) }
-    requires waiting { Lands C.table waiter.old run.old begins }
-    ensures of { holder.new.domain ≡ domain.now }
-    ensures rest { IsUpAndIdle holder.new }
+    requires waiting { StandsIn domain.now C.table waiter.old run.old begins }
+    ensures rest { IsIdleIn domain.now holder.new }
 {
     let at = go_often(domain, waiter, run, begins, seed % BEFORE);
     give(domain, holder, 0, 0);
@@ -101,10 +92,9 @@ fn play_order<R: Wait, C: Machine>(
 
 /// Plays one order of a wait until the bit is clear: whether it has ended so.
 fn looks<R: Wait>(rt: &R, domain: &Domain, holder: &mut Task, waiter: &mut Task, seed: u32) -> bool
-    requires of { (holder.old.domain ≡ domain.now) × (waiter.old.domain ≡ domain.now) }
-    requires holder { IsUpAndIdle holder.old }
+    requires rest { IsIdleIn domain.now holder.old }
     requires keeps { KeepsBitOf holder.old (watch.Bit 0 0) }
-    requires waiter { IsReadyForBit waiter.old }
+    requires waiter { RestsIn domain.now waiter.old }
 {
     let mut run = begin_bit(waiter, 0, 0, SleepState::Uninterruptible);
     let begins = Turn::Again(Stage::Test(BitTest::First));
@@ -114,10 +104,9 @@ fn looks<R: Wait>(rt: &R, domain: &Domain, holder: &mut Task, waiter: &mut Task,
 
 /// The same of a wait to take it: whether it has taken it then, so that nobody else can.
 fn takes<R: Wait>(rt: &R, domain: &Domain, holder: &mut Task, waiter: &mut Task, seed: u32) -> bool
-    requires of { (holder.old.domain ≡ domain.now) × (waiter.old.domain ≡ domain.now) }
-    requires holder { IsUpAndIdle holder.old }
+    requires rest { IsIdleIn domain.now holder.old }
     requires keeps { KeepsBitOf holder.old (watch.Bit 0 0) }
-    requires waiter { IsReadyForBit waiter.old }
+    requires waiter { RestsIn domain.now waiter.old }
 {
     let mut run = begin_lock(waiter, 0, 0, SleepState::Uninterruptible);
     let begins = Turn::Again(Stage::Test(LockTest::First));
@@ -130,7 +119,7 @@ fn takes<R: Wait>(rt: &R, domain: &Domain, holder: &mut Task, waiter: &mut Task,
 pub(crate) fn play_each<R: Abort + Wait>(rt: &R, alloc: Global, to_take: bool) -> Result<(), Fail> {
     for order in 0..ORDERS {
         let (domain, mut holder) = Domain::new(alloc)?;
-        let mut waiter = another(rt, &domain, &mut holder);
+        let mut waiter = holder.fork(&domain, 0)?;
         if !take(&domain, &mut holder, 0, 0) {
             panic!(rt; "the bit is clear")
         }

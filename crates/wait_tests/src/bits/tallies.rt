@@ -1,6 +1,6 @@
 //! The tally of a page, to which two threads add while they keep the page's bit: in the end it is the sum.
 
-ghost use Rattle.std.specs.Prelude.{◌≡◌, ◌<◌, MatchBool};
+ghost use Rattle.std.specs.Prelude.{◌≡◌, ◌<◌};
 ghost use Rattle.wait_model.specs.declared.layout.TheConstants.{PAGES};
 ghost use Rattle.wait_model.specs.declared.watches.Watch.TheVariants as watch;
 ghost use Rattle.wait_rule.specs.Says.{RestsIn};

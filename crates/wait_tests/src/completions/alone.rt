@@ -1,8 +1,8 @@
 //! One task alone: each call once, with what it answers where nobody else is there.
 
 use crate::completions::calls::{complete, complete_all, is_done, reinit, try_wait, wait_for};
-use crate::wants::all_so;
 use std::test::Fail;
+use test_tasks::wants::all_so;
 use wait_model::tasks::SleepState;
 use wait_rule::Domain;
 
@@ -19,8 +19,7 @@ fn one_is_taken(rt: HostRuntime) -> Result<(), Fail> {
         !try_wait(&rt, &domain, &mut task, CELL),
         !is_done(&rt, &domain, &mut task, CELL),
     ];
-    all_so(&rt, &seen);
-    Ok(())
+    all_so(&seen)
 }
 
 /// A completion that is done for all stays done, whoever takes of it, until it is cleared.
@@ -34,12 +33,11 @@ fn all_stay_done(rt: HostRuntime) -> Result<(), Fail> {
         try_wait(&rt, &domain, &mut task, CELL),
         is_done(&rt, &domain, &mut task, CELL),
     ];
-    all_so(&rt, &seen);
+    all_so(&seen)?;
     reinit(&rt, &domain, &mut task, CELL);
     let seen = [
         !is_done(&rt, &domain, &mut task, CELL),
         !try_wait(&rt, &domain, &mut task, CELL),
     ];
-    all_so(&rt, &seen);
-    Ok(())
+    all_so(&seen)
 }

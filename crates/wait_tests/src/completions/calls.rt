@@ -1,7 +1,7 @@
 //! The calls on a completion, each by a task that owes nothing and has left no entry at any completion, before it and
 //! after it.
 
-ghost use Rattle.std.specs.Prelude.{◌≡◌, ◌<◌};
+ghost use Rattle.std.specs.Prelude.{◌<◌};
 ghost use Rattle.wait_model.specs.declared.layout.TheConstants.{COMPLETIONS};
 ghost use Rattle.wait_rule.specs.Says.{RestsIn};
 

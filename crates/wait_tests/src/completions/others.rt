@@ -2,8 +2,8 @@
 //! known over the wait.
 
 use crate::completions::calls::{complete, try_wait};
-use crate::wants::{all_so, another};
 use std::test::Fail;
+use test_tasks::wants::all_so;
 use wait_event::conds::set_and_wake;
 use wait_model::tasks::SleepState;
 use wait_model::watches::Mode;
@@ -17,7 +17,7 @@ const CELL: u8 = 3;
 #[test]
 fn completed_around_a_wait(rt: HostRuntime) -> Result<(), Fail> {
     let (domain, mut task) = Domain::new(rt.alloc())?;
-    let mut other = another(&rt, &domain, &mut task);
+    let mut other = task.fork(&domain, 0)?;
     set_and_wake(&rt, &domain, &mut other, 0, 1, Mode::Normal, 0);
     complete(&rt, &domain, &mut task, CELL);
     let over = wait_for_zero(&rt, &domain, &mut task, SleepState::Uninterruptible);
@@ -28,6 +28,5 @@ fn completed_around_a_wait(rt: HostRuntime) -> Result<(), Fail> {
         try_wait(&rt, &domain, &mut task, CELL),
         !try_wait(&rt, &domain, &mut task, CELL),
     ];
-    all_so(&rt, &seen);
-    Ok(())
+    all_so(&seen)
 }

@@ -1,7 +1,6 @@
 //! Waits and those who complete in threads of their own, again and again, in Domains whose tasks park at once when they
 //! are put asleep.
 
-ghost use Rattle.std.specs.Prelude.{◌≡◌};
 ghost use Rattle.wait_rule.specs.Says.{RestsIn};
 
 use crate::completions::calls::{complete, complete_all, is_done, reinit, try_wait};

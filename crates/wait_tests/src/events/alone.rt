@@ -2,12 +2,12 @@
 
 ghost use Rattle.std.specs.Prelude.{◌≡◌, ◌<◌};
 ghost use Rattle.wait_model.specs.declared.layout.TheConstants.{FIRST_SIMPLE};
-ghost use Rattle.wait_tests.specs.EventTasks.{IsReadyForEvent};
+ghost use Rattle.wait_rule.specs.Says.{RestsIn};
 
 use crate::in_order::met_nobody;
-use crate::wants::all_so;
 use std::sync::Wait;
 use std::test::Fail;
+use test_tasks::wants::all_so;
 use wait_event::conds::set_and_wake;
 use wait_event::entries::{add_entry, remove_entry};
 use wait_event::prepares::{
@@ -38,11 +38,9 @@ pub(crate) fn prepare_shared<R: Wait>(
     cond: u8,
     state: SleepState,
 ) -> bool
-    requires of { task.old.domain ≡ domain.now }
-    requires ready { IsReadyForEvent task.old }
+    requires rests { RestsIn domain.now task.old }
     requires full { cond < FIRST_SIMPLE }
-    ensures of { task.new.domain ≡ domain.now }
-    ensures ready { IsReadyForEvent task.new }
+    ensures rests { RestsIn domain.now task.new }
 {
     let watch = Watch::Plain { cond };
     let queued = prepare_to_wait(rt, domain, task, Kind::Autoremove, watch, state);
@@ -52,11 +50,9 @@ pub(crate) fn prepare_shared<R: Wait>(
 
 /// An exclusive one: true where its entry was the first.
 pub(crate) fn prepare_first<R: Wait>(rt: &R, domain: &Domain, task: &mut Task, cond: u8) -> bool
-    requires of { task.old.domain ≡ domain.now }
-    requires ready { IsReadyForEvent task.old }
+    requires rests { RestsIn domain.now task.old }
     requires full { cond < FIRST_SIMPLE }
-    ensures of { task.new.domain ≡ domain.now }
-    ensures ready { IsReadyForEvent task.new }
+    ensures rests { RestsIn domain.now task.new }
 {
     let watch = Watch::Plain { cond };
     let first = prepare_exclusive(
@@ -79,11 +75,9 @@ pub(crate) fn prepare_asking<R: Wait>(
     cond: u8,
     how: How,
 ) -> bool
-    requires of { task.old.domain ≡ domain.now }
-    requires ready { IsReadyForEvent task.old }
+    requires rests { RestsIn domain.now task.old }
     requires full { cond < FIRST_SIMPLE }
-    ensures of { task.new.domain ≡ domain.now }
-    ensures ready { IsReadyForEvent task.new }
+    ensures rests { RestsIn domain.now task.new }
 {
     let watch = Watch::Plain { cond };
     let prepared = prepare_event(rt, domain, task, Kind::Autoremove, watch, how);
@@ -93,8 +87,7 @@ pub(crate) fn prepare_asking<R: Wait>(
 
 /// An entry that is added and removed: true where there was a place for it.
 fn enter_and_leave<R: Wait>(rt: &R, domain: &Domain, task: &mut Task, form: Form) -> bool
-    requires of { task.old.domain ≡ domain.now }
-    requires ready { IsReadyForEvent task.old }
+    requires rests { RestsIn domain.now task.old }
     requires first { task.old.view.number ≡ 0 }
 {
     match add_entry(rt, domain, task, 1, Kind::Default, form) {
@@ -119,8 +112,7 @@ fn prepares_of_one_task(rt: HostRuntime) -> Result<(), Fail> {
         prepare_first(&rt, &domain, &mut task, 0),
         prepare_asking(&rt, &domain, &mut task, 0, how),
     ];
-    all_so(&rt, &seen);
-    Ok(())
+    all_so(&seen)
 }
 
 /// A wake that finds nobody calls no entry, in one hold; a wait whose condition is set ends at its first look.

@@ -3,11 +3,11 @@
 
 ghost use Rattle.std.specs.Prelude.{◌≡◌};
 ghost use Rattle.wait_model.specs.declared.tasks.SleepState.TheVariants as states;
-ghost use Rattle.wait_tests.specs.EventTasks.{IsHearer, IsHearingOn, IsWaker};
+ghost use Rattle.wait_tests.specs.EventTasks.{IsHearer, IsHearingOn};
 ghost use Rattle.wait_event.specs.WokenWaits.{IsHearing, IsHearingAsleep, LandsHearing};
+ghost use Rattle.wait_rule.specs.Says.{RestsIn};
 
 use crate::events::flags::{enter, is_set};
-use crate::wants::another;
 use std::sync::Wait;
 use std::test::Fail;
 use test_tasks::draws::next_number;
@@ -99,11 +99,9 @@ fn play<R: Wait>(
     second: &mut Task,
     seed: u32,
 ) -> bool
-    requires of { (waker.old.domain ≡ domain.now) × (first.old.domain ≡ domain.now)
-        × (second.old.domain ≡ domain.now) }
-    requires waker { IsWaker waker.old }
-    requires first { IsHearer first.old }
-    requires second { IsHearer second.old }
+    requires rests { RestsIn domain.now waker.old }
+    requires of { (first.old.domain ≡ domain.now) × (second.old.domain ≡ domain.now) }
+    requires hear { IsHearer first.old × IsHearer second.old }
 {
     let mut one_at = None;
     let mut two_at = None;
@@ -141,8 +139,8 @@ fn ends(domain: &Domain, task: &mut Task, last: Option<WokenTurn>) -> bool
 fn hearers_end_in_each_order(rt: HostRuntime) -> Result<(), Fail> {
     for order in 0..ORDERS {
         let (domain, mut waker) = Domain::new(rt.alloc())?;
-        let mut first = another(&rt, &domain, &mut waker);
-        let mut second = another(&rt, &domain, &mut waker);
+        let mut first = waker.fork(&domain, 0)?;
+        let mut second = waker.fork(&domain, 0)?;
         if !enter(&rt, &domain, &mut first) || !enter(&rt, &domain, &mut second) {
             panic!(rt; "the queue is empty")
         }

@@ -11,9 +11,9 @@ ghost use Rattle.wait_rule.specs.Says.{IsClean, RestsIn};
 use crate::meetings::rows::{VALUES_BY_TURNS, WAITERS_BY_TURNS};
 use crate::meetings::{ROUNDS, meet_often};
 use crate::variables::alone::VAR;
-use crate::wants::{all_so, another};
 use std::sync::Wait;
 use std::test::Fail;
+use test_tasks::wants::all_so;
 use wait_event::prepares::{
     Prepared, finish_wait, prepare_event, prepare_exclusive, prepare_to_wait,
 };
@@ -173,20 +173,18 @@ fn parts_of_each_kind(rt: HostRuntime) -> Result<(), Fail> {
         prepare_twice(&rt, &domain, &mut task, Kind::Var, var, how_in(false)),
         prepare_for_flag(&rt, &domain, &mut task),
     ];
-    all_so(&rt, &seen);
-    Ok(())
+    all_so(&seen)
 }
 
 /// A wake takes an entry of kind Autoremove off, so the next prepare queues it again; it leaves one of kind Default.
 #[test]
 fn kinds_around_a_wake(rt: HostRuntime) -> Result<(), Fail> {
     let (domain, mut task) = Domain::new(rt.alloc())?;
-    let mut waker = another(&rt, &domain, &mut task);
+    let mut waker = task.fork(&domain, 0)?;
     let taken = prepare_around_wake(&rt, &domain, &mut task, &mut waker, Kind::Autoremove);
     let left = prepare_around_wake(&rt, &domain, &mut task, &mut waker, Kind::Default);
     let seen = [taken.0, taken.1 == 1, taken.2, left.0, left.1 == 1, !left.2];
-    all_so(&rt, &seen);
-    Ok(())
+    all_so(&seen)
 }
 
 /// Whatever the order of the steps, waits by parts end, and the waker takes their tasks in.

@@ -1,7 +1,6 @@
 //! An exclusive wait that a wake selects and that a signal may end: where it answers the signal, its condition was not
 //! set, so the selection is not lost.
 
-ghost use Rattle.std.specs.Prelude.{◌≡◌};
 ghost use Rattle.wait_rule.specs.Says.{RestsIn};
 
 use crate::meetings::rows::SELECTED;

@@ -4,7 +4,9 @@ ghost use Rattle.std.specs.Prelude.{◌≡◌};
 ghost use Rattle.wq_head.specs.declared.wakes.WakeStage.TheVariants as stages;
 ghost use Rattle.wq_head.specs.declared.wakes.WakeTurn.TheVariants as turns;
 ghost use Rattle.wq_head.specs.Turns.{WakeRests};
-ghost use Rattle.wait_tests.specs.EventTasks.{IsReadyForEvent, IsTestedWait, IsWaker};
+ghost use Rattle.wait_rule.specs.Says.{RestsIn};
+ghost use Rattle.wait_event.specs.Waits.{wait_table};
+ghost use Rattle.wait_tests.specs.TurnTasks.{StandsIn};
 
 use crate::events::stretches::is_over;
 use crate::turns::go_on;
@@ -35,8 +37,7 @@ const WATCH: Watch = Watch::Plain { cond: 0 };
 
 /// Sets the condition, and begins the wake.
 fn begin_wake(domain: &Domain, waker: &mut Task) -> WakeRun
-    requires of { waker.old.domain ≡ domain.now }
-    requires waker { IsWaker waker.old }
+    requires rests { RestsIn domain.now waker.old }
     ensures of { waker.new.domain ≡ domain.now }
     ensures waking { WakeRests waker.new result (turns.Locked stages.First) }
 {
@@ -92,10 +93,8 @@ fn wait_if(
     last: WaitTurn,
     its_turn: bool,
 ) -> WaitTurn
-    requires of { task.old.domain ≡ domain.now }
-    requires waiting { IsTestedWait task.old run.old last }
-    ensures of { task.new.domain ≡ domain.now }
-    ensures waiting { IsTestedWait task.new run.new result }
+    requires stands { StandsIn domain.now wait_table task.old run.old last }
+    ensures stands { StandsIn domain.now wait_table task.new run.new result }
 {
     if its_turn {
         go_on(domain, task, run, last)
@@ -106,11 +105,7 @@ fn wait_if(
 
 /// Plays one order: whether both waits and the wake are over then.
 fn play(domain: &Domain, waker: &mut Task, first: &mut Task, second: &mut Task, seed: u32) -> bool
-    requires of { (waker.old.domain ≡ domain.now) × (first.old.domain ≡ domain.now)
-        × (second.old.domain ≡ domain.now) }
-    requires waker { IsWaker waker.old }
-    requires first { IsReadyForEvent first.old }
-    requires second { IsReadyForEvent second.old }
+    requires rest { RestsIn domain.now waker.old × RestsIn domain.now first.old × RestsIn domain.now second.old }
 {
     let how = How {
         state: SleepState::Interruptible,
@@ -142,10 +137,8 @@ fn play(domain: &Domain, waker: &mut Task, first: &mut Task, second: &mut Task, 
 fn all_end_in_each_order(rt: HostRuntime) -> Result<(), Fail> {
     for order in 0..ORDERS {
         let (domain, mut waker) = Domain::new(rt.alloc())?;
-        let (Ok(mut first), Ok(mut second)) = (waker.fork(&domain, 0), waker.fork(&domain, 0))
-        else {
-            panic!(rt; "numbers are spare")
-        };
+        let mut first = waker.fork(&domain, 0)?;
+        let mut second = waker.fork(&domain, 0)?;
         assert!(rt; play(&domain, &mut waker, &mut first, &mut second, order + 1));
     }
     Ok(())

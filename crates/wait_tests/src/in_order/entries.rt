@@ -5,9 +5,9 @@ ghost use Rattle.wait_tests.specs.EventTasks.{IsCleanHearer};
 
 use super::met_nobody;
 use crate::events::flags::{enter, hear, leave};
-use crate::wants::all_so;
 use std::sync::Wait;
 use std::test::Fail;
+use test_tasks::wants::all_so;
 use wait_model::queues::Walked;
 use wait_model::watches::{Mode, Watch};
 use wait_rule::{Domain, Task};
@@ -45,6 +45,5 @@ fn flag_then_a_simple_queue(rt: HostRuntime) -> Result<(), Fail> {
         all_locked == 0,
         all == 0,
     ];
-    all_so(&rt, &seen);
-    Ok(())
+    all_so(&seen)
 }

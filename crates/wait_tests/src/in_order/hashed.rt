@@ -9,10 +9,10 @@ use super::met_nobody;
 use crate::bits::lock_threads::lock_in_turn;
 use crate::pages::alone::{give, take};
 use crate::variables::alone::{announce, wait_for_other};
-use crate::wants::all_so;
 use bit_wait::{clear_and_wake_bit, wait_on_bit};
 use std::sync::Wait;
 use std::test::Fail;
+use test_tasks::wants::all_so;
 use wait_model::queues::Walked;
 use wait_model::tasks::SleepState;
 use wait_rule::tasks::set_state;
@@ -53,8 +53,7 @@ fn bit_then_page(rt: HostRuntime) -> Result<(), Fail> {
     }
     let unlocked = give(&rt, &domain, &mut task, 1);
     let seen = [over, met_nobody(given, 0), met_nobody(unlocked, 0)];
-    all_so(&rt, &seen);
-    Ok(())
+    all_so(&seen)
 }
 
 #[test]
@@ -63,6 +62,5 @@ fn variable_then_its_change(rt: HostRuntime) -> Result<(), Fail> {
     let seen = wait_for_other(&rt, &domain, &mut task, 1);
     let walked = announce(&rt, &domain, &mut task, 2);
     let seen = [matches!(seen, Ok(0)), met_nobody(walked, 0)];
-    all_so(&rt, &seen);
-    Ok(())
+    all_so(&seen)
 }

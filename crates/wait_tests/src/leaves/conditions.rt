@@ -1,6 +1,6 @@
 //! What those do with a condition whose waits are left: they set it for one, and take what it has.
 
-ghost use Rattle.std.specs.Prelude.{◌≡◌, ◌<◌};
+ghost use Rattle.std.specs.Prelude.{◌<◌};
 ghost use Rattle.wait_model.specs.declared.layout.TheConstants.{FIRST_SIMPLE};
 ghost use Rattle.wait_rule.specs.Says.{RestsIn};
 

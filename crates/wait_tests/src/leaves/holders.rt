@@ -56,12 +56,7 @@ fn keep_bit<R: Wait>(rt: &R, domain: &Domain, task: &mut Task, shared: &Shared) 
 }
 
 /// Waits for the page, and gives it back: whether it kept it alone.
-pub(crate) fn turn_of_page<R: Wait>(
-    rt: &R,
-    domain: &Domain,
-    task: &mut Task,
-    shared: &Shared,
-) -> bool
+pub(crate) fn page_turn<R: Wait>(rt: &R, domain: &Domain, task: &mut Task, shared: &Shared) -> bool
     requires rests { RestsIn domain.now task.old }
     ensures rests { RestsIn domain.now task.new }
 {
@@ -72,12 +67,7 @@ pub(crate) fn turn_of_page<R: Wait>(
 }
 
 /// The same of the bit.
-pub(crate) fn turn_of_bit<R: Wait>(
-    rt: &R,
-    domain: &Domain,
-    task: &mut Task,
-    shared: &Shared,
-) -> bool
+pub(crate) fn bit_turn<R: Wait>(rt: &R, domain: &Domain, task: &mut Task, shared: &Shared) -> bool
     requires rests { RestsIn domain.now task.old }
     ensures rests { RestsIn domain.now task.new }
 {
@@ -114,12 +104,7 @@ pub(crate) fn bit_until<R: Wait>(rt: &R, domain: &Domain, task: &mut Task, share
 }
 
 /// Waits until the bit is clear, or it is asked to leave: whether it was, or the wait was left with the bit set.
-pub(crate) fn clear_until<R: Wait>(
-    rt: &R,
-    domain: &Domain,
-    task: &mut Task,
-    shared: &Shared,
-) -> bool
+pub(crate) fn sees_clear<R: Wait>(rt: &R, domain: &Domain, task: &mut Task, shared: &Shared) -> bool
     requires rests { RestsIn domain.now task.old }
     ensures rests { RestsIn domain.now task.new }
 {

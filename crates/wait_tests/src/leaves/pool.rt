@@ -1,7 +1,6 @@
 //! A pool of three workers in threads of their own, to which jobs are posted one by one, and which is shut down by asking
 //! each of them to leave its wait.
 
-ghost use Rattle.std.specs.Prelude.{◌≡◌};
 ghost use Rattle.wait_rule.specs.Says.{RestsIn};
 
 use crate::leaves::conditions::{set_one, take};

@@ -1,16 +1,11 @@
 //! Waits that go on by stretches on one thread and are left from each of them on, by the call that leaves and by
 //! stretches.
 
-ghost use Rattle.std.specs.Prelude.{◌≡◌};
-ghost use Rattle.wait_model.specs.declared.watches.Watch.TheVariants as watch;
-ghost use Rattle.wait_rule.specs.PassedLocks.{PassesNone};
-ghost use Rattle.wait_rule.specs.Says.{IsClean, IsUp};
-ghost use Rattle.wait_class.specs.Tables.{Lands};
-ghost use Rattle.bit_wait.specs.Holders.{IsHolder};
+ghost use Rattle.wait_rule.specs.Says.{RestsIn};
+ghost use Rattle.wait_tests.specs.TurnTasks.{IsUpIn, StandsIn};
 
 use crate::bits::alone::lock;
 use crate::turns::go_often;
-use crate::wants::another;
 use bit_wait::BitEnd;
 use bit_wait::lock_calls::begin_lock;
 use bit_wait::lock_leaves::{end_lock_until, leave_lock};
@@ -71,11 +66,9 @@ fn reach<R: Wait, C: Machine>(
     first: Turn<C::Stage, C::Outcome>,
     turns: u32,
 ) -> Turn<C::Stage, C::Outcome>
-    requires of { (other.old.domain ≡ domain.now) × (task.old.domain ≡ domain.now) }
-    requires up { IsUp other.old }
-    requires waiting { Lands C.table task.old run.old first }
-    ensures of { task.new.domain ≡ domain.now }
-    ensures waiting { Lands C.table task.new run.new result }
+    requires up { IsUpIn domain.now other.old }
+    requires waiting { StandsIn domain.now C.table task.old run.old first }
+    ensures waiting { StandsIn domain.now C.table task.new run.new result }
 {
     match go_often(domain, task, run, first, turns) {
         Turn::Locked(stage) => Turn::Again(stage),
@@ -98,10 +91,8 @@ fn out_on<C: Leavable>(
     run: &mut Run<C>,
     last: Turn<C::Stage, C::Outcome>,
 ) -> Turn<C::Stage, C::Outcome>
-    requires of { task.old.domain ≡ domain.now }
-    requires waiting { Lands C.table task.old run.old last }
-    ensures of { task.new.domain ≡ domain.now }
-    ensures waiting { Lands C.table task.new run.new result }
+    requires waiting { StandsIn domain.now C.table task.old run.old last }
+    ensures waiting { StandsIn domain.now C.table task.new run.new result }
 {
     let stage = match last {
         Turn::Again(stage) => stage,
@@ -123,10 +114,8 @@ fn out_often<C: Leavable>(
     run: &mut Run<C>,
     last: Turn<C::Stage, C::Outcome>,
 ) -> Turn<C::Stage, C::Outcome>
-    requires of { task.old.domain ≡ domain.now }
-    requires waiting { Lands C.table task.old run.old last }
-    ensures of { task.new.domain ≡ domain.now }
-    ensures waiting { Lands C.table task.new run.new result }
+    requires waiting { StandsIn domain.now C.table task.old run.old last }
+    ensures waiting { StandsIn domain.now C.table task.new run.new result }
 {
     let mut at = last;
     for _ in 0..AFTER {
@@ -145,11 +134,9 @@ fn way_out<R: Wait, C: Leavable>(
     first: Turn<C::Stage, C::Outcome>,
     way: Way,
 ) -> Turn<C::Stage, C::Outcome>
-    requires of { (other.old.domain ≡ domain.now) × (task.old.domain ≡ domain.now) }
-    requires up { IsUp other.old }
-    requires waiting { Lands C.table task.old run.old first }
-    ensures of { task.new.domain ≡ domain.now }
-    ensures waiting { Lands C.table task.new run.new result }
+    requires up { IsUpIn domain.now other.old }
+    requires waiting { StandsIn domain.now C.table task.old run.old first }
+    ensures waiting { StandsIn domain.now C.table task.new run.new result }
 {
     let at = reach(rt, domain, other, task, run, first, way.turns);
     if way.by_stretches {
@@ -178,16 +165,9 @@ fn is_set(end: Until<Result<(), BitEnd>>) -> bool {
 }
 
 /// A wait for condition 0 is left from there on, by stretches or by the call: whether it was left.
-fn leaves_event<R: Wait>(
-    rt: &R,
-    domain: &Domain,
-    other: &mut Task,
-    task: &mut Task,
-    way: Way,
-) -> bool
-    requires of { (other.old.domain ≡ domain.now) × (task.old.domain ≡ domain.now) }
-    requires up { IsUp other.old }
-    requires clean { IsClean task.old }
+fn of_event<R: Wait>(rt: &R, domain: &Domain, other: &mut Task, task: &mut Task, way: Way) -> bool
+    requires up { IsUpIn domain.now other.old }
+    requires rests { RestsIn domain.now task.old }
 {
     let mut run = begin_wait(task, 0, HOW);
     let begins = Turn::Again(WaitStage::First);
@@ -199,16 +179,9 @@ fn leaves_event<R: Wait>(
 }
 
 /// The same of one for completion 1.
-fn leaves_await<R: Wait>(
-    rt: &R,
-    domain: &Domain,
-    other: &mut Task,
-    task: &mut Task,
-    way: Way,
-) -> bool
-    requires of { (other.old.domain ≡ domain.now) × (task.old.domain ≡ domain.now) }
-    requires up { IsUp other.old }
-    requires clean { IsClean task.old }
+fn of_await<R: Wait>(rt: &R, domain: &Domain, other: &mut Task, task: &mut Task, way: Way) -> bool
+    requires up { IsUpIn domain.now other.old }
+    requires rests { RestsIn domain.now task.old }
 {
     let mut run = begin_await(task, 1, STATE);
     let begins = Turn::Again(AwaitStage::First);
@@ -220,10 +193,9 @@ fn leaves_await<R: Wait>(
 }
 
 /// Of one until bit 0 of word 2 is clear, which the other one keeps.
-fn leaves_bit<R: Wait>(rt: &R, domain: &Domain, other: &mut Task, task: &mut Task, way: Way) -> bool
-    requires of { (other.old.domain ≡ domain.now) × (task.old.domain ≡ domain.now) }
-    requires up { IsUp other.old }
-    requires clean { IsClean task.old }
+fn of_bit<R: Wait>(rt: &R, domain: &Domain, other: &mut Task, task: &mut Task, way: Way) -> bool
+    requires up { IsUpIn domain.now other.old }
+    requires rests { RestsIn domain.now task.old }
 {
     let mut run = begin_bit(task, 2, 0, STATE);
     let begins = Turn::Again(Stage::Test(BitTest::First));
@@ -235,16 +207,9 @@ fn leaves_bit<R: Wait>(rt: &R, domain: &Domain, other: &mut Task, task: &mut Tas
 }
 
 /// Of one to take that bit.
-fn leaves_lock<R: Wait>(
-    rt: &R,
-    domain: &Domain,
-    other: &mut Task,
-    task: &mut Task,
-    way: Way,
-) -> bool
-    requires of { (other.old.domain ≡ domain.now) × (task.old.domain ≡ domain.now) }
-    requires up { IsUp other.old }
-    requires clean { IsClean task.old }
+fn of_lock<R: Wait>(rt: &R, domain: &Domain, other: &mut Task, task: &mut Task, way: Way) -> bool
+    requires up { IsUpIn domain.now other.old }
+    requires rests { RestsIn domain.now task.old }
 {
     let mut run = begin_lock(task, 2, 0, STATE);
     let begins = Turn::Again(Stage::Test(LockTest::First));
@@ -256,16 +221,9 @@ fn leaves_lock<R: Wait>(
 }
 
 /// And of one for page 2, which is that bit.
-fn leaves_page<R: Wait>(
-    rt: &R,
-    domain: &Domain,
-    other: &mut Task,
-    task: &mut Task,
-    way: Way,
-) -> bool
-    requires of { (other.old.domain ≡ domain.now) × (task.old.domain ≡ domain.now) }
-    requires up { IsUp other.old }
-    requires clean { IsClean task.old }
+fn of_page<R: Wait>(rt: &R, domain: &Domain, other: &mut Task, task: &mut Task, way: Way) -> bool
+    requires up { IsUpIn domain.now other.old }
+    requires rests { RestsIn domain.now task.old }
 {
     let mut run = begin_page(task, 2, STATE);
     let begins = Turn::Again(PageStage::First);
@@ -285,16 +243,15 @@ fn leaves<R: Wait>(
     kind: u32,
     way: Way,
 ) -> bool
-    requires of { (other.old.domain ≡ domain.now) × (task.old.domain ≡ domain.now) }
-    requires up { IsUp other.old }
-    requires clean { IsClean task.old }
+    requires up { IsUpIn domain.now other.old }
+    requires rests { RestsIn domain.now task.old }
 {
     match kind {
-        0 => leaves_event(rt, domain, other, task, way),
-        1 => leaves_await(rt, domain, other, task, way),
-        2 => leaves_bit(rt, domain, other, task, way),
-        3 => leaves_lock(rt, domain, other, task, way),
-        _ => leaves_page(rt, domain, other, task, way),
+        0 => of_event(rt, domain, other, task, way),
+        1 => of_await(rt, domain, other, task, way),
+        2 => of_bit(rt, domain, other, task, way),
+        3 => of_lock(rt, domain, other, task, way),
+        _ => of_page(rt, domain, other, task, way),
     }
 }
 
@@ -304,7 +261,7 @@ fn leaves<R: Wait>(
 fn waits_are_left_from_each_stretch(rt: HostRuntime) -> Result<(), Fail> {
     for round in 0..10 * BEFORE {
         let (domain, mut other) = Domain::new(rt.alloc())?;
-        let mut task = another(&rt, &domain, &mut other);
+        let mut task = other.fork(&domain, 0)?;
         if !lock(&domain, &mut other, 2, 0) {
             panic!(rt; "the bit is clear")
         }

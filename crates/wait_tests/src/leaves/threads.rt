@@ -1,7 +1,6 @@
 //! Waits that are asked to leave in threads of their own, again and again, in Domains whose tasks park at once when they
 //! are put asleep.
 
-ghost use Rattle.std.specs.Prelude.{◌≡◌};
 ghost use Rattle.wait_rule.specs.Says.{RestsIn};
 
 use crate::events::threads::set;
@@ -38,12 +37,7 @@ pub(crate) enum Left {
 
 /// Waits until it has the condition, or is asked to leave: passes on what it has. True where it saw the condition set,
 /// or was left with the condition not set.
-pub(crate) fn leave_or_pass<R: Wait>(
-    rt: &R,
-    domain: &Domain,
-    task: &mut Task,
-    shared: &Shared,
-) -> bool
+pub(crate) fn passes_on<R: Wait>(rt: &R, domain: &Domain, task: &mut Task, shared: &Shared) -> bool
     requires rests { RestsIn domain.now task.old }
     ensures rests { RestsIn domain.now task.new }
 {

@@ -1,6 +1,5 @@
 //! What the first task of a round finds when it has taken the others in.
 
-ghost use Rattle.std.specs.Prelude.{◌≡◌};
 ghost use Rattle.wait_rule.specs.Says.{RestsIn};
 
 use crate::bits::alone::lock;

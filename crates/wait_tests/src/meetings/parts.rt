@@ -1,6 +1,5 @@
 //! The parts that tasks play.
 
-ghost use Rattle.std.specs.Prelude.{◌≡◌};
 ghost use Rattle.wait_rule.specs.Says.{RestsIn};
 
 use crate::bits::lock_threads::take_turns;
@@ -12,9 +11,9 @@ use crate::events::flags::hear_until_set;
 use crate::events::parts::{see_by_turns, wait_by_turns};
 use crate::events::selected::wait_exclusive;
 use crate::events::threads::set_late;
-use crate::leaves::holders::{bit_until, clear_until, page_until, turn_of_bit, turn_of_page};
+use crate::leaves::holders::{bit_turn, bit_until, page_turn, page_until, sees_clear};
 use crate::leaves::pool::{open, post_all, work};
-use crate::leaves::threads::{Left, leave, leave_or_pass, take_it};
+use crate::leaves::threads::{Left, leave, passes_on, take_it};
 use crate::meetings::Shared;
 use crate::meetings::shares::Late;
 use crate::pages::threads::add_often;
@@ -146,14 +145,14 @@ impl Part {
             Part::Asks { who, late } => {
                 ask_late(rt, domain, task, &shared.flag, who, late.yields(round))
             }
-            Part::LeavesOrPasses => leave_or_pass(rt, domain, task, shared),
+            Part::LeavesOrPasses => passes_on(rt, domain, task, shared),
             Part::TakesIt => take_it(rt, domain, task),
             Part::Leaves(left) => leave(rt, domain, task, shared, left),
-            Part::HoldsPage => turn_of_page(rt, domain, task, shared),
-            Part::HoldsBit => turn_of_bit(rt, domain, task, shared),
+            Part::HoldsPage => page_turn(rt, domain, task, shared),
+            Part::HoldsBit => bit_turn(rt, domain, task, shared),
             Part::HoldsPageUntil => page_until(rt, domain, task, shared),
             Part::HoldsBitUntil => bit_until(rt, domain, task, shared),
-            Part::SeesBitUntil => clear_until(rt, domain, task, shared),
+            Part::SeesBitUntil => sees_clear(rt, domain, task, shared),
             Part::OpensPool => open(rt, domain, task),
             Part::PostsJobs { late } => post_all(rt, domain, task, shared, late.yields(round)),
             Part::DoesJobs => work(rt, domain, task, shared),

@@ -7,13 +7,13 @@ ghost use Rattle.wait_rule.specs.Says.{IsClean, RestsIn};
 ghost use Rattle.bit_wait.specs.Holders.{IsHolder};
 
 use crate::in_order::met_nobody;
-use crate::wants::{all_so, another};
 use bit_wait::BitEnd;
 use page_lock::tallies::add_tally;
 use page_lock::unlocks::unlock_page;
 use page_lock::wait_calls::lock_page;
 use std::sync::Wait;
 use std::test::Fail;
+use test_tasks::wants::all_so;
 use wait_model::queues::Walked;
 use wait_model::tasks::SleepState;
 use wait_rule::running::send_signal;
@@ -70,7 +70,7 @@ fn clear_page_is_taken_at_once(rt: HostRuntime) -> Result<(), Fail> {
 #[test]
 fn pending_signal_ends_the_wait(rt: HostRuntime) -> Result<(), Fail> {
     let (domain, mut task) = Domain::new(rt.alloc())?;
-    let mut other = another(&rt, &domain, &mut task);
+    let mut other = task.fork(&domain, 0)?;
     if !take(&rt, &domain, &mut task, 3) {
         panic!(rt; "the page is clear")
     }
@@ -80,6 +80,5 @@ fn pending_signal_ends_the_wait(rt: HostRuntime) -> Result<(), Fail> {
     assert!(rt; matches!(end, Err(BitEnd::Interrupted { seen: 1 })));
     let walked = give(&rt, &domain, &mut task, 3);
     let seen = [walked.selected == 0, take(&rt, &domain, &mut other, 3)];
-    all_so(&rt, &seen);
-    Ok(())
+    all_so(&seen)
 }

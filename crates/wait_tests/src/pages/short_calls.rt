@@ -1,11 +1,11 @@
 //! The calls that wait for nobody but the lock of a head: a page is taken, its tally added to, and the page given back.
 
 use crate::in_order::met_nobody;
-use crate::wants::{all_so, another};
 use page_lock::tallies::add_tally;
 use page_lock::tries::try_lock_page;
 use page_lock::unlocks::unlock_page;
 use std::test::Fail;
+use test_tasks::wants::all_so;
 use wait_rule::Domain;
 
 /// The last page of all.
@@ -15,7 +15,7 @@ const PAGE: u8 = 127;
 #[test]
 fn page_is_taken_once(rt: HostRuntime) -> Result<(), Fail> {
     let (domain, mut task) = Domain::new(rt.alloc())?;
-    let mut other = another(&rt, &domain, &mut task);
+    let mut other = task.fork(&domain, 0)?;
     if !try_lock_page(&domain, &mut task, PAGE) {
         panic!(rt; "the page is clear")
     }
@@ -23,7 +23,7 @@ fn page_is_taken_once(rt: HostRuntime) -> Result<(), Fail> {
         !try_lock_page(&domain, &mut other, PAGE),
         try_lock_page(&domain, &mut other, 0),
     ];
-    all_so(&rt, &seen);
+    all_so(&seen)?;
     unlock_page(&rt, &domain, &mut task, PAGE);
     assert!(rt; try_lock_page(&domain, &mut other, PAGE));
     Ok(())
@@ -53,7 +53,7 @@ fn tally_answers_the_sum_before(rt: HostRuntime) -> Result<(), Fail> {
         add_tally(&domain, &mut task, PAGE, u64::MAX) == 5,
         add_tally(&domain, &mut task, PAGE, 0) == 4,
     ];
-    all_so(&rt, &seen);
+    all_so(&seen)?;
     unlock_page(&rt, &domain, &mut task, PAGE);
     Ok(())
 }

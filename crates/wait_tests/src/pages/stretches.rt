@@ -7,7 +7,6 @@ ghost use Rattle.bit_wait.specs.Holders.{IsHolder};
 
 use crate::pages::alone::{give, take};
 use crate::turns::go_often;
-use crate::wants::another;
 use page_lock::wait_calls::begin_page;
 use page_lock::waits::{PageOutcome, PageStage};
 use std::sync::Wait;
@@ -41,7 +40,7 @@ fn play<R: Wait>(rt: &R, domain: &Domain, holder: &mut Task, waiter: &mut Task, 
 fn waits_take_the_page_in_each_order(rt: HostRuntime) -> Result<(), Fail> {
     for turns in 0..BEFORE {
         let (domain, mut holder) = Domain::new(rt.alloc())?;
-        let mut waiter = another(&rt, &domain, &mut holder);
+        let mut waiter = holder.fork(&domain, 0)?;
         if !take(&rt, &domain, &mut holder, 0) {
             panic!(rt; "the page is clear")
         }

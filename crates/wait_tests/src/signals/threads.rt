@@ -1,19 +1,18 @@
 //! Killable waits under plain and fatal signals, and a lock of a page that a signal ends, in threads of their own,
 //! again and again, in Domains whose tasks park at once when they are put asleep.
 
-ghost use Rattle.std.specs.Prelude.{◌≡◌};
 ghost use Rattle.wait_rule.specs.Says.{RestsIn};
 
 use super::interrupted;
 use crate::meetings::rows::{FATAL_SIGNAL, PLAIN_SIGNAL};
 use crate::meetings::{Part, ROUNDS, Shared, both, meet_often};
 use crate::pages::alone::{give, take};
-use crate::wants::{all_so, another};
 use page_lock::lock_page;
 use std::sync::Wait;
 use std::test::Fail;
 use std::thread;
 use test_tasks::meetings::meet_two;
+use test_tasks::wants::all_so;
 use wait_model::tasks::SleepState;
 use wait_model::watches::Mode;
 use wait_rule::{Domain, Task, send_signal, wake_task};
@@ -73,8 +72,8 @@ pub(crate) fn lock_in_vain<R: Wait>(rt: &R, domain: &Domain, task: &mut Task) ->
 fn signal_ends_a_lock_that_slept(rt: HostRuntime) -> Result<(), Fail> {
     for _round in 0..ROUNDS {
         let (domain, mut holder) = Domain::with_looks(rt.alloc(), 0)?;
-        let waiter = another(&rt, &domain, &mut holder);
-        let sender = another(&rt, &domain, &mut holder);
+        let waiter = holder.fork(&domain, 0)?;
+        let sender = holder.fork(&domain, 0)?;
         if !take(&rt, &domain, &mut holder, PAGE) {
             panic!(rt; "the page is clear")
         }
@@ -86,10 +85,7 @@ fn signal_ends_a_lock_that_slept(rt: HostRuntime) -> Result<(), Fail> {
         let parts = both((Part::LocksInVain, sends), &shared);
         let (waited, sent) = meet_two(&rt, &domain, waiter, sender, parts);
         let walked = give(&rt, &domain, &mut holder, PAGE);
-        all_so(
-            &rt,
-            &[waited.1, sent.1, walked.selected == 0, walked.woken == 0],
-        );
+        all_so(&[waited.1, sent.1, walked.selected == 0, walked.woken == 0])?;
     }
     Ok(())
 }

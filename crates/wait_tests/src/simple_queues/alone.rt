@@ -1,13 +1,12 @@
 //! One task alone: its wakes find nobody, and its wait ends at its first look.
 
-ghost use Rattle.std.specs.Prelude.{◌≡◌};
 ghost use Rattle.wait_rule.specs.Says.{RestsIn};
 
-use crate::wants::{all_so, another};
 use std::sync::Wait;
 use std::test::Fail;
 use swait_queue::waits::swait_event;
 use swait_queue::wakes::{swake_all, swake_one};
+use test_tasks::wants::all_so;
 use wait_model::layout::FIRST_SIMPLE;
 use wait_model::tasks::SleepState;
 use wait_rule::{Domain, Task};
@@ -30,13 +29,13 @@ fn wake_unset<R: Wait>(rt: &R, domain: &Domain, task: &mut Task) -> (bool, u32)
 #[test]
 fn wakes_of_an_empty_queue(rt: HostRuntime) -> Result<(), Fail> {
     let (domain, mut task) = Domain::new(rt.alloc())?;
-    let mut other = another(&rt, &domain, &mut task);
+    let mut other = task.fork(&domain, 0)?;
     let (one, all) = wake_unset(&rt, &domain, &mut other);
     let seen = [!one, all == 0];
-    all_so(&rt, &seen);
+    all_so(&seen)?;
     let (one, all) = swake_in_hold(&rt, &domain, &mut other);
     let seen = [!one, all == 0];
-    all_so(&rt, &seen);
+    all_so(&seen)?;
     task.join(&domain, other);
     Ok(())
 }
@@ -49,6 +48,5 @@ fn set_before_the_wait(rt: HostRuntime) -> Result<(), Fail> {
         set_and_swake_all(&rt, &domain, &mut task) == 0,
         swait_event(&rt, &domain, &mut task, COND, SleepState::Uninterruptible).is_ok(),
     ];
-    all_so(&rt, &seen);
-    Ok(())
+    all_so(&seen)
 }

@@ -1,17 +1,16 @@
 //! Wakes by stretches, by who waits for no lock.
 
-ghost use Rattle.std.specs.Prelude.{◌≡◌};
-ghost use Rattle.wait_tests.specs.EventTasks.{IsReadyForEvent, IsWaker};
+ghost use Rattle.wait_rule.specs.Says.{RestsIn};
 
 use crate::events::stretches::is_over;
 use crate::simple_queues::threads::COND;
 use crate::turns::go_often;
-use crate::wants::{all_so, another};
 use std::process::Abort;
 use std::test::Fail;
 use swait_queue::swake_turns::{SwakeRun, SwakeStage, SwakeTurn, swake_stretch};
 use swait_queue::waits::begin_swait;
 use test_tasks::ends::{end_both, rouses_only};
+use test_tasks::wants::all_so;
 use wait_class::stages::Turn;
 use wait_event::waits::WaitStage;
 use wait_model::layout::FIRST_SIMPLE_HEAD;
@@ -28,34 +27,35 @@ const OFTEN: u32 = 20;
 #[test]
 fn wake_waits_for_its_turn(rt: HostRuntime) -> Result<(), Fail> {
     let (domain, mut task) = Domain::new(rt.alloc())?;
-    let mut other = another(&rt, &domain, &mut task);
+    let mut other = task.fork(&domain, 0)?;
     lock(&rt, &domain, &mut other, FIRST_SIMPLE_HEAD);
-    let mut rousing = Rousing::new();
-    let mut passing = Passing::none();
+    let (mut rousing, mut passing) = (Rousing::new(), Passing::none());
     let mut run = SwakeRun::new(COND, true);
     let first = SwakeStage::First;
-    let SwakeTurn::Locked = swake_stretch(
+    let turn = swake_stretch(
         &domain,
         &mut task,
         &mut run,
         first,
         &mut rousing,
         &mut passing,
-    ) else {
+    );
+    let SwakeTurn::Locked = turn else {
         panic!(rt; "the other task holds the lock")
     };
     unlock(&rt, &domain, &mut other, false);
     passing.wake(&domain);
     rousing.rouse_all(&domain);
     let next = SwakeStage::Turn;
-    let SwakeTurn::Done(selected) = swake_stretch(
+    let turn = swake_stretch(
         &domain,
         &mut task,
         &mut run,
         next,
         &mut rousing,
         &mut passing,
-    ) else {
+    );
+    let SwakeTurn::Done(selected) = turn else {
         panic!(rt; "nobody holds the lock")
     };
     assert!(rt; selected == 0);
@@ -64,41 +64,36 @@ fn wake_waits_for_its_turn(rt: HostRuntime) -> Result<(), Fail> {
 }
 
 /// A wake of one by one stretch: it names the waiter, which slept, and the wait is over then.
-fn wake_sleeper<R: Abort>(rt: &R, domain: &Domain, waker: &mut Task, waiter: &mut Task)
-    requires of { (waker.old.domain ≡ domain.now) × (waiter.old.domain ≡ domain.now) }
-    requires waker { IsWaker waker.old }
-    requires waiter { IsReadyForEvent waiter.old }
+fn wake_sleeper<R: Abort>(
+    rt: &R,
+    domain: &Domain,
+    waker: &mut Task,
+    waiter: &mut Task,
+) -> Result<(), Fail>
+    requires rest { RestsIn domain.now waker.old × RestsIn domain.now waiter.old }
 {
     let mut wait = begin_swait(waiter, COND, SleepState::Uninterruptible);
     let begins = Turn::Again(WaitStage::First);
     let asleep = go_often(domain, waiter, &mut wait, begins, OFTEN);
     assert!(rt; matches!(asleep, Turn::Asleep(_)));
     publish(domain, waker, Watch::Plain { cond: COND }, 1);
-    let mut rousing = Rousing::new();
-    let mut passing = Passing::none();
+    let (mut rousing, mut passing) = (Rousing::new(), Passing::none());
     let mut run = SwakeRun::new(COND, false);
     let first = SwakeStage::First;
-    let SwakeTurn::Done(selected) = swake_stretch(
-        domain,
-        waker,
-        &mut run,
-        first,
-        &mut rousing,
-        &mut passing,
-    ) else {
+    let turn = swake_stretch(domain, waker, &mut run, first, &mut rousing, &mut passing);
+    let SwakeTurn::Done(selected) = turn else {
         panic!(rt; "nobody holds the lock")
     };
     let named = rouses_only(&rousing, waiter.number());
     end_both(domain, rousing, passing);
     let over = go_often(domain, waiter, &mut wait, asleep, OFTEN);
-    all_so(rt, &[selected == 1, named, is_over(over)]);
+    all_so(&[selected == 1, named, is_over(over)])
 }
 
 /// Whom a stretch has woken is for the caller to rouse.
 #[test]
 fn stretch_names_who_slept(rt: HostRuntime) -> Result<(), Fail> {
     let (domain, mut waker) = Domain::new(rt.alloc())?;
-    let mut waiter = another(&rt, &domain, &mut waker);
-    wake_sleeper(&rt, &domain, &mut waker, &mut waiter);
-    Ok(())
+    let mut waiter = waker.fork(&domain, 0)?;
+    wake_sleeper(&rt, &domain, &mut waker, &mut waiter)
 }

@@ -1,7 +1,6 @@
 //! Waits in a simple queue and a waker in threads of their own, again and again, in Domains whose tasks park at once
 //! when they are put asleep.
 
-ghost use Rattle.std.specs.Prelude.{◌≡◌};
 ghost use Rattle.wait_rule.specs.Says.{RestsIn};
 
 use crate::meetings::rows::SWAITERS;

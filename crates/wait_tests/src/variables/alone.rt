@@ -1,10 +1,8 @@
 //! One task alone, and one that a signal reaches first: waits that end without a sleep.
 
-ghost use Rattle.std.specs.Prelude.{◌≡◌};
 ghost use Rattle.wait_rule.specs.Says.{RestsIn};
 
 use crate::in_order::met_nobody;
-use crate::wants::another;
 use std::sync::Wait;
 use std::test::Fail;
 use var_wait::publishes::publish_var_and_wake;
@@ -80,7 +78,7 @@ fn another_value_is_answered(rt: HostRuntime) -> Result<(), Fail> {
 #[test]
 fn signal_is_answered(rt: HostRuntime) -> Result<(), Fail> {
     let (domain, mut task) = Domain::new(rt.alloc())?;
-    let mut sender = another(&rt, &domain, &mut task);
+    let mut sender = task.fork(&domain, 0)?;
     send_signal(&rt, &domain, &mut sender, task.number(), false);
     let end = wait_var(&rt, &domain, &mut task, VAR, 0, SleepState::Interruptible);
     let found = match end {

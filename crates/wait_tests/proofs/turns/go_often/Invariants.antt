@@ -1,9 +1,5 @@
-use Rattle.std.proofs.Common.{◌≡◌}
-use Rattle.wait_class.specs.Tables.{Lands}
+use Rattle.wait_tests.specs.TurnTasks.{StandsIn}
 use Rattle.wait_tests.proofs.turns.go_often.Given as goal
 
 abbrev pub invariant-loop : goal.invariant-loop
-invariant-loop g l = record {
-  of : l.task.domain ≡ l.fn.domain;
-  waiting : Lands g.C.Machine.table l.task l.run l.at;
-}
+invariant-loop g l = StandsIn l.fn.domain g.C.Machine.table l.task l.run l.at

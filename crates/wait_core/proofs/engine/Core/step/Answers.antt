@@ -1,7 +1,7 @@
-use Rattle.std.specs.Prelude.{ℕ, ◌<◌, ◌≤◌}
+use Rattle.std.specs.Prelude.{ℕ, ◌<◌, ◌≤◌, true, false}
 use Rattle.wait_model.specs.declared.layout.TheConstants.{TASKS, EVENTS}
 use Rattle.std.proofs.Common.{arith, sym, subst, append-nil}
-use Rattle.wait_core.proofs.StepAnswers.{read_progress, opened_at, may_step, read_here, stopped, running, no_call}
+use Rattle.wait_core.proofs.StepAnswers.{read_progress, opened_at, may_step, read_here, runs_not, no_call}
 use Rattle.wait_core.proofs.StepAnswers.{asleep}
 use Rattle.wait_core.proofs.SpokenCalls.{ended_well}
 use Rattle.wait_core.proofs.FollowedRuns.{left_now}
@@ -28,7 +28,7 @@ returns-then-not-read_task-clause-answer c =
     let is = read_here core c.deref.ensures.value c.read_task.ensures in
     asleep _ _ _ _ _ core c.args.task mine c.args.self.now c.self.view_is c.in-Open.call c.in-Open.point
     stands
-    (stopped _ _ is c.if-not-read_task.true)
+    (runs_not true _ _ is c.if-not-read_task.true)
 
 pub step_open-requires : goal.step_open-requires
 step_open-requires c =
@@ -38,7 +38,7 @@ step_open-requires c =
     c.in-Open.is in
     let record_is = read_here core c.deref.ensures.value c.read_task.ensures in
     may_step _ _ _ _ _ core c.args.task mine c.args.self.now c.self.view_is c.in-Open.call c.in-Open.point stands
-    (running _ _ record_is c.if-not-read_task.false)
+    (runs_not false _ _ record_is c.if-not-read_task.false)
 
 pub returns-clause-sentence : goal.returns-clause-sentence
 returns-clause-sentence c =

@@ -2,7 +2,6 @@ use Rattle.std.proofs.Common.{refl, subst, sym}
 use Rattle.wait_class.specs.declared.frame_stages.Framed.{Framed}
 use Rattle.wait_class.specs.declared.frame_stages.Stage.TheVariants as stage
 use Rattle.wait_class.proofs.Framing.{framed_lawful}
-use Rattle.wait_class.proofs.Turns.{advances_none}
 use Rattle.wait_class.proofs.UnderWay.{begun_here}
 use Rattle.bit_wait.specs.LockTables.{IsRunningLock, lock_frame, lock_table}
 use Rattle.bit_wait.specs.declared.lock_runs.LockBit.{LockBit}
@@ -21,7 +20,3 @@ pub returns-clause-under : goal.returns-clause-under
 returns-clause-under c clean = begun_here lock_table (framed_lawful lock_frame lock_lawful)
     (lock_table.plan_of c.new.result.of) c.args.task.now c.new.result (stage.Test test.First) clean c.told.ensures refl
     refl (returns-clause-at c)
-
-pub returns-clause-came : goal.returns-clause-came
-returns-clause-came c = advances_none lock_table (framed_lawful lock_frame lock_lawful) c.args.task.now c.new.result
-    (stage.Test test.First) (returns-clause-at c)

@@ -8,7 +8,7 @@ use Rattle.bit_wait.specs.LockLeaves.{LeavesBitLock, takes_until}
 use Rattle.bit_wait.specs.LockStays.{LockKeeps}
 use Rattle.bit_wait.specs.LockTables.{lock_bit_in, lock_table}
 use Rattle.bit_wait.specs.declared.wait_calls.BitEnd.{BitEnd}
-use Rattle.bit_wait.proofs.LockLeaving.{left_domain, left_ended, left_kept, left_lock, left_over, left_tries}
+use Rattle.bit_wait.proofs.LockLeaving.{left_domain, left_kept, left_lock, left_over, left_tries}
 use Rattle.bit_wait.proofs.lock_leaves.leave_lock.Goals as goal
 
 pub returns : goal.returns
@@ -30,6 +30,3 @@ returns g c =
 
 pub rest-requires-clause-of : goal.rest-requires-clause-of
 rest-requires-clause-of g c = left_domain _ _ _ _ _ _ _ c.leave-outcome.ensures.way ∙ c.requires.of
-
-pub rest-requires-clause-up : goal.rest-requires-clause-up
-rest-requires-clause-up g c = λ worn. (left_ended _ _ _ _ _ _ _ c.leave-outcome.ensures.way).up

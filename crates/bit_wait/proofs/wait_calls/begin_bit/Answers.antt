@@ -1,7 +1,6 @@
 use Rattle.std.proofs.Common.{refl, subst, sym}
 use Rattle.wait_class.specs.declared.frame_stages.Framed.{Framed}
 use Rattle.wait_class.specs.declared.frame_stages.Stage.TheVariants as stage
-use Rattle.wait_class.proofs.Turns.{advances_none}
 use Rattle.wait_class.proofs.UnderWay.{begun_here}
 use Rattle.bit_wait.specs.BitTables.{IsRunningBitWait, bit_frame, bit_table}
 use Rattle.bit_wait.specs.declared.waits.BitTest.TheVariants as test
@@ -19,7 +18,3 @@ returns-clause-at c = begins_at c.args.task.now c.new.result
 pub returns-clause-under : goal.returns-clause-under
 returns-clause-under c clean = begun_here bit_table (framed_lawful bit_frame bit_lawful) (bit_table.plan_of c.new.result.of)
     c.args.task.now c.new.result (stage.Test test.First) clean c.told.ensures refl refl (returns-clause-at c)
-
-pub returns-clause-came : goal.returns-clause-came
-returns-clause-came c = advances_none bit_table (framed_lawful bit_frame bit_lawful) c.args.task.now c.new.result
-    (stage.Test test.First) (returns-clause-at c)

@@ -7,7 +7,7 @@ use Rattle.wait_leave.proofs.Ways.{on_way_then}
 use Rattle.bit_wait.specs.BitLeaves.{LeavesBitWait}
 use Rattle.bit_wait.specs.BitTables.{bit_frame}
 use Rattle.bit_wait.proofs.BitLaws.{bit_lawful}
-use Rattle.bit_wait.proofs.BitLeaving.{bit_may_leave, left_clean, left_domain, left_ended, left_kept, left_over, left_wait}
+use Rattle.bit_wait.proofs.BitLeaving.{bit_may_leave, left_clean, left_domain, left_kept, left_over, left_wait}
 use Rattle.bit_wait.proofs.wait_leaves.leave_bit.Goals as goal
 
 pub returns : goal.returns
@@ -28,6 +28,3 @@ returns g c =
 
 pub rest-requires-clause-of : goal.rest-requires-clause-of
 rest-requires-clause-of g c = left_domain _ _ _ _ _ _ _ c.leave-outcome.ensures.way ∙ c.requires.of
-
-pub rest-requires-clause-up : goal.rest-requires-clause-up
-rest-requires-clause-up g c = λ worn. (left_ended _ _ _ _ _ _ _ c.leave-outcome.ensures.way).up

@@ -1,21 +1,8 @@
-use Rattle.std.proofs.Common.{◌∙◌, false, subst, sym}
+use Rattle.std.proofs.Common.{false, subst, sym}
 use Rattle.wq_head.specs.Roused.{RousesNone}
 use Rattle.wq_head.proofs.RousedTasks.{none_unlocked}
 use Rattle.completion_cell.proofs.CellHolds.{done_over, done_owes}
-use Rattle.completion_cell.proofs.Completing.{rise_none}
 use Rattle.completion_cell.proofs.asks.is_done_hold.Goals as goal
-
-pub give_back-requires-clause-up : goal.give_back-requires-clause-up
-give_back-requires-clause-up c = c.requires.holds.1.took.up
-
-pub give_back-requires-clause-held : goal.give_back-requires-clause-held
-give_back-requires-clause-held c = c.requires.holds.1.took.held.locked
-
-pub give_back-requires-clause-agreed : goal.give_back-requires-clause-agreed
-give_back-requires-clause-agreed c = c.requires.holds.1.took.held.agreed
-
-pub give_back-requires-clause-rise : goal.give_back-requires-clause-rise
-give_back-requires-clause-rise c = rise_none c.args.task.now
 
 pub give_back-requires-clause-permits : goal.give_back-requires-clause-permits
 give_back-requires-clause-permits c =
@@ -24,9 +11,6 @@ give_back-requires-clause-permits c =
 pub returns-clause-over : goal.returns-clause-over
 returns-clause-over c start i =
     done_over c.args.cell start c.args.task.now c.give_back.new.task i c.give_back.ensures.given
-
-pub returns-clause-passes : goal.returns-clause-passes
-returns-clause-passes c = c.put.ensures ∙ (c.give_back.ensures.head ∙ c.requires.holds.1.took.carries.at)
 
 pub returns-clause-rouses : goal.returns-clause-rouses
 returns-clause-rouses c = subst (RousesNone c.args.task.now) (sym c.give_back.ensures.given)

@@ -1,6 +1,5 @@
 use Rattle.std.proofs.Common.{refl}
-use Rattle.std.specs.Prelude.{true}
-use Rattle.completion_cell.proofs.AwaitCounts.{again_agreed, again_turned, load_falls}
+use Rattle.completion_cell.proofs.AwaitCounts.{again_turned}
 use Rattle.wait_model.specs.declared.layout.TheConstants.{HEADS}
 use Rattle.wait_model.specs.declared.steps.Step.TheVariants as step
 use Rattle.wait_model.specs.declared.watches.Watch.TheVariants as watch
@@ -8,16 +7,10 @@ use Rattle.wait_class.proofs.Handed.{given_on, given_seen, given_step}
 use Rattle.wait_class.proofs.AwakeSteps.{awake_seen, awake_step, sleeps_not_on}
 use Rattle.completion_cell.proofs.awaits.again_event.Goals as goal
 
-pub done_load-run-requires-clause-agreed : goal.done_load-run-requires-clause-agreed
-done_load-run-requires-clause-agreed c = again_agreed c.args.task.now c.own_entry.new.task c.args.run.now c.own_entry.result c.own_entry.ensures c.requires.at
-
 pub returns-clause-turned : goal.returns-clause-turned
 returns-clause-turned c = again_turned c.args.task.now c.own_entry.new.task c.args.run.now c.own_entry.result c.own_entry.ensures c.requires.at
     c.done_load-run.new.task c.done_load-run.result c.done_load-run.ensures.step c.done_load-run.ensures.finds c.done_load-run.ensures.carries c.counted_to.result
     c.counted_to.ensures
-
-pub returns-clause-falls : goal.returns-clause-falls
-returns-clause-falls c = load_falls true c.args.run.now.of c.done_load-run.result c.counted_to.result c.counted_to.ensures
 
 pub returns-clause-given : goal.returns-clause-given
 returns-clause-given c = given_on c.args.task.now c.own_entry.new.task c.done_load-run.new.task HEADS

@@ -1,22 +1,15 @@
 use Rattle.std.proofs.Common.{refl}
-use Rattle.std.specs.Prelude.{false}
-use Rattle.completion_cell.proofs.AwaitCounts.{first_agreed, first_turned, load_falls}
+use Rattle.completion_cell.proofs.AwaitCounts.{first_turned}
 use Rattle.wait_model.specs.declared.steps.Step.TheVariants as step
 use Rattle.wait_model.specs.declared.watches.Watch.TheVariants as watch
 use Rattle.wait_class.proofs.Handed.{given_step}
 use Rattle.wait_class.proofs.AwakeSteps.{awake_step}
 use Rattle.completion_cell.proofs.awaits.first_event.Goals as goal
 
-pub done_load-run-requires-clause-agreed : goal.done_load-run-requires-clause-agreed
-done_load-run-requires-clause-agreed c = first_agreed c.args.task.now c.args.run.now c.requires.at
-
 pub returns-clause-turned : goal.returns-clause-turned
 returns-clause-turned c = first_turned c.args.task.now c.done_load-run.new.task c.args.run.now c.done_load-run.result
     c.requires.at c.done_load-run.ensures.step c.done_load-run.ensures.finds c.done_load-run.ensures.carries c.counted_to.result
     c.counted_to.ensures
-
-pub returns-clause-falls : goal.returns-clause-falls
-returns-clause-falls c = load_falls false c.args.run.now.of c.done_load-run.result c.counted_to.result c.counted_to.ensures
 
 pub returns-clause-given : goal.returns-clause-given
 returns-clause-given c = given_step c.args.task.now c.done_load-run.new.task

@@ -1,15 +1,7 @@
-use Rattle.std.proofs.Common.{inl}
 use Rattle.completion_cell.proofs.AwaitTakes.{quit_off, take_off}
-use Rattle.wait_model.specs.declared.layout.TheConstants.{HEADS}
-use Rattle.wait_class.proofs.Handed.{given_as, given_on}
+use Rattle.wait_class.proofs.Handed.{given_on}
 use Rattle.wait_class.proofs.AwakeSteps.{sleeps_not_on}
 use Rattle.completion_cell.proofs.awaits.off_event.Goals as goal
-
-pub returns-in-true-true-clause-passes : goal.returns-in-true-true-clause-passes
-returns-in-true-true-clause-passes c = inl c.requires.passes
-
-pub returns-in-false-true-clause-passes : goal.returns-in-false-true-clause-passes
-returns-in-false-true-clause-passes c = inl c.requires.passes
 
 pub returns-in-true-false-clause-turned : goal.returns-in-true-false-clause-turned
 returns-in-true-false-clause-turned c = quit_off c.args.task.now c.pare-found.new.task c.quit_event.new.task
@@ -20,14 +12,6 @@ pub returns-in-false-false-clause-turned : goal.returns-in-false-false-clause-tu
 returns-in-false-false-clause-turned c = take_off c.args.task.now c.pare-found.new.task c.take_event.new.task
     c.args.run.now c.args.stopped c.take_event.result c.in-false-false.is-0 c.in-false-false.ensures.pares
     c.take_event.ensures.turned
-
-pub returns-in-true-true-clause-given : goal.returns-in-true-true-clause-given
-returns-in-true-true-clause-given c = given_as c.args.task.now c.pare-found.new.task HEADS c.args.passing.now.head
-    c.requires.passes c.pare-found.ensures.given
-
-pub returns-in-false-true-clause-given : goal.returns-in-false-true-clause-given
-returns-in-false-true-clause-given c = given_as c.args.task.now c.pare-found.new.task HEADS c.args.passing.now.head
-    c.requires.passes c.pare-found.ensures.given
 
 pub returns-in-true-false-clause-given : goal.returns-in-true-false-clause-given
 returns-in-true-false-clause-given c = given_on c.args.task.now c.pare-found.new.task c.quit_event.new.task

@@ -1,15 +1,11 @@
 use Rattle.std.proofs.Common.{◌∙◌, sym, refl}
-use Rattle.completion_cell.proofs.AwaitTakes.{off_holds, off_may, pares_none, pares_some}
+use Rattle.completion_cell.proofs.AwaitTakes.{off_may, pares_none, pares_some}
 use Rattle.wait_model.specs.declared.layout.TheConstants.{HEADS}
 use Rattle.wait_model.specs.declared.steps.Step.TheVariants as step
 use Rattle.wait_rule.specs.Queues.{index}
 use Rattle.wait_class.proofs.Handed.{given_on, given_seen, given_stored}
 use Rattle.wait_class.proofs.AwakeSteps.{awake_seen, awake_stored, sleeps_not_on}
 use Rattle.completion_cell.proofs.awaits.pare.Goals as goal
-
-pub remove-requires-clause-held : goal.remove-requires-clause-held
-remove-requires-clause-held c = off_holds c.args.task.now c.own_entry-entry.new.task c.args.run.now c.args.stopped
-    c.requires.at c.own_entry-entry.result c.own_entry-entry.ensures
 
 pub remove-requires-clause-may : goal.remove-requires-clause-may
 remove-requires-clause-may c = off_may c.args.task.now c.own_entry-entry.new.task c.args.run.now c.args.stopped

@@ -1,17 +1,8 @@
-use Rattle.std.proofs.Common.{inr}
-use Rattle.completion_cell.proofs.AwaitTakes.{off_agreed, off_locked, quit_falls, quit_owes, quit_turned}
+use Rattle.completion_cell.proofs.AwaitTakes.{quit_owes, quit_turned}
 use Rattle.std.proofs.Common.{◌∙◌, false}
 use Rattle.wait_class.proofs.Handed.{given_as, given_unlocked}
 use Rattle.wait_class.proofs.AwakeSteps.{awake_unlocked}
 use Rattle.completion_cell.proofs.awaits.quit_event.Goals as goal
-
-pub give_back-requires-clause-held : goal.give_back-requires-clause-held
-give_back-requires-clause-held c = off_locked c.requires.may.0 c.args.task.now c.args.run.now c.args.found
-    c.requires.may.1.off
-
-pub give_back-requires-clause-agreed : goal.give_back-requires-clause-agreed
-give_back-requires-clause-agreed c = off_agreed c.requires.may.0 c.args.task.now c.args.run.now c.args.found
-    c.requires.may.1.off
 
 pub give_back-requires-clause-permits : goal.give_back-requires-clause-permits
 give_back-requires-clause-permits c = quit_owes c.requires.may.0 c.args.task.now c.args.run.now c.args.found
@@ -20,12 +11,6 @@ give_back-requires-clause-permits c = quit_owes c.requires.may.0 c.args.task.now
 pub returns-clause-turned : goal.returns-clause-turned
 returns-clause-turned c start q = quit_turned start c.args.task.now c.args.run.now c.args.found q
     c.give_back.new.task c.give_back.ensures.given
-
-pub returns-clause-passes : goal.returns-clause-passes
-returns-clause-passes c = inr tt
-
-pub returns-clause-falls : goal.returns-clause-falls
-returns-clause-falls c = quit_falls c.args.found
 
 pub returns-clause-given : goal.returns-clause-given
 returns-clause-given c = given_as c.args.task.now c.give_back.new.task c.args.task.now.at c.put.new.self.head

@@ -1,8 +1,6 @@
-use Rattle.std.proofs.Common.{inl, inr}
 use Rattle.wait_rule.specs.HandedPermits.{OwesNoPermit}
-use Rattle.wait_rule.specs.Queues.{IsAgreed, IsLocked}
-use Rattle.completion_cell.proofs.AwaitTakes.{counted, ended_may, ended_owes, ended_turned, off_agreed, off_locked}
-use Rattle.completion_cell.proofs.AwaitTakes.{over_falls, take_falls, taken_turned}
+use Rattle.completion_cell.proofs.AwaitTakes.{ended_may, ended_owes, ended_turned}
+use Rattle.completion_cell.proofs.AwaitTakes.{taken_turned}
 use Rattle.std.proofs.Common.{◌∙◌, ◌-◌, false, subst}
 use Rattle.wait_model.specs.declared.layout.TheConstants.{HEADS}
 use Rattle.wait_rule.specs.Known.{Known}
@@ -13,33 +11,9 @@ use Rattle.wait_class.proofs.Handed.{given_as, given_unlocked}
 use Rattle.wait_class.proofs.AwakeSteps.{awake_unlocked}
 use Rattle.completion_cell.proofs.awaits.take_event.Goals as goal
 
-pub take_one-requires-clause-counted : goal.take_one-requires-clause-counted
-take_one-requires-clause-counted c = counted c.requires.may.0 c.args.task.now c.args.run.now c.args.found
-    c.requires.may.1
-
 pub returns-then-take_one-clause-turned : goal.returns-then-take_one-clause-turned
 returns-then-take_one-clause-turned c start t = taken_turned start c.args.task.now c.args.run.now c.args.found t
     c.take_one.new.task c.take_one.result c.take_one.ensures.took c.if-take_one.true c.take_one.ensures.stores
-
-pub returns-then-take_one-clause-passes : goal.returns-then-take_one-clause-passes
-returns-then-take_one-clause-passes c = inl c.requires.passes
-
-pub returns-then-take_one-clause-falls : goal.returns-then-take_one-clause-falls
-returns-then-take_one-clause-falls c = take_falls c.args.found
-
-pub give_back-requires-clause-held : goal.give_back-requires-clause-held
-give_back-requires-clause-held c =
-    let m = c.requires.may in
-    ended_may m.0 c.args.task.now c.args.run.now c.args.found m.1 IsLocked c.take_one.new.task c.take_one.result
-    c.if-take_one.false c.take_one.ensures.stores
-    (off_locked m.0 c.args.task.now c.args.run.now c.args.found m.1.off)
-
-pub give_back-requires-clause-agreed : goal.give_back-requires-clause-agreed
-give_back-requires-clause-agreed c =
-    let m = c.requires.may in
-    ended_may m.0 c.args.task.now c.args.run.now c.args.found m.1 IsAgreed c.take_one.new.task c.take_one.result
-    c.if-take_one.false c.take_one.ensures.stores
-    (off_agreed m.0 c.args.task.now c.args.run.now c.args.found m.1.off)
 
 pub give_back-requires-clause-permits : goal.give_back-requires-clause-permits
 give_back-requires-clause-permits c =
@@ -53,12 +27,6 @@ pub returns-clause-turned : goal.returns-clause-turned
 returns-clause-turned c start t = ended_turned start c.args.task.now c.args.run.now c.args.found t
     c.take_one.new.task c.give_back.new.task c.take_one.result c.take_one.ensures.took c.if-take_one.false
     c.take_one.ensures.stores c.give_back.ensures.given
-
-pub returns-clause-passes : goal.returns-clause-passes
-returns-clause-passes c = inr tt
-
-pub returns-clause-falls : goal.returns-clause-falls
-returns-clause-falls c = over_falls c.args.found
 
 pub returns-then-take_one-clause-given : goal.returns-then-take_one-clause-given
 returns-then-take_one-clause-given c = given_as c.args.task.now c.take_one.new.task HEADS c.args.passing.now.head

@@ -1,30 +1,9 @@
-use Rattle.std.proofs.Common.{◌∙◌, ◌≡◌, ℕ, refl, subst}
+use Rattle.std.proofs.Common.{◌∙◌}
 use Rattle.wait_model.specs.declared.steps.Step.TheVariants as step
-use Rattle.wait_model.specs.declared.watches.Watch.TheVariants as watch
-use Rattle.wait_rule.specs.declared.journal.Item.TheVariants as item
-use Rattle.wait_rule.specs.Says.{added}
 use Rattle.wq_head.proofs.AwaitedLocks.{awaits_none}
 use Rattle.completion_cell.proofs.CellDraws.{fits, peeked_none}
 use Rattle.completion_cell.proofs.CellRousing.{none_counted}
 use Rattle.completion_cell.proofs.cell_turns.begin.Goals as goal
-
-pub returns-then-not-peeks_first-clause-fresh : goal.returns-then-not-peeks_first-clause-fresh
-returns-then-not-peeks_first-clause-fresh c = record { call_is = refl; cell = refl }
-
-pub returns-then-done_load-eq0-clause-of : goal.returns-then-done_load-eq0-clause-of
-returns-then-done_load-eq0-clause-of c = c.done_load.ensures.carries.domain ∙ c.requires.of
-
-pub returns-then-done_load-eq0-clause-fresh : goal.returns-then-done_load-eq0-clause-fresh
-returns-then-done_load-eq0-clause-fresh c = record { call_is = refl; cell = refl }
-
-pub draw_lock-run-requires-2-clause-of : goal.draw_lock-run-requires-2-clause-of
-draw_lock-run-requires-2-clause-of c = c.done_load.ensures.carries.domain ∙ c.requires.of
-
-pub draw_lock-run-requires-2-clause-up : goal.draw_lock-run-requires-2-clause-up
-draw_lock-run-requires-2-clause-up c = c.done_load.ensures.carries.awake ∙ c.requires.up
-
-pub returns-clause-fresh : goal.returns-clause-fresh
-returns-clause-fresh c = record { call_is = refl; cell = refl }
 
 pub draw_lock-run-requires-clause-head : goal.draw_lock-run-requires-clause-head
 draw_lock-run-requires-clause-head c =
@@ -44,13 +23,6 @@ returns-then-done_load-eq0-clause-drawn c =
     let l = c.done_load in
     peeked_none c.args.run.now.call c.args.run.now.cell l.result c.args.task.now l.new.task c.if-not-peeks_first.ensures
     c.requires.up c.requires.free c.told.ensures l.ensures.step l.ensures.carries c.if-done_load-eq0.true
-
-pub returns-then-done_load-eq0-clause-ends : goal.returns-then-done_load-eq0-clause-ends
-returns-then-done_load-eq0-clause-ends c _ = (
-  c.args.task.now,
-  subst (λ (n : ℕ). c.done_load.new.task ≡ added c.args.task.now (item.Made (step.Load
-      (watch.Done c.args.run.now.cell) n))) c.if-done_load-eq0.true c.done_load.ensures.step,
-)
 
 pub returns-then-done_load-eq0-clause-rouses : goal.returns-then-done_load-eq0-clause-rouses
 returns-then-done_load-eq0-clause-rouses c = none_counted c.args.run.now.cell c.done_load.result c.args.task.now

@@ -1,4 +1,4 @@
-use Rattle.std.proofs.Common.{◌∙◌, inl, inr, sym}
+use Rattle.std.proofs.Common.{◌∙◌, sym}
 use Rattle.wq_head.proofs.AwaitedLocks.{awaits_none, took_none}
 use Rattle.wq_head.proofs.RousedTasks.{rousing_from, rousing_none, rousing_on}
 use Rattle.completion_cell.proofs.CellDraws.{awaits, fits, holds_for, rests_of, waits_on}
@@ -8,24 +8,9 @@ pub returns-then-not-draw_turn-clause-rouses : goal.returns-then-not-draw_turn-c
 returns-then-not-draw_turn-clause-rouses c = rousing_on c.args.task.now c.args.task.now c.draw_turn.new.task
     c.args.rousing.now c.draw_turn.ensures.rouses (rousing_none c.args.task.now c.args.rousing.now c.requires.none)
 
-pub returns-then-not-draw_turn-clause-passes : goal.returns-then-not-draw_turn-clause-passes
-returns-then-not-draw_turn-clause-passes c = inr (c.requires.passes, c.draw_turn.ensures.ends c.if-not-draw_turn.true)
-
-pub returns-in-Ok-hold-clause-passes : goal.returns-in-Ok-hold-clause-passes
-returns-in-Ok-hold-clause-passes c = inl c.in-Ok-hold.ensures.passes
-
 pub lock_turn-requires-clause-head : goal.lock_turn-requires-clause-head
 lock_turn-requires-clause-head c = fits c.draw_turn.new.run.cell c.head_of-head.result
     (c.if-not-draw_turn.ensures.drawn c.requires.at.0 c.requires.at.1).there c.head_of-head.ensures
-
-pub lock_turn-requires-clause-awaits : goal.lock_turn-requires-clause-awaits
-lock_turn-requires-clause-awaits c =
-    let d = c.draw_turn in
-    let start = c.requires.at.0 in
-    let at = c.if-not-draw_turn.ensures.drawn start c.requires.at.1 in (
-      at.stands.base,
-      awaits start d.new.task d.new.task d.new.run c.head_of-head.result c.head_of-head.ensures at,
-    )
 
 -- another ticket is served
 pub returns-in-Err-clause-turned : goal.returns-in-Err-clause-turned
@@ -39,10 +24,6 @@ returns-in-Err-clause-turned c start is_at =
           c.head_of-head.ensures at));
     }
 
-pub returns-in-Err-clause-rests : goal.returns-in-Err-clause-rests
-returns-in-Err-clause-rests c = rests_of c.requires.at.0 _ c.args.run.now _ _
-    (returns-in-Err-clause-turned c c.requires.at.0 c.requires.at.1)
-
 pub returns-in-Err-clause-rouses : goal.returns-in-Err-clause-rouses
 returns-in-Err-clause-rouses c =
     let d = c.draw_turn in
@@ -55,19 +36,6 @@ returns-in-Err-clause-rouses c =
     (c.in-Err.ensures.turned at.stands.base before)
     ∙ (sym (awaits_none at.stands.base d.new.task h d.new.run.ticket before) ∙ d.ensures.rouses))
     (rousing_none c.args.task.now c.args.rousing.now c.requires.none)
-
--- the lock is taken
-pub hold-requires-clause-holds : goal.hold-requires-clause-holds
-hold-requires-clause-holds c =
-    let d = c.draw_turn in
-    let h = c.head_of-head.result in
-    let start = c.requires.at.0 in
-    let at = c.if-not-draw_turn.ensures.drawn start c.requires.at.1 in
-    let before = awaits start d.new.task d.new.task d.new.run h c.head_of-head.ensures at in (
-      start,
-      holds_for start d.new.task c.lock_turn.new.task d.new.run h c.head_of-head.ensures at
-          (c.in-Ok.ensures.turned at.stands.base before),
-    )
 
 pub returns-in-Ok-hold-clause-turned : goal.returns-in-Ok-hold-clause-turned
 returns-in-Ok-hold-clause-turned c start is_at =

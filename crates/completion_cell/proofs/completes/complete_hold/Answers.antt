@@ -1,12 +1,11 @@
 use Rattle.std.proofs.Common.{◌∙◌, ◌==◌, ◌+◌, ◌≡◌, ◌≤◌, Bool, true, false, ℕ, ap, refl, subst, sym}
-use Rattle.std.proofs.lemmas.Result.{err_from_is_err_and}
-use Rattle.std.specs.Prelude.{MatchBool, Some}
+use Rattle.std.specs.Prelude.{MatchBool}
 use Rattle.wait_model.specs.declared.layout.TheConstants.{FIRST_SIMPLE_HEAD}
 use Rattle.wait_rule.specs.Counts.{StoresCount}
 use Rattle.wait_rule.specs.Known.{Known}
 use Rattle.wq_head.specs.Roused.{RousesNone}
 use Rattle.wq_head.proofs.RousedTasks.{none_unlocked, rousing_from, rousing_on}
-use Rattle.completion_cell.proofs.CellHolds.{one_at, one_counted, one_holds, one_over, one_owes, one_simple}
+use Rattle.completion_cell.proofs.CellHolds.{one_at, one_counted, one_over, one_owes, one_simple}
 use Rattle.completion_cell.proofs.CellRousing.{none_counted, none_raised}
 use Rattle.completion_cell.proofs.Completing.{complete_rises, done_simple}
 use Rattle.completion_cell.proofs.completes.complete_hold.Goals as goal
@@ -21,23 +20,6 @@ raised_awake : (d n : ℕ) (old new : Known) (raised : Bool) → MatchBool raise
     → new.book.awake ≡ old.book.awake
 raised_awake d n old new true s = s.publishes.awake
 raised_awake d n old new false s = ap (λ (k : Known). k.book.awake) s
-
-pub raise_one-requires-clause-of : goal.raise_one-requires-clause-of
-raise_one-requires-clause-of c = c.done_load-count.ensures.carries.domain ∙ c.requires.of
-
-pub select_tries-requires-clause-of : goal.select_tries-requires-clause-of
-select_tries-requires-clause-of c =
-    let l = c.done_load-count in
-    let r = c.raise_one in
-    raised_domain c.args.cell (l.result + 1) l.new.task r.new.task r.result r.ensures.stores
-    ∙ (l.ensures.carries.domain ∙ c.requires.of)
-
-pub select_tries-requires-clause-up : goal.select_tries-requires-clause-up
-select_tries-requires-clause-up c =
-    let l = c.done_load-count in
-    let r = c.raise_one in
-    raised_awake c.args.cell (l.result + 1) l.new.task r.new.task r.result r.ensures.stores
-    ∙ (l.ensures.carries.awake ∙ c.requires.holds.1.took.up)
 
 pub give_back-requires-clause-of : goal.give_back-requires-clause-of
 give_back-requires-clause-of c =
@@ -55,12 +37,6 @@ give_back-requires-clause-up c =
     ∙ (raised_awake c.args.cell (l.result + 1) l.new.task r.new.task r.result r.ensures.stores
     ∙ (l.ensures.carries.awake ∙ c.requires.holds.1.took.up))
 
-pub give_back-requires-clause-held : goal.give_back-requires-clause-held
-give_back-requires-clause-held c = c.select_tries.ensures.held.locked
-
-pub give_back-requires-clause-agreed : goal.give_back-requires-clause-agreed
-give_back-requires-clause-agreed c = c.select_tries.ensures.held.agreed
-
 pub returns-clause-of : goal.returns-clause-of
 returns-clause-of c =
     let l = c.done_load-count in
@@ -69,45 +45,12 @@ returns-clause-of c =
     ∙ (raised_domain c.args.cell (l.result + 1) l.new.task r.new.task r.result r.ensures.stores
     ∙ (l.ensures.carries.domain ∙ c.requires.of)))
 
-pub returns-in_err-selected-clause-of : goal.returns-in_err-selected-clause-of
-returns-in_err-selected-clause-of c =
-    let l = c.done_load-count in
-    let r = c.raise_one in
-    c.select_tries.ensures.carries.domain
-    ∙ (raised_domain c.args.cell (l.result + 1) l.new.task r.new.task r.result r.ensures.stores
-    ∙ (l.ensures.carries.domain ∙ c.requires.of))
-
-pub done_load-count-requires-clause-up : goal.done_load-count-requires-clause-up
-done_load-count-requires-clause-up c = c.requires.holds.1.took.up
-
-pub done_load-count-requires-clause-agreed : goal.done_load-count-requires-clause-agreed
-done_load-count-requires-clause-agreed c h is = c.requires.holds.1.took.held.agreed
-
-pub raise_one-requires-clause-up : goal.raise_one-requires-clause-up
-raise_one-requires-clause-up c = c.done_load-count.ensures.carries.awake ∙ c.requires.holds.1.took.up
-
 pub raise_one-requires-clause-counted : goal.raise_one-requires-clause-counted
 raise_one-requires-clause-counted c =
     let l = c.done_load-count in
     let k = c.args.task.now in
     one_counted c.args.cell l.result 0 c.requires.holds.0 k l.new.task k k k c.requires.holds.1 l.ensures.step
     l.ensures.finds l.ensures.carries
-
-pub select_tries-requires-clause-held : goal.select_tries-requires-clause-held
-select_tries-requires-clause-held c =
-    let l = c.done_load-count in
-    let k = c.args.task.now in
-    let r = c.raise_one in
-    one_holds c.args.cell l.result 0 c.requires.holds.0 k l.new.task r.new.task k k c.requires.holds.1 l.ensures.step
-    l.ensures.finds l.ensures.carries r.result r.ensures.raises r.ensures.stores
-
-pub select_tries-requires-clause-head : goal.select_tries-requires-clause-head
-select_tries-requires-clause-head c =
-    let l = c.done_load-count in
-    let k = c.args.task.now in
-    let r = c.raise_one in
-    c.head_of.ensures ∙ sym (one_at c.args.cell l.result 0 c.requires.holds.0 k l.new.task r.new.task k k
-    c.requires.holds.1 l.ensures.step l.ensures.finds l.ensures.carries r.result r.ensures.raises r.ensures.stores)
 
 pub select_tries-requires-clause-simple : goal.select_tries-requires-clause-simple
 select_tries-requires-clause-simple c = subst (λ (n : ℕ). FIRST_SIMPLE_HEAD ≤ n) (sym c.head_of.ensures)
@@ -167,26 +110,6 @@ returns-clause-rouses c =
     (rousing_from k r.new.task s.new.task s.new.rousing
     (none_raised c.args.cell l.result l.new.task r.new.task r.result r.ensures.stores
     ∙ none_counted c.args.cell l.result k l.new.task l.ensures.step) s.ensures.rouses)
-
--- where the tries of a wake failed
-pub returns-in_err-selected-clause-over : goal.returns-in_err-selected-clause-over
-returns-in_err-selected-clause-over c start i =
-    let l = c.done_load-count in
-    let k = c.args.task.now in
-    let r = c.raise_one in
-    let s = c.select_tries in
-    let at_r = one_at c.args.cell l.result 0 start k l.new.task r.new.task k k i l.ensures.step l.ensures.finds
-    l.ensures.carries r.result r.ensures.raises r.ensures.stores in
-    let p = err_from_is_err_and c.from_residual.result c.from_residual.ensures.1 in
-    rw (p.1, p.2) (record {
-      tries = c.in_err-selected.ensures.starved;
-      held = s.ensures.held.locked ∙ ap Some (s.ensures.hold.at ∙ at_r);
-    })
-
-pub returns-in_err-selected-clause-passes : goal.returns-in_err-selected-clause-passes
-returns-in_err-selected-clause-passes c =
-    let p = err_from_is_err_and c.from_residual.result c.from_residual.ensures.1 in
-    rw p.1 c.requires.passes
 
 pub returns-in_err-selected-clause-rouses : goal.returns-in_err-selected-clause-rouses
 returns-in_err-selected-clause-rouses c =

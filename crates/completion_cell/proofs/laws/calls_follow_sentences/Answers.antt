@@ -1,4 +1,4 @@
-use Rattle.completion_cell.proofs.Words.{alls_follow, asks_follow, awaits_follow, completes_follow, resets_follow}
+use Rattle.completion_cell.proofs.Words.{alls_follow, asks_follow, awaits_follow, completes_follow}
 use Rattle.completion_cell.proofs.Words.{tries_follow}
 use Rattle.completion_cell.proofs.laws.calls_follow_sentences.Goals as goal
 
@@ -13,9 +13,6 @@ returns-clause-tries c = tries_follow
 
 pub returns-clause-asks : goal.returns-clause-asks
 returns-clause-asks c = asks_follow
-
-pub returns-clause-resets : goal.returns-clause-resets
-returns-clause-resets c = resets_follow
 
 pub returns-clause-waits : goal.returns-clause-waits
 returns-clause-waits c = awaits_follow

@@ -1,17 +1,10 @@
 use Rattle.std.proofs.Common.{refl, arith}
-use Rattle.copy_ends.proofs.Idlers.{control_ends, controlled_same, controlled_then, waits_more}
-use Rattle.copy_turns.proofs.PartLaws.{grows_same}
+use Rattle.copy_ends.proofs.Idlers.{control_ends, controlled_then, waits_more}
 use Rattle.std.proofs.Common.{rules, subst}
 use Rattle.std.specs.Prelude.{ℕ, ◌≡◌, Err}
 use Rattle.copy_ends.specs.Copied.{WaitsTimes}
 use Rattle.flow_copy.specs.Workers.{ControllerGoes, lost_wait, saw_all}
 use Rattle.flow_copy.proofs.controller.controller_task.Goals as goal
-
-pub loop-ended-init : goal.loop-ended-init
-loop-ended-init g c = record {
-  controlled = controlled_same c.args.task.now c.requires.idler (grows_same c.args.task.now);
-  waits = refl;
-}
 
 pub loop-ended-preserved : goal.loop-ended-preserved
 loop-ended-preserved g c = record {
@@ -20,11 +13,6 @@ loop-ended-preserved g c = record {
   waits = waits_more c.loop-ended.ended _ c.args.task.now c.loop-ended.task c.await_one.new.task refl
       c.loop-ended.invariant.waits c.in_ok-await_one.ensures.ends;
 }
-
-pub returns-in_err-await_one-clause-controlled : goal.returns-in_err-await_one-clause-controlled
-returns-in_err-await_one-clause-controlled g c =
-    controlled_then c.args.task.now c.loop-ended.task c.await_one.new.task c.loop-ended.invariant.controlled
-    c.await_one.ensures.controlled
 
 pub returns-clause-controlled : goal.returns-clause-controlled
 returns-clause-controlled g c =

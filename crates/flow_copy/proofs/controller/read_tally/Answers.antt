@@ -2,7 +2,7 @@ use Rattle.std.proofs.Common.{rules}
 use Rattle.flow_copy.proofs.Awaits.{locked_end, read_tally}
 use Rattle.flow_copy.proofs.Counting.{counted_all, locked, unlocked}
 use Rattle.copy_ends.proofs.Idlers.{at_work, controlled, counted_apart}
-use Rattle.flow_copy.proofs.Words.{adds_locked, loses_page}
+use Rattle.flow_copy.proofs.Words.{loses_page}
 use Rattle.flow_copy.proofs.controller.read_tally.Goals as goal
 
 pub returns-in_err-lock_page-clause-controlled : goal.returns-in_err-lock_page-clause-controlled
@@ -47,11 +47,3 @@ returns-clause-ends g c =
     read_tally c.args.task.now c.lock_page.new.task c.add_tally-total.new.task c.unlock_page.new.task
     c.unlock_page.result c.add_tally-total.result locks.grows c.add_tally-total.ensures.finds
     c.add_tally-total.ensures.step c.unlock_page.ensures.cleared
-
-pub returns-clause-goes : goal.returns-clause-goes
-returns-clause-goes g c = (
-  c.lock_page.new.task,
-  c.in_ok-lock_page.ensures.waited,
-  adds_locked 0 c.add_tally-total.result c.lock_page.new.task c.add_tally-total.new.task c.unlock_page.new.task
-      c.unlock_page.result c.add_tally-total.ensures.step c.unlock_page.ensures.cleared,
-)

@@ -1,10 +1,6 @@
 use Rattle.std.proofs.Common.{true, false}
 use Rattle.flow_copy.proofs.Awaits.{added_aside, aside_then, cleared_aside, read_tally, tried_aside, tries_more}
-use Rattle.flow_copy.proofs.Awaits.{tries_none}
 use Rattle.flow_copy.proofs.copy.read_moved.Goals as goal
-
-pub loop-init : goal.loop-init
-loop-init g c = tries_none c.args.task.now c.requires.clean
 
 pub loop-preserved : goal.loop-preserved
 loop-preserved g c =

@@ -1,10 +1,7 @@
-use Rattle.std.proofs.Common.{◌∙◌}
 use Rattle.std.specs.Prelude.{Ok, Err}
-use Rattle.copy_plan.specs.declared.stop.Halt.TheVariants as halt
-use Rattle.flow_copy.proofs.Counting.{asks_none, locked, locks_after, unlocked}
+use Rattle.flow_copy.proofs.Counting.{locked, locks_after, unlocked}
 use Rattle.copy_turns.proofs.PartLaws.{apart_same, apart_then, took_before}
 use Rattle.copy_turns.specs.Transfers.{no_part, one_more}
-use Rattle.flow_copy.proofs.Words.{waited_until}
 use Rattle.flow_copy.proofs.parts.lock_counted.Goals as goal
 
 pub loop-init : goal.loop-init
@@ -12,21 +9,6 @@ loop-init g c = record {
   apart = apart_same c.args.task.now c.requires.work;
   waited = no_part;
 }
-
-pub lock_page-requires-clause-of : goal.lock_page-requires-clause-of
-lock_page-requires-clause-of g c = c.loop.invariant.apart.works.domain ∙ c.requires.of
-
-pub lock_page-requires-clause-up : goal.lock_page-requires-clause-up
-lock_page-requires-clause-up g c = c.loop.invariant.apart.works.work.up
-
-pub lock_page-requires-clause-idle : goal.lock_page-requires-clause-idle
-lock_page-requires-clause-idle g c = c.loop.invariant.apart.works.work.idle
-
-pub lock_page-requires-clause-out : goal.lock_page-requires-clause-out
-lock_page-requires-clause-out g c = c.loop.invariant.apart.works.work.out
-
-pub lock_page-requires-clause-asks : goal.lock_page-requires-clause-asks
-lock_page-requires-clause-asks g c = asks_none c.loop.task c.loop.invariant.apart.works.work
 
 pub returns-in-Ok-clause-locks : goal.returns-in-Ok-clause-locks
 returns-in-Ok-clause-locks g c =
@@ -78,22 +60,3 @@ loop-preserved g c =
         own = c.if-is_killed.ensures.own;
       });
     }
-
-pub returns-in-Ok-clause-waits : goal.returns-in-Ok-clause-waits
-returns-in-Ok-clause-waits g c = waited_until c.args.task.now c.loop.task c.lock_page.new.task (Ok tt)
-    c.loop.invariant.waited c.in-Ok.ensures.waited
-
-pub returns-in-Err-Worn-clause-waits : goal.returns-in-Err-Worn-clause-waits
-returns-in-Err-Worn-clause-waits g c =
-    let e = rw c.in-Err-Worn.field-0-is at c.in-Err-Worn.ensures.waited in
-    waited_until c.args.task.now c.loop.task c.lock_page.new.task
-    (Err (halt.Worn c.in-Err-Worn.head c.in-Err-Worn.place)) c.loop.invariant.waited e
-
-pub returns-then-is_killed-clause-waits : goal.returns-then-is_killed-clause-waits
-returns-then-is_killed-clause-waits g c =
-    let e = rw c.in-Err-Interrupted.field-0-is at c.in-Err-Interrupted.ensures.waited in
-    waited_until c.args.task.now c.loop.task c.is_killed.new.task (Err halt.Killed) c.loop.invariant.waited (record {
-      mid = c.lock_page.new.task;
-      ended = (_, e);
-      own = c.if-is_killed.ensures.own;
-    })

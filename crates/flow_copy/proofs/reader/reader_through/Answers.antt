@@ -1,6 +1,6 @@
 use Rattle.wait_rule.specs.Pipes.{write_end}
 use Rattle.copy_ends.proofs.Ends.{Closes, Opens, closes, fails, idler_works, opens}
-use Rattle.copy_ends.proofs.ReaderEnds.{reader_did, reader_fails, still_settled}
+use Rattle.copy_ends.proofs.ReaderEnds.{reader_did, reader_fails}
 use Rattle.std.specs.Prelude.{Some, true, false}
 use Rattle.copy_plan.specs.declared.stop.Stop.TheVariants as stop
 use Rattle.flow_copy.specs.Workers.{ReaderTurns, ReaderWorks, reader_refused}
@@ -29,10 +29,6 @@ send_due-requires-clause-work g c =
     c.open_write.new.task c.open_write.ensures.step.1.0 c.open_write.ensures.carries
     (idler_works c.args.task.now c.requires.idler) c.if-not-open_write.false c.open_write.ensures.becomes in
     o.work
-
-pub read_on-stop-requires-clause-settled : goal.read_on-stop-requires-clause-settled
-read_on-stop-requires-clause-settled g c = still_settled c.args.pipe c.open_write.new.task c.send_due.new.task
-    (c.open_write.ensures.opened c.if-not-open_write.false) c.send_due.ensures.ends
 
 pub returns : goal.returns
 returns g c =

@@ -1,21 +1,9 @@
-use Rattle.std.proofs.Common.{◌∙◌, subst, sym}
+use Rattle.std.proofs.Common.{subst}
 use Rattle.std.specs.Prelude.{Bool}
 use Rattle.flow_merge.specs.MergerSteps.{MergesIf}
 use Rattle.flow_merge.specs.MergerWords.{TurnsIf}
-use Rattle.flow_merge.proofs.MergerEnds.{all_true, merger_worked, pen_settled, still_open, taps_settled}
+use Rattle.flow_merge.proofs.MergerEnds.{merger_worked, still_open}
 use Rattle.flow_merge.proofs.merger.merge_through.Goals as goal
-
-pub merge_if-ended-requires-clause-taps : goal.merge_if-ended-requires-clause-taps
-merge_if-ended-requires-clause-taps g c hit =
-    let has = c.open_ends-has.result in
-    let all = all_true has.left has.right has.pen (sym c.all.ensures ∙ hit) in
-    taps_settled c.args.task.now c.open_ends-has.new.task has c.open_ends-has.ensures.opens all.0 all.1
-
-pub merge_if-ended-requires-clause-pen : goal.merge_if-ended-requires-clause-pen
-merge_if-ended-requires-clause-pen g c hit =
-    let has = c.open_ends-has.result in
-    let all = all_true has.left has.right has.pen (sym c.all.ensures ∙ hit) in
-    pen_settled c.args.task.now c.open_ends-has.new.task has c.open_ends-has.ensures.opens all.2
 
 pub close_ends-requires-clause-still : goal.close_ends-requires-clause-still
 close_ends-requires-clause-still g c = still_open c.args.task.now c.open_ends-has.new.task c.open_ends-has.result

@@ -1,16 +1,8 @@
 use Rattle.wait_rule.specs.Pipes.{read_end, write_end}
-use Rattle.std.proofs.Common.{◌∙◌}
 use Rattle.flow_merge.specs.declared.TheConstants.{LEFT_PIPE, MERGED_PIPE, RIGHT_PIPE}
 use Rattle.flow_merge.specs.MergerSteps.{Claimed}
 use Rattle.flow_merge.proofs.MergerEnds.{claimed}
 use Rattle.flow_merge.proofs.merger.open_ends.Goals as goal
-
-pub open_read-right-requires-clause-up : goal.open_read-right-requires-clause-up
-open_read-right-requires-clause-up c = c.open_read-left.ensures.carries.awake ∙ c.requires.work.up
-
-pub open_write-pen-requires-clause-up : goal.open_write-pen-requires-clause-up
-open_write-pen-requires-clause-up c = c.open_read-right.ensures.carries.awake
-    ∙ (c.open_read-left.ensures.carries.awake ∙ c.requires.work.up)
 
 pub returns : goal.returns
 returns c =

@@ -1,16 +1,5 @@
-use Rattle.std.proofs.Common.{arith}
-use Rattle.flow_merge.proofs.Looks.{poll_looked, poll_worn, second_out}
+use Rattle.flow_merge.proofs.Looks.{poll_looked, poll_worn}
 use Rattle.flow_merge.proofs.sides.wait_both.Goals as goal
-
-pub poll_two-polled-requires-clause-first : goal.poll_two-polled-requires-clause-first
-poll_two-polled-requires-clause-first g c = omega arith
-
-pub poll_two-polled-requires-clause-second : goal.poll_two-polled-requires-clause-second
-poll_two-polled-requires-clause-second g c = omega arith
-
-pub poll_two-polled-requires-clause-out_second : goal.poll_two-polled-requires-clause-out_second
-poll_two-polled-requires-clause-out_second g c = second_out c.args.task.now c.args.task.now
-    c.requires.work
 
 pub returns : goal.returns
 returns g c =

@@ -1,11 +1,7 @@
 use Rattle.std.proofs.Common.{◌∙◌}
 use Rattle.wait_model.specs.declared.watches.Watch.TheVariants as watch
-use Rattle.wait_event.proofs.Setting.{has_set, set_carries, set_idle}
+use Rattle.wait_event.proofs.Setting.{has_set, set_carries}
 use Rattle.wait_event.proofs.conds.set_and_wake.Goals as goal
-
-pub wake-requires-clause-idle : goal.wake-requires-clause-idle
-wake-requires-clause-idle g c = set_idle (watch.Plain c.args.cond) c.args.task.now c.publish.new.task c.requires.idle
-    c.publish.ensures.carries
 
 pub returns-clause-set : goal.returns-clause-set
 returns-clause-set g c =

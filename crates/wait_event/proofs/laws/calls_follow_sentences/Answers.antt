@@ -1,4 +1,4 @@
-use Rattle.wait_event.proofs.PartWords.{finishes_follow, prepares_follow}
+use Rattle.wait_event.proofs.PartWords.{prepares_follow}
 use Rattle.wait_event.proofs.Words.{adds_follow, removes_follow, sets_follow, takes_follow, waits_follow, waits_say}
 use Rattle.wait_event.proofs.Words.{wokens_follow}
 use Rattle.wait_event.proofs.laws.calls_follow_sentences.Goals as goal
@@ -26,6 +26,3 @@ returns-clause-removes c = removes_follow
 
 pub returns-clause-prepares : goal.returns-clause-prepares
 returns-clause-prepares c = prepares_follow
-
-pub returns-clause-finishes : goal.returns-clause-finishes
-returns-clause-finishes c = finishes_follow

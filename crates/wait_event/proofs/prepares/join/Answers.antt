@@ -4,16 +4,11 @@ use Rattle.wait_model.specs.Watches.{head_of}
 use Rattle.wait_rule.specs.Known.{Known}
 use Rattle.wait_rule.proofs.KnownLaws.AskedPages.{asks_no_page, no_page_asked}
 use Rattle.wq_head.proofs.AskedHolds.{looks_unasked}
-use Rattle.wq_head.proofs.OneMoreLook.{holding_on, looks_on}
+use Rattle.wq_head.proofs.OneMoreLook.{looks_on}
 use Rattle.wait_class.proofs.Ground.Standing.{bare_head}
-use Rattle.wait_event.proofs.Conditions.{suits_few, suits_for, suits_low}
+use Rattle.wait_event.proofs.Conditions.{suits_low}
 use Rattle.wait_event.proofs.PartSteps.{joins_by, off_later, own_looks, stays_by, wears_by}
 use Rattle.wait_event.proofs.prepares.join.Goals as goal
-
-pub is_first-first-requires-clause-held : goal.is_first-first-requires-clause-held
-is_first-first-requires-clause-held c = holding_on c.args.task.now c.own_entry.new.task
-    (own_looks c.args.task.now c.own_entry.new.task c.own_entry.result c.own_entry.ensures c.requires.held)
-    c.requires.held
 
 pub is_first-first-requires-clause-head : goal.is_first-first-requires-clause-head
 is_first-first-requires-clause-head c = c.head_of.ensures ∙ (ap head_of c.bare-watch.ensures
@@ -23,13 +18,6 @@ pub add_by-requires-clause-head : goal.add_by-requires-clause-head
 add_by-requires-clause-head c = ap head_of c.bare-watch.ensures
     ∙ (bare_head c.args.part.watch ∙ (c.requires.head ∙ (sym c.own_entry.ensures.carries.at
     ∙ sym (ap (λ (k : Known). k.at) c.is_first-first.ensures.looks.is))))
-
-pub add_by-requires-clause-few : goal.add_by-requires-clause-few
-add_by-requires-clause-few c prior = absurd (suits_few c.args.part.how c.wait_form.result c.wait_form.ensures prior)
-
-pub add_by-requires-clause-plain : goal.add_by-requires-clause-plain
-add_by-requires-clause-plain c = suits_for c.args.part.watch c.args.part.kind c.args.part.how c.requires.suits
-    c.wait_form.result c.wait_form.ensures c.bare-watch.result c.bare-watch.ensures
 
 pub add_by-requires-clause-low : goal.add_by-requires-clause-low
 add_by-requires-clause-low c = subst (λ (h : _). h < FIRST_DONE_HEAD)

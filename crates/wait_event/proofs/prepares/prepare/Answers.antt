@@ -7,7 +7,7 @@ use Rattle.wq_head.proofs.LockWaits.{locked_stays}
 use Rattle.wait_event.specs.Prepares.{EndsPart}
 use Rattle.wait_event.proofs.Conditions.{low_fits, suits_low}
 use Rattle.wait_event.proofs.Preparing.{begins_owing, carried_as, ends_again, ends_carried, ends_keeps, ends_may}
-use Rattle.wait_event.proofs.Preparing.{join_ends, lock_as, prepare_at, prepare_home, prepare_low, prepare_may}
+use Rattle.wait_event.proofs.Preparing.{join_ends, lock_as, prepare_low}
 use Rattle.wait_event.proofs.Preparing.{prepare_stands, signal_ends}
 use Rattle.wait_event.proofs.PartSteps.{joins_at, pares_at}
 use Rattle.wait_event.proofs.prepares.prepare.Goals as goal
@@ -62,30 +62,6 @@ pub returns-then-heeds-clause-carries : goal.returns-then-heeds-clause-carries
 returns-then-heeds-clause-carries g c = ends_carried c.args.part c.args.task.now c.unlock.new.task c.requires.may
     c.told.ensures c.told-then-heeds.ensures c.requires.suits (Ok None) (returns-then-heeds-clause-ends g c)
 
-pub join-joined-requires-clause-head : goal.join-joined-requires-clause-head
-join-joined-requires-clause-head g c = sym (prepare_at c.args.part c.args.task.now c.lock.new.task c.heeds.new.task
-    c.heeds.result c.requires.may c.told.ensures c.requires.suits
-    (lock_as c.args.task.now c.lock.new.task c.head_of.result (head_of c.args.part.watch) c.head_of.ensures
-    c.lock.ensures.locked)
-    (carried_as c.args.task.now c.lock.new.task c.head_of.result (head_of c.args.part.watch) c.head_of.ensures
-    c.lock.ensures.carries) c.heeds.ensures.heeds)
-
-pub join-joined-requires-clause-may : goal.join-joined-requires-clause-may
-join-joined-requires-clause-may g c = prepare_may c.args.part c.args.task.now c.lock.new.task c.heeds.new.task
-    c.heeds.result c.requires.may c.told.ensures c.requires.suits
-    (lock_as c.args.task.now c.lock.new.task c.head_of.result (head_of c.args.part.watch) c.head_of.ensures
-    c.lock.ensures.locked)
-    (carried_as c.args.task.now c.lock.new.task c.head_of.result (head_of c.args.part.watch) c.head_of.ensures
-    c.lock.ensures.carries) c.heeds.ensures.heeds
-
-pub join-joined-requires-clause-home : goal.join-joined-requires-clause-home
-join-joined-requires-clause-home g c = prepare_home c.args.part c.args.task.now c.lock.new.task c.heeds.new.task
-    c.heeds.result c.requires.may c.told.ensures c.requires.suits
-    (lock_as c.args.task.now c.lock.new.task c.head_of.result (head_of c.args.part.watch) c.head_of.ensures
-    c.lock.ensures.locked)
-    (carried_as c.args.task.now c.lock.new.task c.head_of.result (head_of c.args.part.watch) c.head_of.ensures
-    c.lock.ensures.carries) c.heeds.ensures.heeds
-
 pub join-joined-requires-clause-asks : goal.join-joined-requires-clause-asks
 join-joined-requires-clause-asks g c woken = no_page_asked c.heeds.new.task (c.heeds.ensures.heeds.asks
     (stays_unasked c.args.task.now c.lock.new.task
@@ -114,10 +90,6 @@ returns-clause-ends g c = subst (EndsPart c.args.task.now c.unlock-2.new.task c.
 
 pub returns-clause-may : goal.returns-clause-may
 returns-clause-may g c = ends_may c.args.part c.args.task.now c.unlock-2.new.task c.requires.may c.told.ensures
-    c.told-2.ensures c.requires.suits c.unsignalled.result (returns-clause-ends g c)
-
-pub returns-clause-again : goal.returns-clause-again
-returns-clause-again g c = ends_again c.args.part c.args.task.now c.unlock-2.new.task c.requires.may c.told.ensures
     c.told-2.ensures c.requires.suits c.unsignalled.result (returns-clause-ends g c)
 
 pub returns-clause-keeps : goal.returns-clause-keeps

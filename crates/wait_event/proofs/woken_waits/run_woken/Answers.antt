@@ -1,10 +1,7 @@
 use Rattle.wait_event.specs.declared.woken_waits.WokenStage.TheVariants as stage
 use Rattle.wait_event.specs.declared.woken_waits.WokenTurn.TheVariants as turn
-use Rattle.wait_event.proofs.Hearing.Endings.{hears_none, hears_on}
+use Rattle.wait_event.proofs.Hearing.Endings.{hears_on}
 use Rattle.wait_event.proofs.woken_waits.run_woken.Goals as goal
-
-pub loop-init : goal.loop-init
-loop-init g c = hears_none c.args.task.now c.args.state c.args.stage c.requires.at
 
 pub loop-preserved-in-Again : goal.loop-preserved-in-Again
 loop-preserved-in-Again g c = hears_on c.args.task.now c.loop.task c.stretch_woken.new.task c.args.state c.args.stage

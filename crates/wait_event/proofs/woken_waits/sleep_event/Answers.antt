@@ -1,9 +1,6 @@
 use Rattle.std.proofs.Common.{inl, inr}
-use Rattle.wait_event.proofs.Hearing.Steps.{again_hears, down_hears, up_hears}
+use Rattle.wait_event.proofs.Hearing.Steps.{down_hears, up_hears}
 use Rattle.wait_event.proofs.woken_waits.sleep_event.Goals as goal
-
-pub returns-in-None : goal.returns-in-None
-returns-in-None c = again_hears c.args.task.now c.sleep_try.new.task c.args.state c.requires.at c.in-None.ensures.same
 
 pub returns-in-Some-Asleep : goal.returns-in-Some-Asleep
 returns-in-Some-Asleep c =

@@ -1,4 +1,4 @@
-use Rattle.std.proofs.Common.{inr, subst, sym}
+use Rattle.std.proofs.Common.{subst, sym}
 use Rattle.wait_event.specs.WokenWaits.{Hears, IsHearing}
 use Rattle.wait_event.specs.declared.woken_waits.WokenStage.{WokenStage}
 use Rattle.wait_event.specs.declared.woken_waits.WokenTurn.TheVariants as turn
@@ -21,13 +21,6 @@ returns-in-Run c = subst
     (run_hears c.args.task.now c.set_state-in-Run.new.task c.args.state
     (subst (IsHearing c.args.task.now c.args.state) c.in-Run.is c.requires.at) c.set_state-in-Run.ensures.step
     c.set_state-in-Run.ensures.carries)
-
-pub woken_clear-requires-clause-may : goal.woken_clear-requires-clause-may
-woken_clear-requires-clause-may c = inr (
-  c.requires.at.entry.entry,
-  c.requires.at.entry.queued,
-  c.requires.at.entry.kind,
-)
 
 pub returns-in-Clear : goal.returns-in-Clear
 returns-in-Clear c = subst

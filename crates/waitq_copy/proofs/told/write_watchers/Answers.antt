@@ -1,7 +1,7 @@
 use Rattle.std.proofs.Common.{arith}
 use Rattle.std.proofs.lemmas.Result.{err_from_is_err_and}
-use Rattle.edge_io.proofs.Prefix.{broke_off, went_on, finished}
-use Rattle.waitq_copy.proofs.Telling.{next_line, no_line}
+use Rattle.edge_io.proofs.Prefix.{broke_off, went_on}
+use Rattle.waitq_copy.proofs.Telling.{next_line}
 use Rattle.waitq_copy.proofs.told.write_watchers.Goals as goal
 
 pub returns-in_err-write_watcher-clause-text : goal.returns-in_err-write_watcher-clause-text
@@ -18,8 +18,3 @@ loop-place-preserved g c = record {
       c.told_at.ensures) c.in_ok-write_watcher.ensures.text;
   later = omega (arith, c.write_watcher.ensures.later);
 }
-
-pub returns-clause-text : goal.returns-clause-text
-returns-clause-text g c =
-    finished _ (g.O.Sink.held c.loop-place.out) _ _ c.loop-place.invariant.on
-    (no_line (g.W.Watchers.entries c.args.watch.now) c.loop-place.place (omega arith))

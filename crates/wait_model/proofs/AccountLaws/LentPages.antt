@@ -104,6 +104,9 @@ pub record ArePagesLent (s : State) : Type 0 where
 
 tells_hands : (q : Progress) (v : ℕ) → tells_next q ≡ Some v → handed_by q ≡ Some v
 tells_hands (now.Open call (at.Walk (walking.Page staging.Hand w c))) v h = h
+tells_hands (now.Open call (at.Walk (walking.Page staging.Wake w c))) v h = absurd (cc)
+tells_hands (now.Open call (at.Walk (walking.Page staging.Off w c))) v h = absurd (cc)
+tells_hands (now.Open call (at.Walk (walking.Page staging.Try w c))) v h = absurd (cc)
 tells_hands q v h = absurd (cc)
 
 -- what an event leaves of the pages that were taken: one that is taken after it was so before, or it took it
@@ -169,8 +172,13 @@ page_tries me call paging.Queue seen = by seen.worn
     by : (b : Bool) → is_try (page_queue call b).event ≡ false
     by true = refl
     by false = refl
+page_tries me call (paging.Unlock true) seen = refl
+page_tries me call (paging.Unlock false) seen = refl
+page_tries me call (paging.Finish finishing.State) seen = refl
 page_tries me call (paging.Finish finishing.Look) seen = try_if (is_some seen.entry) _ _ refl refl
+page_tries me call (paging.Finish finishing.Lock) seen = refl
 page_tries me call (paging.Finish finishing.Queue) seen = try_if (is_some seen.entry) _ _ refl refl
+page_tries me call (paging.Finish finishing.Unlock) seen = refl
 page_tries me call paging.Last seen = by seen.flag
   where
     by : (b : Bool) → is_try (page_last b).event ≡ false
@@ -214,10 +222,17 @@ lent_at n (now.Open call (at.Page paging.Try)) it w pg is k h =
     inr (ap (λ (c : Watch). Some (head_of c)) (sym (page_bare (call_watch call) k.fitted) ∙ sym h.0))
 lent_at n (now.Open call (at.Page paging.Off)) it w pg is k h =
     inr (ap (λ (c : Watch). Some (head_of c)) (sym (page_bare (call_watch call) k.fitted) ∙ sym h.0))
+lent_at n (now.Open call (at.Page paging.First)) it w pg is k h = absurd h
+lent_at n (now.Open call (at.Page paging.Unflag)) it w pg is k h = absurd h
+lent_at n (now.Open call (at.Page paging.Lock)) it w pg is k h = absurd h
+lent_at n (now.Open call (at.Page paging.Queue)) it w pg is k h = absurd h
+lent_at n (now.Open call (at.Page (paging.Unlock true))) it w pg is k h = absurd h
+lent_at n (now.Open call (at.Page (paging.Finish finishing.Unlock))) it w pg is k h = absurd h
+lent_at n (now.Open call (at.Page paging.Last)) it w pg is k h = absurd h
+lent_at n (now.Open call (at.Page paging.Clear)) it w pg is k h = absurd h
 lent_at n (now.Open call p) it w pg is k h = absurd (no_zone p refl (page_zone (zone p) (call_watch call) it pg h))
 lent_at n now.Idle it w pg is k h = absurd (let z : is_page it.kind ≡ false = standing_plain it.kind h in cc)
 lent_at n now.Fresh it w pg is k h = absurd (let z : is_page it.kind ≡ false = standing_plain it.kind h in cc)
-lent_at n _ it w pg is k h = absurd h
 
 -- where its own events lead
 module _ (s : State) (me : ℕ) (call : Call) where
@@ -231,7 +246,9 @@ module _ (s : State) (me : ℕ) (call : Call) where
 
   locks_next : (p : PagePoint) (w : ℕ) → LocksPage (now.Open call (at.Page p)) w → ((X p).event ≡ event.Unflag → ⊥)
       → (p ≡ paging.Last → s.table.flag (own me) ≡ true) → LocksPage (progress_at call (X p).next) w
+  locks_next (paging.Unlock false) w l u f = (l.0, refl)
   locks_next (paging.Unlock true) w l u f = absurd (both_ways false refl l.1)
+  locks_next paging.State w l u f = (l.0, refl)
   locks_next paging.Flag w l u f = by (s.table.flag (own me)) (looks_in (state_in call))
     where
       by : (b k : Bool) → LocksPage (now.Open call (at.Page (if b then paging.Finish finishing.State
@@ -245,17 +262,21 @@ module _ (s : State) (me : ℕ) (call : Call) where
           else paging.Sleep))) w
       by true = (l.0, refl)
       by false = (l.0, refl)
+  locks_next paging.Sleep w l u f = (l.0, refl)
+  locks_next (paging.Finish finishing.State) w l u f = (l.0, refl)
   locks_next (paging.Finish finishing.Look) w l u f = lock_if w (is_some (s.table.entry (own me))) _ _ (l.0, refl)
       (l.0, refl)
+  locks_next (paging.Finish finishing.Lock) w l u f = (l.0, refl)
   locks_next (paging.Finish finishing.Queue) w l u f = lock_if w (is_some (s.table.entry (own me))) _ _ (l.0, refl)
       (l.0, refl)
+  locks_next (paging.Finish finishing.Unlock) w l u f = (l.0, refl)
   locks_next paging.Last w l u f = by (s.table.flag (own me)) (f refl)
     where
       by : (b : Bool) → b ≡ true → LocksPage (progress_at call (page_last b).next) w
       by true z = (l.0, refl)
       by false z = absurd (cc)
   locks_next paging.Clear w l u f = absurd (u refl)
-  locks_next p w l u f = grind arith
+  locks_next p w l u f = absurd (both_ways false refl l.1)
 
 -- one event of a run
 module _ (s : State) (n me : ℕ) (e : Event) (value : ℕ) (sound : IsSound s n) (lent : ArePagesLent s) where
@@ -273,6 +294,12 @@ module _ (s : State) (n me : ℕ) (e : Event) (value : ℕ) (sound : IsSound s n
   tried w v x is cl now.Idle at_q c = absurd c
   tried w v x is cl (now.Open call (at.Page p)) at_q c = absurd (false_not
       (sym (page_tries me call p (seen_by s me call (at.Page p))) ∙ ap is_try (sym c.0 ∙ is)))
+  tried w v x is cl (now.Open call (at.Walk (walking.Page staging.Hand k d))) at_q c =
+      absurd (false_not (ap is_try (sym c.0 ∙ is)))
+  tried w v x is cl (now.Open call (at.Walk (walking.Page staging.Wake k d))) at_q c =
+      absurd (false_not (ap is_try (sym c.0 ∙ is)))
+  tried w v x is cl (now.Open call (at.Walk (walking.Page staging.Off k d))) at_q c =
+      absurd (false_not (ap is_try (sym c.0 ∙ is)))
   tried w v x is cl (now.Open call (at.Walk (walking.Page staging.Try k d))) at_q c =
       (locks (lent_at n (s.progress v) f.it w pg watch_is (sound.calls v) home), tells, apart)
     where
@@ -336,7 +363,6 @@ module _ (s : State) (n me : ℕ) (e : Event) (value : ℕ) (sound : IsSound s n
       tells = ap tells_next (ap (progress_after s me) at_q
           ∙ ap (λ (b : Bool). now.Open call (at.Walk (if b then walking.Stopped k else walking.Page staging.Hand k d)))
           missed) ∙ ap (λ (i : ℕ). Some i) who_is
-  tried w v x is cl _ at_q c = absurd (false_not (ap is_try (sym c.0 ∙ is)))
   tried w v x is cl (now.Open call p) at_q c = absurd (false_not
       (sym (sober_tries (planned s me call p).event (program_apart call me (seen_by s me call p) p tt).event)
       ∙ ap is_try (sym c.0 ∙ is)))
@@ -360,9 +386,15 @@ module _ (s : State) (n me : ℕ) (e : Event) (value : ℕ) (sound : IsSound s n
           subst (λ (i : Event). (A s me (given_by (s.progress me)) i).flag (own v) ≡ true) (sym c.0)
           (put_at (λ b. b ≡ true) s.table.flag (own d.who) true (own v) (λ _. refl)
           (λ ne. absurd (ne (sym (ap own y)))))
+      tells t (now.Open call (at.Walk (walking.Page staging.Try k d))) at_q c =
+          absurd (none_not v (tells_next (s.progress me)) (ap tells_next at_q) t)
+      tells t (now.Open call (at.Walk (walking.Page staging.Wake k d))) at_q c =
+          absurd (none_not v (tells_next (s.progress me)) (ap tells_next at_q) t)
+      tells t (now.Open call (at.Walk (walking.Page staging.Off k d))) at_q c =
+          absurd (none_not v (tells_next (s.progress me)) (ap tells_next at_q) t)
+      tells t (now.Open call p) at_q c = absurd (none_not v (tells_next (s.progress me)) (ap tells_next at_q) t)
       tells t now.Idle at_q c = absurd c
       tells t now.Fresh at_q c = absurd c
-      tells t _ at_q c = absurd (none_not v (tells_next (s.progress me)) (ap tells_next at_q) t)
 
   -- whose entry is off is not about to be told
   untold : (w : ℕ) → s.table.taken (own me) ≡ Some w → s.table.entry (own me) ≡ None → s.table.flag (own me) ≡ true
@@ -387,7 +419,9 @@ module _ (s : State) (n me : ℕ) (e : Event) (value : ℕ) (sound : IsSound s n
     where
       off : HomeAt (now.Open call (at.Page paging.Last)) (s.table.entry (own me)) → s.table.entry (own me) ≡ None
       off h = is_off (s.table.entry (own me)) (call_watch call) h
-  own_locks w t o _ at_q l c = absurd l
+  own_locks w t o (now.Open call p) at_q l c = absurd l
+  own_locks w t o now.Idle at_q l c = absurd l
+  own_locks w t o now.Fresh at_q l c = absurd l
 
   next_locks : (v w : ℕ) → u.table.taken (own v) ≡ Some w → Continues s me (s.progress me) e value
       → LocksPage (put s.progress me np v) w
@@ -470,7 +504,9 @@ locking call p w l is = absurd (cc)
 
 lent_lock : (n : ℕ) (q : Progress) (w : ℕ) → FitsStage q → IsSoundCall n q → LocksPage q w → IsLocking q w
 lent_lock n (now.Open call (at.Page p)) w f k l = locking call p w (paging_locks call p f k.fitted) l.0
-lent_lock n _ w f k l = absurd l
+lent_lock n (now.Open call p) w f k l = absurd l
+lent_lock n now.Idle w f k l = absurd l
+lent_lock n now.Fresh w f k l = absurd l
 
 pub no_run_leaves_page : NoRunLeavesPage
 no_run_leaves_page run r few t w h = lent_lock (made_in run) ((state_of run).progress t) w (fits_of run r few t)

@@ -32,7 +32,9 @@ pub took_bit : (w b : ℕ) (c : Watch) (r : ℕ) (had : Bool)
     → (had || (is_bit c && (was_clear c r && same (watch.Bit w b) c)))
     ≡ ((was_clear c r && same (watch.Bit w b) c) || (had && not false))
 took_bit w b (watch.Bit i k) r had = grind arith
-took_bit w b _ r had = grind arith
+took_bit w b (watch.Plain i) r had = grind arith
+took_bit w b (watch.Done i) r had = grind arith
+took_bit w b (watch.Var i o) r had = grind arith
 
 -- what any step does to the bits that a task keeps
 keeps_after : (w b : ℕ) → IsSetBy (λ (v : View). v.bits.keeps (watch.Bit w b)) (λ e _. comes_to_keep w b e)
@@ -67,6 +69,12 @@ bits_after : (s : Table) (a : ℕ) (e : Step) (w b : ℕ)
 bits_after s a (step.Publish (watch.Bit i k) n r) w b = grind arith
 bits_after s a (step.Consume (watch.Bit i k) n r) w b = grind arith
 bits_after s a (step.TasFor x p r) w b = grind arith
+bits_after s a (step.Publish (watch.Plain c) n r) w b = kept_so (s.words.bits w b)
+bits_after s a (step.Publish (watch.Done d) n r) w b = kept_so (s.words.bits w b)
+bits_after s a (step.Publish (watch.Var v o) n r) w b = kept_so (s.words.bits w b)
+bits_after s a (step.Consume (watch.Plain c) n r) w b = kept_so (s.words.bits w b)
+bits_after s a (step.Consume (watch.Done d) n r) w b = kept_so (s.words.bits w b)
+bits_after s a (step.Consume (watch.Var v o) n r) w b = kept_so (s.words.bits w b)
 bits_after s a e w b = kept_so (s.words.bits w b)
 
 -- a step that sets the bit found it clear, for its own task or for another, or it was set
@@ -86,6 +94,9 @@ found_or s a (step.Consume (watch.Bit i k) n r) w b al h = by (bit_at r k) refl
         ⊎ ((s.words.bits w b ≡ true) × (false ≡ false))
     by true q = inr (grind (arith, q, read, h), refl)
     by false q = inl (inl (rw (q, h) refl))
+found_or s a (step.Consume (watch.Plain c) n r) w b al h = absurd (cc)
+found_or s a (step.Consume (watch.Done d) n r) w b al h = absurd (cc)
+found_or s a (step.Consume (watch.Var v o) n r) w b al h = absurd (cc)
 found_or s a (step.TasFor x p r) w b al h = by (bit_at r 0) refl
   where
     read : bit_at r 0 ≡ s.words.bits p 0
@@ -102,7 +113,6 @@ found_or s a (step.TasFor x p r) w b al h = by (bit_at r 0) refl
         ⊎ ((s.words.bits w b ≡ true) × (false ≡ false))
     by true q = inr (rw (is_word, is_first) (sym read ∙ q), refl)
     by false q = inl (inr (ap not q, is_word, is_first))
-found_or s a _ w b al h = absurd (cc)
 found_or s a e w b al h = absurd (cc)
 
 -- each set bit is one that a task keeps by its view, or a page that a walk took for a task

@@ -63,7 +63,13 @@ not_listening call w o l = l
 -- of those only the wait for a completion waits for one
 done_await : (call : Call) → is_waiting call ≡ true → is_done (call_watch call) ≡ is_await call
 done_await (calls.Wait c how) w = refl
-done_await call w = cc
+done_await (calls.SimpleWait c st) w = refl
+done_await (calls.WaitFor d st) w = refl
+done_await (calls.WaitBit i b st) w = refl
+done_await (calls.LockBit i b st) w = refl
+done_await (calls.LockPage i st) w = refl
+done_await (calls.WaitVar v old st) w = refl
+done_await call w = absurd (cc)
 
 not_both : (call : Call) {A : Type 0} → is_bit_wait call ≡ true → is_await call ≡ true → A
 not_both (calls.WaitFor d st) b a = absurd (cc)
@@ -74,7 +80,9 @@ never_woken c = each_kind (λ k. is_woken k ≡ false) refl refl refl refl c
 
 pub same_bare : (c : Watch) → same c (bare c) ≡ true
 same_bare (watch.Plain c) = grind (arith, nat_tests)
-same_bare _ = grind (arith, nat_tests)
+same_bare (watch.Done d) = grind (arith, nat_tests)
+same_bare (watch.Bit w b) = grind (arith, nat_tests)
+same_bare (watch.Var v o) = grind (arith, nat_tests)
 
 -- after its sleep a wait for a completion has found the count 0
 module _ (call : Call) (v : View) (x : ℕ) (w : is_await call ≡ true) where
@@ -83,9 +91,23 @@ module _ (call : Call) (v : View) (x : ℕ) (w : is_await call ≡ true) where
 
   dozing_zero : (p : Point) → stage p ≡ dozing → IsFitted call p → IsZero call p v x → Failed
   dozing_zero (at.Prepare preparing.Lock) g f h = absurd (both_ways false refl (sym f ∙ w))
+  dozing_zero (at.Prepare preparing.Look) g f h = absurd (cc)
+  dozing_zero (at.Prepare preparing.Queue) g f h = absurd (cc)
+  dozing_zero (at.Prepare preparing.State) g f h = absurd (cc)
+  dozing_zero (at.Prepare preparing.Unlock) g f h = absurd (cc)
   dozing_zero (at.Bit biting.Look) g f h = not_both call f w
   dozing_zero (at.Bit (biting.Again hit)) g f h = not_both call f w
+  dozing_zero (at.Bit p) g f h = absurd (cc)
   dozing_zero (at.Await (awaiting.Lock true)) g f h = h w
+  dozing_zero (at.Await (awaiting.Lock false)) g f h = absurd (cc)
+  dozing_zero (at.Await p) g f h = absurd (cc)
+  dozing_zero (at.Woken hearing.State) g f h = absurd (cc)
+  dozing_zero (at.Woken hearing.Flag) g f h = absurd (cc)
+  dozing_zero (at.Woken hearing.Sleep) g f h = absurd (cc)
+  dozing_zero (at.Woken hearing.Run) g f h = absurd (cc)
+  dozing_zero (at.Woken hearing.Clear) g f h = absurd (cc)
+  dozing_zero (at.Page paging.First) g f h = absurd (cc)
+  dozing_zero (at.Page p) g f h = absurd (cc)
   dozing_zero p g f h = absurd (cc)
 
 -- the failed load of a task that is asleep
@@ -153,8 +175,13 @@ lock_pages call p l g = absurd (cc)
 
 turning_home : (call : Call) (p : Point) (e : Entry) → is_turning (now.Open call p) ≡ true
     → HomeAt (now.Open call p) (Some e) → (e.watch ≡ bare (call_watch call)) × (e.kind ≡ kind.Page)
+turning_home call (at.Page (paging.Unlock false)) e t h = h
+turning_home call (at.Page paging.State) e t h = h
+turning_home call (at.Page paging.Flag) e t h = h
+turning_home call (at.Page paging.Look) e t h = h
+turning_home call (at.Page paging.Sleep) e t h = h
 turning_home call (at.Page (paging.Unlock true)) e t h = absurd (cc)
-turning_home call p e t h = grind arith
+turning_home call p e t h = absurd (cc)
 
 page_failed : (k : Kind) (d : Bool) (es : List Step) (x : ℕ) (c : Watch) → k ≡ kind.Page
     → Since (finds_set c) (queues x) es → FailedBy (is_woken k) (is_page k) d es x c

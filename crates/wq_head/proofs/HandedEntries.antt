@@ -162,10 +162,8 @@ module _ (a : Aim) (k : Known) (v : ShownEntry) (full : IsFull a.watch) (w : Wal
           (even_index a k v w n y e low (ap look_entry there) sought (page_bit a k v w n is)) mine other)
 
       by : (l : Look) → (told_of k).hold.book y ≡ l → is_for_look a.watch l ≡ false
-      by unseen there = refl
-      by off there = refl
-      by elsewhere there = refl
       by (shown e) there = strange e there (same e.watch a.watch) refl
+      by _ there = refl
 
   not_due : (y : ℕ) → owner y ≡ who → is_due (told_of informed) (noted informed) a.watch y ≡ false
   not_due y mine = by (y == x) refl

@@ -12,12 +12,6 @@ pub looks_by : (P : List Step → Type 0) → P [] → ((y w : ℕ) (es : List S
 looks_by P none more [] l = none
 looks_by P none more (item.Made (step.Saw y w) ∷ xs) l = more y w (steps_of xs) (looks_by P none more xs l.1)
 looks_by P none more (item.Made e ∷ xs) l = absurd l.0
-looks_by P none more (item.Awake w ∷ xs) l = looks_by P none more xs l.1
-looks_by P none more (item.Bookmark t w ∷ xs) l = looks_by P none more xs l.1
-looks_by P none more (item.Member ∷ xs) l = looks_by P none more xs l.1
-looks_by P none more (item.Word w ∷ xs) l = looks_by P none more xs l.1
-looks_by P none more (item.Drawn h w ∷ xs) l = looks_by P none more xs l.1
-looks_by P none more (item.Serving h w ∷ xs) l = looks_by P none more xs l.1
-looks_by P none more (item.Served ∷ xs) l = looks_by P none more xs l.1
 looks_by P none more (item.Tally p n w ∷ xs) l = absurd l.0
 looks_by P none more (item.Piped j a w ∷ xs) l = absurd l.0
+looks_by P none more (_ ∷ xs) l = looks_by P none more xs l.1

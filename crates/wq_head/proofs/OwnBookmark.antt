@@ -31,44 +31,20 @@ unlock_mark v (Some w) spent = either (spent || all_passed v w (λ _. false)) _ 
     either false x y one two = two
 
 step_marked : (me : ℕ) (e : Step) (v : Told) (n : Notes) → IsMarked v n → IsMarked (after e v) (note_step me e v n)
-step_marked me (step.State σ) v n is = is
-step_marked me (step.Sleep w) v n is = is
 step_marked me (step.Wake who mask w) v n is = is
     ∙ ap place_marked (sym (wake_own n.walk who mask (met_task mask w) v n))
-step_marked me (step.Signal who fatal w) v n is = is
-step_marked me (step.Accept w) v n is = is
-step_marked me (step.Look w) v n is = is
-step_marked me (step.Lock h aim w) v n is = is
 step_marked me (step.Unlock h spent) v n is = unlock_mark v v.walk spent ∙ is
-step_marked me (step.Saw x w) v n is = is
-step_marked me (step.Peek x w) v n is = is
-step_marked me (step.Scan h i w) v n is = is
-step_marked me (step.Queue x e) v n is = is
-step_marked me (step.Unqueue x) v n is = is
 step_marked me (step.Mark h q) v n is = refl
 step_marked me step.Unmark v n is = refl
-step_marked me (step.Load l r) v n is = is
-step_marked me (step.Publish c m r) v n is = is
-step_marked me (step.Consume c m r) v n is = is
-step_marked me (step.Woken x) v n is = is
-step_marked me (step.Unflag x o) v n is = is
-step_marked me (step.Flag x w) v n is = is
-step_marked me (step.TasFor x p w) v n is = is
 step_marked me (step.Handed x) v n is = is ∙ ap place_marked (sym (telling_own n.walk x v n))
+step_marked me _ v n is = is
 
 list_marked : (me : ℕ) (xs : List Item) (v : Told) (n : Notes) → IsMarked v n
     → IsMarked (after_all v (steps_of xs)) (notes_from me v n xs)
 list_marked me [] v n is = is
 list_marked me (item.Made e ∷ xs) v n is = list_marked me xs (after e v) (note_step me e v n) (step_marked me e v n is)
-list_marked me (item.Awake w ∷ xs) v n is = list_marked me xs v n is
-list_marked me (item.Drawn h w ∷ xs) v n is = list_marked me xs v n is
-list_marked me (item.Serving h w ∷ xs) v n is = list_marked me xs v n is
-list_marked me (item.Served ∷ xs) v n is = list_marked me xs v n is
-list_marked me (item.Tally p m w ∷ xs) v n is = list_marked me xs v n is
-list_marked me (item.Piped j a w ∷ xs) v n is = list_marked me xs v n is
-list_marked me (item.Member ∷ xs) v n is = list_marked me xs v n is
-list_marked me (item.Word w ∷ xs) v n is = list_marked me xs v n is
 list_marked me (item.Bookmark t w ∷ xs) v n is = list_marked me xs v (note me (item.Bookmark t w) v n) is
+list_marked me (_ ∷ xs) v n is = list_marked me xs v n is
 
 pub own_marked : (k : Known) → (told_of k).mark ≡ place_marked (noted k).own
 own_marked k = list_marked k.view.number k.view.items blank no_notes refl

@@ -79,15 +79,9 @@ looks_awake : (xs : List Item) → AreLooks xs → has_sleep (steps_of xs) ≡ f
 looks_awake [] l = refl
 looks_awake (item.Made (step.Saw y w) ∷ xs) l = looks_awake xs l.1
 looks_awake (item.Made e ∷ xs) l = absurd l.0
-looks_awake (item.Awake w ∷ xs) l = looks_awake xs l.1
-looks_awake (item.Bookmark t w ∷ xs) l = looks_awake xs l.1
-looks_awake (item.Member ∷ xs) l = looks_awake xs l.1
-looks_awake (item.Word w ∷ xs) l = looks_awake xs l.1
-looks_awake (item.Drawn i w ∷ xs) l = looks_awake xs l.1
-looks_awake (item.Serving i w ∷ xs) l = looks_awake xs l.1
-looks_awake (item.Served ∷ xs) l = looks_awake xs l.1
 looks_awake (item.Tally i n w ∷ xs) l = absurd l.0
 looks_awake (item.Piped i a w ∷ xs) l = absurd l.0
+looks_awake (_ ∷ xs) l = looks_awake xs l.1
 
 pub only_awake : (old new : Known) → OnlyLooks old new → SleepsNot old new
 only_awake old new l = record {

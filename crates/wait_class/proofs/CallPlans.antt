@@ -65,10 +65,6 @@ module _ {W T O : Type 0} (f : FrameTable W T O) (ends : Bool → Next) (c : Cal
 
   stirs_so : (p : Point) → stirs c p ≡ frame_stirs (call_plan c) p
   stirs_so (at.Prepare preparing.Look) = refl
-  stirs_so (at.Prepare preparing.Unlock) = refl
-  stirs_so (at.Prepare _) = refl
-  stirs_so (at.Finish finishing.State b) = refl
-  stirs_so (at.Finish _ b) = refl
   stirs_so _ = refl
 
   pub call_stands : call_plan c ≡ framed_plan f ends (call_plan c)

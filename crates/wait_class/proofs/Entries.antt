@@ -39,22 +39,15 @@ use Rattle.wait_class.proofs.Turns.{stands_plain, stops_by}
 
 -- what a stage says of the own entry
 none_open : (z : Zone) → may_be_queued z ≡ true → (c : Watch) → IsHome z c None
-none_open waits is c = tt
-none_open pages is c = tt
-none_open absent is c = tt
-none_open free is c = tt
 none_open stands is c = absurd (cc)
 none_open seated is c = absurd (cc)
 none_open (parts k) is c = absurd (cc)
+none_open _ is c = tt
 
 watch_open : (z : Zone) → may_be_queued z ≡ true → (c : Watch) (e : Entry) → IsHome z c (Some e) → e.watch ≡ bare c
 watch_open waits is c e h = h.0
 watch_open pages is c e h = h.0
-watch_open absent is c e h = absurd (cc)
-watch_open free is c e h = absurd (cc)
-watch_open stands is c e h = absurd (cc)
-watch_open seated is c e h = absurd (cc)
-watch_open (parts k) is c e h = absurd (cc)
+watch_open _ is c e h = absurd (cc)
 
 pub none_in : (z : Zone) (c d : Watch) → IsHome z d None → (o : Option Entry) → IsHome absent c o → IsHome z d o
 none_in z c d home None h = home

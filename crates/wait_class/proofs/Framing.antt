@@ -140,13 +140,7 @@ module _ {W T O : Type 0} (e : FrameTable W T O) (ends : W → Bool → Next)
   rises_at old new (stage.Test x) out still u = law.test_still old new r.wait x still u
   rises_at old new stage.Sleep out still u = law.sleep_still old new r.wait still u
   rises_at old new stage.Look out still u = law.look_still old new r.wait still u
-  rises_at old new (stage.FinishState b) out still u = absurd (cc)
-  rises_at old new (stage.FinishLook b) out still u = absurd (cc)
-  rises_at old new (stage.FinishLock b) out still u = absurd (cc)
-  rises_at old new (stage.FinishTurn b) out still u = absurd (cc)
-  rises_at old new (stage.FinishQueue b) out still u = absurd (cc)
-  rises_at old new (stage.FinishUnlock b) out still u = absurd (cc)
-  rises_at old new s out still u = tt
+  rises_at old new s out still u = grind arith
 
 depth_most : {T : Type 0} (s : Stage T) → depth_at s ≤ 6
 depth_most (stage.Test x) = omega arith

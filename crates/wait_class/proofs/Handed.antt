@@ -34,15 +34,9 @@ looks_give : (xs : List Item) (h : ℕ) → AreLooks xs → last_given_back (ste
 looks_give [] h l = refl
 looks_give (item.Made (step.Saw y w) ∷ xs) h l = looks_give xs h l.1
 looks_give (item.Made e ∷ xs) h l = absurd l.0
-looks_give (item.Awake w ∷ xs) h l = looks_give xs h l.1
-looks_give (item.Bookmark t w ∷ xs) h l = looks_give xs h l.1
-looks_give (item.Member ∷ xs) h l = looks_give xs h l.1
-looks_give (item.Word w ∷ xs) h l = looks_give xs h l.1
-looks_give (item.Drawn g w ∷ xs) h l = looks_give xs h l.1
-looks_give (item.Serving g w ∷ xs) h l = looks_give xs h l.1
-looks_give (item.Served ∷ xs) h l = looks_give xs h l.1
 looks_give (item.Tally p n w ∷ xs) h l = absurd l.0
 looks_give (item.Piped k a w ∷ xs) h l = absurd l.0
+looks_give (_ ∷ xs) h l = looks_give xs h l.1
 
 module _ (old new : Known) where
   pub given_step : (e : Step) → new ≡ added old (item.Made e) → LastGiven old new (last_given_back (e ∷ []) HEADS)

@@ -240,9 +240,7 @@ module _ {C S O : Type 0} (t : CallTable C S O) where
   -- a draw, and then a turn
   pub falls_same : (s n : S) → t.depth n ≡ t.depth s → (u : Turn S O) → falls t n u ≡ true → falls t s u ≡ true
   falls_same s n is (turn.Again m) f = (λ i. not (holds (t.point_of m)) || nat_lt (t.depth m) (sym is i)) ∙ f
-  falls_same s n is (turn.Asleep m) f = f
-  falls_same s n is (turn.Locked m) f = f
-  falls_same s n is (turn.Done o) f = f
+  falls_same s n is _ f = f
 
   -- a turn after which it goes on there
   pub again : (old new : Known) (r q : Run C) (s n : S) → Advances t old new r q s (turn.Locked n)

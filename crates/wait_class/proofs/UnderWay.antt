@@ -29,10 +29,8 @@ module _ {C S O : Type 0} (t : CallTable C S O) where
   -- what a turn answered is gone on with there
   pub goes_there : (old new : Known) (r q : Run C) (s : S) (u : Turn S O) → Advances t old new r q s u
       → Came t old new r q s u
-  goes_there old new r q s (turn.Again n) a = a
-  goes_there old new r q s (turn.Asleep n) a = a
   goes_there old new r q s (turn.Locked n) a = again t old new r q s n a
-  goes_there old new r q s (turn.Done o) a = a
+  goes_there old new r q s _ a = a
 
   -- a task that was asleep goes on there too
   as_awake : (old new : Known) (r q : Run C) (s n : S) → t.plan_of q.of ≡ t.plan_of r.of

@@ -260,9 +260,7 @@ module _ (old new : Known) (σ : ℕ) (is : new ≡ added old (item.Made (step.S
 pub bare_head : (w : Watch) → head_of (bare w) ≡ head_of w
 unfolding head_of
 bare_head (watch.Plain c) = refl
-bare_head (watch.Done d) = refl
-bare_head (watch.Bit i b) = refl
-bare_head (watch.Var v o) = refl
+bare_head _ = refl
 
 pub owner_own : (n : ℕ) → owner (index n 0) ≡ n
 unfolding owner

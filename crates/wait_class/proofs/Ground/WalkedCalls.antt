@@ -112,13 +112,11 @@ module _ (aim : Aim) where
       (meets (mask_of aim.mode) seen.other.state) h
   walk_hold (walking.Bit w c) seen h = off_hold w c (meets (mask_of aim.mode) seen.other.state) h
   walk_hold (walking.Page st w c) seen h = page_hold st w c seen h
-  walk_hold (walking.Stopped w) seen h = h
   walk_hold (walking.Wake w c) seen h = onward_hold (past w c (meets (mask_of aim.mode) seen.other.state)) h
   walk_hold (walking.Unqueue w who) seen h = onward_hold w h
-  walk_hold (walking.Spent w) seen h = h
-  walk_hold (walking.BreakUnlock w) seen h = h
   walk_hold (walking.BreakLock w) seen h = omega arith
   walk_hold (walking.Unmark w) seen h = resumed_hold w seen.mark h
+  walk_hold _ seen h = h
 
 -- no event of a walk asks for an own entry
 step_own : (k : Known) (own : Option ℕ) (g : Given) (ev : Event) (e : Step) → IsStepFor k None g ev e

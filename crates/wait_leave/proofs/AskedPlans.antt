@@ -16,11 +16,6 @@ module _ {W T O : Type 0} (f : FrameTable W T O) (ends : Bool → Next) (p : Pla
   makes : (me : ℕ) (x : Point) (seen : Seen)
       → frame_makes f ends p me x seen ≡ frame_makes f ends (with_asked a p) me x seen
   makes me (at.Prepare preparing.Look) seen = refl
-  makes me (at.Prepare preparing.Lock) seen = refl
-  makes me (at.Prepare preparing.Queue) seen = refl
-  makes me (at.Prepare preparing.State) seen = refl
-  makes me (at.Prepare preparing.Unlock) seen = refl
-  makes me (at.Finish x b) seen = refl
   makes me _ seen = refl
 
   gives : (x : Point) → frame_given p x ≡ frame_given (with_asked a p) x
@@ -35,10 +30,6 @@ module _ {W T O : Type 0} (f : FrameTable W T O) (ends : Bool → Next) (p : Pla
 
   stirs : (x : Point) → frame_stirs p x ≡ frame_stirs (with_asked a p) x
   stirs (at.Prepare preparing.Look) = refl
-  stirs (at.Prepare preparing.Unlock) = refl
-  stirs (at.Prepare _) = refl
-  stirs (at.Finish finishing.State b) = refl
-  stirs (at.Finish _ b) = refl
   stirs _ = refl
 
   pub asked_stands : p ≡ framed_plan f ends p → with_asked a p ≡ framed_plan f ends (with_asked a p)

@@ -109,13 +109,9 @@ not_slept old new a l =
 
 pub up_turn : {C S O : Type 0} (t : CallTable C S O) (old new : Known) (r q : Run C) (u : Turn S O) → ShowsTurn t old new r q u
     → SleepsNot old new → StaysUp u
-up_turn t old new r q (turn.Again s) shows a = tt
 up_turn t old new r q (turn.Asleep s) shows a = not_slept old new a shows
-up_turn t old new r q (turn.Locked s) shows a = tt
-up_turn t old new r q (turn.Done o) shows a = tt
+up_turn t old new r q _ shows a = tt
 
 pub up_plain : {C S O : Type 0} (t : CallTable C S O) (u : Turn S O) → IsPlainTurn t u → StaysUp u
-up_plain t (turn.Again s) plain = tt
 up_plain t (turn.Asleep s) plain = plain
-up_plain t (turn.Locked s) plain = tt
-up_plain t (turn.Done o) plain = tt
+up_plain t _ plain = tt

@@ -85,10 +85,8 @@ module _ {C S O : Type 0} (A : Type 0) (t : CallTable C S O) (x : Exits C S O) (
 
   pub way_going : (new : Known) (q : Run C) (u : Turn S O) → OnTheWay A t x old r s new q u
       → OnTheWay A t x old r s new q (going u)
-  way_going new q (turn.Again n) w = w
-  way_going new q (turn.Asleep n) w = w
   way_going new q (turn.Locked n) w = way_again new q n w
-  way_going new q (turn.Done o) w = w
+  way_going new q _ w = w
 
   -- it is the same call
   pub way_plan : (new : Known) (q : Run C) (u : Turn S O) → OnTheWay A t x old r s new q u

@@ -94,9 +94,7 @@ wait_none_woken w k its woken = not_so w (sym its ∙ woken)
 
     not_so : {A : Type 0} (w : Watch) → kind_for w ≡ kind.Woken → A
     not_so (watch.Plain c) is = none_of (nat_lt c FIRST_SIMPLE) is
-    not_so (watch.Done d) is = absurd (cc)
-    not_so (watch.Bit n b) is = absurd (cc)
-    not_so (watch.Var v o) is = absurd (cc)
+    not_so _ is = absurd (cc)
 
 -- what a prepare may queue, by its form
 tail_or_front : (b : Bool) → is_priority (if b then forms.Tail else forms.Front) ≡ true → ⊥

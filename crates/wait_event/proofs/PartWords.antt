@@ -149,11 +149,8 @@ module _ (asks : Bool) (me : ℕ) (w : Watch) (k : Kind) (how : How) where
     leads v q (at.Prepare preparing.Lock) seen off h = lock_leads asks refl v q seen h
     leads v q (at.Prepare preparing.Look) seen off h = look_leads v q (pending (state_mask how.state) seen.own) h
     leads v q (at.Prepare preparing.Queue) seen off h = queue_leads v q seen.worn seen.entry (λ z. off z refl) h
-    leads v q (at.Prepare preparing.State) seen off h = (refl, h)
-    leads v q (at.Prepare preparing.Unlock) seen off h = (refl, h)
     leads v q (at.Leave leaving.Queue) seen off h = leave_leads v q seen.entry (λ z. off z refl) h
-    leads v q (at.Leave leaving.Unlock) seen off h = (refl, h)
-    leads v q p seen off h = tt
+    leads v q p seen off h = assumption
 
   -- an entry that does not stand after an event did not stand before it, and the event did not queue it
   stays_off : (e : Event) (q : Bool) → stands_by e q ≡ false → (q ≡ false) × ((notes none_noted e).queued ≡ false)

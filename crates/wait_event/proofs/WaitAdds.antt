@@ -40,9 +40,7 @@ add_few r f is prior =
 -- the old value of a variable does not matter to the kind
 bare_kind : (w : Watch) → kind_for (bare w) ≡ kind_for w
 bare_kind (watch.Plain c) = refl
-bare_kind (watch.Done d) = refl
-bare_kind (watch.Bit i b) = refl
-bare_kind (watch.Var v o) = refl
+bare_kind _ = refl
 
 module _ (r : WaitCall) (old new : Known) where
   joins : HasAdded (IsFormPlace (wait_form r.how)) old new 0 (form_entry (wait_form r.how) (bare r.watch) (kind_for r.watch))

@@ -14,24 +14,6 @@ returns-in-Passing-clause-downed g c = passed_down c.args.task.now c.run-outcome
     c.begin_down-wait.result
     c.run-outcome.new.run c.args.cell c.args.state c.begin_down-wait.ensures.fresh c.in-Passing.ensures c.pass.ensures
 
-pub returns-in-Passing-clause-up : goal.returns-in-Passing-clause-up
-returns-in-Passing-clause-up g c = way_up (Unit {0}) c.args.task.now c.run-outcome.new.task c.pass.new.task
-    c.begin_down-wait.result c.run-outcome.new.run stage.First outcome.Passing
-    (straight c.run-outcome.new.task c.run-outcome.new.run (turn.Done outcome.Passing) c.in-Passing.ensures)
-    c.pass.ensures
-
-pub returns-in-Passing-clause-idle : goal.returns-in-Passing-clause-idle
-returns-in-Passing-clause-idle g c = way_idle (Unit {0}) c.args.task.now c.run-outcome.new.task c.pass.new.task
-    c.begin_down-wait.result c.run-outcome.new.run stage.First outcome.Passing
-    (straight c.run-outcome.new.task c.run-outcome.new.run (turn.Done outcome.Passing) c.in-Passing.ensures)
-    c.pass.ensures c.requires.idle.unmarked
-
-pub returns-in-Passing-clause-out : goal.returns-in-Passing-clause-out
-returns-in-Passing-clause-out g c = way_out_of (Unit {0}) c.args.task.now c.run-outcome.new.task c.pass.new.task
-    c.begin_down-wait.result c.run-outcome.new.run stage.First outcome.Passing
-    (straight c.run-outcome.new.task c.run-outcome.new.run (turn.Done outcome.Passing) c.in-Passing.ensures)
-    c.pass.ensures
-
 pub returns-in-Passing-clause-carries : goal.returns-in-Passing-clause-carries
 returns-in-Passing-clause-carries g c = way_carried (Unit {0}) c.args.task.now c.run-outcome.new.task c.pass.new.task
     c.begin_down-wait.result c.run-outcome.new.run stage.First outcome.Passing

@@ -3,13 +3,9 @@ use Rattle.wait_class.proofs.Handed.{given_on, given_seen, given_step}
 use Rattle.wait_model.specs.declared.layout.TheConstants.{HEADS}
 use Rattle.wait_model.specs.declared.steps.Step.TheVariants as step
 use Rattle.wait_model.specs.declared.watches.Watch.TheVariants as watch
-use Rattle.count_sem.proofs.DownCounts.{again_agreed, again_turned}
+use Rattle.count_sem.proofs.DownCounts.{again_turned}
 use Rattle.wait_class.proofs.AwakeSteps.{awake_seen, awake_step, sleeps_not_on}
 use Rattle.count_sem.proofs.downs.again_event.Goals as goal
-
-pub done_load-run-requires-clause-agreed : goal.done_load-run-requires-clause-agreed
-done_load-run-requires-clause-agreed c = again_agreed c.args.task.now c.own_entry-entry.new.task c.args.run.now
-    c.own_entry-entry.result c.own_entry-entry.ensures c.requires.at
 
 pub returns-clause-turned : goal.returns-clause-turned
 returns-clause-turned c = again_turned c.args.task.now c.own_entry-entry.new.task c.args.run.now

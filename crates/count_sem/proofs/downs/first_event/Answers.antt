@@ -2,12 +2,9 @@ use Rattle.std.proofs.Common.{refl}
 use Rattle.wait_class.proofs.Handed.{given_step}
 use Rattle.wait_model.specs.declared.steps.Step.TheVariants as step
 use Rattle.wait_model.specs.declared.watches.Watch.TheVariants as watch
-use Rattle.count_sem.proofs.DownCounts.{first_agreed, first_turned}
+use Rattle.count_sem.proofs.DownCounts.{first_turned}
 use Rattle.wait_class.proofs.AwakeSteps.{awake_step}
 use Rattle.count_sem.proofs.downs.first_event.Goals as goal
-
-pub done_load-run-requires-clause-agreed : goal.done_load-run-requires-clause-agreed
-done_load-run-requires-clause-agreed c = first_agreed c.args.task.now c.args.run.now c.requires.at
 
 pub returns-clause-turned : goal.returns-clause-turned
 returns-clause-turned c = first_turned c.args.task.now c.done_load-run.new.task c.args.run.now c.done_load-run.result

@@ -2,16 +2,9 @@ use Rattle.std.proofs.Common.{refl}
 use Rattle.wait_class.proofs.Handed.{given_stored}
 use Rattle.wait_model.specs.declared.steps.Step.TheVariants as step
 use Rattle.wait_rule.specs.Queues.{index}
-use Rattle.count_sem.proofs.DownTakes.{off_holds, off_may, off_turned}
+use Rattle.count_sem.proofs.DownTakes.{off_turned}
 use Rattle.wait_class.proofs.AwakeSteps.{awake_stored}
 use Rattle.count_sem.proofs.downs.off_event.Goals as goal
-
-pub remove-requires-clause-held : goal.remove-requires-clause-held
-remove-requires-clause-held c = off_holds c.args.task.now c.args.run.now c.requires.at
-
-pub remove-requires-clause-may : goal.remove-requires-clause-may
-remove-requires-clause-may c = off_may c.args.task.now c.args.run.now c.requires.at c.number-me.result
-    c.number-me.ensures.number
 
 pub returns-clause-turned : goal.returns-clause-turned
 returns-clause-turned c = off_turned c.args.task.now c.args.run.now c.requires.at c.remove.new.task c.number-me.result

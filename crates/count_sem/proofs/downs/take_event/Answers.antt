@@ -1,13 +1,7 @@
 use Rattle.std.proofs.Common.{◌-◌}
 use Rattle.completion_cell.proofs.AwaitTakes.{store_awake, store_gives}
-use Rattle.count_sem.proofs.DownTakes.{take_counted, take_some, take_turned}
+use Rattle.count_sem.proofs.DownTakes.{take_turned}
 use Rattle.count_sem.proofs.downs.take_event.Goals as goal
-
-pub lower_one-requires-clause-counted : goal.lower_one-requires-clause-counted
-lower_one-requires-clause-counted c = take_counted c.args.task.now c.args.run.now c.requires.at
-
-pub lower_one-requires-clause-some : goal.lower_one-requires-clause-some
-lower_one-requires-clause-some c = take_some c.args.task.now c.args.run.now c.requires.at
 
 pub returns-clause-turned : goal.returns-clause-turned
 returns-clause-turned c = take_turned c.args.task.now c.args.run.now c.requires.at c.lower_one.new.task

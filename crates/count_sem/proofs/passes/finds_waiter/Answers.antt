@@ -1,16 +1,8 @@
-use Rattle.std.proofs.Common.{◌<◌, ◌≤◌, ℕ, length, subst, arith}
-use Rattle.wait_model.specs.declared.layout.TheConstants.{FIRST_SIMPLE_HEAD}
+use Rattle.std.proofs.Common.{◌<◌, length, arith}
 use Rattle.wq_head.specs.declared.lists.Member.TheVariants as member
 use Rattle.wq_head.specs.Lists.{members_in}
-use Rattle.wq_head.proofs.SelectingHold.{selection_starts}
 use Rattle.count_sem.proofs.FoundWaiters.{entry_found, listed_low, mark_passed, nobody_left}
 use Rattle.count_sem.proofs.passes.finds_waiter.Goals as goal
-
-pub loop-i-init : goal.loop-i-init
-loop-i-init c =
-    let l = c.members-count.ensures in
-    selection_starts c.args.task.now c.members-count.new.task c.requires.held
-    (subst (λ (h : ℕ). FIRST_SIMPLE_HEAD ≤ h) c.requires.head c.requires.simple) l.looks l.whole l.stands
 
 pub returns-in-Entry-clause-tells : goal.returns-in-Entry-clause-tells
 returns-in-Entry-clause-tells c =

@@ -1,10 +1,7 @@
-use Rattle.std.proofs.Common.{◌∙◌, ◌-◌, ap, true, false, subst, sym}
-use Rattle.std.proofs.lemmas.Result.{err_from_is_err_and}
-use Rattle.wait_rule.specs.Known.{Known}
+use Rattle.std.proofs.Common.{◌∙◌, ◌-◌, true, false, subst, sym}
 use Rattle.wq_head.specs.Roused.{RousesNone}
 use Rattle.wq_head.proofs.RousedTasks.{none_looked, none_unlocked, rousing_from, rousing_none, rousing_on}
 use Rattle.completion_cell.proofs.CellRousing.{none_set}
-use Rattle.completion_cell.proofs.Completing.{rise_none}
 use Rattle.wait_class.specs.declared.stages.Turn.TheVariants as turn
 use Rattle.wait_leave.proofs.Ways.{under_way_is}
 use Rattle.count_sem.specs.DownLeaves.{down_exits}
@@ -13,47 +10,19 @@ use Rattle.count_sem.specs.declared.downs.DownOutcome.TheVariants as outcome
 use Rattle.count_sem.proofs.DownLeaving.{ends_until, on_way_clean}
 use Rattle.count_sem.proofs.DownPasses.{passed_down}
 use Rattle.count_sem.proofs.FoundWaiters.{nobody_in, waiter_in}
-use Rattle.count_sem.proofs.HandingOn.{alone_owes, given_holds, given_owes, given_rises, kept_alone, looking_counted}
-use Rattle.count_sem.proofs.HandingOn.{looking_holds, looking_some, looking_up, lowered_head, lowered_holds, lowered_up}
-use Rattle.count_sem.proofs.HandingOn.{pass_head, pass_high, pass_holds, passed_on}
+use Rattle.count_sem.proofs.HandingOn.{alone_owes, given_owes, given_rises, kept_alone, looking_counted}
+use Rattle.count_sem.proofs.HandingOn.{lowered_holds}
+use Rattle.count_sem.proofs.HandingOn.{pass_high, passed_on}
 use Rattle.count_sem.proofs.passes.hand_on.Goals as goal
-
-pub finds_waiter-requires-clause-up : goal.finds_waiter-requires-clause-up
-finds_waiter-requires-clause-up c = c.requires.ended.up
-
-pub finds_waiter-requires-clause-held : goal.finds_waiter-requires-clause-held
-finds_waiter-requires-clause-held c = pass_holds c.args.task.now c.args.wait.now c.requires.ended
-
-pub finds_waiter-requires-clause-head : goal.finds_waiter-requires-clause-head
-finds_waiter-requires-clause-head c = pass_head c.args.task.now c.args.wait.now c.requires.ended c.head_of-head.result
-    c.head_of-head.ensures
 
 pub finds_waiter-requires-clause-simple : goal.finds_waiter-requires-clause-simple
 finds_waiter-requires-clause-simple c = pass_high c.args.task.now c.args.wait.now c.requires.ended c.head_of-head.result
     c.head_of-head.ensures
 
-pub lower_one-requires-clause-up : goal.lower_one-requires-clause-up
-lower_one-requires-clause-up c = looking_up c.args.task.now c.args.wait.now c.requires.ended c.finds_waiter.new.task
-    c.finds_waiter.ensures.looks
-
-pub lower_one-requires-clause-cell : goal.lower_one-requires-clause-cell
-lower_one-requires-clause-cell c = c.requires.ended.trail.there
-
 pub lower_one-requires-clause-counted : goal.lower_one-requires-clause-counted
 lower_one-requires-clause-counted c = looking_counted c.args.task.now c.args.wait.now c.requires.ended
     c.finds_waiter.new.task c.finds_waiter.ensures.looks c.finds_waiter.ensures.whole
     (waiter_in c.finds_waiter.new.task c.finds_waiter.result c.if-finds_waiter.true c.finds_waiter.ensures.tells)
-
-pub lower_one-requires-clause-some : goal.lower_one-requires-clause-some
-lower_one-requires-clause-some c = looking_some c.args.task.now c.args.wait.now c.requires.ended c.finds_waiter.new.task
-    c.finds_waiter.ensures.looks c.finds_waiter.ensures.whole
-    (waiter_in c.finds_waiter.new.task c.finds_waiter.result c.if-finds_waiter.true c.finds_waiter.ensures.tells)
-
-pub select_tries-requires-clause-up : goal.select_tries-requires-clause-up
-select_tries-requires-clause-up c = lowered_up c.args.task.now c.args.wait.now c.requires.ended c.finds_waiter.new.task
-    c.finds_waiter.ensures.looks c.finds_waiter.ensures.whole
-    (waiter_in c.finds_waiter.new.task c.finds_waiter.result c.if-finds_waiter.true c.finds_waiter.ensures.tells)
-    c.lower_one.new.task c.lower_one.ensures
 
 pub select_tries-requires-clause-held : goal.select_tries-requires-clause-held
 select_tries-requires-clause-held c = lowered_holds c.args.task.now c.args.wait.now c.requires.ended
@@ -61,32 +30,9 @@ select_tries-requires-clause-held c = lowered_holds c.args.task.now c.args.wait.
     (waiter_in c.finds_waiter.new.task c.finds_waiter.result c.if-finds_waiter.true c.finds_waiter.ensures.tells)
     c.lower_one.new.task c.lower_one.ensures
 
-pub select_tries-requires-clause-head : goal.select_tries-requires-clause-head
-select_tries-requires-clause-head c = lowered_head c.args.task.now c.args.wait.now c.requires.ended
-    c.finds_waiter.new.task c.finds_waiter.ensures.looks c.finds_waiter.ensures.whole
-    (waiter_in c.finds_waiter.new.task c.finds_waiter.result c.if-finds_waiter.true c.finds_waiter.ensures.tells)
-    c.lower_one.new.task c.lower_one.ensures
-    c.head_of-head.result c.head_of-head.ensures
-
 pub select_tries-requires-clause-simple : goal.select_tries-requires-clause-simple
 select_tries-requires-clause-simple c = pass_high c.args.task.now c.args.wait.now c.requires.ended c.head_of-head.result
     c.head_of-head.ensures
-
-pub give_back-requires-clause-held : goal.give_back-requires-clause-held
-give_back-requires-clause-held c = (given_holds c.args.task.now c.args.wait.now c.requires.ended c.finds_waiter.new.task
-    c.finds_waiter.ensures.looks c.finds_waiter.ensures.whole
-    (waiter_in c.finds_waiter.new.task c.finds_waiter.result c.if-finds_waiter.true c.finds_waiter.ensures.tells)
-    c.lower_one.new.task c.lower_one.ensures
-    c.select_tries.new.task
-    c.in_ok-select_tries.field-0 c.in_ok-select_tries.ensures.selected c.select_tries.ensures.hold).locked
-
-pub give_back-requires-clause-agreed : goal.give_back-requires-clause-agreed
-give_back-requires-clause-agreed c = (given_holds c.args.task.now c.args.wait.now c.requires.ended
-    c.finds_waiter.new.task c.finds_waiter.ensures.looks c.finds_waiter.ensures.whole
-    (waiter_in c.finds_waiter.new.task c.finds_waiter.result c.if-finds_waiter.true c.finds_waiter.ensures.tells)
-    c.lower_one.new.task c.lower_one.ensures
-    c.select_tries.new.task
-    c.in_ok-select_tries.field-0 c.in_ok-select_tries.ensures.selected c.select_tries.ensures.hold).agreed
 
 pub give_back-requires-clause-rise : goal.give_back-requires-clause-rise
 give_back-requires-clause-rise c = given_rises c.args.task.now c.args.wait.now c.requires.ended c.finds_waiter.new.task
@@ -126,19 +72,6 @@ returns-then-finds_waiter-clause-rouses c = rousing_from c.args.task.now c.lower
     (subst (RousesNone c.select_tries.new.task) (sym c.give_back.ensures.given)
     (none_unlocked c.select_tries.new.task c.select_tries.new.task.at true)) c.select_tries.ensures.rouses)
 
-pub returns-then-finds_waiter-clause-passes : goal.returns-then-finds_waiter-clause-passes
-returns-then-finds_waiter-clause-passes c =
-    let at = lowered_head c.args.task.now c.args.wait.now c.requires.ended c.finds_waiter.new.task
-    c.finds_waiter.ensures.looks c.finds_waiter.ensures.whole
-    (waiter_in c.finds_waiter.new.task c.finds_waiter.result c.if-finds_waiter.true c.finds_waiter.ensures.tells)
-    c.lower_one.new.task c.lower_one.ensures c.head_of-head.result c.head_of-head.ensures in
-    c.put.ensures ∙ (c.give_back.ensures.head ∙ (c.select_tries.ensures.hold.at ∙ (sym at ∙ c.head_of-head.ensures)))
-
-pub returns-in_err-select_tries-clause-passes : goal.returns-in_err-select_tries-clause-passes
-returns-in_err-select_tries-clause-passes c =
-    let p = err_from_is_err_and c.from_residual.result c.from_residual.ensures.1 in
-    rw p.1 c.requires.passes
-
 pub returns-in_err-select_tries-clause-rouses : goal.returns-in_err-select_tries-clause-rouses
 returns-in_err-select_tries-clause-rouses c = rousing_from c.args.task.now c.lower_one.new.task c.select_tries.new.task
     c.select_tries.new.rousing
@@ -164,18 +97,6 @@ pub returns-then-finds_waiter-clause-ends_out : goal.returns-then-finds_waiter-c
 returns-then-finds_waiter-clause-ends_out c = λ start f cell state fresh w. ends_until (Unit {0}) start c.args.task.now
     c.give_back.new.task f c.args.wait.now cell state fresh outcome.Passing w (passed_then c)
 
--- nobody was queued
-pub give_back-requires-2-clause-held : goal.give_back-requires-2-clause-held
-give_back-requires-2-clause-held c = (looking_holds c.args.task.now c.args.wait.now c.requires.ended
-    c.finds_waiter.new.task c.finds_waiter.ensures.looks).locked
-
-pub give_back-requires-2-clause-agreed : goal.give_back-requires-2-clause-agreed
-give_back-requires-2-clause-agreed c = (looking_holds c.args.task.now c.args.wait.now c.requires.ended
-    c.finds_waiter.new.task c.finds_waiter.ensures.looks).agreed
-
-pub give_back-requires-2-clause-rise : goal.give_back-requires-2-clause-rise
-give_back-requires-2-clause-rise c = rise_none c.finds_waiter.new.task
-
 pub give_back-requires-2-clause-permits : goal.give_back-requires-2-clause-permits
 give_back-requires-2-clause-permits c = alone_owes c.args.task.now c.args.wait.now c.requires.ended
     c.finds_waiter.new.task c.finds_waiter.ensures.looks c.finds_waiter.ensures.whole
@@ -189,12 +110,6 @@ alone c = kept_alone c.args.task.now c.args.wait.now c.requires.ended c.finds_wa
 
 pub returns-clause-passed : goal.returns-clause-passed
 returns-clause-passed c = alone c
-
-pub returns-clause-passes : goal.returns-clause-passes
-returns-clause-passes c =
-    let at = pass_head c.args.task.now c.args.wait.now c.requires.ended c.head_of-head.result c.head_of-head.ensures in
-    c.put-2.ensures ∙ (c.give_back-2.ensures.head
-    ∙ (ap (λ (k : Known). k.at) c.finds_waiter.ensures.looks.is ∙ (sym at ∙ c.head_of-head.ensures)))
 
 pub returns-clause-rouses : goal.returns-clause-rouses
 returns-clause-rouses c = rousing_on c.args.task.now c.args.task.now c.give_back-2.new.task c.args.rousing.now

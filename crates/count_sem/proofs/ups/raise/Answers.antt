@@ -1,12 +1,8 @@
 use Rattle.std.proofs.Common.{rules}
 use Rattle.wait_rule.specs.Known.{Known}
 use Rattle.count_sem.specs.Ups.{FoundNobody}
-use Rattle.completion_cell.proofs.Completing.{rise_none}
 use Rattle.count_sem.proofs.Raising.{found_counted, full_by, full_owes, raised_by, raised_owes}
 use Rattle.count_sem.proofs.ups.raise.Goals as goal
-
-pub unlock-requires-clause-rise : goal.unlock-requires-clause-rise
-unlock-requires-clause-rise g c = rise_none c.done_load-count.new.task
 
 pub unlock-requires-clause-permits : goal.unlock-requires-clause-permits
 unlock-requires-clause-permits g c =
@@ -32,9 +28,6 @@ add_one-requires-clause-counted g c =
     let l = c.done_load-count in
     found_counted c.args.cell c.requires.found.0 c.args.task.now c.requires.found.1 l.new.task l.result l.ensures.step
     l.ensures.finds l.ensures.carries
-
-pub unlock-requires-2-clause-rise : goal.unlock-requires-2-clause-rise
-unlock-requires-2-clause-rise g c = rise_none c.add_one.new.task
 
 pub unlock-requires-2-clause-permits : goal.unlock-requires-2-clause-permits
 unlock-requires-2-clause-permits g c =

@@ -3,9 +3,7 @@
 ghost use Rattle.std.specs.Prelude.{◌≡◌};
 ghost use Rattle.wait_class.specs.Posts.{IsOut};
 ghost use Rattle.wait_pipe.specs.Pieces.{IsSettled};
-ghost use Rattle.wait_rule.specs.PipeSays.{reading, writing};
-ghost use Rattle.wait_rule.specs.Queues.{IsIdle};
-ghost use Rattle.wait_rule.specs.Says.{IsClean, IsUp};
+ghost use Rattle.wait_rule.specs.{PipeSays.reading, PipeSays.writing, Queues.IsIdle, Says.IsClean, Says.IsUp};
 
 use std::sync::Wait;
 use wait_pipe::{open_read, open_write, read_piece, write_piece};

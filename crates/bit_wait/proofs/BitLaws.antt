@@ -2,73 +2,54 @@
 use Rattle.std.proofs.Common.{◌∙◌, ap, sym, refl, subst, inl, inr, arith, append_assoc}
 use Rattle.std.specs.Prelude.{ℕ, ◌≡◌, ◌<◌, ◌+◌, ◌*◌, ◌&&◌, not, Bool, true, false, if◌then◌else◌}
 use Rattle.std.specs.Prelude.{Option, None, Result, IfOk, IfErr, List, [], ◌∷◌, ◌++◌}
-use Rattle.wait_model.specs.declared.layout.TheConstants.{FIRST_DONE_HEAD, WORD_BITS}
+use Rattle.wait_model.specs.{declared.layout.TheConstants.FIRST_DONE_HEAD, declared.layout.TheConstants.WORD_BITS}
+use Rattle.wait_model.specs.{declared.calls.Event.Event, declared.points.Next.Next, declared.steps.Step.Step}
+use Rattle.wait_model.specs.{declared.tasks.SleepState.SleepState, declared.watches.Entry.Entry}
+use Rattle.wait_model.specs.{declared.watches.Watch.Watch, PointFacts.holds, Watches.head_of, Words.bit_at}
+use Rattle.wait_model.specs.Views.{is_trying_for}
+use Rattle.wait_model.specs.Programs.{acted, ends_with, finished, go, load, zero_answer}
+use Rattle.wait_model.specs.Tasks.{looks_in, pending, state_mask, task_of}
 use Rattle.wait_model.specs.declared.calls.Answer.TheVariants as answer
 use Rattle.wait_model.specs.declared.calls.Call.TheVariants as calls
-use Rattle.wait_model.specs.declared.calls.Event.{Event}
 use Rattle.wait_model.specs.declared.points.BitPoint.TheVariants as biting
 use Rattle.wait_model.specs.declared.points.FinishPoint.TheVariants as finishing
-use Rattle.wait_model.specs.declared.points.Next.{Next}
 use Rattle.wait_model.specs.declared.points.Next.TheVariants as next
 use Rattle.wait_model.specs.declared.points.Point.TheVariants as at
 use Rattle.wait_model.specs.declared.points.PreparePoint.TheVariants as preparing
-use Rattle.wait_model.specs.declared.steps.Step.{Step}
 use Rattle.wait_model.specs.declared.steps.Step.TheVariants as step
-use Rattle.wait_model.specs.declared.tasks.SleepState.{SleepState}
 use Rattle.wait_model.specs.declared.watches.Kind.TheVariants as kind
-use Rattle.wait_model.specs.declared.watches.Entry.{Entry}
-use Rattle.wait_model.specs.declared.watches.Watch.{Watch}
 use Rattle.wait_model.specs.declared.watches.Watch.TheVariants as watch
-use Rattle.wait_model.specs.Programs.{acted, ends_with, finished, go, load, zero_answer}
-use Rattle.wait_model.specs.PointFacts.{holds}
-use Rattle.wait_model.specs.Tasks.{looks_in, pending, state_mask, task_of}
-use Rattle.wait_model.specs.Watches.{head_of}
-use Rattle.wait_model.specs.Words.{bit_at}
-use Rattle.wait_rule.specs.Known.{Known}
-use Rattle.wait_rule.specs.Queues.{IsIdle, IsTold, index}
+use Rattle.wait_rule.specs.{Known.Known, Stays.Carries, Stays.with_entry, Ends.WasWorn}
+use Rattle.wait_rule.specs.Queues.{IsIdle, IsTold, index, IsFrontPlace}
 use Rattle.wait_rule.specs.Says.{Excuse, IsClean, IsOutBut, IsUp, OwesBut, history_of, no_excuse, told_of}
-use Rattle.wait_model.specs.Views.{is_trying_for}
-use Rattle.wait_rule.specs.Stays.{Carries, with_entry}
 use Rattle.wait_rule.proofs.KnownLaws.StayingParts.{owes_also, owes_out}
+use Rattle.wq_head.specs.{Holds.IsHolding, declared.adds.Worn.Worn}
 use Rattle.wq_head.specs.Adds.{HasAdded, IsFor, IsFrontWorn, front_entry}
-use Rattle.wq_head.specs.Holds.{IsHolding}
-use Rattle.wq_head.specs.declared.adds.Worn.{Worn}
-use Rattle.wait_rule.specs.Ends.{WasWorn}
-use Rattle.wait_rule.specs.Queues.{IsFrontPlace}
 use Rattle.wq_head.proofs.FullHeads.{hashed_low}
 use Rattle.wait_event.specs.Ends.{wait_change}
 use Rattle.wait_event.proofs.Behind.{StandsOver}
-use Rattle.wait_class.specs.Posts.{IsOut, Keeps}
-use Rattle.wait_class.specs.Posts.{EndsWith}
-use Rattle.wait_class.specs.Findings.{with_value}
-use Rattle.wait_class.proofs.Ground.Standing.{home_waits}
-use Rattle.wait_class.specs.declared.frame_stages.Framed.{Framed}
+use Rattle.wait_class.specs.{Findings.with_value, declared.frame_stages.Framed.Framed, declared.stages.Run.Run}
+use Rattle.wait_class.specs.{FrameLaws.FinishLaw, FrameLaws.IsLawfulFrame, Wholes.HasRested}
+use Rattle.wait_class.specs.Posts.{IsOut, Keeps, EndsWith}
+use Rattle.wait_class.specs.Tables.{has_sleep, Advances, IsAt, IsEnded, Plan, call_plan, next_in}
+use Rattle.wait_class.specs.Laws.{AddsOwn, LoadLaw, LookLaw, SleepLaw, Calm, Unmoved}
+use Rattle.wait_class.proofs.{Ground.Standing.home_waits, CallPlans.call_stands, Stays.adds_front, Stays.wait_stays}
+use Rattle.wait_class.proofs.Histories.{awake_more, ends_calm, ends_still, found_still, worn_calm}
+use Rattle.wait_class.proofs.Ways.{finish_by, go_if, load_fork, look_by, sleep_by, way}
+use Rattle.wait_class.proofs.Wholes.{Rested, begins, ended_runs, none_of, rested_idle, rested_out, rests}
 use Rattle.wait_class.specs.declared.frame_stages.Stage.TheVariants as stage
-use Rattle.wait_class.specs.declared.stages.Run.{Run}
 use Rattle.wait_class.specs.declared.stages.Turn.TheVariants as turn
-use Rattle.wait_class.specs.FrameLaws.{FinishLaw, IsLawfulFrame}
-use Rattle.wait_class.specs.Tables.{has_sleep}
-use Rattle.wait_class.specs.Laws.{AddsOwn, LoadLaw, LookLaw, SleepLaw}
-use Rattle.wait_class.specs.Tables.{Advances, IsAt, IsEnded, Plan, call_plan, next_in}
-use Rattle.wait_class.specs.Laws.{Calm, Unmoved}
-use Rattle.wait_class.proofs.CallPlans.{call_stands}
 use Rattle.wait_leave.specs.Leaves.{with_asked}
 use Rattle.wait_leave.proofs.AskedPlans.{asked_stands}
-use Rattle.wait_class.proofs.Histories.{awake_more, ends_calm, ends_still, found_still, worn_calm}
-use Rattle.wait_class.proofs.Stays.{adds_front, wait_stays}
-use Rattle.wait_class.proofs.Ways.{finish_by, go_if, load_fork, look_by, sleep_by, way}
-use Rattle.wait_class.specs.Wholes.{HasRested}
-use Rattle.wait_class.proofs.Wholes.{Rested, begins, ended_runs, none_of, rested_idle, rested_out, rests}
-use Rattle.bit_wait.specs.BitEnds.{EndsBitWait, HasLoadedBit, IsBitCause, WasBitInterrupted, answer_of_bit_end, bit_end_in, finds_no_place}
+use Rattle.bit_wait.specs.{declared.waits.BitOutcome.BitOutcome, declared.waits.BitTest.BitTest}
+use Rattle.bit_wait.specs.{declared.wait_calls.BitEnd.BitEnd, declared.waits.WaitBit.WaitBit}
+use Rattle.bit_wait.specs.BitEnds.{EndsBitWait, HasLoadedBit, IsBitCause, WasBitInterrupted, answer_of_bit_end}
+use Rattle.bit_wait.specs.BitEnds.{bit_end_in, finds_no_place}
 use Rattle.bit_wait.specs.BitTables.{BitAgainTrail, BitCauseIn, BitFinishTrail, BitTestTrail, BitWhyFailed}
 use Rattle.bit_wait.specs.BitTables.{IsFreshBitWait, IsRunningBitWait, answer_to_bit, bit_frame, wait_bit_in, bit_table}
 use Rattle.bit_wait.specs.BitTables.{wait_bit_call, bit_end_post, is_bit_worn, loads_set, set_to}
-use Rattle.bit_wait.specs.declared.waits.BitOutcome.{BitOutcome}
 use Rattle.bit_wait.specs.declared.waits.BitOutcome.TheVariants as outcome
-use Rattle.bit_wait.specs.declared.waits.BitTest.{BitTest}
 use Rattle.bit_wait.specs.declared.waits.BitTest.TheVariants as test
-use Rattle.bit_wait.specs.declared.wait_calls.BitEnd.{BitEnd}
-use Rattle.bit_wait.specs.declared.waits.WaitBit.{WaitBit}
 
 run_low : (r : WaitBit) → head_of (wait_bit_in r) < FIRST_DONE_HEAD
 unfolding head_of

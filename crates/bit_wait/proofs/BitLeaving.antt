@@ -3,52 +3,38 @@ use Rattle.std.proofs.Common.{refl, subst, inl}
 use Rattle.std.specs.Prelude.{ℕ, ◌≡◌, ◌&&◌, Bool, true, false, if◌then◌else◌, None, Result, Ok}
 use Rattle.wait_model.specs.declared.points.BitPoint.TheVariants as biting
 use Rattle.wait_model.specs.declared.points.FinishPoint.TheVariants as finishing
-use Rattle.wait_model.specs.declared.points.Point.{Point}
+use Rattle.wait_model.specs.{declared.points.Point.Point, declared.points.Seen.Seen}
+use Rattle.wait_model.specs.{declared.tasks.SleepState.SleepState, declared.watches.Watch.Watch, Programs.call_fails}
+use Rattle.wait_model.specs.Words.{bit_at}
 use Rattle.wait_model.specs.declared.points.Point.TheVariants as at
 use Rattle.wait_model.specs.declared.points.PreparePoint.TheVariants as preparing
-use Rattle.wait_model.specs.declared.points.Seen.{Seen}
-use Rattle.wait_model.specs.declared.tasks.SleepState.{SleepState}
-use Rattle.wait_model.specs.declared.watches.Watch.{Watch}
 use Rattle.wait_model.specs.declared.watches.Watch.TheVariants as watch
-use Rattle.wait_model.specs.Programs.{call_fails}
-use Rattle.wait_model.specs.Words.{bit_at}
-use Rattle.wait_rule.specs.Known.{Known}
-use Rattle.wait_rule.specs.Queues.{IsIdle, index}
+use Rattle.wait_rule.specs.{Known.Known, Queues.IsIdle, Queues.index, Stays.Carries}
 use Rattle.wait_rule.specs.Says.{IsClean, IsUp, told_of}
-use Rattle.wait_rule.specs.Stays.{Carries}
-use Rattle.wait_class.specs.Posts.{Keeps}
-use Rattle.wait_class.specs.declared.stages.Doing.TheVariants as doing
-use Rattle.wait_class.specs.declared.frame_stages.Framed.{Framed}
-use Rattle.wait_class.specs.declared.frame_stages.Stage.{Stage}
-use Rattle.wait_class.specs.declared.frame_stages.Stage.TheVariants as stage
-use Rattle.wait_class.specs.declared.stages.Run.{Run}
-use Rattle.wait_class.specs.declared.stages.Turn.TheVariants as turn
-use Rattle.wait_class.specs.Laws.{IsLawfulCallTable}
+use Rattle.wait_class.specs.{Posts.Keeps, declared.frame_stages.Framed.Framed, declared.frame_stages.Stage.Stage}
+use Rattle.wait_class.specs.{declared.stages.Run.Run, Laws.IsLawfulCallTable, Wholes.HasRested}
 use Rattle.wait_class.specs.Tables.{IsEnded, Plan, next_in}
-use Rattle.wait_class.specs.Wholes.{HasRested}
-use Rattle.wait_class.proofs.Framing.{framed_lawful}
-use Rattle.wait_class.proofs.Ground.Standing.{home_waits}
+use Rattle.wait_class.specs.declared.stages.Doing.TheVariants as doing
+use Rattle.wait_class.specs.declared.frame_stages.Stage.TheVariants as stage
+use Rattle.wait_class.specs.declared.stages.Turn.TheVariants as turn
+use Rattle.wait_class.proofs.{Framing.framed_lawful, Ground.Standing.home_waits}
 use Rattle.wait_event.specs.Ends.{wait_change}
 use Rattle.wait_event.proofs.Behind.{StandsOver}
-use Rattle.wait_leave.specs.declared.exits.Until.{Until}
-use Rattle.wait_leave.specs.declared.exits.Until.TheVariants as until
+use Rattle.wait_leave.specs.{declared.exits.Until.Until, Leaves.with_asked, OnTheWay.IsOnWay, OnTheWay.OnTheWay}
 use Rattle.wait_leave.specs.ExitLaws.{AreLawfulExits, AwakeOn, is_awake}
-use Rattle.wait_leave.specs.Leaves.{with_asked}
-use Rattle.wait_leave.specs.OnTheWay.{IsOnWay, OnTheWay}
+use Rattle.wait_leave.specs.declared.exits.Until.TheVariants as until
 use Rattle.wait_leave.proofs.ExitForms.{AskLaw, LawAt, awake_exits, finish_awake, if_asked, lawful_exits, out_at_once}
 use Rattle.wait_leave.proofs.ExitForms.{stays_out}
 use Rattle.wait_leave.proofs.Ways.{awake_since, way_asked, way_domain, way_keeps, way_lands, way_plan}
-use Rattle.bit_wait.specs.BitEnds.{HasLoadedBit}
+use Rattle.bit_wait.specs.{BitEnds.HasLoadedBit, LockLeaves.IsAskedFor, declared.wait_calls.BitEnd.BitEnd}
+use Rattle.bit_wait.specs.{declared.waits.BitOutcome.BitOutcome, declared.waits.BitTest.BitTest}
+use Rattle.bit_wait.specs.declared.waits.WaitBit.{WaitBit}
 use Rattle.bit_wait.specs.BitLeaves.{EndsBitWaitUntil, IsBitUntilCause, LeavesBitWait, bit_awake, bit_exit, bit_exits}
 use Rattle.bit_wait.specs.BitLeaves.{bit_failed_in, bit_until_in}
-use Rattle.bit_wait.specs.BitTables.{BitCauseIn, BitWhyFailed, IsFreshBitWait, bit_frame, wait_bit_in, bit_table, wait_bit_call, is_bit_worn}
-use Rattle.bit_wait.specs.LockLeaves.{IsAskedFor}
-use Rattle.bit_wait.specs.declared.wait_calls.BitEnd.{BitEnd}
-use Rattle.bit_wait.specs.declared.waits.BitOutcome.{BitOutcome}
+use Rattle.bit_wait.specs.BitTables.{BitCauseIn, BitWhyFailed, IsFreshBitWait, bit_frame, wait_bit_in, bit_table}
+use Rattle.bit_wait.specs.BitTables.{wait_bit_call, is_bit_worn}
 use Rattle.bit_wait.specs.declared.waits.BitOutcome.TheVariants as outcome
-use Rattle.bit_wait.specs.declared.waits.BitTest.{BitTest}
 use Rattle.bit_wait.specs.declared.waits.BitTest.TheVariants as test
-use Rattle.bit_wait.specs.declared.waits.WaitBit.{WaitBit}
 use Rattle.bit_wait.proofs.BitLaws.{bit_lawful, ends_carried, ends_clean, ends_kept, ends_over}
 
 -- the exits

@@ -2,31 +2,23 @@
 use Rattle.std.proofs.Common.{refl, ap, arith}
 use Rattle.std.proofs.lemmas.List.Elements.{All-cons, All-nil}
 use Rattle.std.specs.Prelude.{ℕ, ◌≡◌, Bool, true, false, not, ◌&&◌, if◌then◌else◌, is_some, List, [], ◌∷◌}
-use Rattle.wait_model.specs.declared.calls.Answer.{Answer}
+use Rattle.wait_model.specs.{declared.calls.Answer.Answer, declared.calls.Call.Call, declared.calls.Event.Event}
+use Rattle.wait_model.specs.{declared.points.FinishPoint.FinishPoint, declared.points.Planned.Planned}
+use Rattle.wait_model.specs.{declared.points.Point.Point, declared.points.Seen.Seen, declared.tasks.Sleep.Sleep}
+use Rattle.wait_model.specs.{declared.tasks.SleepState.SleepState, Selections.is_finish_event, Watches.head_of}
+use Rattle.wait_model.specs.{Watches.number_of, Words.bit_at, Words.flag}
+use Rattle.wait_model.specs.Programs.{acted, call_fails, exchange, go, interrupted, load, program, zero_answer}
+use Rattle.wait_model.specs.Tasks.{looks_in, pending, sleep_of, state_mask}
 use Rattle.wait_model.specs.declared.calls.Answer.TheVariants as answer
-use Rattle.wait_model.specs.declared.calls.Call.{Call}
 use Rattle.wait_model.specs.declared.calls.Call.TheVariants as calls
-use Rattle.wait_model.specs.declared.calls.Event.{Event}
 use Rattle.wait_model.specs.declared.calls.Event.TheVariants as event
 use Rattle.wait_model.specs.declared.points.BitPoint.TheVariants as biting
-use Rattle.wait_model.specs.declared.points.FinishPoint.{FinishPoint}
 use Rattle.wait_model.specs.declared.points.FinishPoint.TheVariants as finishing
 use Rattle.wait_model.specs.declared.points.Next.TheVariants as next
-use Rattle.wait_model.specs.declared.points.Planned.{Planned}
-use Rattle.wait_model.specs.declared.points.Point.{Point}
 use Rattle.wait_model.specs.declared.points.Point.TheVariants as at
 use Rattle.wait_model.specs.declared.points.PreparePoint.TheVariants as preparing
-use Rattle.wait_model.specs.declared.points.Seen.{Seen}
-use Rattle.wait_model.specs.declared.tasks.Sleep.{Sleep}
-use Rattle.wait_model.specs.declared.tasks.SleepState.{SleepState}
 use Rattle.wait_model.specs.declared.watches.Watch.TheVariants as watch
-use Rattle.wait_model.specs.Programs.{acted, call_fails, exchange, go, interrupted, load, program, zero_answer}
-use Rattle.wait_model.specs.Selections.{is_finish_event}
-use Rattle.wait_model.specs.Tasks.{looks_in, pending, sleep_of, state_mask}
-use Rattle.wait_model.specs.Watches.{head_of, number_of}
-use Rattle.wait_model.specs.Words.{bit_at, flag}
-use Rattle.wait_model.proofs.AccountLaws.Refusals.{refusal}
-use Rattle.wait_model.proofs.WaitLaws.OutsideStages.{either}
+use Rattle.wait_model.proofs.{AccountLaws.Refusals.refusal, WaitLaws.OutsideStages.either}
 use Rattle.wait_rule.specs.Transitions.{call_program}
 use Rattle.wait_event.proofs.TrailRuns.{Led, run_led}
 use Rattle.bit_wait.specs.Words.{BitLocksHeed, BitWaitsHeed, EndsBrokenOff, EndsGivenUp}

@@ -1,39 +1,32 @@
 -- Whole waits: how they begin, and what they say at their end.
 use Rattle.std.proofs.Common.{◌∙◌, ap, sym, refl, subst}
 use Rattle.std.specs.Prelude.{ℕ, ◌≡◌, ◌<◌, Bool, false, MatchBool, Result, None}
-use Rattle.wait_model.specs.declared.layout.TheConstants.{BIT_WORDS, WORD_BITS}
+use Rattle.wait_model.specs.{declared.layout.TheConstants.BIT_WORDS, declared.layout.TheConstants.WORD_BITS}
+use Rattle.wait_model.specs.{declared.tasks.SleepState.SleepState, declared.watches.Watch.Watch, Tasks.state_mask}
 use Rattle.wait_model.specs.declared.calls.Call.TheVariants as calls
-use Rattle.wait_model.specs.declared.tasks.SleepState.{SleepState}
-use Rattle.wait_model.specs.declared.watches.Watch.{Watch}
 use Rattle.wait_model.specs.declared.watches.Watch.TheVariants as watch
-use Rattle.wait_model.specs.Tasks.{state_mask}
 use Rattle.wait_rule.specs.Known.{Known}
 use Rattle.wait_rule.specs.Says.{IsClean, IsUp, told_of}
 use Rattle.wait_rule.specs.Queues.{IsIdle, IsTold, index}
-use Rattle.wait_class.specs.Posts.{IsOut}
-use Rattle.bit_wait.specs.BitEnds.{answer_of_bit_end}
-use Rattle.bit_wait.specs.LockStays.{LockKeeps, TakesBit}
-use Rattle.bit_wait.specs.LockTables.{CauseIn, IsFreshLock, IsRunningLock, WhyFailed, answer_to_lock, lock_end_post, lock_bit_in, is_lock_over, lock_frame, lock_table}
-use Rattle.bit_wait.specs.LockEnds.{ComesBehindWorn, EndsBitLock, HasRested, IsLockCause, lock_end_in, has_taken_lock as given}
-use Rattle.bit_wait.specs.declared.lock_runs.LockBit.{LockBit}
-use Rattle.bit_wait.specs.declared.wait_calls.BitEnd.{BitEnd}
-use Rattle.bit_wait.specs.declared.lock_runs.LockOutcome.{LockOutcome}
-use Rattle.bit_wait.specs.declared.lock_runs.LockOutcome.TheVariants as outcome
-use Rattle.bit_wait.specs.declared.lock_runs.LockTest.{LockTest}
-use Rattle.bit_wait.specs.declared.lock_runs.LockTest.TheVariants as test
-use Rattle.wait_class.specs.declared.frame_stages.Framed.{Framed}
-use Rattle.wait_class.specs.declared.frame_stages.Stage.{Stage}
-use Rattle.wait_class.specs.declared.frame_stages.Stage.TheVariants as stage
-use Rattle.wait_class.specs.declared.stages.Run.{Run}
-use Rattle.wait_class.specs.declared.stages.Turn.TheVariants as turn
+use Rattle.wait_class.specs.{Posts.IsOut, declared.frame_stages.Framed.Framed, declared.frame_stages.Stage.Stage}
+use Rattle.wait_class.specs.{declared.stages.Run.Run, UnderWay.IsUnderWay}
 use Rattle.wait_class.specs.Tables.{Advances, IsAt, Plan, call_plan}
-use Rattle.wait_class.specs.UnderWay.{IsUnderWay}
+use Rattle.bit_wait.specs.{BitEnds.answer_of_bit_end, LockStays.LockKeeps, LockStays.TakesBit}
+use Rattle.bit_wait.specs.{declared.lock_runs.LockBit.LockBit, declared.wait_calls.BitEnd.BitEnd}
+use Rattle.bit_wait.specs.{declared.lock_runs.LockOutcome.LockOutcome, declared.lock_runs.LockTest.LockTest}
+use Rattle.bit_wait.specs.Holders.{IsHolder}
+use Rattle.bit_wait.specs.LockTables.{CauseIn, IsFreshLock, IsRunningLock, WhyFailed, answer_to_lock, lock_end_post}
+use Rattle.bit_wait.specs.LockTables.{lock_bit_in, is_lock_over, lock_frame, lock_table}
+use Rattle.bit_wait.specs.LockEnds.{ComesBehindWorn, EndsBitLock, HasRested, IsLockCause, lock_end_in}
+use Rattle.bit_wait.specs.LockEnds.{has_taken_lock as given}
+use Rattle.bit_wait.specs.declared.lock_runs.LockOutcome.TheVariants as outcome
+use Rattle.bit_wait.specs.declared.lock_runs.LockTest.TheVariants as test
+use Rattle.wait_class.specs.declared.frame_stages.Stage.TheVariants as stage
+use Rattle.wait_class.specs.declared.stages.Turn.TheVariants as turn
 use Rattle.wait_event.proofs.Behind.{StandsOver}
 use Rattle.wait_leave.specs.Leaves.{with_asked}
-use Rattle.bit_wait.specs.Holders.{IsHolder}
 use Rattle.wait_class.proofs.Wholes.{Rested, begins, ended_runs, rested_idle, rested_out, rests}
-use Rattle.bit_wait.proofs.Holders.{clean_idle, clean_out}
-use Rattle.bit_wait.proofs.LockKinds.{locks_clean, takes_bit}
+use Rattle.bit_wait.proofs.{Holders.clean_idle, Holders.clean_out, LockKinds.locks_clean, LockKinds.takes_bit}
 
 -- the numbers of a call are in their ranges
 pub fresh_runs : (r : LockBit) (w b : ℕ) (st : SleepState) → IsFreshLock r w b st → w < BIT_WORDS → b < WORD_BITS

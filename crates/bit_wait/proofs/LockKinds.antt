@@ -3,43 +3,29 @@ use Rattle.std.proofs.Common.{◌∙◌, ap, sym, refl, subst, inl, inr}
 use Rattle.std.proofs.lemmas.Bool.Decides.{eqb_tells}
 use Rattle.std.specs.Prelude.{ℕ, ◌≡◌, ◌≢◌, ◌<◌, ◌⊎◌, ◌==◌, ◌&&◌, ◌||◌, not, Bool, true, false, MatchBool}
 use Rattle.std.specs.Prelude.{Option, Some, None, [], ◌∷◌}
-use Rattle.wait_model.specs.declared.layout.TheConstants.{SLOTS}
-use Rattle.wait_model.specs.declared.points.Next.{Next}
+use Rattle.wait_model.specs.{declared.layout.TheConstants.SLOTS, declared.points.Next.Next, declared.steps.Step.Step}
+use Rattle.wait_model.specs.{declared.watches.Entry.Entry, declared.watches.Watch.Watch, Views.View as Told}
+use Rattle.wait_model.specs.{Views.is_trying_for, Watches.same, Watches.was_clear, Words.bit_at}
 use Rattle.wait_model.specs.declared.points.Next.TheVariants as next
-use Rattle.wait_model.specs.declared.steps.Step.{Step}
 use Rattle.wait_model.specs.declared.steps.Step.TheVariants as step
-use Rattle.wait_model.specs.declared.watches.Entry.{Entry}
-use Rattle.wait_model.specs.declared.watches.Watch.{Watch}
 use Rattle.wait_model.specs.declared.watches.Watch.TheVariants as watch
-use Rattle.wait_model.specs.Views.{View as Told, is_trying_for}
-use Rattle.wait_model.specs.Watches.{same, was_clear}
-use Rattle.wait_model.specs.Words.{bit_at}
 use Rattle.wait_model.proofs.Sameness.{same_bit, same_bit_is}
 use Rattle.wait_rule.specs.declared.journal.Item.TheVariants as item
+use Rattle.wait_rule.specs.{Known.Known, Members.IsOwnKind, Stays.with_bits}
 use Rattle.wait_rule.specs.Bits.{SetsBit, StaysBeside, taken_bits}
-use Rattle.wait_rule.specs.Known.{Known}
-use Rattle.wait_rule.specs.Members.{IsOwnKind}
 use Rattle.wait_rule.specs.Queues.{IsIdle, at_head, index, walk_of_hold}
 use Rattle.wait_rule.specs.Says.{Excuse, IsClean, IsOutBut, IsUp, OwesBut, added, no_excuse, told_of}
-use Rattle.wait_rule.specs.Stays.{with_bits}
 use Rattle.wait_rule.specs.Transitions.{Finds, Goes, IsMadeFor, OnlyLooks, Program, Transition, by_step}
-use Rattle.wait_rule.proofs.KnownLaws.AfterSteps.{told_added}
-use Rattle.wait_rule.proofs.KnownLaws.Debts.{added_debts, entries_debts, list_debts}
-use Rattle.wait_rule.proofs.KnownLaws.TaskHistories.{history_after}
+use Rattle.wait_rule.proofs.{KnownLaws.AfterSteps.told_added, KnownLaws.TaskHistories.history_after}
 use Rattle.wait_rule.proofs.KnownLaws.Transitions.{only_none}
-use Rattle.wait_class.specs.Posts.{IsOut}
-use Rattle.wait_class.specs.Posts.{Post, Stands}
-use Rattle.wait_class.specs.Findings.{with_value}
-use Rattle.wait_class.proofs.Ground.Standing.{stands_on}
-use Rattle.wait_class.specs.declared.stages.Run.{Run}
-use Rattle.wait_class.specs.declared.stages.Turn.{Turn}
-use Rattle.wait_class.specs.Laws.{HomeGoes, IsFreeStage, KeepsLaws, StateGoes}
+use Rattle.wait_rule.proofs.KnownLaws.Debts.{added_debts, entries_debts, list_debts}
+use Rattle.wait_class.specs.{Findings.with_value, declared.stages.Run.Run, declared.stages.Turn.Turn}
+use Rattle.wait_class.specs.Posts.{IsOut, Post, Stands}
+use Rattle.wait_class.specs.Laws.{HomeGoes, IsFreeStage, KeepsLaws, StateGoes, TurnTrail, turn_post}
 use Rattle.wait_class.specs.Tables.{IsAt, CallTable, next_in, plan_program, post_of, took_in, watch_in}
-use Rattle.wait_class.specs.Laws.{TurnTrail, turn_post}
+use Rattle.wait_class.proofs.{Ground.Standing.stands_on, Wholes.Rested}
 use Rattle.wait_class.proofs.Turns.{GoesOn, free_head, stands_plain}
-use Rattle.wait_class.proofs.Wholes.{Rested}
-use Rattle.bit_wait.specs.Holders.{IsHolder}
-use Rattle.bit_wait.specs.LockStays.{LockKeeps, TakesBit}
+use Rattle.bit_wait.specs.{Holders.IsHolder, LockStays.LockKeeps, LockStays.TakesBit}
 use Rattle.bit_wait.proofs.Holders.{holds_or_owes}
 use Rattle.bit_wait.proofs.LockGround.{gone, lock_keeps_by, lock_keeps_looks, lock_keeps_none, lock_keeps_on}
 use Rattle.bit_wait.proofs.LockGround.{lock_keeps_own, lock_keeps_removed, lock_keeps_same, lock_keeps_set}

@@ -2,43 +2,30 @@
 use Rattle.std.proofs.Common.{◌∙◌, ap, sym, refl, subst, inl, arith, append_assoc}
 use Rattle.std.specs.Prelude.{ℕ, ◌≡◌, ◌<◌, ◌+◌, ◌*◌, Bool, true, false, if◌then◌else◌, None, Result, Ok, Err, IfOk, IfErr, List, [], ◌∷◌, ◌++◌}
 use Rattle.wait_model.specs.declared.points.BitPoint.TheVariants as biting
-use Rattle.wait_model.specs.declared.calls.Event.{Event}
-use Rattle.wait_model.specs.declared.points.Next.{Next}
+use Rattle.wait_model.specs.{declared.calls.Event.Event, declared.points.Next.Next, declared.steps.Step.Step}
+use Rattle.wait_model.specs.{declared.tasks.SleepState.SleepState, declared.watches.Watch.Watch, Programs.acted}
+use Rattle.wait_model.specs.{Programs.finished, PointFacts.holds, Tasks.looks_in, Words.bit_at}
+use Rattle.wait_model.specs.{declared.layout.TheConstants.FIRST_DONE_HEAD, declared.layout.TheConstants.WORD_BITS}
+use Rattle.wait_model.specs.Watches.{head_of}
 use Rattle.wait_model.specs.declared.points.Next.TheVariants as next
 use Rattle.wait_model.specs.declared.points.Point.TheVariants as at
 use Rattle.wait_model.specs.declared.queues.Form.TheVariants as forms
-use Rattle.wait_model.specs.declared.steps.Step.{Step}
 use Rattle.wait_model.specs.declared.steps.Step.TheVariants as step
-use Rattle.wait_model.specs.declared.tasks.SleepState.{SleepState}
 use Rattle.wait_model.specs.declared.watches.Kind.TheVariants as kind
-use Rattle.wait_model.specs.declared.watches.Watch.{Watch}
-use Rattle.wait_model.specs.Programs.{acted, finished}
-use Rattle.wait_model.specs.PointFacts.{holds}
-use Rattle.wait_model.specs.Tasks.{looks_in}
-use Rattle.wait_model.specs.Words.{bit_at}
-use Rattle.wait_rule.specs.Ends.{WasWorn}
-use Rattle.wait_rule.specs.Known.{Known}
-use Rattle.wait_rule.specs.Queues.{index}
-use Rattle.wait_rule.specs.Says.{history_of, told_of}
+use Rattle.wait_rule.specs.{Ends.WasWorn, Known.Known, Queues.index, Says.history_of, Says.told_of}
+use Rattle.wq_head.specs.{Holds.IsHolding, declared.adds.Worn.Worn}
 use Rattle.wq_head.specs.Adds.{HasAddedForBit, IsForBit, IsTailWorn, tail_entry}
-use Rattle.wq_head.specs.Holds.{IsHolding}
-use Rattle.wq_head.specs.declared.adds.Worn.{Worn}
 use Rattle.wait_class.proofs.FormPlaces.{form_is, form_left, form_worn}
-use Rattle.wait_class.specs.declared.frame_stages.Framed.{Framed}
+use Rattle.wait_class.specs.{declared.frame_stages.Framed.Framed, FrameLaws.FinishLaw, FrameLaws.IsLawfulFrame}
+use Rattle.wait_class.specs.Tables.{has_sleep, call_plan, next_in}
+use Rattle.wait_class.specs.Laws.{AddsOwn, HasJoined, IsWornFor, LoadLaw, LookLaw, SleepLaw, Calm, Unmoved}
 use Rattle.wait_class.specs.declared.frame_stages.Stage.TheVariants as stage
 use Rattle.wait_class.specs.declared.stages.Turn.TheVariants as turn
-use Rattle.wait_class.specs.FrameLaws.{FinishLaw, IsLawfulFrame}
-use Rattle.wait_class.specs.Tables.{has_sleep}
-use Rattle.wait_class.specs.Laws.{AddsOwn, HasJoined, IsWornFor, LoadLaw, LookLaw, SleepLaw}
-use Rattle.wait_class.specs.Tables.{call_plan, next_in}
 use Rattle.wait_leave.proofs.AskedPlans.{asked_stands}
-use Rattle.wait_class.specs.Laws.{Calm, Unmoved}
 use Rattle.wait_class.proofs.CallPlans.{call_stands}
 use Rattle.wait_class.proofs.Ways.{finish_by, load_by, look_by, sleep_by, way}
 use Rattle.wait_class.proofs.Histories.{awake_more, ends_calm, ends_still, found_still}
 use Rattle.wq_head.proofs.FullHeads.{hashed_low}
-use Rattle.wait_model.specs.declared.layout.TheConstants.{FIRST_DONE_HEAD, WORD_BITS}
-use Rattle.wait_model.specs.Watches.{head_of}
 use Rattle.bit_wait.specs.LockEnds.{ComesBehindWorn}
 use Rattle.bit_wait.specs.LockTables.{FailTrail, FinishTrail, FoundLockSignal, IsRunningLock, TestTrail, lock_bit_in, lock_bit_call, lock_head_in, lock_frame, lock_table}
 use Rattle.bit_wait.specs.declared.lock_runs.LockBit.{LockBit}

@@ -2,53 +2,39 @@
 use Rattle.std.proofs.Common.{◌∙◌, ap, sym, refl, subst, inl}
 use Rattle.std.specs.Prelude.{ℕ, ◌≡◌, Bool, true, false, None, Result, MatchBool}
 use Rattle.wait_model.specs.declared.points.BitPoint.TheVariants as biting
-use Rattle.wait_model.specs.declared.points.Point.{Point}
+use Rattle.wait_model.specs.{declared.points.Point.Point, declared.points.Seen.Seen}
+use Rattle.wait_model.specs.{declared.tasks.SleepState.SleepState, declared.watches.Watch.Watch, Tasks.state_mask}
 use Rattle.wait_model.specs.declared.points.Point.TheVariants as at
-use Rattle.wait_model.specs.declared.points.Seen.{Seen}
 use Rattle.wait_model.specs.declared.steps.Step.TheVariants as step
-use Rattle.wait_model.specs.declared.tasks.SleepState.{SleepState}
-use Rattle.wait_model.specs.declared.watches.Watch.{Watch}
 use Rattle.wait_model.specs.declared.watches.Watch.TheVariants as watch
-use Rattle.wait_model.specs.Tasks.{state_mask}
-use Rattle.wait_rule.specs.Known.{Known}
-use Rattle.wait_rule.specs.Queues.{IsIdle, index}
+use Rattle.wait_rule.specs.{Known.Known, Queues.IsIdle, Queues.index}
 use Rattle.wait_rule.specs.Says.{IsClean, IsUp, told_of}
-use Rattle.wait_class.specs.Posts.{IsOut}
-use Rattle.wait_class.specs.declared.stages.Doing.TheVariants as doing
-use Rattle.wait_class.specs.declared.frame_stages.Framed.{Framed}
-use Rattle.wait_class.specs.declared.frame_stages.Stage.{Stage}
-use Rattle.wait_class.specs.declared.frame_stages.Stage.TheVariants as stage
-use Rattle.wait_class.specs.declared.stages.Run.{Run}
-use Rattle.wait_class.specs.declared.stages.Turn.TheVariants as turn
-use Rattle.wait_class.specs.Laws.{IsLawfulCallTable}
+use Rattle.wait_class.specs.{Posts.IsOut, declared.frame_stages.Framed.Framed, declared.frame_stages.Stage.Stage}
+use Rattle.wait_class.specs.{declared.stages.Run.Run, Laws.IsLawfulCallTable, Wholes.HasRested}
 use Rattle.wait_class.specs.Tables.{IsEnded, Plan, next_in}
-use Rattle.wait_class.specs.Wholes.{HasRested}
-use Rattle.wait_class.proofs.Framing.{framed_lawful}
-use Rattle.wait_class.proofs.Ground.Standing.{home_waits}
+use Rattle.wait_class.specs.declared.stages.Doing.TheVariants as doing
+use Rattle.wait_class.specs.declared.frame_stages.Stage.TheVariants as stage
+use Rattle.wait_class.specs.declared.stages.Turn.TheVariants as turn
+use Rattle.wait_class.proofs.{Framing.framed_lawful, Ground.Standing.home_waits}
 use Rattle.wait_class.proofs.Wholes.{Rested, rested_idle, rested_out, rests}
 use Rattle.wait_event.proofs.Behind.{StandsOver}
-use Rattle.wait_leave.specs.declared.exits.Until.{Until}
+use Rattle.wait_leave.specs.{declared.exits.Until.Until, Leaves.with_asked, OnTheWay.IsOnWay, OnTheWay.OnTheWay}
 use Rattle.wait_leave.specs.ExitLaws.{AreLawfulExits, AwakeOn, is_awake}
-use Rattle.wait_leave.specs.Leaves.{with_asked}
-use Rattle.wait_leave.specs.OnTheWay.{IsOnWay, OnTheWay}
 use Rattle.wait_leave.proofs.ExitForms.{AskLaw, LawAt, awake_exits, finish_awake, if_asked, lawful_exits, out_at_once}
 use Rattle.wait_leave.proofs.ExitForms.{stays_out}
 use Rattle.wait_leave.proofs.Ways.{awake_since, way_asked, way_domain, way_keeps, way_lands, way_plan}
+use Rattle.bit_wait.specs.{Holders.IsHolder, LockStays.LockKeeps, LockStays.TakesBit, declared.wait_calls.BitEnd.BitEnd}
+use Rattle.bit_wait.specs.{declared.lock_runs.LockBit.LockBit, declared.lock_runs.LockOutcome.LockOutcome}
+use Rattle.bit_wait.specs.declared.lock_runs.LockTest.{LockTest}
 use Rattle.bit_wait.specs.LockLeaves.{EndsBitLockUntil, IsAskedFor, IsUntilCause, LeavesBitLock, failed_in, lock_awake}
 use Rattle.bit_wait.specs.LockLeaves.{lock_exit, lock_exits, takes_until, until_in}
-use Rattle.bit_wait.specs.Holders.{IsHolder}
-use Rattle.bit_wait.specs.LockStays.{LockKeeps, TakesBit}
-use Rattle.bit_wait.specs.LockTables.{CauseIn, IsFreshLock, WhyFailed, lock_bit_in, lock_end_post, is_lock_over, lock_frame, lock_table}
-use Rattle.bit_wait.specs.declared.wait_calls.BitEnd.{BitEnd}
-use Rattle.bit_wait.specs.declared.lock_runs.LockBit.{LockBit}
-use Rattle.bit_wait.specs.declared.lock_runs.LockOutcome.{LockOutcome}
+use Rattle.bit_wait.specs.LockTables.{CauseIn, IsFreshLock, WhyFailed, lock_bit_in, lock_end_post, is_lock_over}
+use Rattle.bit_wait.specs.LockTables.{lock_frame, lock_table}
 use Rattle.bit_wait.specs.declared.lock_runs.LockOutcome.TheVariants as outcome
-use Rattle.bit_wait.specs.declared.lock_runs.LockTest.{LockTest}
 use Rattle.bit_wait.specs.declared.lock_runs.LockTest.TheVariants as test
-use Rattle.bit_wait.proofs.Holders.{clean_idle, clean_out}
-use Rattle.bit_wait.proofs.LockGround.{lock_keeps_none, lock_keeps_on, lock_keeps_step}
-use Rattle.bit_wait.proofs.LockKinds.{locks_clean, takes_bit}
+use Rattle.bit_wait.proofs.{Holders.clean_idle, Holders.clean_out, LockKinds.locks_clean, LockKinds.takes_bit}
 use Rattle.bit_wait.proofs.LockLaws.{lock_lawful}
+use Rattle.bit_wait.proofs.LockGround.{lock_keeps_none, lock_keeps_on, lock_keeps_step}
 
 -- the exits
 asks_law : AskLaw lock_table lock_exits

@@ -2,50 +2,33 @@
 use Rattle.std.proofs.Common.{◌∙◌, ap, sym, refl, subst, inl}
 use Rattle.std.specs.Prelude.{ℕ, ◌≡◌, ◌&&◌, not, Bool, true, false, if◌then◌else◌, Ok, Some, [], ◌∷◌, ◌++◌}
 use Rattle.wait_model.specs.declared.calls.Answer.TheVariants as answer
-use Rattle.wait_model.specs.declared.calls.Event.{Event}
+use Rattle.wait_model.specs.{declared.calls.Event.Event, declared.points.Planned.Planned, declared.points.Point.Point}
+use Rattle.wait_model.specs.{declared.watches.Watch.Watch, Points.given_at, Watches.was_clear, Words.bit_at}
+use Rattle.wait_model.specs.Programs.{ends_with, exchange, go, interrupted, zero_answer}
 use Rattle.wait_model.specs.declared.points.BitPoint.TheVariants as biting
 use Rattle.wait_model.specs.declared.points.FinishPoint.TheVariants as finishing
 use Rattle.wait_model.specs.declared.points.Next.TheVariants as next
-use Rattle.wait_model.specs.declared.points.Planned.{Planned}
-use Rattle.wait_model.specs.declared.points.Point.{Point}
 use Rattle.wait_model.specs.declared.points.Point.TheVariants as at
 use Rattle.wait_model.specs.declared.points.PreparePoint.TheVariants as preparing
 use Rattle.wait_model.specs.declared.steps.Step.TheVariants as step
-use Rattle.wait_model.specs.declared.watches.Watch.{Watch}
-use Rattle.wait_model.specs.Points.{given_at}
-use Rattle.wait_model.specs.Programs.{ends_with, exchange, go, interrupted, zero_answer}
-use Rattle.wait_model.specs.Watches.{was_clear}
-use Rattle.wait_model.specs.Words.{bit_at}
 use Rattle.wait_rule.specs.declared.journal.Item.TheVariants as item
-use Rattle.wait_rule.specs.Bits.{SetsBit}
-use Rattle.wait_rule.specs.Ends.{WasWorn}
-use Rattle.wait_rule.specs.Known.{Known}
-use Rattle.wait_rule.specs.Queues.{IsAgreedHold, index}
-use Rattle.wait_rule.specs.Says.{added, history_of}
-use Rattle.wait_rule.specs.Transitions.{IsMadeFor, by_step}
-use Rattle.wait_rule.proofs.KnownLaws.TaskHistories.{history_after}
-use Rattle.wait_rule.proofs.WornHeads.WornNotes.{notes_stay}
-use Rattle.wait_class.specs.Posts.{EndsWith}
-use Rattle.wait_class.specs.Findings.{with_value}
-use Rattle.wait_class.proofs.Histories.{ends_more}
-use Rattle.wait_class.proofs.Ground.Standing.{home_waits}
-use Rattle.wait_class.specs.declared.frame_stages.Framed.{Framed}
-use Rattle.wait_class.specs.declared.frame_stages.Stage.TheVariants as stage
-use Rattle.wait_class.specs.declared.stages.Run.{Run}
-use Rattle.wait_class.specs.declared.stages.Turn.TheVariants as turn
+use Rattle.wait_rule.specs.{Bits.SetsBit, Ends.WasWorn, Known.Known, Queues.IsAgreedHold, Queues.index, Says.added}
+use Rattle.wait_rule.specs.{Says.history_of, Transitions.IsMadeFor, Transitions.by_step}
+use Rattle.wait_rule.proofs.{KnownLaws.TaskHistories.history_after, WornHeads.WornNotes.notes_stay}
+use Rattle.wait_class.specs.{Posts.EndsWith, Findings.with_value, declared.frame_stages.Framed.Framed}
+use Rattle.wait_class.specs.{declared.stages.Run.Run, Laws.IsPlainTurn}
 use Rattle.wait_class.specs.Tables.{IsAt, Turned, falls}
-use Rattle.wait_class.specs.Laws.{IsPlainTurn}
-use Rattle.wait_class.proofs.Turns.{GoesOn, advance_by}
-use Rattle.bit_wait.specs.LockStays.{LockKeeps}
-use Rattle.bit_wait.specs.LockEnds.{ComesBehindWorn}
-use Rattle.bit_wait.specs.LockTables.{stands_worn, EndTrail, FailTrail, WhyFailed, LockTurn, lock_bit_in, lock_bit_call, lock_head_in, lock_frame, lock_table, tried_to, tries_bit}
-use Rattle.bit_wait.specs.declared.lock_runs.LockBit.{LockBit}
-use Rattle.bit_wait.specs.declared.lock_runs.LockOutcome.TheVariants as outcome
-use Rattle.bit_wait.specs.declared.lock_runs.LockTest.{LockTest}
-use Rattle.bit_wait.specs.declared.lock_runs.LockTest.TheVariants as test
+use Rattle.wait_class.proofs.{Histories.ends_more, Ground.Standing.home_waits, Turns.GoesOn, Turns.advance_by}
 use Rattle.wait_class.proofs.Ways.{either_event}
-use Rattle.bit_wait.proofs.LockKinds.{set_goes}
-use Rattle.bit_wait.proofs.LockLaws.{more_signal}
+use Rattle.wait_class.specs.declared.frame_stages.Stage.TheVariants as stage
+use Rattle.wait_class.specs.declared.stages.Turn.TheVariants as turn
+use Rattle.bit_wait.specs.{LockStays.LockKeeps, LockEnds.ComesBehindWorn, declared.lock_runs.LockBit.LockBit}
+use Rattle.bit_wait.specs.declared.lock_runs.LockTest.{LockTest}
+use Rattle.bit_wait.specs.LockTables.{stands_worn, EndTrail, FailTrail, WhyFailed, LockTurn, lock_bit_in, lock_bit_call}
+use Rattle.bit_wait.specs.LockTables.{lock_head_in, lock_frame, lock_table, tried_to, tries_bit}
+use Rattle.bit_wait.specs.declared.lock_runs.LockOutcome.TheVariants as outcome
+use Rattle.bit_wait.specs.declared.lock_runs.LockTest.TheVariants as test
+use Rattle.bit_wait.proofs.{LockKinds.set_goes, LockLaws.more_signal}
 
 -- no head is held there
 pub may_try : (old : Known) (r : Run (Framed LockBit)) (x : LockTest) → IsAt lock_table old r (stage.Test x)

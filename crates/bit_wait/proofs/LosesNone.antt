@@ -1,13 +1,9 @@
 -- Who gave a bit back leaves nobody asleep on it.
 use Rattle.wait_model.specs.declared.watches.Watch.{Watch}
 use Rattle.wait_model.specs.declared.watches.Watch.TheVariants as watch
-use Rattle.wait_rule.specs.Known.{Known}
-use Rattle.wait_rule.specs.LosesNone.{OwesBeside}
-use Rattle.wait_rule.specs.Says.{Excuse}
-use Rattle.wait_rule.specs.Stays.{with_bit}
+use Rattle.wait_rule.specs.{Known.Known, LosesNone.OwesBeside, Says.Excuse, Stays.with_bit}
 use Rattle.wait_rule.proofs.KnownLaws.LosesNone.{owers_leave_none}
-use Rattle.bit_wait.specs.Clears.{GivesBack}
-use Rattle.bit_wait.specs.LosesNone.{ClearsLoseNone}
+use Rattle.bit_wait.specs.{Clears.GivesBack, LosesNone.ClearsLoseNone}
 
 -- after the call it owes what it owed beside the bit, and no wake of it
 given_owes : (old new : Known) (c : Watch) (x : Excuse) → OwesBeside c (with_bit c x) old → GivesBack old new c

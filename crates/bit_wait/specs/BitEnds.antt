@@ -1,33 +1,23 @@
 -- To be believed.
 -- What whole waits for a bit say.
 use Rattle.std.specs.Prelude.{ℕ, ◌≡◌, Bool, true, false, Result, Ok, Err, List, [], ◌∷◌, ◌++◌}
-use Rattle.wait_model.specs.declared.calls.Answer.{Answer}
+use Rattle.wait_model.specs.{declared.calls.Answer.Answer, declared.tasks.SleepState.SleepState}
+use Rattle.wait_model.specs.{declared.steps.Step.Step, Programs.interrupted, Programs.zero_answer, Watches.head_of}
+use Rattle.wait_model.specs.Words.{bit_at}
+use Rattle.wait_model.specs.Tasks.{pending, state_mask, task_of}
 use Rattle.wait_model.specs.declared.calls.Answer.TheVariants as answer
 use Rattle.wait_model.specs.declared.calls.Call.TheVariants as calls
-use Rattle.wait_model.specs.declared.tasks.SleepState.{SleepState}
 use Rattle.wait_model.specs.declared.points.BitPoint.TheVariants as biting
 use Rattle.wait_model.specs.declared.points.Next.TheVariants as next
 use Rattle.wait_model.specs.declared.points.Point.TheVariants as at
-use Rattle.wait_model.specs.declared.steps.Step.{Step}
 use Rattle.wait_model.specs.declared.steps.Step.TheVariants as step
 use Rattle.wait_model.specs.declared.watches.Watch.TheVariants as watch
-use Rattle.wait_model.specs.Programs.{interrupted, zero_answer}
-use Rattle.wait_model.specs.Tasks.{pending, state_mask, task_of}
-use Rattle.wait_model.specs.Watches.{head_of}
-use Rattle.wait_model.specs.Words.{bit_at}
-use Rattle.wait_rule.specs.Ends.{WasWorn}
-use Rattle.wait_rule.specs.Known.{Known}
-use Rattle.wait_rule.specs.Says.{history_of}
-use Rattle.wait_rule.specs.Transitions.{call_program}
-use Rattle.wait_class.specs.Posts.{Runs}
-use Rattle.wait_class.specs.Posts.{EndsWith}
-use Rattle.wait_class.specs.Tables.{has_sleep}
-use Rattle.wait_class.specs.Wholes.{HasRested}
-use Rattle.bit_wait.specs.declared.wait_calls.BitEnd.{BitEnd}
-use Rattle.bit_wait.specs.declared.wait_calls.BitEnd.TheVariants as bit_end
-use Rattle.bit_wait.specs.declared.waits.BitOutcome.{BitOutcome}
-use Rattle.bit_wait.specs.declared.waits.BitOutcome.TheVariants as outcome
+use Rattle.wait_rule.specs.{Ends.WasWorn, Known.Known, Says.history_of, Transitions.call_program}
+use Rattle.wait_class.specs.{Posts.Runs, Posts.EndsWith, Tables.has_sleep, Wholes.HasRested}
+use Rattle.bit_wait.specs.{declared.wait_calls.BitEnd.BitEnd, declared.waits.BitOutcome.BitOutcome}
 use Rattle.bit_wait.specs.declared.waits.WaitBit.{WaitBit}
+use Rattle.bit_wait.specs.declared.wait_calls.BitEnd.TheVariants as bit_end
+use Rattle.bit_wait.specs.declared.waits.BitOutcome.TheVariants as outcome
 
 -- the answer of a wait that has ended
 abbrev pub bit_end_in : WaitBit → BitOutcome → Result (Unit {0}) BitEnd

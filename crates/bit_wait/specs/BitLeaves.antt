@@ -2,31 +2,23 @@
 -- A wait until a bit is clear that its task leaves: its exits, and what it says.
 use Rattle.std.specs.Prelude.{ℕ, ◌≡◌, Bool, true, false, if◌then◌else◌, Option, Some, None, Result, Ok, Err}
 use Rattle.wait_model.specs.declared.points.BitPoint.TheVariants as biting
-use Rattle.wait_model.specs.declared.points.Point.{Point}
+use Rattle.wait_model.specs.{declared.points.Point.Point, declared.tasks.SleepState.SleepState, Words.bit_at}
 use Rattle.wait_model.specs.declared.points.Point.TheVariants as at
-use Rattle.wait_model.specs.declared.tasks.SleepState.{SleepState}
-use Rattle.wait_model.specs.Words.{bit_at}
 use Rattle.wait_rule.specs.Known.{Known}
-use Rattle.wait_class.specs.declared.frame_stages.Framed.{Framed}
-use Rattle.wait_class.specs.declared.frame_stages.Stage.{Stage}
+use Rattle.wait_class.specs.{declared.frame_stages.Framed.Framed, declared.frame_stages.Stage.Stage}
+use Rattle.wait_class.specs.{declared.stages.Run.Run, Wholes.HasRested}
 use Rattle.wait_class.specs.declared.frame_stages.Stage.TheVariants as stage
-use Rattle.wait_class.specs.declared.stages.Run.{Run}
 use Rattle.wait_class.specs.declared.stages.Turn.TheVariants as turn
-use Rattle.wait_class.specs.Wholes.{HasRested}
-use Rattle.wait_leave.specs.declared.exits.Exit.{Exit}
-use Rattle.wait_leave.specs.declared.exits.Until.{Until}
+use Rattle.wait_leave.specs.{declared.exits.Exit.Exit, declared.exits.Until.Until, Leaves.Exits, OnTheWay.IsAwakeSince}
+use Rattle.wait_leave.specs.OnTheWay.{OnTheWay}
 use Rattle.wait_leave.specs.declared.exits.Until.TheVariants as until
-use Rattle.wait_leave.specs.Leaves.{Exits}
-use Rattle.wait_leave.specs.OnTheWay.{IsAwakeSince, OnTheWay}
+use Rattle.bit_wait.specs.{LockLeaves.IsAskedFor, declared.wait_calls.BitEnd.BitEnd}
+use Rattle.bit_wait.specs.{declared.waits.BitOutcome.BitOutcome, declared.waits.BitTest.BitTest}
+use Rattle.bit_wait.specs.declared.waits.WaitBit.{WaitBit}
 use Rattle.bit_wait.specs.BitEnds.{HasLoadedBit, IsBitCause, bit_end_in}
 use Rattle.bit_wait.specs.BitTables.{IsFreshBitWait, bit_table, is_bit_worn}
-use Rattle.bit_wait.specs.LockLeaves.{IsAskedFor}
-use Rattle.bit_wait.specs.declared.wait_calls.BitEnd.{BitEnd}
-use Rattle.bit_wait.specs.declared.waits.BitOutcome.{BitOutcome}
 use Rattle.bit_wait.specs.declared.waits.BitOutcome.TheVariants as outcome
-use Rattle.bit_wait.specs.declared.waits.BitTest.{BitTest}
 use Rattle.bit_wait.specs.declared.waits.BitTest.TheVariants as test
-use Rattle.bit_wait.specs.declared.waits.WaitBit.{WaitBit}
 
 -- It goes out by the load that comes behind a signal, and from there by its finish, whatever the load finds: from its
 -- tests, its sleep and its look, and from where it would draw a ticket to prepare. One that has drawn one prepares first.

@@ -1,42 +1,30 @@
 -- To be believed.
 -- A wait until a bit is clear: its tests, where it goes on behind each, and what its places say of its last steps.
 use Rattle.std.specs.Prelude.{ℕ, ◌≡◌, ◌<◌, ◌&&◌, not, Bool, true, false, if◌then◌else◌, None, List, [], ◌∷◌}
-use Rattle.wait_model.specs.declared.layout.TheConstants.{BIT_WORDS, WORD_BITS}
-use Rattle.wait_model.specs.declared.calls.Answer.{Answer}
+use Rattle.wait_model.specs.{declared.layout.TheConstants.BIT_WORDS, declared.layout.TheConstants.WORD_BITS}
+use Rattle.wait_model.specs.{declared.calls.Answer.Answer, declared.calls.Call.Call, declared.points.Point.Point}
+use Rattle.wait_model.specs.{declared.steps.Step.Step, declared.tasks.SleepState.SleepState}
+use Rattle.wait_model.specs.{declared.watches.Watch.Watch, Programs.interrupted, Programs.zero_answer}
+use Rattle.wait_model.specs.{PointFacts.absent, Tasks.looks_in, Tasks.state_mask, Watches.head_of, Words.bit_at}
 use Rattle.wait_model.specs.declared.calls.Answer.TheVariants as answer
-use Rattle.wait_model.specs.declared.calls.Call.{Call}
 use Rattle.wait_model.specs.declared.calls.Call.TheVariants as calls
 use Rattle.wait_model.specs.declared.points.BitPoint.TheVariants as biting
-use Rattle.wait_model.specs.declared.points.Point.{Point}
 use Rattle.wait_model.specs.declared.points.Point.TheVariants as at
-use Rattle.wait_model.specs.declared.steps.Step.{Step}
 use Rattle.wait_model.specs.declared.steps.Step.TheVariants as step
-use Rattle.wait_model.specs.declared.tasks.SleepState.{SleepState}
-use Rattle.wait_model.specs.declared.watches.Watch.{Watch}
 use Rattle.wait_model.specs.declared.watches.Watch.TheVariants as watch
-use Rattle.wait_model.specs.Programs.{interrupted, zero_answer}
-use Rattle.wait_model.specs.PointFacts.{absent}
-use Rattle.wait_model.specs.Tasks.{looks_in, state_mask}
-use Rattle.wait_model.specs.Watches.{head_of}
-use Rattle.wait_model.specs.Words.{bit_at}
-use Rattle.wait_rule.specs.Known.{Known}
-use Rattle.wait_rule.specs.Tickets.{no_ticket}
-use Rattle.wait_class.specs.Posts.{Post}
-use Rattle.wait_class.specs.Posts.{EndsWith, FoundWorn}
-use Rattle.wait_class.specs.declared.frame_stages.Framed.{Framed}
-use Rattle.wait_class.specs.declared.frame_stages.Stage.{Stage}
-use Rattle.wait_class.specs.declared.frame_stages.Stage.TheVariants as stage
-use Rattle.wait_class.specs.declared.stages.Turn.{Turn}
-use Rattle.wait_class.specs.declared.stages.Turn.TheVariants as turn
+use Rattle.wait_rule.specs.{Known.Known, Tickets.no_ticket}
+use Rattle.wait_class.specs.{declared.frame_stages.Framed.Framed, declared.frame_stages.Stage.Stage}
+use Rattle.wait_class.specs.{declared.stages.Turn.Turn, Tables.CallTable, Tables.call_plan}
+use Rattle.wait_class.specs.Posts.{Post, EndsWith, FoundWorn}
 use Rattle.wait_class.specs.Frames.{FrameTable, KeepsAll, framed}
-use Rattle.wait_class.specs.Tables.{CallTable, call_plan}
+use Rattle.wait_class.specs.declared.frame_stages.Stage.TheVariants as stage
+use Rattle.wait_class.specs.declared.stages.Turn.TheVariants as turn
+use Rattle.bit_wait.specs.{declared.waits.BitOutcome.BitOutcome, declared.waits.BitTest.BitTest}
+use Rattle.bit_wait.specs.declared.waits.WaitBit.{WaitBit}
 use Rattle.bit_wait.specs.BitEnds.{FoundNoPlaceForBit, HasLoadedBit, WasBitInterrupted}
 use Rattle.wait_leave.specs.Leaves.{with_asked}
-use Rattle.bit_wait.specs.declared.waits.BitOutcome.{BitOutcome}
 use Rattle.bit_wait.specs.declared.waits.BitOutcome.TheVariants as outcome
-use Rattle.bit_wait.specs.declared.waits.BitTest.{BitTest}
 use Rattle.bit_wait.specs.declared.waits.BitTest.TheVariants as test
-use Rattle.bit_wait.specs.declared.waits.WaitBit.{WaitBit}
 
 abbrev pub wait_bit_in : WaitBit → Watch
 wait_bit_in r = watch.Bit r.word r.bit

@@ -2,28 +2,21 @@
 -- A wait to take a bit that its task leaves: its exits, and what it says.
 use Rattle.std.specs.Prelude.{ℕ, ◌≡◌, Bool, true, false, Option, Some, None, Result}
 use Rattle.wait_model.specs.declared.points.BitPoint.TheVariants as biting
-use Rattle.wait_model.specs.declared.points.Point.{Point}
+use Rattle.wait_model.specs.{declared.points.Point.Point, declared.tasks.SleepState.SleepState}
 use Rattle.wait_model.specs.declared.points.Point.TheVariants as at
-use Rattle.wait_model.specs.declared.tasks.SleepState.{SleepState}
 use Rattle.wait_rule.specs.Known.{Known}
-use Rattle.wait_class.specs.declared.frame_stages.Framed.{Framed}
-use Rattle.wait_class.specs.declared.frame_stages.Stage.{Stage}
+use Rattle.wait_class.specs.{declared.frame_stages.Framed.Framed, declared.frame_stages.Stage.Stage}
+use Rattle.wait_class.specs.{declared.stages.Run.Run, Wholes.HasRested}
 use Rattle.wait_class.specs.declared.frame_stages.Stage.TheVariants as stage
-use Rattle.wait_class.specs.declared.stages.Run.{Run}
 use Rattle.wait_class.specs.declared.stages.Turn.TheVariants as turn
-use Rattle.wait_class.specs.Wholes.{HasRested}
-use Rattle.wait_leave.specs.declared.exits.Exit.{Exit}
-use Rattle.wait_leave.specs.declared.exits.Until.{Until}
+use Rattle.wait_leave.specs.{declared.exits.Exit.Exit, declared.exits.Until.Until, Leaves.Exits, OnTheWay.IsAwakeSince}
+use Rattle.wait_leave.specs.OnTheWay.{OnTheWay}
 use Rattle.wait_leave.specs.declared.exits.Until.TheVariants as until
-use Rattle.wait_leave.specs.Leaves.{Exits}
-use Rattle.wait_leave.specs.OnTheWay.{IsAwakeSince, OnTheWay}
-use Rattle.bit_wait.specs.LockEnds.{IsLockCause, WasLeft, lock_end_in, has_taken_lock}
-use Rattle.bit_wait.specs.LockTables.{IsFreshLock, lock_table}
-use Rattle.bit_wait.specs.declared.wait_calls.BitEnd.{BitEnd}
-use Rattle.bit_wait.specs.declared.lock_runs.LockBit.{LockBit}
-use Rattle.bit_wait.specs.declared.lock_runs.LockOutcome.{LockOutcome}
-use Rattle.bit_wait.specs.declared.lock_runs.LockOutcome.TheVariants as outcome
+use Rattle.bit_wait.specs.{LockTables.IsFreshLock, LockTables.lock_table, declared.wait_calls.BitEnd.BitEnd}
+use Rattle.bit_wait.specs.{declared.lock_runs.LockBit.LockBit, declared.lock_runs.LockOutcome.LockOutcome}
 use Rattle.bit_wait.specs.declared.lock_runs.LockTest.{LockTest}
+use Rattle.bit_wait.specs.LockEnds.{IsLockCause, WasLeft, lock_end_in, has_taken_lock}
+use Rattle.bit_wait.specs.declared.lock_runs.LockOutcome.TheVariants as outcome
 use Rattle.bit_wait.specs.declared.lock_runs.LockTest.TheVariants as test
 
 -- It goes out by its finish, as one that found a signal does: from its tests, its sleep and its look, and from where it

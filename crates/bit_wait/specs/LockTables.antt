@@ -1,45 +1,30 @@
 -- To be believed.
 -- A wait to take a bit: its tests, where it goes on behind each, and what its places say of its last steps.
 use Rattle.std.specs.Prelude.{ℕ, ◌≡◌, ◌<◌, not, Bool, true, false, if◌then◌else◌, None, List, [], ◌∷◌, ◌++◌}
-use Rattle.wait_model.specs.declared.layout.TheConstants.{BIT_WORDS, WORD_BITS}
-use Rattle.wait_model.specs.declared.calls.Answer.{Answer}
+use Rattle.wait_model.specs.{declared.layout.TheConstants.BIT_WORDS, declared.layout.TheConstants.WORD_BITS}
+use Rattle.wait_model.specs.{declared.calls.Answer.Answer, declared.calls.Call.Call, declared.points.Point.Point}
+use Rattle.wait_model.specs.{declared.steps.Step.Step, declared.tasks.SleepState.SleepState}
+use Rattle.wait_model.specs.{declared.watches.Watch.Watch, Programs.interrupted, Programs.zero_answer}
+use Rattle.wait_model.specs.{PointFacts.absent, Watches.head_of, Words.bit_at}
+use Rattle.wait_model.specs.Tasks.{looks_in, pending, state_mask, task_of}
 use Rattle.wait_model.specs.declared.calls.Answer.TheVariants as answer
-use Rattle.wait_model.specs.declared.calls.Call.{Call}
 use Rattle.wait_model.specs.declared.calls.Call.TheVariants as calls
 use Rattle.wait_model.specs.declared.points.BitPoint.TheVariants as biting
-use Rattle.wait_model.specs.declared.points.Point.{Point}
 use Rattle.wait_model.specs.declared.points.Point.TheVariants as at
-use Rattle.wait_model.specs.declared.steps.Step.{Step}
 use Rattle.wait_model.specs.declared.steps.Step.TheVariants as step
-use Rattle.wait_model.specs.declared.tasks.SleepState.{SleepState}
-use Rattle.wait_model.specs.declared.watches.Watch.{Watch}
 use Rattle.wait_model.specs.declared.watches.Watch.TheVariants as watch
-use Rattle.wait_model.specs.Programs.{interrupted, zero_answer}
-use Rattle.wait_model.specs.PointFacts.{absent}
-use Rattle.wait_model.specs.Tasks.{looks_in, pending, state_mask, task_of}
-use Rattle.wait_model.specs.Watches.{head_of}
-use Rattle.wait_model.specs.Words.{bit_at}
-use Rattle.wait_rule.specs.Bits.{KeepsBitOf}
-use Rattle.wait_rule.specs.Known.{Known}
-use Rattle.wait_rule.specs.Says.{history_of, told_of}
-use Rattle.wait_rule.specs.Tickets.{no_ticket}
-use Rattle.wait_class.specs.Posts.{Post}
-use Rattle.wait_class.specs.Posts.{EndsWith, FoundWorn}
-use Rattle.wait_class.specs.declared.frame_stages.Framed.{Framed}
-use Rattle.wait_class.specs.declared.frame_stages.Stage.{Stage}
+use Rattle.wait_rule.specs.{Bits.KeepsBitOf, Known.Known, Says.history_of, Says.told_of, Tickets.no_ticket}
+use Rattle.wait_class.specs.{declared.frame_stages.Framed.Framed, declared.frame_stages.Stage.Stage}
+use Rattle.wait_class.specs.{declared.stages.Turn.Turn, Frames.FrameTable, Frames.framed}
+use Rattle.wait_class.specs.Posts.{Post, EndsWith, FoundWorn}
+use Rattle.wait_class.specs.Tables.{has_sleep, CallTable, call_plan}
 use Rattle.wait_class.specs.declared.frame_stages.Stage.TheVariants as stage
-use Rattle.wait_class.specs.declared.stages.Turn.{Turn}
 use Rattle.wait_class.specs.declared.stages.Turn.TheVariants as turn
-use Rattle.wait_class.specs.Frames.{FrameTable, framed}
-use Rattle.wait_class.specs.Tables.{has_sleep}
-use Rattle.wait_class.specs.Tables.{CallTable, call_plan}
+use Rattle.bit_wait.specs.{LockStays.LockKeeps, declared.lock_runs.LockBit.LockBit}
+use Rattle.bit_wait.specs.{declared.lock_runs.LockOutcome.LockOutcome, declared.lock_runs.LockTest.LockTest}
 use Rattle.bit_wait.specs.LockEnds.{ComesBehindWorn, FoundNoPlaceForLock, WasLockInterrupted, WasLeft, lock_end_in}
 use Rattle.wait_leave.specs.Leaves.{with_asked}
-use Rattle.bit_wait.specs.LockStays.{LockKeeps}
-use Rattle.bit_wait.specs.declared.lock_runs.LockBit.{LockBit}
-use Rattle.bit_wait.specs.declared.lock_runs.LockOutcome.{LockOutcome}
 use Rattle.bit_wait.specs.declared.lock_runs.LockOutcome.TheVariants as outcome
-use Rattle.bit_wait.specs.declared.lock_runs.LockTest.{LockTest}
 use Rattle.bit_wait.specs.declared.lock_runs.LockTest.TheVariants as test
 
 abbrev pub lock_bit_in : LockBit → Watch

@@ -3,20 +3,14 @@
 ghost use Rattle.std.specs.Prelude.{◌≡◌, ◌<◌, MatchBool, false};
 ghost use Rattle.wait_model.specs.declared.layout.TheConstants.{BIT_WORDS, WORD_BITS};
 ghost use Rattle.wait_model.specs.declared.watches.Watch.TheVariants as watch;
-ghost use Rattle.wait_rule.specs.Queues.{IsIdle, IsTold};
-ghost use Rattle.wait_rule.specs.PassedLocks.{PassesNone};
-ghost use Rattle.wait_rule.specs.Says.{IsClean, IsUp};
-ghost use Rattle.wait_class.specs.Posts.{IsOut};
+ghost use Rattle.wait_rule.specs.{Queues.IsIdle, Queues.IsTold, PassedLocks.PassesNone, Says.IsClean, Says.IsUp};
+ghost use Rattle.wait_class.specs.{Posts.IsOut, Handing.LastGiven, UnderWay.Came, UnderWay.IsUnderWay};
+ghost use Rattle.wait_class.specs.Tables.{Advances, IsAsleepAt, IsAt, IsStop, Turned};
 ghost use Rattle.wait_class.specs.declared.frame_stages.Stage.TheVariants as stage;
 ghost use Rattle.wait_class.specs.declared.stages.Turn.TheVariants as turn;
-ghost use Rattle.wait_class.specs.Handing.{LastGiven};
-ghost use Rattle.wait_class.specs.Tables.{Advances, IsAsleepAt, IsAt, IsStop, Turned};
-ghost use Rattle.wait_class.specs.UnderWay.{Came, IsUnderWay};
 ghost use Rattle.bit_wait.specs.declared.lock_runs.LockTest.TheVariants as test;
-ghost use Rattle.bit_wait.specs.LockTables.{IsFreshLock, lock_table};
+ghost use Rattle.bit_wait.specs.{LockTables.IsFreshLock, LockTables.lock_table, LockStays.TakesBit, Holders.IsHolder};
 ghost use Rattle.bit_wait.specs.LockEnds.{EndsBitLock, lock_end_in, has_taken_lock};
-ghost use Rattle.bit_wait.specs.LockStays.{TakesBit};
-ghost use Rattle.bit_wait.specs.Holders.{IsHolder};
 
 use crate::lock_waits::{LockBit, LockOutcome, LockRun, LockTest};
 use crate::wait_calls::BitEnd;

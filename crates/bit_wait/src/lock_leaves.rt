@@ -5,14 +5,12 @@ ghost use Rattle.wait_model.specs.declared.layout.TheConstants.{BIT_WORDS, WORD_
 ghost use Rattle.wait_model.specs.declared.watches.Watch.TheVariants as watch;
 ghost use Rattle.wait_rule.specs.Queues.{IsIdle, index};
 ghost use Rattle.wait_rule.specs.Says.{IsClean, IsUp, told_of};
-ghost use Rattle.wait_class.specs.Posts.{IsOut};
-ghost use Rattle.wait_class.specs.Tables.{IsAt, SleepsNot};
+ghost use Rattle.wait_class.specs.{Posts.IsOut, Tables.IsAt, Tables.SleepsNot};
 ghost use Rattle.wait_class.specs.declared.stages.Turn.TheVariants as turn;
 ghost use Rattle.wait_leave.specs.OnTheWay.{IsOnWay, OnTheWay};
-ghost use Rattle.bit_wait.specs.Holders.{IsHolder};
+ghost use Rattle.bit_wait.specs.{Holders.IsHolder, LockStays.LockKeeps, LockStays.TakesBit, LockTables.lock_bit_in};
+ghost use Rattle.bit_wait.specs.LockTables.{lock_table};
 ghost use Rattle.bit_wait.specs.LockLeaves.{EndsBitLockUntil, LeavesBitLock, lock_exits, takes_until, until_in};
-ghost use Rattle.bit_wait.specs.LockStays.{LockKeeps, TakesBit};
-ghost use Rattle.bit_wait.specs.LockTables.{lock_bit_in, lock_table};
 
 use crate::lock_calls::{begin_lock, end_of};
 use crate::lock_waits::{LockBit, LockOutcome, LockRun, LockStage, LockTest};

@@ -5,10 +5,9 @@ ghost use Rattle.wait_model.specs.declared.watches.Watch.TheVariants as watch;
 ghost use Rattle.bit_wait.specs.LockTables.{finished_to, stands_worn, lock_loaded_to, lock_looked_to, lock_slept_to, tried_to};
 ghost use Rattle.wait_rule.specs.Says.{IsUp};
 ghost use Rattle.wait_model.specs.declared.layout.TheConstants.{HEADS};
-ghost use Rattle.wait_class.specs.Handing.{LastGiven};
-ghost use Rattle.wait_class.specs.declared.frame_stages.Stage.TheVariants as stage;
-ghost use Rattle.wait_class.specs.Laws.{AddsOwn, MayAdd};
+ghost use Rattle.wait_class.specs.{Handing.LastGiven, Laws.AddsOwn, Laws.MayAdd};
 ghost use Rattle.wait_class.specs.Tables.{IsAt, SleepsNot, Turned, falls};
+ghost use Rattle.wait_class.specs.declared.frame_stages.Stage.TheVariants as stage;
 ghost use Rattle.bit_wait.specs.LockTables.{lock_frame, lock_table};
 
 pub use crate::lock_runs::{LockBit, LockOutcome, LockTest};

@@ -2,16 +2,12 @@
 
 ghost use Rattle.std.specs.Prelude.{◌≡◌, ◌<◌, MatchBool};
 ghost use Rattle.wait_model.specs.declared.layout.TheConstants.{BIT_WORDS, WORD_BITS};
+ghost use Rattle.wait_rule.specs.{PassedLocks.PassesNone, Says.IsClean, Says.IsUp, Stays.Carries};
 ghost use Rattle.wait_rule.specs.Queues.{IsIdle, IsTold, index};
-ghost use Rattle.wait_rule.specs.PassedLocks.{PassesNone};
-ghost use Rattle.wait_rule.specs.Says.{IsClean, IsUp};
-ghost use Rattle.wait_rule.specs.Stays.{Carries};
-ghost use Rattle.wait_class.specs.Posts.{IsOut};
+ghost use Rattle.wait_class.specs.{Posts.IsOut, Handing.LastGiven, UnderWay.Came, UnderWay.IsUnderWay};
+ghost use Rattle.wait_class.specs.Tables.{Advances, IsAsleepAt, IsAt, IsStop, Turned};
 ghost use Rattle.wait_class.specs.declared.frame_stages.Stage.TheVariants as stage;
 ghost use Rattle.wait_class.specs.declared.stages.Turn.TheVariants as turn;
-ghost use Rattle.wait_class.specs.Handing.{LastGiven};
-ghost use Rattle.wait_class.specs.Tables.{Advances, IsAsleepAt, IsAt, IsStop, Turned};
-ghost use Rattle.wait_class.specs.UnderWay.{Came, IsUnderWay};
 ghost use Rattle.bit_wait.specs.declared.waits.BitTest.TheVariants as test;
 ghost use Rattle.bit_wait.specs.BitTables.{IsFreshBitWait, bit_table, is_bit_worn};
 ghost use Rattle.bit_wait.specs.BitEnds.{EndsBitWait, bit_end_in};

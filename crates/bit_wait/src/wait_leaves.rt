@@ -2,11 +2,9 @@
 
 ghost use Rattle.std.specs.Prelude.{◌≡◌, ◌<◌, None, true};
 ghost use Rattle.wait_model.specs.declared.layout.TheConstants.{BIT_WORDS, WORD_BITS};
-ghost use Rattle.wait_rule.specs.Queues.{IsIdle, index};
+ghost use Rattle.wait_rule.specs.{Queues.IsIdle, Queues.index, Stays.Carries};
 ghost use Rattle.wait_rule.specs.Says.{IsClean, IsUp, told_of};
-ghost use Rattle.wait_rule.specs.Stays.{Carries};
-ghost use Rattle.wait_class.specs.Posts.{IsOut, Keeps};
-ghost use Rattle.wait_class.specs.Tables.{IsAt, SleepsNot};
+ghost use Rattle.wait_class.specs.{Posts.IsOut, Posts.Keeps, Tables.IsAt, Tables.SleepsNot};
 ghost use Rattle.wait_class.specs.declared.stages.Turn.TheVariants as turn;
 ghost use Rattle.wait_event.specs.Ends.{wait_change};
 ghost use Rattle.wait_leave.specs.OnTheWay.{IsOnWay, OnTheWay};

@@ -3,40 +3,30 @@ use Rattle.std.proofs.Common.{◌∙◌, ap, sym, refl, subst, arith, append_ass
 use Rattle.std.specs.Prelude.{ℕ, ◌≡◌, ◌≤◌, ◌-◌, ◌||◌, ◌==◌, not, nat_lt, if◌then◌else◌, Bool, true, false, Some, None}
 use Rattle.std.specs.Prelude.{List, [], ◌∷◌, ◌++◌, MatchBool}
 use Rattle.std.proofs.lemmas.Bool.Decides.{nat_tests}
-use Rattle.wait_model.specs.declared.layout.TheConstants.{ALL_DONE}
+use Rattle.wait_model.specs.{declared.layout.TheConstants.ALL_DONE, declared.points.CountPoint.CountPoint}
+use Rattle.wait_model.specs.{declared.steps.Step.Step, Counts.taken_done, Runs.is_publishing, Runs.set_step}
+use Rattle.wait_model.specs.Watches.{head_of}
+use Rattle.wait_model.specs.Programs.{count_after, done_in, ends_with, go, load, zero_answer}
 use Rattle.wait_model.specs.declared.calls.Call.TheVariants as calls
-use Rattle.wait_model.specs.declared.points.CountPoint.{CountPoint}
 use Rattle.wait_model.specs.declared.points.CountPoint.TheVariants as counting
 use Rattle.wait_model.specs.declared.points.Next.TheVariants as next
 use Rattle.wait_model.specs.declared.points.Point.TheVariants as at
-use Rattle.wait_model.specs.declared.steps.Step.{Step}
 use Rattle.wait_model.specs.declared.steps.Step.TheVariants as step
 use Rattle.wait_model.specs.declared.watches.Watch.TheVariants as watch
-use Rattle.wait_model.specs.Counts.{taken_done}
-use Rattle.wait_model.specs.Programs.{count_after, done_in, ends_with, go, load, zero_answer}
-use Rattle.wait_model.specs.Runs.{is_publishing, set_step}
-use Rattle.wait_model.specs.Watches.{head_of}
 use Rattle.wait_model.proofs.SentenceLaws.SentenceAwaits.{shown_count}
-use Rattle.wait_rule.specs.declared.journal.Item.{Item}
-use Rattle.wait_rule.specs.declared.journal.Item.TheVariants as item
-use Rattle.wait_rule.specs.Counts.{FindsCount, StoresCount}
-use Rattle.wait_rule.specs.Items.{steps_of}
-use Rattle.wait_rule.specs.Known.{Known}
-use Rattle.wait_rule.specs.Queues.{IsTold, walk_of_hold}
+use Rattle.wait_rule.specs.{declared.journal.Item.Item, Counts.FindsCount, Counts.StoresCount, Items.steps_of}
+use Rattle.wait_rule.specs.{Known.Known, Queues.IsTold, Queues.walk_of_hold, Transitions.call_program}
 use Rattle.wait_rule.specs.Says.{IsFree, added, history_of, told_of, unlocked_with}
 use Rattle.wait_rule.specs.Stays.{Carries, lock_change, unchanged, unlock_change, no_entries}
-use Rattle.wait_rule.specs.Transitions.{call_program}
-use Rattle.wait_rule.proofs.KnownLaws.CarriedTasks.{unchanged_none, unchanged_on}
-use Rattle.wait_rule.proofs.KnownLaws.TaskHistories.{history_after}
-use Rattle.wait_rule.proofs.KnownLaws.Transitions.{only_none}
+use Rattle.wait_rule.specs.declared.journal.Item.TheVariants as item
+use Rattle.wait_rule.proofs.{KnownLaws.CarriedTasks.unchanged_none, KnownLaws.CarriedTasks.unchanged_on}
+use Rattle.wait_rule.proofs.{KnownLaws.TaskHistories.history_after, KnownLaws.Transitions.only_none}
 use Rattle.wait_rule.proofs.TableSteps.ItemLists.{steps_append}
 use Rattle.wq_head.specs.Holds.{HasLocked, HasUnlocked}
 use Rattle.wait_event.specs.Entries.{hold_change}
-use Rattle.wait_class.specs.Posts.{Runs}
-use Rattle.wait_class.specs.Findings.{with_value}
+use Rattle.wait_class.specs.{Posts.Runs, Findings.with_value}
 use Rattle.wait_event.proofs.Entering.{hold_carried, looked_carried}
-use Rattle.wait_class.proofs.Ground.Going.{runs_none, runs_on}
-use Rattle.wait_class.proofs.Histories.{unlocked_history}
+use Rattle.wait_class.proofs.{Ground.Going.runs_none, Ground.Going.runs_on, Histories.unlocked_history}
 use Rattle.completion_cell.specs.Asks.{HasCountedDone, Decides, HasAsked, HasReset, HasTriedCell, TakesOne, hit_answer}
 use Rattle.completion_cell.proofs.Ground.{as_looks, count_loads, count_locks, count_peeks, loaded_count}
 use Rattle.completion_cell.proofs.Ground.{count_unlocks, quiet_store}

@@ -2,39 +2,25 @@
 -- queues it there.
 use Rattle.std.proofs.Common.{◌∙◌, ap, sym, refl, subst, inr}
 use Rattle.std.specs.Prelude.{ℕ, ◌≡◌, true, false, Option, Some, None, Result, Ok, Err, IfOk, IfErr}
-use Rattle.wait_model.specs.declared.queues.Form.{Form}
+use Rattle.wait_model.specs.{declared.queues.Form.Form, declared.watches.Entry.Entry, declared.watches.Watch.Watch}
+use Rattle.wait_model.specs.{PointFacts.IsHome, PointFacts.waits, Queues.place_for, Runs.entry_for, Watches.head_of}
 use Rattle.wait_model.specs.declared.queues.Form.TheVariants as forms
 use Rattle.wait_model.specs.declared.steps.Step.TheVariants as step
-use Rattle.wait_model.specs.declared.watches.Entry.{Entry}
 use Rattle.wait_model.specs.declared.watches.Kind.TheVariants as kind
-use Rattle.wait_model.specs.declared.watches.Watch.{Watch}
 use Rattle.wait_model.specs.declared.watches.Watch.TheVariants as watch
-use Rattle.wait_model.specs.PointFacts.{IsHome, waits}
-use Rattle.wait_model.specs.Queues.{place_for}
-use Rattle.wait_model.specs.Runs.{entry_for}
-use Rattle.wait_model.specs.Watches.{head_of}
 use Rattle.wait_rule.specs.declared.journal.Item.TheVariants as item
-use Rattle.wait_rule.specs.Ends.{WasWorn}
-use Rattle.wait_rule.specs.HandedPermits.{FoundNoPermit}
-use Rattle.wait_rule.specs.HeldValues.{count_in}
-use Rattle.wait_rule.specs.Known.{Known}
-use Rattle.wait_rule.specs.Queues.{index, saw}
-use Rattle.wait_rule.specs.Says.{added, history_of}
-use Rattle.wait_rule.specs.Shown.{shown_queue}
+use Rattle.wait_rule.specs.{Ends.WasWorn, HandedPermits.FoundNoPermit, HeldValues.count_in, Known.Known, Queues.index}
+use Rattle.wait_rule.specs.{Queues.saw, Says.added, Says.history_of, Shown.shown_queue, Transitions.is_worn}
 use Rattle.wait_rule.specs.Stays.{Carries, queue_cell_change, with_entry, with_left_entry}
-use Rattle.wait_rule.specs.Transitions.{is_worn}
-use Rattle.wait_rule.proofs.KnownLaws.HandedPermits.{cell_is}
-use Rattle.wait_rule.proofs.KnownLaws.TaskHistories.{history_after}
+use Rattle.wait_rule.proofs.{KnownLaws.HandedPermits.cell_is, KnownLaws.TaskHistories.history_after}
+use Rattle.wq_head.specs.{Holds.IsHolding, declared.adds.Worn.Worn}
 use Rattle.wq_head.specs.Adds.{HasAddedForCell, IsTailWorn, tail_entry}
-use Rattle.wq_head.specs.Holds.{IsHolding}
-use Rattle.wq_head.specs.declared.adds.Worn.{Worn}
 use Rattle.wait_class.specs.Laws.{AddsOwn, HasJoined, IsWornFor, MayAdd}
 use Rattle.wait_class.specs.Tables.{CallTable, stage_watch, watch_in}
 use Rattle.wait_class.specs.Posts.{HasSeenOwn, KeepsBut, own_of}
 use Rattle.wait_class.proofs.FormPlaces.{form_is, form_left, form_worn}
 use Rattle.wait_class.proofs.Ground.Keeping.{keeps_of, once}
-use Rattle.completion_cell.specs.Awaits.{await_table}
-use Rattle.completion_cell.specs.declared.awaits.AwaitCall.{AwaitCall}
+use Rattle.completion_cell.specs.{Awaits.await_table, declared.awaits.AwaitCall.AwaitCall}
 use Rattle.completion_cell.specs.declared.awaits.AwaitStage.TheVariants as stage
 use Rattle.completion_cell.proofs.Ground.{count_after_step}
 

@@ -2,49 +2,36 @@
 use Rattle.std.proofs.Common.{◌∙◌, ap, sym, refl, subst, arith}
 use Rattle.std.proofs.lemmas.Bool.Decides.{nat_tests}
 use Rattle.std.specs.Prelude.{ℕ, ◌≡◌, ◌≢◌, ◌<◌, ◌==◌, Bool, true, false, if◌then◌else◌, Option, Some, None, [], ◌∷◌, ◌++◌}
-use Rattle.wait_model.specs.declared.layout.TheConstants.{COMPLETIONS}
+use Rattle.wait_model.specs.{declared.layout.TheConstants.COMPLETIONS, declared.points.Next.Next}
+use Rattle.wait_model.specs.{declared.steps.Step.Step, declared.watches.Entry.Entry, PointFacts.IsHome}
+use Rattle.wait_model.specs.{PointFacts.waits, Tasks.looks_in}
 use Rattle.wait_model.specs.declared.points.AwaitPoint.TheVariants as awaiting
-use Rattle.wait_model.specs.declared.points.Next.{Next}
 use Rattle.wait_model.specs.declared.points.Next.TheVariants as next
 use Rattle.wait_model.specs.declared.points.Point.TheVariants as at
 use Rattle.wait_model.specs.declared.points.PreparePoint.TheVariants as preparing
-use Rattle.wait_model.specs.declared.steps.Step.{Step}
 use Rattle.wait_model.specs.declared.steps.Step.TheVariants as step
-use Rattle.wait_model.specs.declared.watches.Entry.{Entry}
 use Rattle.wait_model.specs.declared.watches.Watch.TheVariants as watch
-use Rattle.wait_model.specs.PointFacts.{IsHome, waits}
-use Rattle.wait_model.specs.Tasks.{looks_in}
 use Rattle.wait_rule.specs.declared.journal.Item.TheVariants as item
-use Rattle.wait_rule.specs.Counts.{FindsCount}
-use Rattle.wait_rule.specs.Known.{Known}
+use Rattle.wait_rule.specs.{Counts.FindsCount, Known.Known, Queues.IsAgreedHold, Items.Book}
 use Rattle.wait_rule.specs.Says.{Excuse, IsUp, added, history_of}
-use Rattle.wait_rule.specs.Queues.{IsAgreedHold}
 use Rattle.wait_rule.specs.Stays.{Carries, unchanged, with_entry}
 use Rattle.wait_rule.specs.Transitions.{OnlyLooks, Transition, by_step}
-use Rattle.wait_rule.specs.Items.{Book}
 use Rattle.wait_event.specs.Waits.{is_queue}
-use Rattle.wait_rule.proofs.KnownLaws.TaskHistories.{history_after}
-use Rattle.wait_rule.proofs.KnownLaws.Transitions.{only_none}
-use Rattle.wait_class.specs.Findings.{with_value}
+use Rattle.wait_rule.proofs.{KnownLaws.TaskHistories.history_after, KnownLaws.Transitions.only_none}
+use Rattle.wait_class.specs.{Findings.with_value, declared.stages.Run.Run}
 use Rattle.wait_class.specs.Posts.{HasSeenOwn, IsStateFor, KeepsBut, Post, Stands, own_of}
 use Rattle.wait_class.specs.Tables.{IsAt, Turned, falls, next_in, post_of}
 use Rattle.wait_class.specs.Laws.{IsPlainTurn, TurnTrail, turn_post}
-use Rattle.wait_class.specs.declared.stages.Run.{Run}
-use Rattle.wait_class.proofs.CalmSteps.{calm_saw}
+use Rattle.wait_class.proofs.{CalmSteps.calm_saw, OwnSteps.own_goes, Turns.GoesOn, Turns.advance_by}
 use Rattle.wait_class.proofs.Ground.Keeping.{keeps_none, keeps_of, keeps_on, own_keeps}
 use Rattle.wait_class.proofs.Ground.Standing.{home_waits, seen_book, seen_home, seen_looks, seen_stands, still_stands}
-use Rattle.wait_class.proofs.OwnSteps.{own_goes}
-use Rattle.wait_class.proofs.Turns.{GoesOn, advance_by}
+use Rattle.completion_cell.specs.{HeldPermits.HasBegunHold, HeldPermits.Knows, LoadedCounts.InRange}
+use Rattle.completion_cell.specs.{declared.awaits.AwaitCall.AwaitCall, declared.awaits.AwaitStage.AwaitStage}
 use Rattle.completion_cell.specs.Awaits.{AwaitTurn, CellKeeps, AwaitTells, await_head, await_table, counted_by}
 use Rattle.completion_cell.specs.Awaits.{counted_to}
-use Rattle.completion_cell.specs.HeldPermits.{HasBegunHold, Knows}
-use Rattle.completion_cell.specs.LoadedCounts.{InRange}
-use Rattle.completion_cell.specs.declared.awaits.AwaitCall.{AwaitCall}
-use Rattle.completion_cell.specs.declared.awaits.AwaitStage.{AwaitStage}
 use Rattle.completion_cell.specs.declared.awaits.AwaitStage.TheVariants as stage
-use Rattle.completion_cell.proofs.AwaitLaws.{told_by}
-use Rattle.completion_cell.proofs.AwaitTrails.{again_begun, load_loaded}
-use Rattle.completion_cell.proofs.Ground.{step_behind, loaded_count}
+use Rattle.completion_cell.proofs.{AwaitLaws.told_by, AwaitTrails.again_begun, AwaitTrails.load_loaded}
+use Rattle.completion_cell.proofs.{Ground.step_behind, Ground.loaded_count}
 
 abbrev load_stage : Bool → AwaitStage
 load_stage false = stage.FirstLoad

@@ -7,16 +7,11 @@ use Rattle.wait_model.specs.declared.points.Point.TheVariants as at
 use Rattle.wait_model.specs.declared.points.PreparePoint.TheVariants as preparing
 use Rattle.wait_model.specs.declared.steps.Step.TheVariants as step
 use Rattle.wait_model.specs.declared.watches.Watch.TheVariants as watch
-use Rattle.wait_model.specs.Runs.{own}
-use Rattle.wait_model.specs.Tasks.{state_mask}
-use Rattle.wait_rule.specs.Known.{Known}
-use Rattle.wait_rule.specs.Queues.{index, walk_of_hold}
-use Rattle.wait_rule.specs.Says.{history_of}
-use Rattle.wait_rule.specs.Stays.{with_left_entry}
+use Rattle.wait_model.specs.{Runs.own, Tasks.state_mask}
+use Rattle.wait_rule.specs.{Known.Known, Queues.index, Queues.walk_of_hold, Says.history_of, Stays.with_left_entry}
 use Rattle.wait_rule.specs.Transitions.{OnlyLooks, StepOrLook, Transition}
 use Rattle.wait_rule.proofs.KnownLaws.Transitions.{only_looked}
-use Rattle.wait_class.specs.Posts.{own_of}
-use Rattle.wait_class.specs.Tables.{CallTable}
+use Rattle.wait_class.specs.{Posts.own_of, Tables.CallTable}
 use Rattle.wait_class.specs.Laws.{HasJoined, IsLawfulCallTable, LawOf, LookLaw, QueueLaw}
 use Rattle.wait_class.specs.declared.stages.Turn.TheVariants as turn
 use Rattle.wait_class.proofs.Histories.{ends_calm, stored_history, unmoved_by}
@@ -25,17 +20,14 @@ use Rattle.wait_class.proofs.Stays.{stays_but}
 use Rattle.wait_class.proofs.Ways.{look_by, sleep_by, way}
 use Rattle.wait_event.specs.Waits.{is_queue, has_queued_in}
 use Rattle.wait_event.proofs.Tellings.{or_none, queues_append, quiet_queues}
-use Rattle.completion_cell.specs.Awaits.{AwaitTells, await_head, await_table, await_depth, await_doing}
-use Rattle.completion_cell.specs.HeldPermits.{Knows}
-use Rattle.completion_cell.specs.LoadedCounts.{InRange}
-use Rattle.completion_cell.specs.declared.awaits.AwaitCall.{AwaitCall}
+use Rattle.completion_cell.specs.{HeldPermits.Knows, LoadedCounts.InRange, declared.awaits.AwaitCall.AwaitCall}
 use Rattle.completion_cell.specs.declared.awaits.AwaitStage.{AwaitStage}
+use Rattle.completion_cell.specs.Awaits.{AwaitTells, await_head, await_table, await_depth, await_doing}
 use Rattle.completion_cell.specs.declared.awaits.AwaitStage.TheVariants as stage
+use Rattle.completion_cell.proofs.{RangedLoads.quiet_ranged, RangedLoads.ranged_on, WaitFronts.waits_may_end}
 use Rattle.completion_cell.proofs.AwaitTrails.{first_begun, gives_back, knows_by, knows_look, knows_looks, knows_none}
 use Rattle.completion_cell.proofs.AwaitTrails.{knows_state, knows_stayed, knows_for, leaves_calm, leaves_for, still_by}
 use Rattle.completion_cell.proofs.Ground.{count_after_step, head_there, looked_count}
-use Rattle.completion_cell.proofs.RangedLoads.{quiet_ranged, ranged_on}
-use Rattle.completion_cell.proofs.WaitFronts.{waits_may_end}
 
 -- what the run tells
 pub told_by : (r q : AwaitCall) (x : Transition) → q.cell ≡ r.cell → q.state ≡ r.state → q.queued ≡ r.queued

@@ -4,50 +4,34 @@ use Rattle.std.proofs.lemmas.Bool.Decides.{eqb_tells}
 use Rattle.std.specs.Prelude.{ℕ, ◌≡◌, ◌≢◌, ◌⊎◌, ◌&&◌, ◌==◌, not, Bool, true, false, is_some, None}
 use Rattle.std.specs.Prelude.{Result, [], ◌∷◌}
 use Rattle.wait_model.specs.declared.points.AwaitPoint.TheVariants as awaiting
-use Rattle.wait_model.specs.declared.points.Point.{Point}
+use Rattle.wait_model.specs.{declared.points.Point.Point, declared.points.Seen.Seen}
+use Rattle.wait_model.specs.{declared.tasks.SleepState.SleepState, declared.watches.Watch.Watch, Programs.is_at_end}
 use Rattle.wait_model.specs.declared.points.Point.TheVariants as at
-use Rattle.wait_model.specs.declared.points.Seen.{Seen}
 use Rattle.wait_model.specs.declared.steps.Step.TheVariants as step
-use Rattle.wait_model.specs.declared.tasks.SleepState.{SleepState}
-use Rattle.wait_model.specs.declared.watches.Watch.{Watch}
 use Rattle.wait_model.specs.declared.watches.Watch.TheVariants as watch
-use Rattle.wait_model.specs.Programs.{is_at_end}
-use Rattle.wait_rule.specs.HandedPermits.{StaysOff}
-use Rattle.wait_rule.specs.Known.{Known}
-use Rattle.wait_rule.specs.LeftEntries.{LeftOff}
-use Rattle.wait_rule.specs.Queues.{IsIdle, index}
-use Rattle.wait_rule.specs.Says.{IsClean, IsUp, history_of, told_of}
+use Rattle.wait_rule.specs.{HandedPermits.StaysOff, Known.Known, LeftEntries.LeftOff, Queues.IsIdle, Queues.index}
 use Rattle.wait_rule.specs.Stays.{Carries}
-use Rattle.wait_rule.proofs.KnownLaws.OtherCalls.{Adding}
-use Rattle.wait_rule.proofs.KnownLaws.TaskHistories.{history_after}
-use Rattle.wait_class.specs.Posts.{own_of}
+use Rattle.wait_rule.specs.Says.{IsClean, IsUp, history_of, told_of}
+use Rattle.wait_rule.proofs.{KnownLaws.OtherCalls.Adding, KnownLaws.TaskHistories.history_after}
+use Rattle.wait_class.specs.{Posts.own_of, declared.stages.Run.Run, declared.stages.Turn.Turn, Tables.IsEnded}
+use Rattle.wait_class.specs.{Tables.Plan, Wholes.HasRested}
 use Rattle.wait_class.specs.declared.stages.Doing.TheVariants as doing
-use Rattle.wait_class.specs.declared.stages.Run.{Run}
-use Rattle.wait_class.specs.declared.stages.Turn.{Turn}
 use Rattle.wait_class.specs.declared.stages.Turn.TheVariants as turn
-use Rattle.wait_class.specs.Tables.{IsEnded, Plan}
-use Rattle.wait_class.specs.Wholes.{HasRested}
 use Rattle.wait_class.proofs.Histories.{unmoved_by}
-use Rattle.wait_event.specs.Ends.{wait_change}
+use Rattle.wait_event.specs.{Ends.wait_change, declared.wait_events.WaitEnd.WaitEnd}
 use Rattle.wait_event.proofs.Behind.{StandsOver}
-use Rattle.wait_event.specs.declared.wait_events.WaitEnd.{WaitEnd}
-use Rattle.wait_leave.specs.declared.exits.Until.{Until}
-use Rattle.wait_leave.specs.ExitLaws.{AreLawfulExits, AwakeOn}
-use Rattle.wait_leave.specs.Leaves.{with_asked}
-use Rattle.wait_leave.specs.OnTheWay.{IsOnWay, OnTheWay}
+use Rattle.wait_leave.specs.{declared.exits.Until.Until, ExitLaws.AreLawfulExits, ExitLaws.AwakeOn, Leaves.with_asked}
+use Rattle.wait_leave.specs.{OnTheWay.IsOnWay, OnTheWay.OnTheWay}
 use Rattle.wait_leave.proofs.ExitForms.{AskLaw, LawAt, either_awake, if_asked, lawful_exits, out_at_once, out_rested}
 use Rattle.wait_leave.proofs.Ways.{way_asked, way_keeps, way_lands, way_makes, way_plan}
+use Rattle.completion_cell.specs.{HeldPermits.Knows, declared.awaits.AwaitCall.AwaitCall}
+use Rattle.completion_cell.specs.{declared.awaits.AwaitOutcome.AwaitOutcome, declared.awaits.AwaitStage.AwaitStage}
 use Rattle.completion_cell.specs.AwaitLeaves.{EndsAwaitUntil, IsAwaitLeftFor, IsAwaitUntil, LeavesAwait, await_exit}
 use Rattle.completion_cell.specs.AwaitLeaves.{await_exits, await_stopped, await_until, leave_awake}
 use Rattle.completion_cell.specs.Awaits.{CellKeeps, IsFreshAwait, LeavesFor, AwaitTrailEnd, WhyStopped, await_table}
-use Rattle.completion_cell.specs.HeldPermits.{Knows}
-use Rattle.completion_cell.specs.declared.awaits.AwaitCall.{AwaitCall}
-use Rattle.completion_cell.specs.declared.awaits.AwaitOutcome.{AwaitOutcome}
 use Rattle.completion_cell.specs.declared.awaits.AwaitOutcome.TheVariants as outcome
-use Rattle.completion_cell.specs.declared.awaits.AwaitStage.{AwaitStage}
 use Rattle.completion_cell.specs.declared.awaits.AwaitStage.TheVariants as stage
-use Rattle.completion_cell.proofs.AwaitLaws.{await_lawful}
-use Rattle.completion_cell.proofs.AwaitTrails.{still_by}
+use Rattle.completion_cell.proofs.{AwaitLaws.await_lawful, AwaitTrails.still_by}
 use Rattle.completion_cell.proofs.Endings.{carried_by, clean_by, given_back, over_by}
 use Rattle.completion_cell.proofs.OtherCells.{IsAside, aside_on, aside_stays, given_off, wait_adds}
 

@@ -3,81 +3,61 @@ use Rattle.std.proofs.Common.{◌∙◌, ap, sym, refl, subst, arith, inl}
 use Rattle.std.proofs.lemmas.Bool.Decides.{nat_tests}
 use Rattle.std.specs.Prelude.{ℕ, ◌≡◌, ◌≢◌, ◌<◌, ◌≤◌, ◌+◌, ◌-◌, ◌==◌, ◌||◌, not, if◌then◌else◌, Bool, true, false}
 use Rattle.std.specs.Prelude.{is_some, Option, Some, None, [], ◌∷◌, ◌++◌, MatchBool}
+use Rattle.wait_model.specs.{declared.points.Given.Given, declared.points.Planned.Planned, declared.steps.Step.Step}
+use Rattle.wait_model.specs.{declared.watches.Entry.Entry, declared.watches.Watch.Watch, Counts.taken_done}
+use Rattle.wait_model.specs.{Permits.after_store, Points.call_head, Views.Look, Views.off as gone, Watches.head_of}
+use Rattle.wait_model.specs.Words.{entry_of}
 use Rattle.wait_model.specs.declared.layout.TheConstants.{ALL_DONE, COMPLETIONS, HEADS}
-use Rattle.wait_model.specs.declared.calls.Event.TheVariants as event
-use Rattle.wait_model.specs.declared.points.AwaitPoint.TheVariants as awaiting
-use Rattle.wait_model.specs.declared.points.Given.{Given}
-use Rattle.wait_model.specs.declared.points.Planned.{Planned}
-use Rattle.wait_model.specs.declared.points.Point.TheVariants as at
-use Rattle.wait_model.specs.declared.steps.Step.{Step}
-use Rattle.wait_model.specs.declared.steps.Step.TheVariants as step
-use Rattle.wait_model.specs.declared.watches.Entry.{Entry}
-use Rattle.wait_model.specs.declared.watches.Watch.{Watch}
-use Rattle.wait_model.specs.declared.watches.Watch.TheVariants as watch
-use Rattle.wait_model.specs.Counts.{taken_done}
-use Rattle.wait_model.specs.Permits.{after_store}
 use Rattle.wait_model.specs.PointFacts.{IsHome, absent, waits}
-use Rattle.wait_model.specs.Points.{call_head}
 use Rattle.wait_model.specs.Programs.{done_in, ends_with, go, is_at_end, store, zero_answer}
 use Rattle.wait_model.specs.Runs.{is_publishing, own, set_step}
-use Rattle.wait_model.specs.Views.{Look, off as gone}
-use Rattle.wait_model.specs.Watches.{head_of}
-use Rattle.wait_model.specs.Words.{entry_of}
+use Rattle.wait_model.specs.declared.calls.Event.TheVariants as event
+use Rattle.wait_model.specs.declared.points.AwaitPoint.TheVariants as awaiting
+use Rattle.wait_model.specs.declared.points.Point.TheVariants as at
+use Rattle.wait_model.specs.declared.steps.Step.TheVariants as step
+use Rattle.wait_model.specs.declared.watches.Watch.TheVariants as watch
 use Rattle.wait_model.proofs.SentenceLaws.SentenceAwaits.{shown_count}
 use Rattle.wait_rule.specs.declared.journal.Item.TheVariants as item
-use Rattle.wait_rule.specs.Counts.{StoresCount}
-use Rattle.wait_rule.specs.HandedPermits.{OwesNoPermit}
-use Rattle.wait_rule.specs.Items.{Book}
-use Rattle.wait_rule.specs.Known.{Known}
+use Rattle.wait_rule.specs.{Counts.StoresCount, HandedPermits.OwesNoPermit, Items.Book, Known.Known}
 use Rattle.wait_rule.specs.Queues.{IsAgreed, IsLocked, MayUnqueue, index}
 use Rattle.wait_rule.specs.Says.{IsUp, added, history_of, stored_with, told_of, unlocked_with}
 use Rattle.wait_rule.specs.Stays.{Carries, take_off_change, unchanged}
 use Rattle.wait_rule.specs.Transitions.{FindsValue, IsMadeFor, IsSeenAs, OnlyLooks, Transition, by_step}
-use Rattle.wait_rule.proofs.KnownLaws.MemberBits.{bit_looks}
-use Rattle.wait_rule.proofs.KnownLaws.TaskHistories.{history_after}
-use Rattle.wait_class.specs.Handing.{LastGiven, given_back_by}
-use Rattle.wait_class.proofs.AwakeSteps.{awake_step}
-use Rattle.wait_class.proofs.Handed.{given_as, given_step}
+use Rattle.wait_rule.proofs.{KnownLaws.MemberBits.bit_looks, KnownLaws.TaskHistories.history_after}
 use Rattle.wait_rule.proofs.KnownLaws.Transitions.{only_none}
-use Rattle.wq_head.specs.Adds.{HasRemoved}
-use Rattle.wq_head.specs.Holds.{IsHolding}
-use Rattle.wait_class.specs.Findings.{saw_nothing, with_value}
+use Rattle.wait_class.specs.{Handing.LastGiven, Handing.given_back_by, Findings.saw_nothing, Findings.with_value}
+use Rattle.wait_class.specs.declared.stages.Run.{Run}
 use Rattle.wait_class.specs.Posts.{HasSeenOwn, Post, Stands, own_of}
 use Rattle.wait_class.specs.Tables.{IsAt, SleepsNot, Turned, falls, is_sleep, post_of, run_post}
 use Rattle.wait_class.specs.Laws.{Calm, IsPlainTurn, is_quiet_event, turn_post}
-use Rattle.wait_class.specs.declared.stages.Run.{Run}
-use Rattle.wait_class.specs.declared.stages.Turn.TheVariants as turn
+use Rattle.wait_class.proofs.{AwakeSteps.awake_step, Handed.given_as, Handed.given_step, Histories.unlocked_history}
+use Rattle.wait_class.proofs.{OwnSteps.own_goes, Turns.GoesOn, Turns.advance_by}
 use Rattle.wait_class.proofs.Ground.Keeping.{keeps_none, keeps_on, keeps_taken, own_keeps}
 use Rattle.wait_class.proofs.Ground.Standing.{carried_stands, finds_own, owner_own, seen_book, seen_home, seen_looks}
 use Rattle.wait_class.proofs.Ground.Standing.{seen_off, seen_shows, seen_stands}
 use Rattle.wait_class.proofs.CalmSteps.{calm_on, calm_removed, calm_saw, calm_unlock}
-use Rattle.wait_class.proofs.Histories.{unlocked_history}
 use Rattle.wait_class.proofs.Locks.{back_looks, back_stands, back_up}
-use Rattle.wait_class.proofs.OwnSteps.{own_goes}
-use Rattle.wait_class.proofs.Turns.{GoesOn, advance_by}
+use Rattle.wq_head.specs.{Adds.HasRemoved, Holds.IsHolding}
+use Rattle.wait_class.specs.declared.stages.Turn.TheVariants as turn
 use Rattle.wait_event.specs.Waits.{is_queue}
 use Rattle.wait_event.proofs.Tellings.{quiet_queues}
-use Rattle.completion_cell.specs.Asks.{HasCountedDone, TakesOne}
+use Rattle.completion_cell.specs.{Asks.HasCountedDone, Asks.TakesOne, LoadedCounts.InRange}
+use Rattle.completion_cell.specs.{declared.awaits.AwaitCall.AwaitCall, declared.awaits.AwaitOutcome.AwaitOutcome}
+use Rattle.completion_cell.specs.declared.awaits.AwaitStage.{AwaitStage}
 use Rattle.completion_cell.specs.Awaits.{AwaitTurn, CellKeeps, FoundSome, HasGivenBack, IsUnqueued, ParesAwait}
 use Rattle.completion_cell.specs.Awaits.{QuitsFrom, TakesFrom, AwaitTells, AwaitTrail, WhyStopped, await_call}
 use Rattle.completion_cell.specs.Awaits.{await_head, await_table, await_watch, await_end_post, last_stage, off_stage}
 use Rattle.completion_cell.specs.Awaits.{await_point_at, quit_stage, take_stage}
 use Rattle.completion_cell.specs.HeldPermits.{Deals, Knows, WaitsIn}
-use Rattle.completion_cell.specs.LoadedCounts.{InRange}
-use Rattle.completion_cell.specs.declared.awaits.AwaitCall.{AwaitCall}
-use Rattle.completion_cell.specs.declared.awaits.AwaitOutcome.{AwaitOutcome}
 use Rattle.completion_cell.specs.declared.awaits.AwaitOutcome.TheVariants as outcome
-use Rattle.completion_cell.specs.declared.awaits.AwaitStage.{AwaitStage}
 use Rattle.completion_cell.specs.declared.awaits.AwaitStage.TheVariants as stage
+use Rattle.completion_cell.proofs.{AwaitCounts.keeps_unchanged, AwaitCounts.still_stands_at, AwaitLaws.await_lawful}
+use Rattle.completion_cell.proofs.{AwaitLaws.told_by, Completing.stored_agreed, Ground.step_behind, HeldSteps.held_by}
+use Rattle.completion_cell.proofs.{HeldSteps.store_deals, RangedLoads.quiet_ranged, WaitFronts.waits_may_end}
+use Rattle.completion_cell.proofs.WaitFronts.{waits_on}
 use Rattle.completion_cell.proofs.Asking.{lowers, one_less, take_carried}
-use Rattle.completion_cell.proofs.AwaitCounts.{keeps_unchanged, still_stands_at}
-use Rattle.completion_cell.proofs.AwaitLaws.{await_lawful, told_by}
-use Rattle.completion_cell.proofs.AwaitTrails.{has_quit, knows_for, knows_none, knows_off, knows_saw, left_off, left_queued}
-use Rattle.completion_cell.proofs.Completing.{stored_agreed}
-use Rattle.completion_cell.proofs.Ground.{step_behind}
-use Rattle.completion_cell.proofs.HeldSteps.{held_by, store_deals}
-use Rattle.completion_cell.proofs.RangedLoads.{quiet_ranged}
-use Rattle.completion_cell.proofs.WaitFronts.{waits_may_end, waits_on}
+use Rattle.completion_cell.proofs.AwaitTrails.{has_quit, knows_for, knows_none, knows_off, knows_saw, left_off}
+use Rattle.completion_cell.proofs.AwaitTrails.{left_queued}
 
 -- one is taken of a count that is there
 at_the_end : (n : ℕ) → n ≢ 0 → false ≡ not ((n == 0) || (n == ALL_DONE)) → ALL_DONE ≤ n

@@ -1,25 +1,15 @@
 -- What the stages of a wait for a completion say of its last steps, and of permits: over one event and the next.
 use Rattle.std.proofs.Common.{◌∙◌, ap, sym, refl, subst, arith, append-nil, append_assoc, eq-eqb}
 use Rattle.std.specs.Prelude.{ℕ, ◌≡◌, ◌≤◌, if◌then◌else◌, Bool, true, false, is_some, Option, Some, None, List, [], ◌∷◌, ◌++◌}
-use Rattle.wait_model.specs.declared.steps.Step.{Step}
-use Rattle.wait_model.specs.declared.steps.Step.TheVariants as step
-use Rattle.wait_model.specs.declared.watches.Aim.{Aim}
-use Rattle.wait_model.specs.declared.watches.Watch.TheVariants as watch
+use Rattle.wait_model.specs.{declared.steps.Step.Step, declared.watches.Aim.Aim, Runs.own, Words.entry_of}
 use Rattle.wait_model.specs.Permits.{after_read, dealt, done_head}
-use Rattle.wait_model.specs.Runs.{own}
-use Rattle.wait_model.specs.Words.{entry_of}
+use Rattle.wait_model.specs.declared.steps.Step.TheVariants as step
+use Rattle.wait_model.specs.declared.watches.Watch.TheVariants as watch
 use Rattle.wait_model.proofs.PermitLaws.CountDebts.{read_debt, read_end}
-use Rattle.wait_rule.specs.HandedPermits.{OwesNoPermit}
-use Rattle.wait_rule.specs.HeldValues.{count_in, value_from}
-use Rattle.wait_rule.specs.Known.{Known}
-use Rattle.wait_rule.specs.LeftEntries.{LeftOff}
-use Rattle.wait_rule.specs.Queues.{index}
-use Rattle.wait_rule.specs.Says.{history_of}
-use Rattle.wait_rule.specs.Transitions.{OnlyLooks}
-use Rattle.wait_rule.proofs.KnownLaws.CalledPermits.{order_as}
-use Rattle.wait_rule.proofs.KnownLaws.HandedSteps.{order_front}
-use Rattle.wait_class.specs.Posts.{EndsWith, own_of}
-use Rattle.wait_class.specs.Laws.{Calm, Unmoved}
+use Rattle.wait_rule.specs.{HandedPermits.OwesNoPermit, HeldValues.count_in, HeldValues.value_from, Known.Known}
+use Rattle.wait_rule.specs.{LeftEntries.LeftOff, Queues.index, Says.history_of, Transitions.OnlyLooks}
+use Rattle.wait_rule.proofs.{KnownLaws.CalledPermits.order_as, KnownLaws.HandedSteps.order_front}
+use Rattle.wait_class.specs.{Posts.EndsWith, Posts.own_of, Laws.Calm, Laws.Unmoved}
 use Rattle.wait_class.proofs.Histories.{ends_calm, ends_still}
 use Rattle.completion_cell.specs.Awaits.{HasGivenBack, HasJustLocked, HasPared, LeavesBy, LeavesFor, AwaitTrail, WhyStopped, await_head}
 use Rattle.completion_cell.specs.HeldPermits.{Deals, HasBegunHold, HasLoadedCount, Held, IsDebtSettled, Knows, WaitsForPermit}

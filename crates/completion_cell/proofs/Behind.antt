@@ -1,10 +1,8 @@
 -- How a task stands behind a call that has given the head back, and that may leave its entry at a completion.
 use Rattle.std.specs.Prelude.{◌≡◌, None}
-use Rattle.wait_rule.specs.HandedPermits.{StaysOff}
-use Rattle.wait_rule.specs.Known.{Known}
-use Rattle.wait_rule.specs.Queues.{IsIdle, index}
+use Rattle.wait_rule.specs.{HandedPermits.StaysOff, Known.Known, Queues.IsIdle, Queues.index, Stays.Carries}
+use Rattle.wait_rule.specs.Stays.{with_left_entry}
 use Rattle.wait_rule.specs.Says.{Excuse, IsClean, IsUp, OwesBut, told_of}
-use Rattle.wait_rule.specs.Stays.{Carries, with_left_entry}
 use Rattle.wait_rule.proofs.KnownLaws.CalledPermits.{shows_none}
 use Rattle.wait_rule.proofs.KnownLaws.StayingParts.{owes_also, owes_left, owes_off, owes_out}
 use Rattle.wait_class.specs.Posts.{own_of}

@@ -1,24 +1,17 @@
 -- The holds of the calls that ask a count, take one of it, clear it and raise it may end.
 use Rattle.std.proofs.Common.{refl, ◌∙◌, ap, arith, inl, inr}
 use Rattle.std.specs.Prelude.{ℕ, ◌≡◌, ◌≤◌, ◌+◌, ◌-◌, Bool, true, false, None, [], ◌∷◌, MatchBool}
-use Rattle.wait_model.specs.declared.layout.TheConstants.{ALL_DONE}
+use Rattle.wait_model.specs.{declared.layout.TheConstants.ALL_DONE, Permits.after_store, Permits.done_head}
+use Rattle.wait_model.specs.{Runs.set_step, Watches.head_of}
 use Rattle.wait_model.specs.declared.steps.Step.TheVariants as step
 use Rattle.wait_model.specs.declared.watches.Watch.TheVariants as watch
-use Rattle.wait_model.specs.Permits.{after_store, done_head}
-use Rattle.wait_model.specs.Runs.{set_step}
-use Rattle.wait_model.specs.Watches.{head_of}
 use Rattle.wait_rule.specs.declared.journal.Item.TheVariants as item
-use Rattle.wait_rule.specs.Counts.{StoresCount}
-use Rattle.wait_rule.specs.HandedPermits.{StaysOff}
-use Rattle.wait_rule.specs.Known.{Known}
-use Rattle.wait_rule.specs.Queues.{IsTold, walk_of_hold}
+use Rattle.wait_rule.specs.{Counts.StoresCount, HandedPermits.StaysOff, Known.Known, Queues.IsTold, Queues.walk_of_hold}
 use Rattle.wait_rule.specs.Says.{IsFree, added, told_of}
 use Rattle.wait_rule.specs.Stays.{Carries, lock_change, only_looks, unchanged}
-use Rattle.wait_rule.proofs.KnownLaws.CalledPermits.{left_on}
-use Rattle.wait_rule.proofs.KnownLaws.HeldPermits.{owed}
+use Rattle.wait_rule.proofs.{KnownLaws.CalledPermits.left_on, KnownLaws.HeldPermits.owed}
 use Rattle.wait_rule.proofs.KnownLaws.TaskHistories.{history_after}
-use Rattle.wq_head.specs.Holds.{HasLocked}
-use Rattle.wq_head.specs.Selects.{HasSelected}
+use Rattle.wq_head.specs.{Holds.HasLocked, Selects.HasSelected}
 use Rattle.completion_cell.specs.Asks.{HasCountedDone}
 use Rattle.completion_cell.proofs.Asking.{none_held}
 use Rattle.completion_cell.proofs.Permits.{Inside, MayEndHold, hold_made, inside_join, inside_none, inside_step}

@@ -5,23 +5,18 @@ use Rattle.wait_model.specs.declared.layout.TheConstants.{HEADS, COMPLETIONS}
 use Rattle.wait_model.specs.declared.steps.Step.TheVariants as step
 use Rattle.wait_model.specs.declared.watches.Watch.TheVariants as watch
 use Rattle.wait_rule.specs.declared.journal.Item.TheVariants as item
-use Rattle.wait_rule.specs.LeftEntries.{LeftOff}
-use Rattle.wait_rule.specs.Known.{Known}
-use Rattle.wait_rule.specs.Queues.{IsTold}
+use Rattle.wait_rule.specs.{LeftEntries.LeftOff, Known.Known, Queues.IsTold, Stays.Carries, Stays.unchanged}
 use Rattle.wait_rule.specs.Says.{IsFree, IsUp, added}
-use Rattle.wait_rule.specs.Stays.{Carries, unchanged}
 use Rattle.wq_head.specs.LockTurns.{AwaitsLock, TookLock}
-use Rattle.completion_cell.specs.declared.cell_turns.CellCall.{CellCall}
-use Rattle.completion_cell.specs.declared.cell_turns.CellCall.TheVariants as call
-use Rattle.completion_cell.specs.declared.cell_turns.CellRun.{CellRun}
-use Rattle.completion_cell.specs.declared.cell_turns.CellStage.TheVariants as stage
+use Rattle.completion_cell.specs.{declared.cell_turns.CellCall.CellCall, declared.cell_turns.CellRun.CellRun}
 use Rattle.completion_cell.specs.declared.cell_turns.CellTurn.{CellTurn}
-use Rattle.completion_cell.specs.declared.cell_turns.CellTurn.TheVariants as turn
 use Rattle.completion_cell.specs.CellTurns.{HasCellTurned, HoldsForCell, IsAtCell, IsCellOver, CellRests, cell_head}
 use Rattle.completion_cell.specs.CellTurns.{peeks_first}
+use Rattle.completion_cell.specs.declared.cell_turns.CellCall.TheVariants as call
+use Rattle.completion_cell.specs.declared.cell_turns.CellStage.TheVariants as stage
+use Rattle.completion_cell.specs.declared.cell_turns.CellTurn.TheVariants as turn
+use Rattle.completion_cell.proofs.{CallPermits.ask_off, Ground.as_hold, Ground.head_there}
 use Rattle.completion_cell.proofs.Asking.{asked_none, free_on, tried_none}
-use Rattle.completion_cell.proofs.CallPermits.{ask_off}
-use Rattle.completion_cell.proofs.Ground.{as_hold, head_there}
 
 pub fits : (d h : ℕ) → d < COMPLETIONS → h ≡ cell_head d → h < HEADS
 fits d h there same = subst (λ (n : ℕ). n < HEADS) (sym same) (head_there d there)

@@ -5,23 +5,17 @@ use Rattle.wait_model.specs.declared.layout.TheConstants.{ALL_DONE}
 use Rattle.wait_model.specs.declared.steps.Step.TheVariants as step
 use Rattle.wait_model.specs.declared.watches.Watch.TheVariants as watch
 use Rattle.wait_rule.specs.declared.journal.Item.TheVariants as item
-use Rattle.wait_rule.specs.Counts.{FindsCount, StoresCount}
-use Rattle.wait_rule.specs.HandedPermits.{OwesNoPermit, StaysOff}
-use Rattle.wait_rule.specs.Known.{Known}
+use Rattle.wait_rule.specs.{Counts.FindsCount, Counts.StoresCount, HandedPermits.OwesNoPermit, HandedPermits.StaysOff}
+use Rattle.wait_rule.specs.{Known.Known, Stays.Carries, Stays.unchanged}
 use Rattle.wait_rule.specs.Says.{IsFree, added, unlocked_with}
-use Rattle.wait_rule.specs.Stays.{Carries, unchanged}
 use Rattle.wait_rule.proofs.KnownLaws.CarriedTasks.{unchanged_none, unchanged_on}
 use Rattle.wait_rule.proofs.KnownLaws.Turns.{unlocked_free}
-use Rattle.wq_head.specs.Holds.{IsHolding}
-use Rattle.wq_head.specs.LockTurns.{TookLock}
+use Rattle.wq_head.specs.{Holds.IsHolding, LockTurns.TookLock}
 use Rattle.wq_head.specs.Selects.{HasSelected, IsSimpleHold, KeepsHold}
-use Rattle.wq_head.proofs.CarriedHolds.{unlock_carried}
-use Rattle.wq_head.proofs.KeptHolds.{hold_carried}
-use Rattle.wq_head.proofs.LockWaits.{unlocked}
+use Rattle.wq_head.proofs.{CarriedHolds.unlock_carried, KeptHolds.hold_carried, LockWaits.unlocked}
 use Rattle.completion_cell.specs.declared.cell_turns.CellCall.TheVariants as call
-use Rattle.completion_cell.specs.Asks.{HasCountedDone, TakesOne}
+use Rattle.completion_cell.specs.{Asks.HasCountedDone, Asks.TakesOne, Completes.RaisesOne}
 use Rattle.completion_cell.specs.CellTurns.{HasPeeked, HoldsForCell, IsCellOver, cell_head}
-use Rattle.completion_cell.specs.Completes.{RaisesOne}
 use Rattle.completion_cell.proofs.Asking.{behind_load, clears_none, free_on, is_done_asked, none_held, reinit_reset}
 use Rattle.completion_cell.proofs.Asking.{take_carried, tried_some, try_carried, try_counted, whole_carried}
 use Rattle.completion_cell.proofs.CallPermits.{ask_off, complete_all_hold, complete_hold, is_done_hold, reinit_hold}

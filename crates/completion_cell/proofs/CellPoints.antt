@@ -1,28 +1,21 @@
 -- The points of calls on completions: what of the sentence each point's event says, by what the task finds there.
 use Rattle.std.proofs.Common.{refl, sym, ◌∙◌, ap, subst, arith}
 use Rattle.std.specs.Prelude.{ℕ, ◌≡◌, ◌≤◌, ◌==◌, Bool, true, false, if◌then◌else◌, is_some, Option, Some, None, List}
-use Rattle.wait_model.specs.declared.layout.TheConstants.{ALL_DONE}
-use Rattle.wait_model.specs.declared.calls.Answer.{Answer}
-use Rattle.wait_model.specs.declared.calls.Call.{Call}
+use Rattle.wait_model.specs.{declared.layout.TheConstants.ALL_DONE, declared.calls.Answer.Answer}
+use Rattle.wait_model.specs.{declared.calls.Call.Call, declared.calls.Event.Event, declared.points.Planned.Planned}
+use Rattle.wait_model.specs.{declared.points.Point.Point, declared.points.Seen.Seen}
+use Rattle.wait_model.specs.{declared.queues.CalledEntry.CalledEntry, declared.tasks.SleepState.SleepState}
+use Rattle.wait_model.specs.{declared.watches.Entry.Entry, Points.call_head, Points.call_watch, Tasks.meets}
+use Rattle.wait_model.specs.{Watches.is_done, Watches.mask_of}
+use Rattle.wait_model.specs.Findings.{MayComeTo, Noted, is_waiting}
+use Rattle.wait_model.specs.Programs.{await_ends, is_at_end, is_enough, program, select_next}
 use Rattle.wait_model.specs.declared.calls.Call.TheVariants as calls
-use Rattle.wait_model.specs.declared.calls.Event.{Event}
 use Rattle.wait_model.specs.declared.calls.Event.TheVariants as event
 use Rattle.wait_model.specs.declared.points.AwaitPoint.TheVariants as awaiting
 use Rattle.wait_model.specs.declared.points.CountPoint.TheVariants as counting
-use Rattle.wait_model.specs.declared.points.Planned.{Planned}
-use Rattle.wait_model.specs.declared.points.Point.{Point}
 use Rattle.wait_model.specs.declared.points.Point.TheVariants as at
 use Rattle.wait_model.specs.declared.points.PreparePoint.TheVariants as preparing
-use Rattle.wait_model.specs.declared.points.Seen.{Seen}
 use Rattle.wait_model.specs.declared.points.SelectPoint.TheVariants as selecting
-use Rattle.wait_model.specs.declared.queues.CalledEntry.{CalledEntry}
-use Rattle.wait_model.specs.declared.tasks.SleepState.{SleepState}
-use Rattle.wait_model.specs.declared.watches.Entry.{Entry}
-use Rattle.wait_model.specs.Findings.{MayComeTo, Noted, is_waiting}
-use Rattle.wait_model.specs.Points.{call_head, call_watch}
-use Rattle.wait_model.specs.Programs.{await_ends, is_at_end, is_enough, program, select_next}
-use Rattle.wait_model.specs.Tasks.{meets}
-use Rattle.wait_model.specs.Watches.{is_done, mask_of}
 use Rattle.wait_model.specs.declared.watches.Mode.TheVariants as mode
 use Rattle.wait_model.proofs.SentenceLaws.SentenceCalls.{rest_of, says}
 use Rattle.wait_model.proofs.SentenceLaws.SentenceRests.{Knows, Says}

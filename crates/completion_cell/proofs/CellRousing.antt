@@ -2,14 +2,11 @@
 use Rattle.std.proofs.Common.{ap, sym, refl, subst}
 use Rattle.std.specs.Prelude.{ℕ, ◌≡◌, ◌+◌, ◌-◌, ◌||◌, ◌==◌, nat_lt, if◌then◌else◌, Bool, true, false, [], ◌∷◌}
 use Rattle.std.specs.Prelude.{MatchBool}
-use Rattle.wait_model.specs.declared.layout.TheConstants.{ALL_DONE}
+use Rattle.wait_model.specs.{declared.layout.TheConstants.ALL_DONE, Runs.set_step}
 use Rattle.wait_model.specs.declared.steps.Step.TheVariants as step
 use Rattle.wait_model.specs.declared.watches.Watch.TheVariants as watch
-use Rattle.wait_model.specs.Runs.{set_step}
 use Rattle.wait_rule.specs.declared.journal.Item.TheVariants as item
-use Rattle.wait_rule.specs.Counts.{StoresCount}
-use Rattle.wait_rule.specs.Known.{Known}
-use Rattle.wait_rule.specs.Says.{added, history_of}
+use Rattle.wait_rule.specs.{Counts.StoresCount, Known.Known, Says.added, Says.history_of}
 use Rattle.wq_head.specs.Roused.{RousesNone, roused}
 use Rattle.wq_head.proofs.RousedTasks.{none_added}
 

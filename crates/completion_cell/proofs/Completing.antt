@@ -3,48 +3,37 @@ use Rattle.std.proofs.Common.{◌∙◌, ap, sym, refl, subst, arith, inl, inr, 
 use Rattle.std.specs.Prelude.{ℕ, ◌≡◌, ◌≢◌, ◌<◌, ◌≤◌, ◌+◌, ◌⊎◌, ◌&&◌, ◌||◌, ◌==◌, not, nat_lt, if◌then◌else◌, Bool, true}
 use Rattle.std.specs.Prelude.{false, Some, None, [], ◌∷◌, ◌++◌, MatchBool}
 use Rattle.std.proofs.lemmas.Bool.Decides.{nat_tests}
-use Rattle.wait_model.specs.declared.layout.TheConstants.{ALL_DONE, FIRST_SIMPLE_HEAD}
-use Rattle.wait_model.specs.declared.calls.Call.{Call}
+use Rattle.wait_model.specs.{declared.layout.TheConstants.ALL_DONE, declared.layout.TheConstants.FIRST_SIMPLE_HEAD}
+use Rattle.wait_model.specs.{declared.calls.Call.Call, declared.points.SelectPoint.SelectPoint}
+use Rattle.wait_model.specs.{declared.watches.Watch.Watch, Counts.raised_done, Runs.set_step, Fold.begun_anew}
+use Rattle.wait_model.specs.{Views.View as Told, Watches.head_of}
+use Rattle.wait_model.specs.Points.{call_watch, count_of, mode_of}
+use Rattle.wait_model.specs.Programs.{done_in, is_at_end, is_enough, select_from, selected_answer, zero_answer}
 use Rattle.wait_model.specs.declared.calls.Call.TheVariants as calls
 use Rattle.wait_model.specs.declared.points.Next.TheVariants as next
 use Rattle.wait_model.specs.declared.points.Point.TheVariants as at
-use Rattle.wait_model.specs.declared.points.SelectPoint.{SelectPoint}
 use Rattle.wait_model.specs.declared.points.SelectPoint.TheVariants as selecting
 use Rattle.wait_model.specs.declared.steps.Step.TheVariants as step
 use Rattle.wait_model.specs.declared.watches.Mode.TheVariants as mode
-use Rattle.wait_model.specs.declared.watches.Watch.{Watch}
 use Rattle.wait_model.specs.declared.watches.Watch.TheVariants as watch
-use Rattle.wait_model.specs.Counts.{raised_done}
-use Rattle.wait_model.specs.Points.{call_watch, count_of, mode_of}
-use Rattle.wait_model.specs.Programs.{done_in, is_at_end, is_enough, select_from, selected_answer, zero_answer}
-use Rattle.wait_model.specs.Runs.{set_step}
-use Rattle.wait_model.specs.Fold.{begun_anew}
-use Rattle.wait_model.specs.Views.{View as Told}
-use Rattle.wait_model.specs.Watches.{head_of}
-use Rattle.wait_model.proofs.SentenceLaws.SentenceAwaits.{shown_count}
-use Rattle.wait_model.proofs.WaitLaws.OutsideStages.{either}
+use Rattle.wait_model.proofs.{SentenceLaws.SentenceAwaits.shown_count, WaitLaws.OutsideStages.either}
 use Rattle.wait_rule.specs.declared.journal.Item.TheVariants as item
-use Rattle.wait_rule.specs.Counts.{FindsCount, StoresCount}
-use Rattle.wait_rule.specs.Known.{Known}
+use Rattle.wait_rule.specs.{Counts.FindsCount, Counts.StoresCount, Known.Known, Transitions.by_step}
+use Rattle.wait_rule.specs.Transitions.{call_program}
 use Rattle.wait_rule.specs.Queues.{IsTold, IsWholeBook, MayRise, index, simple_watch, walk_of_hold}
 use Rattle.wait_rule.specs.Says.{IsFree, Excuse, added, told_of, unlocked_with, OwesBut}
 use Rattle.wait_rule.specs.Stays.{Carries, Change, lock_change, only_looks, publish_change, unchanged, unlock_change}
 use Rattle.wait_rule.specs.Stays.{with_wakes}
-use Rattle.wait_rule.specs.Transitions.{by_step, call_program}
-use Rattle.wait_rule.proofs.KnownLaws.AfterSteps.{told_added}
-use Rattle.wait_rule.proofs.KnownLaws.CarriedTasks.{unchanged_first, unchanged_none}
-use Rattle.wait_rule.proofs.KnownLaws.CarriedCounts.{as_publish}
-use Rattle.wait_rule.proofs.KnownLaws.StayingParts.{stays_same}
-use Rattle.wait_rule.proofs.KnownLaws.TaskHistories.{history_after}
+use Rattle.wait_rule.proofs.{KnownLaws.AfterSteps.told_added, KnownLaws.CarriedTasks.unchanged_first}
+use Rattle.wait_rule.proofs.{KnownLaws.CarriedTasks.unchanged_none, KnownLaws.CarriedCounts.as_publish}
+use Rattle.wait_rule.proofs.{KnownLaws.StayingParts.stays_same, KnownLaws.TaskHistories.history_after}
 use Rattle.wait_rule.proofs.KnownLaws.Transitions.{only_none}
 use Rattle.wq_head.specs.Holds.{HasLocked, HasUnlocked, IsHolding}
 use Rattle.wq_head.specs.Selects.{HasSelected, IsSimpleHold, ShowsNoEntry}
-use Rattle.wq_head.proofs.LockWaits.{turn_of}
-use Rattle.wq_head.proofs.SelectedRuns.{lock_goes, selected_ends}
-use Rattle.wq_head.proofs.SimpleHolds.{own_done, simple_ended}
+use Rattle.wq_head.proofs.{LockWaits.turn_of, SelectedRuns.lock_goes, SelectedRuns.selected_ends, SimpleHolds.own_done}
+use Rattle.wq_head.proofs.SimpleHolds.{simple_ended}
 use Rattle.wait_event.specs.Conds.{set_change}
-use Rattle.wait_class.specs.Posts.{Runs}
-use Rattle.wait_class.specs.Findings.{saw_nothing, with_value}
+use Rattle.wait_class.specs.{Posts.Runs, Findings.saw_nothing, Findings.with_value}
 use Rattle.wait_class.proofs.Ground.Going.{runs_none, runs_on, runs_one}
 use Rattle.completion_cell.specs.Asks.{HasCountedDone}
 use Rattle.completion_cell.specs.Completes.{HasCompleted, HasCompletedAll, RaisesOne}

@@ -1,40 +1,33 @@
 -- Whole waits for completions: how they begin, and what they say at their end.
 use Rattle.std.proofs.Common.{◌∙◌, ap, sym, refl, subst}
 use Rattle.std.specs.Prelude.{ℕ, ◌≡◌, ◌<◌, ◌||◌, ◌&&◌, not, Bool, false, None}
-use Rattle.wait_model.specs.declared.layout.TheConstants.{COMPLETIONS}
+use Rattle.wait_model.specs.{declared.layout.TheConstants.COMPLETIONS, declared.tasks.SleepState.SleepState}
+use Rattle.wait_model.specs.Watches.{head_of}
+use Rattle.wait_model.specs.Tasks.{pending, state_mask, task_of}
 use Rattle.wait_model.specs.declared.calls.Call.TheVariants as calls
 use Rattle.wait_model.specs.declared.points.AwaitPoint.TheVariants as awaiting
 use Rattle.wait_model.specs.declared.points.Next.TheVariants as next
 use Rattle.wait_model.specs.declared.points.Point.TheVariants as at
-use Rattle.wait_model.specs.declared.tasks.SleepState.{SleepState}
 use Rattle.wait_model.specs.declared.watches.Watch.TheVariants as watch
-use Rattle.wait_model.specs.Tasks.{pending, state_mask, task_of}
-use Rattle.wait_model.specs.Watches.{head_of}
-use Rattle.wait_rule.specs.HandedPermits.{StaysOff}
-use Rattle.wait_rule.specs.HeldValues.{count_in}
-use Rattle.wait_rule.specs.Known.{Known}
-use Rattle.wait_rule.specs.LeftEntries.{LeftOff}
+use Rattle.wait_rule.specs.{HandedPermits.StaysOff, HeldValues.count_in, Known.Known, LeftEntries.LeftOff}
+use Rattle.wait_rule.specs.Stays.{Carries}
 use Rattle.wait_rule.specs.Queues.{IsIdle, IsTold, index}
 use Rattle.wait_rule.specs.Says.{IsClean, IsUp, history_of, told_of}
-use Rattle.wait_rule.specs.Stays.{Carries}
 use Rattle.wait_rule.specs.Transitions.{Goes, Program, call_program}
-use Rattle.wait_class.specs.Posts.{IsOut}
-use Rattle.wait_event.specs.Ends.{wait_change}
-use Rattle.wait_class.specs.Posts.{EndsWith, own_of}
-use Rattle.wait_event.specs.Waits.{has_queued_in}
-use Rattle.wait_event.proofs.Behind.{StandsOver, behind_at, over_behind}
-use Rattle.wait_class.proofs.Wholes.{begins}
-use Rattle.completion_cell.specs.AwaitEnds.{EndsAwait, HasAwaited, await_end_in}
+use Rattle.wait_class.specs.Posts.{IsOut, EndsWith, own_of}
 use Rattle.wait_class.specs.Tables.{Advances, IsAt, IsEnded, Plan}
 use Rattle.wait_class.specs.declared.stages.Run.{Run}
-use Rattle.wait_class.specs.declared.stages.Turn.TheVariants as turn
-use Rattle.completion_cell.specs.Awaits.{CellKeeps, FoundNoPlaceForCell, HasGivenBack, IsFreshAwait, AwaitTrailEnd}
-use Rattle.completion_cell.specs.Awaits.{WasAwaitSignalled, WhyStopped, answer_to_await, await_table}
-use Rattle.completion_cell.specs.Awaits.{await_end_post, await_left_by}
-use Rattle.completion_cell.specs.declared.awaits.AwaitOutcome.{AwaitOutcome}
-use Rattle.completion_cell.specs.declared.awaits.AwaitOutcome.TheVariants as outcome
-use Rattle.completion_cell.specs.declared.awaits.AwaitCall.{AwaitCall}
+use Rattle.wait_event.specs.{Ends.wait_change, Waits.has_queued_in}
+use Rattle.wait_event.proofs.Behind.{StandsOver, behind_at, over_behind}
+use Rattle.wait_class.proofs.Wholes.{begins}
+use Rattle.completion_cell.specs.{declared.awaits.AwaitOutcome.AwaitOutcome, declared.awaits.AwaitCall.AwaitCall}
 use Rattle.completion_cell.specs.declared.awaits.AwaitStage.{AwaitStage}
+use Rattle.completion_cell.specs.AwaitEnds.{EndsAwait, HasAwaited, await_end_in}
+use Rattle.completion_cell.specs.Awaits.{CellKeeps, FoundNoPlaceForCell, HasGivenBack, IsFreshAwait, AwaitTrailEnd}
+use Rattle.completion_cell.specs.Awaits.{WasAwaitSignalled, WhyStopped, answer_to_await, await_table, await_end_post}
+use Rattle.completion_cell.specs.Awaits.{await_left_by}
+use Rattle.wait_class.specs.declared.stages.Turn.TheVariants as turn
+use Rattle.completion_cell.specs.declared.awaits.AwaitOutcome.TheVariants as outcome
 use Rattle.completion_cell.specs.declared.awaits.AwaitStage.TheVariants as stage
 use Rattle.completion_cell.proofs.Behind.{StandsBehind, behind_carried, behind_clean}
 use Rattle.completion_cell.proofs.OtherCells.{wait_stays_off}

@@ -3,58 +3,39 @@
 use Rattle.std.proofs.Common.{refl, sym, ◌∙◌, ap, subst, arith, append_assoc, eq-eqb}
 use Rattle.std.specs.Prelude.{ℕ, ◌≡◌, ◌≤◌, ◌==◌, Bool, true, false, if◌then◌else◌, Option, Some, None, List, [], ◌∷◌}
 use Rattle.std.specs.Prelude.{◌++◌}
-use Rattle.wait_model.specs.declared.layout.TheConstants.{ALL_DONE}
-use Rattle.wait_model.specs.declared.calls.Answer.{Answer}
-use Rattle.wait_model.specs.declared.calls.Call.{Call}
+use Rattle.wait_model.specs.{declared.layout.TheConstants.ALL_DONE, declared.calls.Answer.Answer}
+use Rattle.wait_model.specs.{declared.calls.Call.Call, declared.calls.Event.Event, declared.points.Given.Given}
+use Rattle.wait_model.specs.{declared.points.Next.Next, declared.points.Planned.Planned, declared.points.Point.Point}
+use Rattle.wait_model.specs.{declared.points.Seen.Seen, declared.steps.Step.Step, declared.watches.Watch.Watch}
+use Rattle.wait_model.specs.{Counts.taken_done, Points.call_number, Points.call_watch, Rows.Allowed, Sentences.Follows}
+use Rattle.wait_model.specs.{Tables.Table, Watches.is_done, Watches.owner}
+use Rattle.wait_model.specs.Findings.{Noted, is_waiting, none_noted, notes}
+use Rattle.wait_model.specs.Programs.{completed, done_in, ends_with, go, load, program, program_start, takes}
+use Rattle.wait_model.specs.Programs.{zero_answer}
 use Rattle.wait_model.specs.declared.calls.Call.TheVariants as calls
-use Rattle.wait_model.specs.declared.calls.Event.{Event}
 use Rattle.wait_model.specs.declared.calls.Event.TheVariants as event
 use Rattle.wait_model.specs.declared.points.AwaitPoint.TheVariants as awaiting
 use Rattle.wait_model.specs.declared.points.CountPoint.TheVariants as counting
-use Rattle.wait_model.specs.declared.points.Given.{Given}
-use Rattle.wait_model.specs.declared.points.Next.{Next}
 use Rattle.wait_model.specs.declared.points.Next.TheVariants as next
-use Rattle.wait_model.specs.declared.points.Planned.{Planned}
-use Rattle.wait_model.specs.declared.points.Point.{Point}
 use Rattle.wait_model.specs.declared.points.Point.TheVariants as at
 use Rattle.wait_model.specs.declared.points.PreparePoint.TheVariants as preparing
-use Rattle.wait_model.specs.declared.points.Seen.{Seen}
 use Rattle.wait_model.specs.declared.points.SelectPoint.TheVariants as selecting
-use Rattle.wait_model.specs.declared.steps.Step.{Step}
 use Rattle.wait_model.specs.declared.steps.Step.TheVariants as step
-use Rattle.wait_model.specs.declared.watches.Watch.{Watch}
 use Rattle.wait_model.specs.declared.watches.Watch.TheVariants as watch
-use Rattle.wait_model.specs.Findings.{Noted, is_waiting, none_noted, notes}
-use Rattle.wait_model.specs.Counts.{taken_done}
-use Rattle.wait_model.specs.Points.{call_number, call_watch}
-use Rattle.wait_model.specs.Programs.{completed, done_in, ends_with, go, load, program, program_start, takes, zero_answer}
-use Rattle.wait_model.specs.Rows.{Allowed}
-use Rattle.wait_model.specs.Sentences.{Follows}
-use Rattle.wait_model.specs.Tables.{Table}
-use Rattle.wait_model.specs.Watches.{is_done, owner}
-use Rattle.wait_model.proofs.SentenceLaws.SentenceCalls.{rest_of, start_said}
-use Rattle.wait_model.proofs.SentenceLaws.SentenceRests.{left_at}
-use Rattle.wait_model.proofs.WaitLaws.OutsideStages.{either}
-use Rattle.wait_rule.specs.declared.journal.Item.{Item}
+use Rattle.wait_model.proofs.{SentenceLaws.SentenceCalls.rest_of, SentenceLaws.SentenceCalls.start_said}
+use Rattle.wait_model.proofs.{SentenceLaws.SentenceRests.left_at, WaitLaws.OutsideStages.either}
+use Rattle.wait_rule.specs.{declared.journal.Item.Item, Items.steps_of, Known.Known, LeftEntries.Order, Queues.index}
+use Rattle.wait_rule.specs.{Rule.IsRuled, SaidEvents.MayOpen, SaidEvents.said, Says.history_of, Says.told_of}
 use Rattle.wait_rule.specs.HeldValues.{CountsStand, count_in, value_after, value_from}
 use Rattle.wait_rule.specs.Interleavings.{AreAllowed, IsInterleaved, TaskStep, table_of}
-use Rattle.wait_rule.specs.Items.{steps_of}
-use Rattle.wait_rule.specs.Known.{Known}
-use Rattle.wait_rule.specs.LeftEntries.{Order}
-use Rattle.wait_rule.specs.Queues.{index}
-use Rattle.wait_rule.specs.Rule.{IsRuled}
-use Rattle.wait_rule.specs.SaidEvents.{MayOpen, said}
-use Rattle.wait_rule.specs.Says.{history_of, told_of}
 use Rattle.wait_rule.specs.Transitions.{Finds, FindsAt, Goes, IsMadeFor, IsSeenAs, OnlyLooks, Program, StepOrLook}
 use Rattle.wait_rule.specs.Transitions.{Transition, after_step_or_look, after_transition, by_look, by_step}
 use Rattle.wait_rule.specs.Transitions.{call_program}
-use Rattle.wait_rule.proofs.KnownLaws.HandedSteps.{OrderStep, order_step}
-use Rattle.wait_rule.proofs.KnownLaws.HeldCounts.{counts_next}
-use Rattle.wait_rule.proofs.KnownLaws.Moments.{kept_of, moment_of}
+use Rattle.wait_rule.proofs.{KnownLaws.HandedSteps.OrderStep, KnownLaws.HandedSteps.order_step}
+use Rattle.wait_rule.proofs.{KnownLaws.HeldCounts.counts_next, KnownLaws.Moments.kept_of, KnownLaws.Moments.moment_of}
+use Rattle.wait_rule.proofs.{SaidEvents.OwnFindings.own_off, TableSteps.ItemLists.steps_append}
 use Rattle.wait_rule.proofs.SaidEvents.Fronts.{IsOff, off_on, off_still, queued_before, step_follows, step_history}
 use Rattle.wait_rule.proofs.SaidEvents.Fronts.{steps_made}
-use Rattle.wait_rule.proofs.SaidEvents.OwnFindings.{own_off}
-use Rattle.wait_rule.proofs.TableSteps.ItemLists.{steps_append}
 use Rattle.completion_cell.specs.LoadedCounts.{AreInRange, InRange}
 use Rattle.completion_cell.proofs.CellPoints.{FindsThere, ShowsLoad, cell_spoken, is_cell_point, loads_at, loads_shown}
 use Rattle.completion_cell.proofs.CellPoints.{reads_entry, unspoken, uses_at}

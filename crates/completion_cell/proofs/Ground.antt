@@ -2,50 +2,35 @@
 use Rattle.std.proofs.Common.{◌∙◌, ap, sym, refl, subst, arith, eq-eqb}
 use Rattle.std.specs.Prelude.{ℕ, ◌≡◌, ◌<◌, ◌||◌, ◌==◌, if◌then◌else◌, Bool, true, false, pos, Option, Some, None, List, []}
 use Rattle.std.specs.Prelude.{◌∷◌, ◌++◌}
-use Rattle.wait_model.specs.declared.layout.TheConstants.{COMPLETIONS, HEADS}
-use Rattle.wait_model.specs.declared.calls.Call.{Call}
-use Rattle.wait_model.specs.declared.calls.Event.{Event}
+use Rattle.wait_model.specs.{declared.layout.TheConstants.COMPLETIONS, declared.layout.TheConstants.HEADS}
+use Rattle.wait_model.specs.{declared.calls.Call.Call, declared.calls.Event.Event, declared.points.Next.Next}
+use Rattle.wait_model.specs.{declared.points.Planned.Planned, declared.points.Point.Point, declared.points.Seen.Seen}
+use Rattle.wait_model.specs.{declared.steps.Step.Step, declared.watches.Watch.Watch, Points.call_watch}
+use Rattle.wait_model.specs.{Points.call_head, Runs.is_publishing, Runs.set_step, Watches.head_of}
+use Rattle.wait_model.specs.Programs.{count_from, count_after, ends_with, go, load, zero_answer}
 use Rattle.wait_model.specs.declared.calls.Event.TheVariants as event
 use Rattle.wait_model.specs.declared.calls.Answer.TheVariants as answer
 use Rattle.wait_model.specs.declared.points.CountPoint.TheVariants as counting
-use Rattle.wait_model.specs.declared.points.Next.{Next}
 use Rattle.wait_model.specs.declared.points.Next.TheVariants as next
-use Rattle.wait_model.specs.declared.points.Planned.{Planned}
-use Rattle.wait_model.specs.declared.points.Point.{Point}
 use Rattle.wait_model.specs.declared.points.Point.TheVariants as at
-use Rattle.wait_model.specs.declared.points.Seen.{Seen}
-use Rattle.wait_model.specs.declared.steps.Step.{Step}
 use Rattle.wait_model.specs.declared.steps.Step.TheVariants as step
-use Rattle.wait_model.specs.declared.watches.Watch.{Watch}
 use Rattle.wait_model.specs.declared.watches.Watch.TheVariants as watch
-use Rattle.wait_model.specs.Points.{call_watch, call_head}
-use Rattle.wait_model.specs.Programs.{count_from, count_after, ends_with, go, load, zero_answer}
-use Rattle.wait_model.specs.Runs.{is_publishing, set_step}
-use Rattle.wait_model.specs.Watches.{head_of}
-use Rattle.wait_rule.specs.declared.journal.Item.{Item}
-use Rattle.wait_rule.specs.declared.journal.Item.TheVariants as item
-use Rattle.wait_rule.specs.Known.{Known}
+use Rattle.wait_rule.specs.{declared.journal.Item.Item, Known.Known, Items.steps_of, Queues.at_head}
+use Rattle.wait_rule.specs.Queues.{walk_of_hold}
 use Rattle.wait_rule.specs.Says.{added, history_of, told_of, unlocked_with}
 use Rattle.wait_rule.specs.HeldValues.{count_in, value_after, value_from}
-use Rattle.wait_rule.specs.Items.{steps_of}
-use Rattle.wait_rule.specs.Queues.{at_head, walk_of_hold}
 use Rattle.wait_rule.specs.Stays.{Carries, only_looks, unchanged}
 use Rattle.wait_rule.specs.Transitions.{AreLooks, OnlyLooks, Program, FindsAt, Finds, IsAbout, IsMadeFor, IsStepFor}
 use Rattle.wait_rule.specs.Transitions.{StepOrLook, after_step_or_look, by_step, call_program}
-use Rattle.wait_rule.proofs.KnownLaws.HeldCounts.{value_snoc}
-use Rattle.wait_rule.proofs.KnownLaws.Transitions.{only_none}
-use Rattle.wait_rule.proofs.TableSteps.ItemLists.{steps_append}
+use Rattle.wait_rule.specs.declared.journal.Item.TheVariants as item
+use Rattle.wait_rule.proofs.{KnownLaws.HeldCounts.value_snoc, KnownLaws.Transitions.only_none}
+use Rattle.wait_rule.proofs.{TableSteps.ItemLists.steps_append, KnownLaws.TaskHistories.history_after}
 use Rattle.wq_head.specs.Holds.{HasLocked, IsHolding}
 use Rattle.wq_head.proofs.LockWaits.{turn_looks, turn_of}
-use Rattle.wait_event.specs.Entries.{hold_change}
-use Rattle.wait_class.specs.Posts.{Runs}
-use Rattle.wait_event.specs.Waits.{is_queue, has_queued_in}
-use Rattle.wait_class.specs.Findings.{saw_nothing, with_value}
-use Rattle.wait_event.proofs.Entering.{runs_lock, unlock_looks}
-use Rattle.wait_event.proofs.LookedSteps.{looks_all}
-use Rattle.wait_class.proofs.Ways.{either_event}
-use Rattle.wait_class.proofs.Ground.Going.{runs_one}
-use Rattle.wait_rule.proofs.KnownLaws.TaskHistories.{history_after}
+use Rattle.wait_event.specs.{Entries.hold_change, Waits.is_queue, Waits.has_queued_in}
+use Rattle.wait_class.specs.{Posts.Runs, Findings.saw_nothing, Findings.with_value}
+use Rattle.wait_event.proofs.{Entering.runs_lock, Entering.unlock_looks, LookedSteps.looks_all}
+use Rattle.wait_class.proofs.{Ways.either_event, Ground.Going.runs_one}
 
 -- the head of a completion is there
 pub head_there : (d : ℕ) → d < COMPLETIONS → head_of (watch.Done d) < HEADS

@@ -1,16 +1,12 @@
 -- What the steps of a wait's hold leave of permits, one after another.
 use Rattle.std.proofs.Common.{refl, ◌∙◌, ap, eq-eqb}
 use Rattle.std.specs.Prelude.{ℕ, ◌≡◌, ◌==◌, if◌then◌else◌, Bool, true, false, Option, Some, List, [], ◌∷◌, ◌++◌}
-use Rattle.wait_model.specs.declared.steps.Step.{Step}
+use Rattle.wait_model.specs.{declared.steps.Step.Step, Permits.after_store}
+use Rattle.wait_model.specs.Runs.{is_publishing, own, set_step}
 use Rattle.wait_model.specs.declared.steps.Step.TheVariants as step
 use Rattle.wait_model.specs.declared.watches.Watch.TheVariants as watch
-use Rattle.wait_model.specs.Permits.{after_store}
-use Rattle.wait_model.specs.Runs.{is_publishing, own, set_step}
-use Rattle.wait_rule.specs.declared.journal.Item.{Item}
-use Rattle.wait_rule.specs.Items.{steps_of}
-use Rattle.wait_rule.specs.Known.{Known}
-use Rattle.wait_rule.specs.Says.{history_of}
-use Rattle.wait_rule.specs.Transitions.{AreLooks, OnlyLooks}
+use Rattle.wait_rule.specs.{declared.journal.Item.Item, Items.steps_of, Known.Known, Says.history_of}
+use Rattle.wait_rule.specs.{Transitions.AreLooks, Transitions.OnlyLooks}
 use Rattle.wait_rule.proofs.TableSteps.ItemLists.{steps_append}
 use Rattle.wait_event.proofs.LookedSteps.{looks_all}
 use Rattle.completion_cell.specs.HeldPermits.{Deals, Held}

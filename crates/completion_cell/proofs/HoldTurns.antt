@@ -2,26 +2,17 @@
 use Rattle.std.proofs.Common.{refl, sym, ◌∙◌, ap, subst, arith, eq-eqb}
 use Rattle.std.specs.Prelude.{ℕ, ◌≡◌, ◌≢◌, ◌≤◌, ◌+◌, ◌==◌, Bool, true, false, if◌then◌else◌, Option, Some, None, List}
 use Rattle.std.specs.Prelude.{[], ◌∷◌, ◌++◌}
-use Rattle.wait_model.specs.declared.steps.Step.{Step}
-use Rattle.wait_model.specs.declared.steps.Step.TheVariants as step
-use Rattle.wait_model.specs.declared.watches.Aim.{Aim}
-use Rattle.wait_model.specs.declared.watches.Entry.{Entry}
-use Rattle.wait_model.specs.Fold.{view_of}
+use Rattle.wait_model.specs.{declared.steps.Step.Step, declared.watches.Aim.Aim, declared.watches.Entry.Entry}
+use Rattle.wait_model.specs.{Fold.view_of, Runs.own, Tables.Table, Facts.Agrees, Watches.head_of, Words.entry_of}
+use Rattle.wait_model.specs.Words.{flag}
 use Rattle.wait_model.specs.Permits.{Dealt, dealt, deals, done_head, finds_handed, none_dealt, shows_at}
-use Rattle.wait_model.specs.Runs.{own}
-use Rattle.wait_model.specs.Tables.{Table}
-use Rattle.wait_model.specs.Facts.{Agrees}
 use Rattle.wait_model.specs.Views.{Bits, View, Look, unseen, off, elsewhere, shown, look_at, blank}
-use Rattle.wait_model.specs.Watches.{head_of}
-use Rattle.wait_model.specs.Words.{entry_of, flag}
-use Rattle.wait_model.proofs.Functions.{put_at}
-use Rattle.wait_model.proofs.HistoryLaws.HoldLooks.{after_snoc}
-use Rattle.wait_model.proofs.PermitLaws.OwnTurns.{clash, deals_snoc, flag_small}
-use Rattle.wait_model.proofs.PermitLaws.PermitTurns.{look_seen, not_unseen}
-use Rattle.wait_model.proofs.StepLaws.UnlockSteps.{unlock_bits}
+use Rattle.wait_model.specs.declared.steps.Step.TheVariants as step
+use Rattle.wait_model.proofs.{Functions.put_at, HistoryLaws.HoldLooks.after_snoc, PermitLaws.PermitTurns.look_seen}
+use Rattle.wait_model.proofs.{PermitLaws.PermitTurns.not_unseen, StepLaws.UnlockSteps.unlock_bits}
 use Rattle.wait_model.proofs.WordLaws.DecodedWords.{owner_own}
-use Rattle.wait_rule.specs.LeftEntries.{Order}
-use Rattle.wait_rule.specs.Interleavings.{table_of}
+use Rattle.wait_model.proofs.PermitLaws.OwnTurns.{clash, deals_snoc, flag_small}
+use Rattle.wait_rule.specs.{LeftEntries.Order, Interleavings.table_of}
 use Rattle.wait_rule.proofs.KnownLaws.HandedSteps.{OrderStep, order_step, order_view}
 use Rattle.wait_rule.proofs.KnownLaws.Moments.{kept_of}
 use Rattle.completion_cell.specs.HeldPermits.{WaitsForPermit}

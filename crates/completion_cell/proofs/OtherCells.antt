@@ -3,35 +3,22 @@ use Rattle.std.proofs.Common.{refl, sym, ◌∙◌, ap, subst, arith, append_ass
 use Rattle.std.proofs.lemmas.Bool.Decides.{eqb_tells}
 use Rattle.std.specs.Prelude.{ℕ, ◌≡◌, ◌≢◌, ◌⊎◌, ◌==◌, Bool, true, false, None, List, [], ◌∷◌, ◌++◌}
 use Rattle.wait_model.specs.declared.calls.Call.TheVariants as calls
-use Rattle.wait_model.specs.declared.calls.Event.{Event}
-use Rattle.wait_model.specs.declared.calls.Event.TheVariants as event
-use Rattle.wait_model.specs.declared.points.Next.{Next}
-use Rattle.wait_model.specs.declared.points.Point.{Point}
-use Rattle.wait_model.specs.declared.steps.Step.{Step}
-use Rattle.wait_model.specs.declared.steps.Step.TheVariants as step
-use Rattle.wait_model.specs.declared.tasks.SleepState.{SleepState}
-use Rattle.wait_model.specs.declared.watches.Entry.{Entry}
-use Rattle.wait_model.specs.Fold.{after, view_of}
-use Rattle.wait_model.specs.Permits.{dealt, done_head, none_dealt, shows_at}
-use Rattle.wait_model.specs.Points.{given_at}
-use Rattle.wait_model.specs.Runs.{own}
-use Rattle.wait_model.specs.Views.{Look, View, blank, shown}
+use Rattle.wait_model.specs.{declared.calls.Event.Event, declared.points.Next.Next, declared.points.Point.Point}
+use Rattle.wait_model.specs.{declared.steps.Step.Step, declared.tasks.SleepState.SleepState}
+use Rattle.wait_model.specs.{declared.watches.Entry.Entry, Fold.after, Fold.view_of, Points.given_at, Runs.own}
 use Rattle.wait_model.specs.Watches.{head_of}
-use Rattle.wait_model.proofs.Functions.{put_at}
-use Rattle.wait_model.proofs.HistoryLaws.HoldLooks.{after_snoc}
-use Rattle.wait_model.proofs.PermitLaws.OwnTurns.{deals_snoc}
-use Rattle.wait_rule.specs.HandedPermits.{StaysOff}
-use Rattle.wait_rule.specs.Known.{Known}
-use Rattle.wait_rule.specs.LeftEntries.{LeftOff, Order}
-use Rattle.wait_rule.specs.Queues.{index}
-use Rattle.wait_rule.specs.Says.{history_of, told_of}
-use Rattle.wait_rule.specs.Transitions.{IsStepFor, call_program}
+use Rattle.wait_model.specs.Permits.{dealt, done_head, none_dealt, shows_at}
+use Rattle.wait_model.specs.Views.{Look, View, blank, shown}
+use Rattle.wait_model.specs.declared.calls.Event.TheVariants as event
+use Rattle.wait_model.specs.declared.steps.Step.TheVariants as step
+use Rattle.wait_model.proofs.{Functions.put_at, HistoryLaws.HoldLooks.after_snoc, PermitLaws.OwnTurns.deals_snoc}
+use Rattle.wait_rule.specs.{HandedPermits.StaysOff, Known.Known, LeftEntries.LeftOff, LeftEntries.Order, Queues.index}
+use Rattle.wait_rule.specs.{Says.history_of, Says.told_of, Transitions.IsStepFor, Transitions.call_program}
 use Rattle.wait_rule.proofs.KnownLaws.CalledPermits.{away_of, order_as}
 use Rattle.wait_rule.proofs.KnownLaws.HandedSteps.{IsAway, IsAwayAt, OrderStep, away_next, order_front, order_step}
 use Rattle.wait_rule.proofs.KnownLaws.OtherCalls.{Adding, AddsBy, AllAddBy, goes_adding}
 use Rattle.wait_class.specs.Posts.{EndsWith, IsOut, Runs}
-use Rattle.completion_cell.specs.Awaits.{HasGivenBack}
-use Rattle.completion_cell.specs.declared.awaits.AwaitCall.{AwaitCall}
+use Rattle.completion_cell.specs.{Awaits.HasGivenBack, declared.awaits.AwaitCall.AwaitCall}
 use Rattle.completion_cell.proofs.HoldTurns.{head_apart, home_left}
 
 -- an entry of another completion

@@ -3,32 +3,23 @@ use Rattle.std.proofs.Common.{refl, sym, ◌∙◌, ap, arith, append_assoc, app
 use Rattle.std.proofs.lemmas.Bool.Decides.{nat_tests}
 use Rattle.std.specs.Prelude.{ℕ, zero, suc, ◌≡◌, ◌≤◌, ◌+◌, ◌-◌, ◌⊎◌, ◌==◌, ◌&&◌, ◌||◌, nat_le, if◌then◌else◌, Bool}
 use Rattle.std.specs.Prelude.{true, false, Option, None, List, [], ◌∷◌, ◌++◌}
-use Rattle.wait_model.specs.declared.layout.TheConstants.{ALL_DONE}
-use Rattle.wait_model.specs.declared.steps.Step.{Step}
-use Rattle.wait_model.specs.declared.steps.Step.TheVariants as step
-use Rattle.wait_model.specs.declared.watches.Aim.{Aim}
-use Rattle.wait_model.specs.declared.watches.Mode.TheVariants as mode
-use Rattle.wait_model.specs.declared.watches.Watch.TheVariants as watch
+use Rattle.wait_model.specs.{declared.layout.TheConstants.ALL_DONE, declared.steps.Step.Step, declared.watches.Aim.Aim}
+use Rattle.wait_model.specs.{Runs.is_publishing, Runs.set_step}
 use Rattle.wait_model.specs.Permits.{ShowsNobody, after_store, done_head, shows_at}
-use Rattle.wait_model.specs.Runs.{is_publishing, set_step}
 use Rattle.wait_model.specs.Views.{Look, unseen, off, elsewhere, shown}
 use Rattle.wait_model.specs.Watches.{head_of, mask_of, owner}
-use Rattle.wait_rule.specs.declared.journal.Item.{Item}
-use Rattle.wait_rule.specs.declared.journal.Item.TheVariants as item
-use Rattle.wait_rule.specs.HandedPermits.{OwesNoPermit, StaysOff}
-use Rattle.wait_rule.specs.LeftEntries.{LeftOff}
-use Rattle.wait_rule.specs.Items.{steps_of}
-use Rattle.wait_rule.specs.Known.{Known}
-use Rattle.wait_rule.specs.Queues.{IsWholeBook, walk_of_hold}
+use Rattle.wait_model.specs.declared.steps.Step.TheVariants as step
+use Rattle.wait_model.specs.declared.watches.Mode.TheVariants as mode
+use Rattle.wait_model.specs.declared.watches.Watch.TheVariants as watch
+use Rattle.wait_rule.specs.{declared.journal.Item.Item, HandedPermits.OwesNoPermit, HandedPermits.StaysOff}
+use Rattle.wait_rule.specs.{LeftEntries.LeftOff, Items.steps_of, Known.Known, Queues.IsWholeBook, Queues.walk_of_hold}
+use Rattle.wait_rule.specs.{Shown.look_entry, Transitions.AreLooks}
 use Rattle.wait_rule.specs.Says.{added, history_of, told_of, unlocked_with}
-use Rattle.wait_rule.specs.Shown.{look_entry}
-use Rattle.wait_rule.specs.Transitions.{AreLooks}
+use Rattle.wait_rule.specs.declared.journal.Item.TheVariants as item
+use Rattle.wait_rule.proofs.{KnownLaws.TaskHistories.history_after, TableSteps.ItemLists.steps_append}
 use Rattle.wait_rule.proofs.KnownLaws.CalledPermits.{adds_join, hold_may_end, inside_adds_none, left_on}
 use Rattle.wait_rule.proofs.KnownLaws.HeldPermits.{AreInside, IsInside, owed, owed_by}
-use Rattle.wait_rule.proofs.KnownLaws.TaskHistories.{history_after}
-use Rattle.wait_rule.proofs.TableSteps.ItemLists.{steps_append}
-use Rattle.wq_head.specs.Holds.{HasLocked}
-use Rattle.wq_head.specs.Looks.{Looks}
+use Rattle.wq_head.specs.{Holds.HasLocked, Looks.Looks}
 use Rattle.wq_head.specs.Selects.{HasSelected, SelectsMany, SelectsFirst, ShowsNoEntry}
 use Rattle.wait_class.proofs.Histories.{stored_history, two_more}
 use Rattle.wait_event.proofs.LookedSteps.{looks_all}

@@ -1,39 +1,26 @@
 -- The counts that a run has loaded are in their range: by its history, and where its program loads none.
 use Rattle.std.proofs.Common.{refl, sym, ◌∙◌, ap, subst, append_assoc}
 use Rattle.std.specs.Prelude.{ℕ, ◌≡◌, ◌≤◌, Bool, true, false, Option, Some, None, List, [], ◌∷◌, ◌++◌}
-use Rattle.wait_model.specs.declared.layout.TheConstants.{ALL_DONE}
-use Rattle.wait_model.specs.declared.calls.Answer.{Answer}
-use Rattle.wait_model.specs.declared.calls.Call.{Call}
-use Rattle.wait_model.specs.declared.calls.Event.{Event}
+use Rattle.wait_model.specs.{declared.layout.TheConstants.ALL_DONE, declared.calls.Answer.Answer}
+use Rattle.wait_model.specs.{declared.calls.Call.Call, declared.calls.Event.Event, declared.points.Given.Given}
+use Rattle.wait_model.specs.{declared.points.Next.Next, declared.points.Planned.Planned, declared.points.Point.Point}
+use Rattle.wait_model.specs.{declared.points.Seen.Seen, declared.queues.CalledEntry.CalledEntry}
+use Rattle.wait_model.specs.{declared.steps.Step.Step, declared.watches.Watch.Watch, Runs.is_publishing, Runs.set_step}
+use Rattle.wait_model.specs.{Tasks.meets, Watches.mask_of}
+use Rattle.wait_model.specs.Programs.{is_enough, program, select_next}
 use Rattle.wait_model.specs.declared.calls.Event.TheVariants as event
-use Rattle.wait_model.specs.declared.points.Given.{Given}
-use Rattle.wait_model.specs.declared.points.Next.{Next}
 use Rattle.wait_model.specs.declared.points.Next.TheVariants as next
-use Rattle.wait_model.specs.declared.points.Planned.{Planned}
-use Rattle.wait_model.specs.declared.points.Point.{Point}
 use Rattle.wait_model.specs.declared.points.Point.TheVariants as at
-use Rattle.wait_model.specs.declared.points.Seen.{Seen}
 use Rattle.wait_model.specs.declared.points.SelectPoint.TheVariants as selecting
-use Rattle.wait_model.specs.declared.queues.CalledEntry.{CalledEntry}
-use Rattle.wait_model.specs.declared.steps.Step.{Step}
 use Rattle.wait_model.specs.declared.steps.Step.TheVariants as step
 use Rattle.wait_model.specs.declared.watches.Mode.TheVariants as mode
-use Rattle.wait_model.specs.declared.watches.Watch.{Watch}
-use Rattle.wait_model.specs.Programs.{is_enough, program, select_next}
-use Rattle.wait_model.specs.Runs.{is_publishing, set_step}
-use Rattle.wait_model.specs.Tasks.{meets}
-use Rattle.wait_model.specs.Watches.{mask_of}
 use Rattle.wait_model.proofs.WaitLaws.OutsideStages.{either}
-use Rattle.wait_rule.specs.Items.{steps_of}
-use Rattle.wait_rule.specs.Known.{Known}
-use Rattle.wait_rule.specs.Says.{history_of}
+use Rattle.wait_rule.specs.{Items.steps_of, Known.Known, Says.history_of}
 use Rattle.wait_rule.specs.Transitions.{Goes, IsMadeFor, Program, StepOrLook, Transition, after_transition, by_look}
 use Rattle.wait_rule.specs.Transitions.{by_step, call_program}
 use Rattle.wait_rule.proofs.SaidEvents.Fronts.{history_grows, looks_history, step_history, steps_made}
-use Rattle.wait_class.specs.Laws.{is_quiet_event}
-use Rattle.wait_class.specs.Posts.{Runs}
-use Rattle.completion_cell.specs.Asks.{HasMadeCall}
-use Rattle.completion_cell.specs.LoadedCounts.{AreInRange, InRange}
+use Rattle.wait_class.specs.{Laws.is_quiet_event, Posts.Runs}
+use Rattle.completion_cell.specs.{Asks.HasMadeCall, LoadedCounts.AreInRange, LoadedCounts.InRange}
 
 -- parts of a run
 pub ranged_on : (ts us : List Transition) → AreInRange ts → AreInRange us → AreInRange (ts ++ us)

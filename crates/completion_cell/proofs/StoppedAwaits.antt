@@ -2,31 +2,23 @@
 use Rattle.std.proofs.Common.{refl, ap, arith, inl, inr}
 use Rattle.std.proofs.lemmas.Bool.Decides.{nat_tests}
 use Rattle.std.specs.Prelude.{ℕ, ◌≡◌, ◌==◌, ◌&&◌, not, Bool, true, false, is_some, List, [], ◌∷◌}
-use Rattle.wait_model.specs.declared.calls.Answer.{Answer}
-use Rattle.wait_model.specs.declared.calls.Answer.TheVariants as answer
-use Rattle.wait_model.specs.declared.calls.Call.{Call}
-use Rattle.wait_model.specs.declared.calls.Call.TheVariants as calls
-use Rattle.wait_model.specs.declared.calls.Event.{Event}
-use Rattle.wait_model.specs.declared.calls.Event.TheVariants as event
-use Rattle.wait_model.specs.declared.points.AwaitPoint.TheVariants as awaiting
-use Rattle.wait_model.specs.declared.points.Next.{Next}
-use Rattle.wait_model.specs.declared.points.Next.TheVariants as next
-use Rattle.wait_model.specs.declared.points.Planned.{Planned}
-use Rattle.wait_model.specs.declared.points.Point.{Point}
-use Rattle.wait_model.specs.declared.points.Point.TheVariants as at
-use Rattle.wait_model.specs.declared.points.PreparePoint.TheVariants as preparing
-use Rattle.wait_model.specs.declared.points.Seen.{Seen}
-use Rattle.wait_model.specs.declared.tasks.SleepState.{SleepState}
+use Rattle.wait_model.specs.{declared.calls.Answer.Answer, declared.calls.Call.Call, declared.calls.Event.Event}
+use Rattle.wait_model.specs.{declared.points.Next.Next, declared.points.Planned.Planned, declared.points.Point.Point}
+use Rattle.wait_model.specs.{declared.points.Seen.Seen, declared.tasks.SleepState.SleepState}
+use Rattle.wait_model.specs.{Selections.IsSignalledHold, Selections.signalled_hold}
 use Rattle.wait_model.specs.Points.{call_head, call_number, is_bit_wait, state_in}
 use Rattle.wait_model.specs.Programs.{await_after, await_ends, is_at_end, load, look_event, program, program_start}
 use Rattle.wait_model.specs.Programs.{signalled, zero_answer}
-use Rattle.wait_model.specs.Selections.{IsSignalledHold, signalled_hold}
 use Rattle.wait_model.specs.Tasks.{looks_in, pending, state_mask}
-use Rattle.wait_model.proofs.AccountLaws.Refusals.{refusal}
-use Rattle.wait_model.proofs.WaitLaws.OutsideStages.{either}
-use Rattle.wait_rule.specs.Heeding.{trail_of}
-use Rattle.wait_rule.specs.Known.{Known}
-use Rattle.wait_rule.specs.SaidEvents.{said}
+use Rattle.wait_model.specs.declared.calls.Answer.TheVariants as answer
+use Rattle.wait_model.specs.declared.calls.Call.TheVariants as calls
+use Rattle.wait_model.specs.declared.calls.Event.TheVariants as event
+use Rattle.wait_model.specs.declared.points.AwaitPoint.TheVariants as awaiting
+use Rattle.wait_model.specs.declared.points.Next.TheVariants as next
+use Rattle.wait_model.specs.declared.points.Point.TheVariants as at
+use Rattle.wait_model.specs.declared.points.PreparePoint.TheVariants as preparing
+use Rattle.wait_model.proofs.{AccountLaws.Refusals.refusal, WaitLaws.OutsideStages.either}
+use Rattle.wait_rule.specs.{Heeding.trail_of, Known.Known, SaidEvents.said}
 use Rattle.wait_rule.specs.Transitions.{Goes, Program, Transition, after_transition, call_program}
 use Rattle.completion_cell.specs.Words.{EndsStopped}
 

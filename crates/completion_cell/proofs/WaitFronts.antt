@@ -2,26 +2,19 @@
 use Rattle.std.proofs.Common.{refl, sym, ◌∙◌, ap, subst, arith, append_assoc, append-nil, eq-eqb, inl, inr}
 use Rattle.std.specs.Prelude.{ℕ, ◌≡◌, ◌≢◌, ◌+◌, ◌-◌, ◌==◌, ◌&&◌, not, Bool, true, false, if◌then◌else◌, Option, Some}
 use Rattle.std.specs.Prelude.{List, [], ◌∷◌, ◌++◌}
-use Rattle.wait_model.specs.declared.steps.Step.{Step}
-use Rattle.wait_model.specs.declared.steps.Step.TheVariants as step
-use Rattle.wait_model.specs.declared.watches.Watch.TheVariants as watch
-use Rattle.wait_model.specs.Fold.{after, view_of}
+use Rattle.wait_model.specs.{declared.steps.Step.Step, Fold.after, Fold.view_of, Runs.own, Watches.stands_at}
+use Rattle.wait_model.specs.{Words.entry_of, Words.flag}
 use Rattle.wait_model.specs.Permits.{Dealt, MayGiveBack, after_read, after_store, count_after, dealt, debt_after}
 use Rattle.wait_model.specs.Permits.{done_head, is_in, is_seen, leaves, none_dealt}
-use Rattle.wait_model.specs.Runs.{own}
 use Rattle.wait_model.specs.Views.{View, Look, unseen, off, shown, look_at, blank}
-use Rattle.wait_model.specs.Watches.{stands_at}
-use Rattle.wait_model.specs.Words.{entry_of, flag}
-use Rattle.wait_model.proofs.Functions.{put_at}
-use Rattle.wait_model.proofs.HistoryLaws.HoldLooks.{after_snoc}
-use Rattle.wait_model.proofs.PermitLaws.OwnTurns.{deals_snoc, held_is}
+use Rattle.wait_model.specs.declared.steps.Step.TheVariants as step
+use Rattle.wait_model.specs.declared.watches.Watch.TheVariants as watch
+use Rattle.wait_model.proofs.{Functions.put_at, HistoryLaws.HoldLooks.after_snoc, PermitLaws.OwnTurns.deals_snoc}
+use Rattle.wait_model.proofs.PermitLaws.OwnTurns.{held_is}
 use Rattle.wait_model.proofs.PermitLaws.PermitTurns.{look_seen, not_unseen, seen_of}
-use Rattle.wait_rule.specs.HandedPermits.{OwesNoPermit}
-use Rattle.wait_rule.specs.LeftEntries.{dealt_of}
-use Rattle.wait_rule.specs.Known.{Known}
-use Rattle.wait_rule.specs.Says.{history_of, told_of}
-use Rattle.wait_rule.proofs.KnownLaws.CalledPermits.{order_as}
-use Rattle.wait_rule.proofs.KnownLaws.HandedPermits.{cell_is}
+use Rattle.wait_rule.specs.{HandedPermits.OwesNoPermit, LeftEntries.dealt_of, Known.Known, Says.history_of}
+use Rattle.wait_rule.specs.Says.{told_of}
+use Rattle.wait_rule.proofs.{KnownLaws.CalledPermits.order_as, KnownLaws.HandedPermits.cell_is}
 use Rattle.wait_rule.proofs.KnownLaws.HandedSteps.{order_front}
 use Rattle.completion_cell.specs.HeldPermits.{Deals, HasLoadedCount, Held, IsOfWait, WaitsForPermit, WaitsIn}
 use Rattle.completion_cell.specs.HeldPermits.{counted_in_cell, still_owed_in_cell}

@@ -1,30 +1,21 @@
 -- What whole calls on completions make follows their sentences.
 use Rattle.std.proofs.Common.{refl}
 use Rattle.std.specs.Prelude.{ℕ, ◌≡◌, true, List, []}
-use Rattle.wait_model.specs.declared.calls.Answer.{Answer}
-use Rattle.wait_model.specs.declared.calls.Call.{Call}
+use Rattle.wait_model.specs.{declared.calls.Answer.Answer, declared.calls.Call.Call, Points.call_watch}
+use Rattle.wait_model.specs.{Programs.program_start, Programs.zero_answer, Sentences.Follows, Watches.is_done}
 use Rattle.wait_model.specs.declared.calls.Call.TheVariants as calls
 use Rattle.wait_model.specs.declared.points.Next.TheVariants as next
 use Rattle.wait_model.specs.declared.watches.Watch.TheVariants as watch
-use Rattle.wait_model.specs.Points.{call_watch}
-use Rattle.wait_model.specs.Programs.{program_start, zero_answer}
-use Rattle.wait_model.specs.Sentences.{Follows}
-use Rattle.wait_model.specs.Watches.{is_done}
-use Rattle.wait_rule.specs.Known.{Known}
-use Rattle.wait_rule.specs.SaidEvents.{MayOpen}
-use Rattle.wait_rule.specs.Says.{MeetsLaw}
+use Rattle.wait_rule.specs.{Known.Known, SaidEvents.MayOpen, Says.MeetsLaw}
 use Rattle.wait_rule.specs.Transitions.{Goes, Transition, call_program}
 use Rattle.wait_rule.proofs.SaidEvents.Fronts.{number_stays}
 use Rattle.wait_event.specs.Words.{call_says}
 use Rattle.wait_event.specs.declared.wait_events.WaitEnd.TheVariants as wait_end
 use Rattle.wait_event.proofs.Words.{list_of}
-use Rattle.completion_cell.specs.AwaitEnds.{answer_of_await}
-use Rattle.completion_cell.specs.Asks.{hit_answer}
-use Rattle.completion_cell.specs.LoadedCounts.{AreInRange}
+use Rattle.completion_cell.specs.{AwaitEnds.answer_of_await, Asks.hit_answer, LoadedCounts.AreInRange}
 use Rattle.completion_cell.specs.Words.{AllsFollow, AsksFollow, AwaitsFollow, AwaitsHeed, CompletesFollow, ResetsFollow}
 use Rattle.completion_cell.specs.Words.{TryWaitsFollow}
-use Rattle.completion_cell.proofs.FollowedCells.{cells_follow}
-use Rattle.completion_cell.proofs.StoppedAwaits.{awaits_stop}
+use Rattle.completion_cell.proofs.{FollowedCells.cells_follow, StoppedAwaits.awaits_stop}
 
 -- a call, in the table that a task sees after it
 call_follows : (d : ℕ) (call : Call) → call_watch call ≡ watch.Done d → is_done (call_watch call) ≡ true

@@ -2,25 +2,17 @@
 -- What the calls say that ask a completion's count, take one of it, and clear it.
 use Rattle.std.specs.Prelude.{ℕ, ◌≡◌, ◌≤◌, ◌||◌, ◌==◌, not, Bool, true, false, pos, if◌then◌else◌, Option, Some, List}
 use Rattle.std.specs.Prelude.{◌∷◌, ◌++◌}
-use Rattle.wait_model.specs.declared.layout.TheConstants.{ALL_DONE}
-use Rattle.wait_model.specs.declared.calls.Call.{Call}
+use Rattle.wait_model.specs.{declared.layout.TheConstants.ALL_DONE, declared.calls.Call.Call}
+use Rattle.wait_model.specs.{declared.calls.Answer.Answer, declared.points.Point.Point, declared.steps.Step.Step}
+use Rattle.wait_model.specs.{declared.watches.Aim.Aim, Programs.zero_answer, Watches.head_of}
 use Rattle.wait_model.specs.declared.calls.Call.TheVariants as calls
-use Rattle.wait_model.specs.declared.calls.Answer.{Answer}
 use Rattle.wait_model.specs.declared.calls.Answer.TheVariants as answer
 use Rattle.wait_model.specs.declared.points.CountPoint.TheVariants as counting
 use Rattle.wait_model.specs.declared.points.Next.TheVariants as next
-use Rattle.wait_model.specs.declared.points.Point.{Point}
 use Rattle.wait_model.specs.declared.points.Point.TheVariants as at
-use Rattle.wait_model.specs.declared.steps.Step.{Step}
 use Rattle.wait_model.specs.declared.steps.Step.TheVariants as step
-use Rattle.wait_model.specs.declared.watches.Aim.{Aim}
 use Rattle.wait_model.specs.declared.watches.Watch.TheVariants as watch
-use Rattle.wait_model.specs.Programs.{zero_answer}
-use Rattle.wait_model.specs.Watches.{head_of}
-use Rattle.wait_rule.specs.Known.{Known}
-use Rattle.wait_rule.specs.Counts.{HoldsCount}
-use Rattle.wait_rule.specs.HeldValues.{count_in}
-use Rattle.wait_rule.specs.Says.{history_of}
+use Rattle.wait_rule.specs.{Known.Known, Counts.HoldsCount, HeldValues.count_in, Says.history_of}
 use Rattle.wait_rule.specs.Transitions.{Goes, Transition, call_program}
 use Rattle.completion_cell.specs.LoadedCounts.{AreInRange}
 

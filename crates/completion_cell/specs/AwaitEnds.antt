@@ -1,33 +1,22 @@
 -- To be believed.
 -- What whole waits for completions say.
 use Rattle.std.specs.Prelude.{ℕ, ◌≡◌, ◌&&◌, not, Bool, true, false, is_some, Some, Result, Ok, Err}
-use Rattle.wait_model.specs.declared.calls.Answer.{Answer}
+use Rattle.wait_model.specs.{declared.calls.Answer.Answer, declared.tasks.SleepState.SleepState, Programs.zero_answer}
+use Rattle.wait_model.specs.{Programs.signalled, Watches.head_of, Words.entry_of}
+use Rattle.wait_model.specs.Tasks.{pending, state_mask, task_of}
 use Rattle.wait_model.specs.declared.calls.Answer.TheVariants as answer
 use Rattle.wait_model.specs.declared.calls.Call.TheVariants as calls
 use Rattle.wait_model.specs.declared.points.AwaitPoint.TheVariants as awaiting
 use Rattle.wait_model.specs.declared.points.Next.TheVariants as next
 use Rattle.wait_model.specs.declared.points.Point.TheVariants as at
-use Rattle.wait_model.specs.declared.tasks.SleepState.{SleepState}
 use Rattle.wait_model.specs.declared.watches.Watch.TheVariants as watch
-use Rattle.wait_model.specs.Programs.{zero_answer, signalled}
-use Rattle.wait_model.specs.Tasks.{pending, state_mask, task_of}
-use Rattle.wait_model.specs.Watches.{head_of}
-use Rattle.wait_model.specs.Words.{entry_of}
-use Rattle.wait_rule.specs.Ends.{WasWorn}
-use Rattle.wait_rule.specs.HeldValues.{count_in}
-use Rattle.wait_rule.specs.Known.{Known}
-use Rattle.wait_rule.specs.Says.{history_of}
-use Rattle.wait_rule.specs.Transitions.{call_program}
-use Rattle.wait_event.specs.declared.wait_events.WaitEnd.{WaitEnd}
+use Rattle.wait_rule.specs.{Ends.WasWorn, HeldValues.count_in, Known.Known, Says.history_of, Transitions.call_program}
+use Rattle.wait_event.specs.{declared.wait_events.WaitEnd.WaitEnd, Waits.has_queued_in}
 use Rattle.wait_event.specs.declared.wait_events.WaitEnd.TheVariants as wait_end
-use Rattle.wait_class.specs.Posts.{Runs}
-use Rattle.wait_class.specs.Posts.{EndsWith, own_of}
-use Rattle.wait_event.specs.Waits.{has_queued_in}
-use Rattle.completion_cell.specs.Awaits.{await_head, await_left_by}
-use Rattle.completion_cell.specs.declared.awaits.AwaitOutcome.{AwaitOutcome}
+use Rattle.wait_class.specs.Posts.{Runs, EndsWith, own_of}
+use Rattle.completion_cell.specs.{Awaits.await_head, Awaits.await_left_by, declared.awaits.AwaitOutcome.AwaitOutcome}
+use Rattle.completion_cell.specs.{declared.awaits.AwaitCall.AwaitCall, LoadedCounts.AreInRange}
 use Rattle.completion_cell.specs.declared.awaits.AwaitOutcome.TheVariants as outcome
-use Rattle.completion_cell.specs.declared.awaits.AwaitCall.{AwaitCall}
-use Rattle.completion_cell.specs.LoadedCounts.{AreInRange}
 
 -- the task went through the whole call, whether it queued its entry, and that the counts that it loaded have 32 bits
 pub record HasAwaited (old new : Known) (d : ℕ) (st : SleepState) (a : Answer) (queued : Bool) : Type 0 where

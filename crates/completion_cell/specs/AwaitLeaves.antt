@@ -2,25 +2,20 @@
 -- A wait for a completion that its task leaves: its exits, and what it says.
 use Rattle.std.specs.Prelude.{ℕ, ◌≡◌, Bool, true, false, Option, Some, None, Result, Ok, Err}
 use Rattle.wait_model.specs.declared.points.AwaitPoint.TheVariants as awaiting
-use Rattle.wait_model.specs.declared.points.Point.{Point}
+use Rattle.wait_model.specs.{declared.points.Point.Point, declared.tasks.SleepState.SleepState}
 use Rattle.wait_model.specs.declared.points.Point.TheVariants as at
-use Rattle.wait_model.specs.declared.tasks.SleepState.{SleepState}
 use Rattle.wait_rule.specs.Known.{Known}
 use Rattle.wait_class.specs.declared.stages.Run.{Run}
 use Rattle.wait_class.specs.declared.stages.Turn.TheVariants as turn
 use Rattle.wait_event.specs.declared.wait_events.WaitEnd.{WaitEnd}
 use Rattle.wait_event.specs.declared.wait_events.WaitEnd.TheVariants as wait_end
-use Rattle.wait_leave.specs.declared.exits.Exit.{Exit}
-use Rattle.wait_leave.specs.declared.exits.Until.{Until}
+use Rattle.wait_leave.specs.{declared.exits.Exit.Exit, declared.exits.Until.Until, Leaves.Exits, OnTheWay.OnTheWay}
 use Rattle.wait_leave.specs.declared.exits.Until.TheVariants as until
-use Rattle.wait_leave.specs.Leaves.{Exits}
-use Rattle.wait_leave.specs.OnTheWay.{OnTheWay}
+use Rattle.completion_cell.specs.{declared.awaits.AwaitCall.AwaitCall, declared.awaits.AwaitOutcome.AwaitOutcome}
+use Rattle.completion_cell.specs.declared.awaits.AwaitStage.{AwaitStage}
 use Rattle.completion_cell.specs.AwaitEnds.{IsSignalled, IsWorn, await_end_in}
 use Rattle.completion_cell.specs.Awaits.{IsFreshAwait, WasAwaitLeft, await_table}
-use Rattle.completion_cell.specs.declared.awaits.AwaitCall.{AwaitCall}
-use Rattle.completion_cell.specs.declared.awaits.AwaitOutcome.{AwaitOutcome}
 use Rattle.completion_cell.specs.declared.awaits.AwaitOutcome.TheVariants as outcome
-use Rattle.completion_cell.specs.declared.awaits.AwaitStage.{AwaitStage}
 use Rattle.completion_cell.specs.declared.awaits.AwaitStage.TheVariants as stage
 
 -- It goes out in its hold alone, where that has loaded 0: so who was handed a permit takes it. Before its sleep it stores

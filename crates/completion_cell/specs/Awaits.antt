@@ -2,53 +2,35 @@
 -- A wait for a completion: its stages, where it goes on behind each, what it tells of its transitions, and what its
 -- places say of its last steps.
 use Rattle.std.specs.Prelude.{ℕ, ◌≡◌, ◌≢◌, ◌<◌, ◌||◌, ◌==◌, Bool, true, false, is_some, if◌then◌else◌, Option, Some, None, List, [], ◌∷◌}
-use Rattle.wait_model.specs.declared.layout.TheConstants.{COMPLETIONS}
-use Rattle.wait_model.specs.declared.calls.Call.{Call}
+use Rattle.wait_model.specs.{declared.layout.TheConstants.COMPLETIONS, declared.calls.Call.Call}
+use Rattle.wait_model.specs.{declared.calls.Answer.Answer, declared.points.Point.Point, declared.steps.Step.Step}
+use Rattle.wait_model.specs.{declared.tasks.SleepState.SleepState, declared.watches.Aim.Aim}
+use Rattle.wait_model.specs.{declared.watches.Watch.Watch, Permits.done_head, PointFacts.absent, Programs.zero_answer}
+use Rattle.wait_model.specs.{Programs.signalled, Views.off as gone, Watches.head_of, Words.entry_of}
+use Rattle.wait_model.specs.Tasks.{looks_in, pending, state_mask, task_of}
 use Rattle.wait_model.specs.declared.calls.Call.TheVariants as calls
-use Rattle.wait_model.specs.declared.calls.Answer.{Answer}
 use Rattle.wait_model.specs.declared.calls.Answer.TheVariants as answer
 use Rattle.wait_model.specs.declared.points.AwaitPoint.TheVariants as awaiting
-use Rattle.wait_model.specs.declared.points.Point.{Point}
 use Rattle.wait_model.specs.declared.points.Point.TheVariants as at
 use Rattle.wait_model.specs.declared.points.PreparePoint.TheVariants as preparing
-use Rattle.wait_model.specs.declared.steps.Step.{Step}
 use Rattle.wait_model.specs.declared.steps.Step.TheVariants as step
-use Rattle.wait_model.specs.declared.tasks.SleepState.{SleepState}
-use Rattle.wait_model.specs.declared.watches.Aim.{Aim}
-use Rattle.wait_model.specs.declared.watches.Watch.{Watch}
 use Rattle.wait_model.specs.declared.watches.Watch.TheVariants as watch
-use Rattle.wait_model.specs.Permits.{done_head}
-use Rattle.wait_model.specs.PointFacts.{absent}
-use Rattle.wait_model.specs.Programs.{zero_answer, signalled}
-use Rattle.wait_model.specs.Tasks.{looks_in, pending, state_mask, task_of}
-use Rattle.wait_model.specs.Views.{off as gone}
-use Rattle.wait_model.specs.Watches.{head_of}
-use Rattle.wait_model.specs.Words.{entry_of}
-use Rattle.wait_rule.specs.Ends.{WasWorn}
-use Rattle.wait_rule.specs.HeldValues.{count_in}
-use Rattle.wait_rule.specs.Known.{Known}
-use Rattle.wait_rule.specs.LeftEntries.{LeftOff}
+use Rattle.wait_rule.specs.{Ends.WasWorn, HeldValues.count_in, Known.Known, LeftEntries.LeftOff, Stays.with_left_entry}
+use Rattle.wait_rule.specs.{Tickets.no_ticket, Transitions.OnlyLooks, Transitions.Transition}
 use Rattle.wait_rule.specs.Says.{IsUp, history_of, told_of}
-use Rattle.wait_rule.specs.Stays.{with_left_entry}
-use Rattle.wait_rule.specs.Tickets.{no_ticket}
-use Rattle.wait_rule.specs.Transitions.{OnlyLooks, Transition}
+use Rattle.wait_class.specs.{declared.stages.Added.Added, declared.stages.Doing.Doing, declared.stages.Run.Run}
+use Rattle.wait_class.specs.declared.stages.Turn.{Turn}
 use Rattle.wait_class.specs.Posts.{EndsWith, KeepsBut, Post, Stands, own_of}
 use Rattle.wait_class.specs.Tables.{CallTable, Turned, call_plan, post_of}
-use Rattle.wait_class.specs.declared.stages.Added.{Added}
 use Rattle.wait_class.specs.declared.stages.Added.TheVariants as adds
-use Rattle.wait_class.specs.declared.stages.Doing.{Doing}
 use Rattle.wait_class.specs.declared.stages.Doing.TheVariants as doing
-use Rattle.wait_class.specs.declared.stages.Run.{Run}
-use Rattle.wait_class.specs.declared.stages.Turn.{Turn}
 use Rattle.wait_class.specs.declared.stages.Turn.TheVariants as turn
 use Rattle.wait_event.specs.Waits.{has_queued_in}
 use Rattle.wait_leave.specs.Leaves.{with_asked}
+use Rattle.completion_cell.specs.{LoadedCounts.AreInRange, declared.awaits.AwaitCall.AwaitCall}
+use Rattle.completion_cell.specs.{declared.awaits.AwaitOutcome.AwaitOutcome, declared.awaits.AwaitStage.AwaitStage}
 use Rattle.completion_cell.specs.HeldPermits.{HasBegunHold, Knows, WaitsIn}
-use Rattle.completion_cell.specs.LoadedCounts.{AreInRange}
-use Rattle.completion_cell.specs.declared.awaits.AwaitCall.{AwaitCall}
-use Rattle.completion_cell.specs.declared.awaits.AwaitOutcome.{AwaitOutcome}
 use Rattle.completion_cell.specs.declared.awaits.AwaitOutcome.TheVariants as outcome
-use Rattle.completion_cell.specs.declared.awaits.AwaitStage.{AwaitStage}
 use Rattle.completion_cell.specs.declared.awaits.AwaitStage.TheVariants as stage
 
 -- The stages: the point of the program, what is done there, and whether the ticket of its lock is drawn.

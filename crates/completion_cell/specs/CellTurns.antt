@@ -7,27 +7,19 @@ use Rattle.wait_model.specs.declared.watches.Mode.TheVariants as mode
 use Rattle.wait_model.specs.declared.watches.Watch.TheVariants as watch
 use Rattle.wait_model.specs.Watches.{head_of}
 use Rattle.wait_rule.specs.declared.journal.Item.TheVariants as item
-use Rattle.wait_rule.specs.declared.tries.FailedTries.{FailedTries}
-use Rattle.wait_rule.specs.Counts.{FindsCount}
-use Rattle.wait_rule.specs.HandedPermits.{StaysOff}
-use Rattle.wait_rule.specs.LeftEntries.{LeftOff}
-use Rattle.wait_rule.specs.Known.{Known}
-use Rattle.wait_rule.specs.Queues.{IsTold}
+use Rattle.wait_rule.specs.{declared.tries.FailedTries.FailedTries, Counts.FindsCount, HandedPermits.StaysOff}
+use Rattle.wait_rule.specs.{LeftEntries.LeftOff, Known.Known, Queues.IsTold, Tried.IsStarved}
 use Rattle.wait_rule.specs.Says.{IsFree, IsUp, added}
 use Rattle.wait_rule.specs.Stays.{Carries, Change, unchanged}
-use Rattle.wait_rule.specs.Tried.{IsStarved}
-use Rattle.wait_event.specs.Conds.{set_change}
-use Rattle.wait_event.specs.Entries.{hold_change}
+use Rattle.wait_event.specs.{Conds.set_change, Entries.hold_change}
 use Rattle.wq_head.specs.LockTurns.{AwaitsLock, FindsOther, TookLock}
-use Rattle.completion_cell.specs.declared.cell_turns.CellCall.{CellCall}
-use Rattle.completion_cell.specs.declared.cell_turns.CellCall.TheVariants as call
-use Rattle.completion_cell.specs.declared.cell_turns.CellRun.{CellRun}
-use Rattle.completion_cell.specs.declared.cell_turns.CellStage.{CellStage}
-use Rattle.completion_cell.specs.declared.cell_turns.CellStage.TheVariants as stage
-use Rattle.completion_cell.specs.declared.cell_turns.CellTurn.{CellTurn}
-use Rattle.completion_cell.specs.declared.cell_turns.CellTurn.TheVariants as turn
+use Rattle.completion_cell.specs.{declared.cell_turns.CellCall.CellCall, declared.cell_turns.CellRun.CellRun}
+use Rattle.completion_cell.specs.{declared.cell_turns.CellStage.CellStage, declared.cell_turns.CellTurn.CellTurn}
+use Rattle.completion_cell.specs.{Completes.HasCompleted, Completes.HasCompletedAll}
 use Rattle.completion_cell.specs.Asks.{HasAsked, HasReset, HasTriedCell}
-use Rattle.completion_cell.specs.Completes.{HasCompleted, HasCompletedAll}
+use Rattle.completion_cell.specs.declared.cell_turns.CellCall.TheVariants as call
+use Rattle.completion_cell.specs.declared.cell_turns.CellStage.TheVariants as stage
+use Rattle.completion_cell.specs.declared.cell_turns.CellTurn.TheVariants as turn
 
 -- this call, on this completion
 pub record IsFreshCell (r : CellRun) (c : CellCall) (d : ℕ) : Type 0 where

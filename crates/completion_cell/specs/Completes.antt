@@ -1,11 +1,10 @@
 -- To be believed.
 -- What the calls say that make a completion done.
 use Rattle.std.specs.Prelude.{ℕ, ◌≡◌, ◌==◌, not, Bool}
-use Rattle.wait_model.specs.declared.layout.TheConstants.{ALL_DONE}
+use Rattle.wait_model.specs.{declared.layout.TheConstants.ALL_DONE, Programs.zero_answer}
 use Rattle.wait_model.specs.declared.calls.Call.TheVariants as calls
 use Rattle.wait_model.specs.declared.points.Point.TheVariants as at
 use Rattle.wait_model.specs.declared.points.SelectPoint.TheVariants as selecting
-use Rattle.wait_model.specs.Programs.{zero_answer}
 use Rattle.wait_rule.specs.Known.{Known}
 use Rattle.completion_cell.specs.Asks.{HasMadeCall}
 

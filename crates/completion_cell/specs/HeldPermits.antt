@@ -2,18 +2,12 @@
 -- What the hold of a wait knows of its count, and makes of permits, step by step.
 use Rattle.std.specs.Prelude.{ℕ, ◌≡◌, ◌≢◌, ◌≤◌, ◌==◌, if◌then◌else◌, true}
 use Rattle.std.specs.Prelude.{Option, Some, List, [], ◌∷◌, ◌++◌}
-use Rattle.wait_model.specs.declared.layout.TheConstants.{ALL_DONE}
-use Rattle.wait_model.specs.declared.steps.Step.{Step}
+use Rattle.wait_model.specs.{declared.layout.TheConstants.ALL_DONE, declared.steps.Step.Step, Fold.view_of, Runs.own}
+use Rattle.wait_model.specs.Views.{unseen}
+use Rattle.wait_model.specs.Permits.{after_read, after_store, dealt, done_head}
 use Rattle.wait_model.specs.declared.steps.Step.TheVariants as step
 use Rattle.wait_model.specs.declared.watches.Watch.TheVariants as watch
-use Rattle.wait_model.specs.Fold.{view_of}
-use Rattle.wait_model.specs.Permits.{after_read, after_store, dealt, done_head}
-use Rattle.wait_model.specs.Runs.{own}
-use Rattle.wait_model.specs.Views.{unseen}
-use Rattle.wait_rule.specs.HeldValues.{count_in}
-use Rattle.wait_rule.specs.LeftEntries.{OrderOf}
-use Rattle.wait_rule.specs.Known.{Known}
-use Rattle.wait_rule.specs.Says.{history_of}
+use Rattle.wait_rule.specs.{HeldValues.count_in, LeftEntries.OrderOf, Known.Known, Says.history_of}
 
 -- the count that a hold of the head of d knows after one more step, and what it owes
 abbrev pub counted_in_cell : ℕ → Step → Option ℕ → Option ℕ

@@ -4,10 +4,7 @@ use Rattle.std.specs.Prelude.{ℕ}
 use Rattle.wait_model.specs.declared.watches.Mode.TheVariants as mode
 use Rattle.wait_model.specs.declared.watches.Watch.TheVariants as watch
 use Rattle.wait_event.specs.Conds.{set_change}
-use Rattle.wait_rule.specs.Known.{Known}
-use Rattle.wait_rule.specs.LosesNone.{LeavesNoneAsleep, OwesBeside}
-use Rattle.wait_rule.specs.Says.{Excuse}
-use Rattle.wait_rule.specs.Stays.{Carries}
+use Rattle.wait_rule.specs.{Known.Known, LosesNone.LeavesNoneAsleep, LosesNone.OwesBeside, Says.Excuse, Stays.Carries}
 
 -- before the call the task owed no wake of the completion
 abbrev pub CompletesLoseNone : Type 0

@@ -3,20 +3,14 @@
 -- signal has found one in its last hold.
 use Rattle.std.specs.Prelude.{ℕ, ◌≡◌, Bool, false, Result, Err, List, [], ◌∷◌}
 use Rattle.wait_model.specs.declared.calls.Call.TheVariants as calls
-use Rattle.wait_model.specs.declared.calls.Event.{Event}
+use Rattle.wait_model.specs.{declared.calls.Event.Event, declared.tasks.SleepState.SleepState, Programs.signalled}
+use Rattle.wait_model.specs.{Programs.zero_answer, Selections.IsSignalledHold, Sentences.Follows, Watches.head_of}
+use Rattle.wait_model.specs.Watches.{number_of}
 use Rattle.wait_model.specs.declared.calls.Event.TheVariants as event
-use Rattle.wait_model.specs.declared.tasks.SleepState.{SleepState}
 use Rattle.wait_model.specs.declared.watches.Watch.TheVariants as watch
-use Rattle.wait_model.specs.Programs.{signalled, zero_answer}
-use Rattle.wait_model.specs.Selections.{IsSignalledHold}
-use Rattle.wait_model.specs.Sentences.{Follows}
-use Rattle.wait_model.specs.Watches.{head_of, number_of}
-use Rattle.wait_rule.specs.Heeding.{trail_of}
-use Rattle.wait_rule.specs.Known.{Known}
-use Rattle.wait_rule.specs.Says.{MeetsLaw}
+use Rattle.wait_rule.specs.{Heeding.trail_of, Known.Known, Says.MeetsLaw}
 use Rattle.wait_class.specs.Posts.{IsOut}
-use Rattle.wait_event.specs.Words.{call_says}
-use Rattle.wait_event.specs.declared.wait_events.WaitEnd.{WaitEnd}
+use Rattle.wait_event.specs.{Words.call_says, declared.wait_events.WaitEnd.WaitEnd}
 use Rattle.completion_cell.specs.AwaitEnds.{EndsAwait, answer_of_await}
 use Rattle.completion_cell.specs.Asks.{HasAsked, HasReset, HasTriedCell, hit_answer}
 use Rattle.completion_cell.specs.Completes.{HasCompleted, HasCompletedAll}

@@ -2,13 +2,8 @@
 
 ghost use Rattle.std.specs.Prelude.{◌≡◌, ◌<◌, ◌-◌, MatchBool};
 ghost use Rattle.wait_model.specs.declared.layout.TheConstants.{COMPLETIONS, ALL_DONE};
-ghost use Rattle.wait_rule.specs.Counts.{StoresCount};
-ghost use Rattle.wait_rule.specs.HandedPermits.{StaysOff};
-ghost use Rattle.wait_rule.specs.LeftEntries.{LeftOff};
-ghost use Rattle.wait_rule.specs.Known.{Known};
-ghost use Rattle.wait_rule.specs.PassedLocks.{PassesNone};
-ghost use Rattle.wait_rule.specs.Says.{IsFree, IsUp};
-ghost use Rattle.wait_rule.specs.Stays.{Carries};
+ghost use Rattle.wait_rule.specs.{Counts.StoresCount, HandedPermits.StaysOff, LeftEntries.LeftOff, Known.Known};
+ghost use Rattle.wait_rule.specs.{PassedLocks.PassesNone, Says.IsFree, Says.IsUp, Stays.Carries};
 ghost use Rattle.wait_event.specs.Entries.{hold_change};
 ghost use Rattle.wq_head.specs.Roused.{RousesNone};
 ghost use Rattle.completion_cell.specs.declared.cell_turns.CellCall.TheVariants as call;

@@ -3,12 +3,9 @@
 
 ghost use Rattle.std.specs.Prelude.{◌≡◌, ◌⊎◌, true};
 ghost use Rattle.wait_model.specs.declared.layout.TheConstants.{HEADS};
-ghost use Rattle.wait_rule.specs.Known.{Known};
-ghost use Rattle.wait_rule.specs.PassedLocks.{PassesNone};
-ghost use Rattle.wait_rule.specs.Says.{IsUp};
+ghost use Rattle.wait_rule.specs.{Known.Known, PassedLocks.PassesNone, Says.IsUp};
 ghost use Rattle.wait_class.specs.declared.stages.Doing.TheVariants as doing;
-ghost use Rattle.wait_class.specs.Handing.{LastGiven};
-ghost use Rattle.wait_class.specs.Laws.{AddsOwn, MayAdd};
+ghost use Rattle.wait_class.specs.{Handing.LastGiven, Laws.AddsOwn, Laws.MayAdd};
 ghost use Rattle.wait_class.specs.Tables.{IsAt, IsStop, SleepsNot, Turned, falls};
 ghost use Rattle.completion_cell.specs.declared.awaits.AwaitStage.TheVariants as stage;
 ghost use Rattle.completion_cell.specs.Awaits.{ParesAwait, QuitsFrom, TakesFrom, await_table, counted_to};

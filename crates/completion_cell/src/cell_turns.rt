@@ -2,10 +2,7 @@
 
 ghost use Rattle.std.specs.Prelude.{◌≡◌, ◌<◌, [], false, MatchBool, MatchResult};
 ghost use Rattle.wait_model.specs.declared.layout.TheConstants.{COMPLETIONS};
-ghost use Rattle.wait_rule.specs.LeftEntries.{LeftOff};
-ghost use Rattle.wait_rule.specs.Known.{Known};
-ghost use Rattle.wait_rule.specs.PassedLocks.{PassesNone};
-ghost use Rattle.wait_rule.specs.Says.{IsFree, IsUp};
+ghost use Rattle.wait_rule.specs.{LeftEntries.LeftOff, Known.Known, PassedLocks.PassesNone, Says.IsFree, Says.IsUp};
 ghost use Rattle.wq_head.specs.Roused.{IsRousing, RousesNone, tasks_in};
 ghost use Rattle.completion_cell.specs.declared.cell_turns.CellStage.TheVariants as stages;
 ghost use Rattle.completion_cell.specs.CellTurns.{HasCellStarved, HasCellTurned, HoldsForCell, IsAtCell, IsFreshCell, IsCellOver, CellRests, peeks_first};

@@ -4,36 +4,25 @@ use Rattle.std.specs.Prelude.{ℕ, ◌≡◌, ◌+◌, ◌*◌, ◌<◌, ◌⊎�
 use Rattle.std.specs.Prelude.{Option, Some, IfSome}
 use Rattle.std.specs.Io.KnownBytes.{append_known}
 use Rattle.atomic_table.specs.Seated.{TableId}
-use Rattle.wait_model.specs.declared.layout.TheConstants.{CLAIMS, TASKS}
-use Rattle.wait_model.specs.SignalCounts.{takes_fatal}
-use Rattle.wait_model.specs.Totals.{total}
-use Rattle.wait_rule.specs.declared.journal.Item.{Item}
-use Rattle.wait_rule.specs.declared.journal.Journal.{Journal}
-use Rattle.wait_rule.specs.Items.{steps_of}
-use Rattle.wait_rule.specs.Journals.{has_of}
-use Rattle.wait_rule.specs.Known.{Known}
+use Rattle.wait_model.specs.{declared.layout.TheConstants.CLAIMS, declared.layout.TheConstants.TASKS}
+use Rattle.wait_model.specs.{SignalCounts.takes_fatal, Totals.total}
+use Rattle.wait_rule.specs.{declared.journal.Item.Item, declared.journal.Journal.Journal, Items.steps_of}
+use Rattle.wait_rule.specs.{Journals.has_of, Known.Known, TableLaws.HasAll, Tallies.amounts_of}
 use Rattle.wait_rule.specs.Pipes.{Delivers, End, end_of, moved_bytes, read_end, was_refused, write_end}
 use Rattle.wait_rule.specs.PipeSays.{end_at, reading, writing}
 use Rattle.wait_rule.specs.Says.{IsShown, history_of, newcomer}
-use Rattle.wait_rule.specs.TableLaws.{HasAll}
-use Rattle.wait_rule.specs.Tallies.{amounts_of}
 use Rattle.wait_pipe.specs.Pieces.{IsAtEnd}
 use Rattle.edge_io.specs.Faults.{HasRisen}
 use Rattle.func_head.specs.Walks.{EntryState}
+use Rattle.copy_plan.specs.{declared.plan.Planned.Planned, declared.stop.ReaderEnd.ReaderEnd, declared.stop.Stop.Stop}
+use Rattle.copy_plan.specs.{declared.stop.WorkerEnd.WorkerEnd, Plans.due_at, Plans.fatal_of, Stops.IfFinished}
+use Rattle.copy_plan.specs.Stops.{IfTaken}
 use Rattle.copy_plan.specs.declared.TheConstants.{COUNTED_PAGE, SINK_PIPE, SOURCE_PIPE}
-use Rattle.copy_plan.specs.declared.plan.Planned.{Planned}
-use Rattle.copy_plan.specs.declared.stop.ReaderEnd.{ReaderEnd}
-use Rattle.copy_plan.specs.declared.stop.Stop.{Stop}
 use Rattle.copy_plan.specs.declared.stop.Stop.TheVariants as stop
-use Rattle.copy_plan.specs.declared.stop.WorkerEnd.{WorkerEnd}
 use Rattle.copy_ends.specs.Copied.{AllFinished, Controlled, HoldsGiven, IsNotTaken, NoneTaken, Watched, worker_numbers}
 use Rattle.copy_ends.specs.Did.{ReaderWorked, Refused, RelayWorked, WriterWorked}
-use Rattle.copy_plan.specs.Plans.{due_at, fatal_of}
-use Rattle.copy_turns.specs.Raises.{kills_in}
-use Rattle.copy_plan.specs.Stops.{IfFinished, IfTaken}
+use Rattle.copy_turns.specs.{Raises.kills_in, Watched.ShowsPieces, Work.TookKill}
 use Rattle.copy_turns.specs.Turns.{IsReaderStop, IsRelayStop, IsWriterStop}
-use Rattle.copy_turns.specs.Watched.{ShowsPieces}
-use Rattle.copy_turns.specs.Work.{TookKill}
 use Rattle.copy_ends.proofs.Crews.{delivers, nobody, of_each}
 use Rattle.copy_ends.proofs.JoinedFour.{four, four_has_all, has_one, has_two, has_three}
 use Rattle.copy_ends.proofs.RaisedNone.{RaisedNone, none_raised, took_none}

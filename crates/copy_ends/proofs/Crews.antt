@@ -5,15 +5,10 @@ use Rattle.std.specs.Prelude.{ℕ, ◌≡◌, ◌≢◌, ◌+◌, ◌-◌, ◌<�
 use Rattle.atomic_table.specs.Seated.{TableId}
 use Rattle.wait_model.specs.declared.layout.TheConstants.{CLAIMS, PIPES, TASKS}
 use Rattle.wait_model.specs.Words.{flag}
-use Rattle.wait_rule.specs.declared.journal.Item.{Item}
-use Rattle.wait_rule.specs.declared.journal.Journal.{Journal}
-use Rattle.wait_rule.specs.declared.journal.Part.{Part}
-use Rattle.wait_rule.specs.Aside.{Grows}
+use Rattle.wait_rule.specs.{declared.journal.Item.Item, declared.journal.Journal.Journal, declared.journal.Part.Part}
+use Rattle.wait_rule.specs.{Aside.Grows, Known.Known, Says.IsShown, Says.newcomer, TableLaws.HasAll}
 use Rattle.wait_rule.specs.Journals.{fresh, has_of, items_in, one_within, owns, pushed, times_in}
-use Rattle.wait_rule.specs.Known.{Known}
 use Rattle.wait_rule.specs.Pipes.{Delivers, end_of, read_end, was_refused, write_end}
-use Rattle.wait_rule.specs.Says.{IsShown, newcomer}
-use Rattle.wait_rule.specs.TableLaws.{HasAll}
 use Rattle.wait_rule.proofs.KnownLaws.FoundPipes.{joined_deliver, joined_refuse}
 
 -- a newcomer's journal has grown by its own items

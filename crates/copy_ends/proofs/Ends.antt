@@ -6,27 +6,19 @@ use Rattle.std.proofs.lemmas.Bool.{cases_eq}
 use Rattle.std.proofs.lemmas.Bool.Decides.{nat_tests}
 use Rattle.wait_model.specs.declared.calls.Call.TheVariants as calls
 use Rattle.wait_model.specs.declared.watches.Mode.TheVariants as mode
-use Rattle.wait_model.specs.declared.watches.Watch.{Watch}
+use Rattle.wait_model.specs.{declared.watches.Watch.Watch, Tasks.meets, Watches.mask_of}
 use Rattle.wait_model.specs.declared.watches.Watch.TheVariants as watch
-use Rattle.wait_model.specs.Tasks.{meets}
-use Rattle.wait_model.specs.Watches.{mask_of}
 use Rattle.wait_rule.specs.declared.journal.EndAct.TheVariants as act
-use Rattle.wait_rule.specs.declared.journal.Item.{Item}
-use Rattle.wait_rule.specs.declared.journal.Item.TheVariants as item
-use Rattle.wait_rule.specs.declared.journal.Journal.{Journal}
+use Rattle.wait_rule.specs.{declared.journal.Item.Item, declared.journal.Journal.Journal, Ends.WasWorn}
+use Rattle.wait_rule.specs.{HandedPermits.StaysOff, Known.Known, Queues.index, Transitions.call_program}
 use Rattle.wait_rule.specs.Aside.{Grows, GrowsAside, signals_of}
-use Rattle.wait_rule.specs.Ends.{WasWorn}
-use Rattle.wait_rule.specs.HandedPermits.{StaysOff}
-use Rattle.wait_rule.specs.Known.{Known}
 use Rattle.wait_rule.specs.Pipes.{End, closed, new_end, refused_item, was_refused}
 use Rattle.wait_rule.specs.PipeSays.{EndBecomes, EndsStay, end_at}
-use Rattle.wait_rule.specs.Queues.{index}
 use Rattle.wait_rule.specs.Says.{Debts, Obligation, Excuse, IsFree, IsOutBut, IsUp, OwesBut, OwesNothing, added}
 use Rattle.wait_rule.specs.Says.{end_unclosed, excuses, has_duty, has_end, no_excuse, page_asked, told_of, wake_of}
 use Rattle.wait_rule.specs.Stays.{Carries, claim_change, with_end}
-use Rattle.wait_rule.specs.Transitions.{call_program}
-use Rattle.wait_rule.proofs.KnownLaws.AsideCalls.{calls_grow_aside}
-use Rattle.wait_rule.proofs.KnownLaws.CarriedEnds.{programs_leave_ends}
+use Rattle.wait_rule.specs.declared.journal.Item.TheVariants as item
+use Rattle.wait_rule.proofs.{KnownLaws.AsideCalls.calls_grow_aside, KnownLaws.CarriedEnds.programs_leave_ends}
 use Rattle.wait_event.specs.Conds.{set_change}
 use Rattle.completion_cell.specs.Completes.{HasCompleted}
 use Rattle.wait_pipe.specs.Pieces.{EndsPipe, IsAtEnd, OtherPipesStay}

@@ -7,14 +7,10 @@ use Rattle.std.specs.Prelude.{Result, Ok, Err, MatchResult}
 use Rattle.atomic_table.specs.Seated.{TableId}
 use Rattle.bit_wait.specs.declared.wait_calls.BitEnd.{BitEnd}
 use Rattle.bit_wait.specs.declared.wait_calls.BitEnd.TheVariants as bit_end
-use Rattle.wait_rule.specs.declared.journal.Journal.{Journal}
-use Rattle.wait_rule.specs.declared.journal.Part.{Part}
-use Rattle.wait_rule.specs.Aside.{Grows}
-use Rattle.wait_rule.specs.Known.{Known}
+use Rattle.wait_rule.specs.{declared.journal.Journal.Journal, declared.journal.Part.Part, Aside.Grows, Known.Known}
+use Rattle.wait_rule.specs.{Queues.IsIdle, Queues.index, Tallies.amounts_of}
 use Rattle.wait_rule.specs.Says.{Obligation, IsClean, OwesBut, end_unclosed, excuses, has_duty, newcomer, no_excuse}
 use Rattle.wait_rule.specs.Says.{page_asked, seen_with, wake_of}
-use Rattle.wait_rule.specs.Queues.{IsIdle, index}
-use Rattle.wait_rule.specs.Tallies.{amounts_of}
 use Rattle.wait_rule.proofs.KnownLaws.CalledPermits.{newcomers_leave_none}
 use Rattle.copy_plan.specs.declared.TheConstants.{COUNTED_PAGE, ENDED_CELL}
 use Rattle.copy_ends.specs.Copied.{AwaitsWorker, ControlEnds, Controlled, IsControlEnd, ReadTally, WaitsTimes}

@@ -1,9 +1,7 @@
 -- What the journal of a task has that joined the four of a copy.
 use Rattle.std.proofs.Common.{append-nil, arith}
 use Rattle.std.specs.Prelude.{◌≡◌, List, [], ◌∷◌}
-use Rattle.wait_rule.specs.declared.journal.Item.{Item}
-use Rattle.wait_rule.specs.declared.journal.Journal.{Journal}
-use Rattle.wait_rule.specs.Journals.{has_of}
+use Rattle.wait_rule.specs.{declared.journal.Item.Item, declared.journal.Journal.Journal, Journals.has_of}
 use Rattle.wait_rule.specs.TableLaws.{HasAll}
 use Rattle.copy_ends.proofs.Crews.{crew, has_all}
 

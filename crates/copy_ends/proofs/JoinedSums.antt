@@ -2,17 +2,11 @@
 use Rattle.std.proofs.Common.{refl, sym, ap, ◌∙◌, subst, arith, append_assoc}
 use Rattle.std.specs.Prelude.{ℕ, ◌≡◌, ◌+◌, ◌-◌, ◌%◌, ◌^◌, ◌<◌, ◌&&◌, Bool, true, false, cond, eqb, List, [], ◌∷◌, ◌++◌}
 use Rattle.wait_model.specs.declared.layout.TheConstants.{TASKS}
-use Rattle.wait_rule.specs.declared.journal.Item.{Item}
-use Rattle.wait_rule.specs.declared.journal.Journal.{Journal}
-use Rattle.wait_rule.specs.Aside.{GrowsAside}
+use Rattle.wait_rule.specs.{declared.journal.Item.Item, declared.journal.Journal.Journal, Aside.GrowsAside, Known.Known}
+use Rattle.wait_rule.specs.{TableLaws.HasAll, Tallies.amounts_of, TallyLaws.tally_in}
 use Rattle.wait_rule.specs.Journals.{fresh, has_of, items_in, joined_with, pushed}
-use Rattle.wait_rule.specs.Known.{Known}
-use Rattle.wait_rule.specs.TableLaws.{HasAll}
-use Rattle.wait_rule.specs.Tallies.{amounts_of}
-use Rattle.wait_rule.specs.TallyLaws.{tally_in}
+use Rattle.wait_rule.proofs.{KnownLaws.FoundTallies.all_sum_tallies, KnownLaws.TallySteps.amounts_append}
 use Rattle.wait_rule.proofs.KnownLaws.CountedTallies.{adds_count, joins_count, newcomers_count_none, pushed_same}
-use Rattle.wait_rule.proofs.KnownLaws.FoundTallies.{all_sum_tallies}
-use Rattle.wait_rule.proofs.KnownLaws.TallySteps.{amounts_append}
 use Rattle.copy_plan.specs.declared.TheConstants.{COUNTED_PAGE}
 use Rattle.copy_ends.specs.Copied.{ReadTally, joined_all}
 use Rattle.copy_ends.proofs.JoinedFour.{four}

@@ -1,21 +1,14 @@
 -- Where no fatal signal was raised no task took one.
 use Rattle.std.proofs.Common.{ap, arith}
 use Rattle.std.specs.Prelude.{ℕ, suc, ◌≡◌, ◌+◌, ◌<◌, ◌≤◌, ◌==◌, ◌&&◌, Bool, true, false, List, [], ◌∷◌, ◌++◌, length}
-use Rattle.wait_model.specs.declared.layout.TheConstants.{TASKS}
-use Rattle.wait_model.specs.declared.steps.Step.{Step}
+use Rattle.wait_model.specs.{declared.layout.TheConstants.TASKS, declared.steps.Step.Step, SignalCounts.raises_fatal}
+use Rattle.wait_model.specs.{SignalCounts.takes_fatal, Totals.total, Words.flag}
 use Rattle.wait_model.specs.declared.steps.Step.TheVariants as step
-use Rattle.wait_model.specs.SignalCounts.{raises_fatal, takes_fatal}
-use Rattle.wait_model.specs.Totals.{total}
-use Rattle.wait_model.specs.Words.{flag}
 use Rattle.wait_model.proofs.HistoryLaws.StepTotals.{sum_zero}
-use Rattle.wait_rule.specs.declared.journal.Item.{Item}
-use Rattle.wait_rule.specs.declared.journal.Item.TheVariants as item
+use Rattle.wait_rule.specs.{declared.journal.Item.Item, declared.journal.Journal.Journal, Items.steps_of}
+use Rattle.wait_rule.specs.{Journals.has_of, Says.IsShown, TableLaws.HasAll}
 use Rattle.wait_rule.specs.Aside.{Raised, raised_by, signals_of}
-use Rattle.wait_rule.specs.declared.journal.Journal.{Journal}
-use Rattle.wait_rule.specs.Items.{steps_of}
-use Rattle.wait_rule.specs.Journals.{has_of}
-use Rattle.wait_rule.specs.Says.{IsShown}
-use Rattle.wait_rule.specs.TableLaws.{HasAll}
+use Rattle.wait_rule.specs.declared.journal.Item.TheVariants as item
 use Rattle.wait_rule.proofs.KnownLaws.TableLaws.{all_took_raised}
 use Rattle.copy_turns.specs.Raises.{kills_in}
 

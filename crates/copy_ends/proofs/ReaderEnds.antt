@@ -2,27 +2,20 @@
 use Rattle.std.proofs.Common.{refl, sym, ◌∙◌, ap, subst, arith}
 use Rattle.std.specs.Prelude.{ℕ, ◌≡◌, ◌≢◌, ◌++◌, true, List, [], length, Option, Some}
 use Rattle.edge_io.specs.Faults.{HasRisen}
-use Rattle.wait_rule.specs.Aside.{Grows}
-use Rattle.wait_rule.specs.Known.{Known}
+use Rattle.wait_rule.specs.{Aside.Grows, Known.Known, PipeSays.EndsStay, PipeSays.end_at, Says.OwesNothing}
+use Rattle.wait_rule.specs.{Says.no_excuse, Stays.with_end}
 use Rattle.wait_rule.specs.Pipes.{End, moved_bytes, write_end}
-use Rattle.wait_rule.specs.PipeSays.{EndsStay, end_at}
-use Rattle.wait_rule.specs.Says.{OwesNothing, no_excuse}
-use Rattle.wait_rule.specs.Stays.{with_end}
 use Rattle.wait_pipe.specs.Pieces.{IsPipeOpened, IsSettled}
-use Rattle.copy_plan.specs.declared.plan.Planned.{Planned}
-use Rattle.copy_plan.specs.declared.stop.ReaderEnd.{ReaderEnd}
-use Rattle.copy_plan.specs.declared.stop.Stop.{Stop}
+use Rattle.copy_plan.specs.{declared.plan.Planned.Planned, declared.stop.ReaderEnd.ReaderEnd, declared.stop.Stop.Stop}
+use Rattle.copy_plan.specs.Plans.{due_in, fatal_of, up_to}
 use Rattle.copy_plan.specs.declared.stop.Stop.TheVariants as stop
 use Rattle.copy_ends.specs.Did.{IsIdler, ReaderDid, ReaderWorked, Refused, Served}
-use Rattle.copy_plan.specs.Plans.{due_in, fatal_of, up_to}
-use Rattle.copy_turns.specs.Raises.{sent_to}
+use Rattle.copy_turns.specs.{Raises.sent_to, Work.SignalsStay}
 use Rattle.copy_turns.specs.Turns.{IsReaderStop, RaisedFor, Reading}
-use Rattle.copy_turns.specs.Work.{SignalsStay}
 use Rattle.copy_ends.proofs.Ends.{Closes, Finishes, Fails, Opens, refused_later, works_idler, worn_later}
+use Rattle.copy_turns.proofs.{Sends.Sends, Stopping.taken_map, Stopping.untaken}
 use Rattle.copy_turns.proofs.PartLaws.{counted_none, counted_sums, grows_then, sums_counted, sums_then, took_later}
 use Rattle.copy_turns.proofs.ReaderTurns.{prepend_none, raised_sends, raised_then, reader_before}
-use Rattle.copy_turns.proofs.Sends.{Sends}
-use Rattle.copy_turns.proofs.Stopping.{taken_map, untaken}
 
 -- a reader that writes into pipe n
 module _ (n : ℕ) where

@@ -1,17 +1,12 @@
 -- The whole work of a relay.
 use Rattle.std.proofs.Common.{refl, sym, ◌∙◌, ap, subst, inl, inr, zero-add, arith}
 use Rattle.std.specs.Prelude.{ℕ, ◌≡◌, ◌≢◌, ◌%◌, ◌^◌, ◌⊎◌, ◌++◌, true, [], length, Some}
-use Rattle.wait_rule.specs.Aside.{Grows}
-use Rattle.wait_rule.specs.Known.{Known}
+use Rattle.wait_rule.specs.{Aside.Grows, Known.Known, PipeSays.end_at, Says.OwesNothing, Says.no_excuse, Stays.with_end}
 use Rattle.wait_rule.specs.Pipes.{End, closed, moved_bytes, read_end, write_end}
-use Rattle.wait_rule.specs.PipeSays.{end_at}
-use Rattle.wait_rule.specs.Says.{OwesNothing, no_excuse}
-use Rattle.wait_rule.specs.Stays.{with_end}
 use Rattle.wait_pipe.specs.Pieces.{IsAtEnd}
-use Rattle.copy_plan.specs.declared.TheConstants.{SINK_PIPE, SOURCE_PIPE}
-use Rattle.copy_plan.specs.declared.stop.Stop.{Stop}
-use Rattle.copy_plan.specs.declared.stop.Stop.TheVariants as stop
+use Rattle.copy_plan.specs.{declared.TheConstants.SINK_PIPE, declared.TheConstants.SOURCE_PIPE, declared.stop.Stop.Stop}
 use Rattle.copy_plan.specs.declared.stop.WorkerEnd.{WorkerEnd}
+use Rattle.copy_plan.specs.declared.stop.Stop.TheVariants as stop
 use Rattle.copy_ends.specs.Did.{IsIdler, Refused, RelayDid, RelayWorked, Served}
 use Rattle.copy_turns.specs.Turns.{IsRelayStop, Relaying}
 use Rattle.copy_ends.proofs.Ends.{Closes, Finishes, Fails, Leaves, Opens, end_closed, leaves_then, owes_swapped}

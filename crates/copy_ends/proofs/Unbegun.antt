@@ -3,14 +3,10 @@ use Rattle.std.proofs.Common.{refl, sym, ap, ◌∙◌, subst}
 use Rattle.std.specs.Prelude.{ℕ, ◌≡◌, ◌-◌, List, [], ◌∷◌}
 use Rattle.atomic_table.specs.Seated.{TableId}
 use Rattle.wait_model.specs.declared.layout.TheConstants.{TASKS}
-use Rattle.wait_rule.specs.declared.journal.Item.{Item}
-use Rattle.wait_rule.specs.Journals.{fresh, has_of}
-use Rattle.wait_rule.specs.Known.{Known}
+use Rattle.wait_rule.specs.{declared.journal.Item.Item, Journals.fresh, Journals.has_of, Known.Known}
 use Rattle.wait_rule.specs.Says.{IsClean, newcomer, seen_with}
 use Rattle.copy_ends.specs.Copied.{HasNoSteps, joined_four}
-use Rattle.copy_ends.proofs.Idlers.{joined_clean}
-use Rattle.copy_ends.proofs.Crews.{of_each, parts_from}
-use Rattle.copy_ends.proofs.JoinedFour.{four}
+use Rattle.copy_ends.proofs.{Idlers.joined_clean, Crews.of_each, Crews.parts_from, JoinedFour.four}
 
 none_of : (number : ℕ) → has_of number (four [] [] [] []) ≡ []
 none_of number = of_each (λ (xs : List Item). xs ≡ []) ([] ∷ [] ∷ [] ∷ [] ∷ []) refl (refl, (refl, (refl, (refl, tt)))) number

@@ -4,24 +4,17 @@ use Rattle.std.specs.Prelude.{ℕ, ◌≡◌, ◌<◌, ◌-◌, ◌%◌, ◌^◌
 use Rattle.atomic_table.specs.Seated.{TableId}
 use Rattle.bit_wait.specs.declared.wait_calls.BitEnd.{BitEnd}
 use Rattle.wait_model.specs.declared.layout.TheConstants.{TASKS}
-use Rattle.wait_rule.specs.declared.journal.Item.{Item}
-use Rattle.wait_rule.specs.declared.journal.Journal.{Journal}
-use Rattle.wait_rule.specs.Ends.{WasWorn}
-use Rattle.wait_rule.proofs.WornHeads.WornNotes.{joined_late}
-use Rattle.wait_rule.specs.Aside.{GrowsAside}
+use Rattle.wait_rule.specs.{declared.journal.Item.Item, declared.journal.Journal.Journal, Ends.WasWorn}
+use Rattle.wait_rule.specs.{Aside.GrowsAside, Known.Known, TallyLaws.tally_in}
 use Rattle.wait_rule.specs.Journals.{fresh, has_of, pushed}
-use Rattle.wait_rule.specs.Known.{Known}
 use Rattle.wait_rule.specs.Says.{IsShown, newcomer, seen_with}
-use Rattle.wait_rule.specs.TallyLaws.{tally_in}
+use Rattle.wait_rule.proofs.WornHeads.WornNotes.{joined_late}
 use Rattle.func_head.specs.Walks.{EntryState}
+use Rattle.copy_plan.specs.{declared.plan.Planned.Planned, declared.stop.ReaderEnd.ReaderEnd, declared.stop.Stop.Stop}
+use Rattle.copy_plan.specs.{declared.stop.WorkerEnd.WorkerEnd, Kinds.copy_stop}
 use Rattle.copy_plan.specs.declared.TheConstants.{COUNTED_PAGE, SINK_PIPE, SOURCE_PIPE}
-use Rattle.copy_plan.specs.declared.plan.Planned.{Planned}
-use Rattle.copy_plan.specs.declared.stop.ReaderEnd.{ReaderEnd}
-use Rattle.copy_plan.specs.declared.stop.Stop.{Stop}
 use Rattle.copy_plan.specs.declared.stop.Stop.TheVariants as stop
-use Rattle.copy_plan.specs.declared.stop.WorkerEnd.{WorkerEnd}
 use Rattle.copy_ends.specs.Copied.{ControlEnds, Controlled, Copied, HoldsAll, HoldsGiven, NoneTaken, NotesAreLate, ReadTally, Watched, WearsLate, control_stop, joined_four, worker_numbers}
-use Rattle.copy_plan.specs.Kinds.{copy_stop}
 use Rattle.copy_ends.specs.Did.{ReaderDid, RelayDid, WriterDid}
 use Rattle.copy_ends.proofs.Copied as copied
 use Rattle.copy_ends.proofs.Crews.{grown_view}

@@ -1,25 +1,19 @@
 -- The whole work of a writer.
 use Rattle.std.proofs.Common.{refl, sym, ◌∙◌, ap, subst, append-nil, zero-add, arith}
 use Rattle.std.specs.Prelude.{ℕ, ◌≡◌, ◌≢◌, ◌%◌, ◌^◌, ◌++◌, true, List, [], length, Option, Some}
-use Rattle.wait_rule.specs.Aside.{Grows}
-use Rattle.wait_rule.specs.Known.{Known}
+use Rattle.wait_rule.specs.{Aside.Grows, Known.Known, PipeSays.end_at, Says.OwesNothing, Says.no_excuse, Stays.with_end}
 use Rattle.wait_rule.specs.Pipes.{End, moved_bytes, read_end}
-use Rattle.wait_rule.specs.PipeSays.{end_at}
-use Rattle.wait_rule.specs.Says.{OwesNothing, no_excuse}
-use Rattle.wait_rule.specs.Stays.{with_end}
 use Rattle.edge_io.specs.Faults.{HasRisen}
 use Rattle.func_head.specs.Walks.{EntryState}
 use Rattle.wait_pipe.specs.Pieces.{IsAtEnd}
-use Rattle.copy_plan.specs.declared.stop.Stop.{Stop}
+use Rattle.copy_plan.specs.{declared.stop.Stop.Stop, declared.stop.WorkerEnd.WorkerEnd}
 use Rattle.copy_plan.specs.declared.stop.Stop.TheVariants as stop
-use Rattle.copy_plan.specs.declared.stop.WorkerEnd.{WorkerEnd}
 use Rattle.copy_ends.specs.Did.{IsIdler, Refused, WriterDid, WriterWorked}
 use Rattle.copy_turns.specs.Turns.{IsWriterStop, Writing}
 use Rattle.copy_ends.proofs.Ends.{Closes, Finishes, Fails, Opens, end_closed, refused_later, works_idler, worn_later}
+use Rattle.copy_turns.proofs.{Shown.shows_none, Writes.held_same, Writes.writer_before}
 use Rattle.copy_turns.proofs.PartLaws.{counted_none, counted_sums, grows_then, sums_counted, took_later}
-use Rattle.copy_turns.proofs.Shown.{shows_none}
 use Rattle.copy_turns.proofs.Stopping.{finished_both, taken_map, untaken}
-use Rattle.copy_turns.proofs.Writes.{held_same, writer_before}
 
 -- a writer that reads pipe n
 module _ (n : ℕ) where

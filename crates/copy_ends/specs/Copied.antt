@@ -7,27 +7,18 @@ use Rattle.atomic_table.specs.Seated.{TableId}
 use Rattle.bit_wait.specs.declared.wait_calls.BitEnd.{BitEnd}
 use Rattle.bit_wait.specs.declared.wait_calls.BitEnd.TheVariants as bit_end
 use Rattle.wait_model.specs.declared.tasks.SleepState.TheVariants as state
-use Rattle.wait_rule.specs.Aside.{Grows}
-use Rattle.wait_rule.specs.Ends.{WasWorn, worn_adds}
-use Rattle.wait_rule.specs.declared.journal.Journal.{Journal}
-use Rattle.wait_rule.specs.Journals.{has_of, joined_with}
-use Rattle.wait_rule.specs.Known.{Known}
-use Rattle.wait_rule.specs.PipeSays.{EndsStay}
-use Rattle.wait_rule.specs.Places.{queued_at}
+use Rattle.wait_rule.specs.{Aside.Grows, Ends.WasWorn, Ends.worn_adds, declared.journal.Journal.Journal}
+use Rattle.wait_rule.specs.{Journals.has_of, Journals.joined_with, Known.Known, PipeSays.EndsStay, Places.queued_at}
 use Rattle.wait_rule.specs.Says.{FindsTally, IsShown, newcomer}
 use Rattle.completion_cell.specs.AwaitEnds.{EndsAwait}
 use Rattle.edge_io.specs.Text.{HoldsPrefix}
 use Rattle.func_head.specs.Walks.{EntryState}
+use Rattle.copy_plan.specs.{declared.plan.Planned.Planned, declared.stop.ReaderEnd.ReaderEnd, declared.stop.Stop.Stop}
+use Rattle.copy_plan.specs.{declared.stop.WorkerEnd.WorkerEnd, Kinds.copy_stop}
 use Rattle.copy_plan.specs.declared.TheConstants.{COUNTED_PAGE, ENDED_CELL, SINK_PIPE, SOURCE_PIPE}
-use Rattle.copy_plan.specs.declared.plan.Planned.{Planned}
-use Rattle.copy_plan.specs.declared.stop.ReaderEnd.{ReaderEnd}
-use Rattle.copy_plan.specs.declared.stop.Stop.{Stop}
 use Rattle.copy_plan.specs.declared.stop.Stop.TheVariants as stop
-use Rattle.copy_plan.specs.declared.stop.WorkerEnd.{WorkerEnd}
-use Rattle.copy_plan.specs.Kinds.{copy_stop}
 use Rattle.copy_ends.specs.Did.{ReaderDid, RelayDid, Served, WriterDid}
-use Rattle.copy_turns.specs.Watched.{ShowsPieces}
-use Rattle.copy_turns.specs.Work.{SignalsStay, SumsStay}
+use Rattle.copy_turns.specs.{Watched.ShowsPieces, Work.SignalsStay, Work.SumsStay}
 
 -- A controller waited, and read the tally of the page: it owes nothing, as before, touched no pipe, added nothing and
 -- raised no signal.

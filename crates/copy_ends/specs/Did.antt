@@ -2,24 +2,18 @@
 -- What each worker of a copy did, from its first step to its last, and how it ended.
 use Rattle.std.specs.Prelude.{ℕ, ◌≡◌, ◌≢◌, ◌%◌, ◌^◌, ◌≤◌, ◌⊎◌, ◌++◌, true, List, [], length, Option, Some, IfSome}
 use Rattle.std.specs.Io.KnownBytes.{append_known, prepend_known}
-use Rattle.wait_rule.specs.Aside.{Grows}
-use Rattle.wait_rule.specs.LeftEntries.{LeftOff}
-use Rattle.wait_rule.specs.Known.{Known}
+use Rattle.wait_rule.specs.{Aside.Grows, LeftEntries.LeftOff, Known.Known, Says.IsClean}
 use Rattle.wait_rule.specs.Pipes.{moved_bytes, read_end, was_refused, write_end}
 use Rattle.wait_rule.specs.PipeSays.{end_at, reading, writing}
-use Rattle.wait_rule.specs.Says.{IsClean}
 use Rattle.completion_cell.specs.Completes.{HasCompleted}
 use Rattle.edge_io.specs.Faults.{HasRisen}
 use Rattle.func_head.specs.Walks.{EntryState}
+use Rattle.copy_plan.specs.{declared.plan.Planned.Planned, declared.stop.ReaderEnd.ReaderEnd}
+use Rattle.copy_plan.specs.{declared.stop.WorkerEnd.WorkerEnd, Plans.fatal_of, Plans.up_to, Stops.IfFinished}
+use Rattle.copy_plan.specs.Stops.{IfTaken}
 use Rattle.copy_plan.specs.declared.TheConstants.{ENDED_CELL, SINK_PIPE, SOURCE_PIPE}
-use Rattle.copy_plan.specs.declared.plan.Planned.{Planned}
-use Rattle.copy_plan.specs.declared.stop.ReaderEnd.{ReaderEnd}
-use Rattle.copy_plan.specs.declared.stop.WorkerEnd.{WorkerEnd}
-use Rattle.copy_plan.specs.Plans.{fatal_of, up_to}
-use Rattle.copy_plan.specs.Stops.{IfFinished, IfTaken}
+use Rattle.copy_turns.specs.{Watched.ShowsPieces, Work.Counted, Work.SignalsStay}
 use Rattle.copy_turns.specs.Turns.{IsTooLong, IsReaderStop, IsRelayStop, IsWriterStop, RaisedFor, SinkRises}
-use Rattle.copy_turns.specs.Watched.{ShowsPieces}
-use Rattle.copy_turns.specs.Work.{Counted, SignalsStay}
 
 -- A task that is to do the work of a worker owes nothing, and left no entry at the completion of the copy; so it is
 -- afterwards, and its list has grown.

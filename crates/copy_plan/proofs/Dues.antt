@@ -3,8 +3,7 @@ use Rattle.std.proofs.Common.{refl, sym, ◌∙◌, ap, subst, arith}
 use Rattle.std.specs.Prelude.{ℕ, ◌≡◌, ◌≤◌, ◌<◌, ◌+◌, ◌&&◌, Bool, true, false, if◌then◌else◌, nat_le, List, [], ◌∷◌}
 use Rattle.std.specs.Prelude.{length}
 use Rattle.std.proofs.lemmas.Bool.Decides.{nat_tests}
-use Rattle.copy_plan.specs.declared.plan.Planned.{Planned}
-use Rattle.copy_plan.specs.Plans.{due_in, fatal_of}
+use Rattle.copy_plan.specs.{declared.plan.Planned.Planned, Plans.due_in, Plans.fatal_of}
 
 -- how many it is that a test lets through of one
 abbrev pub one_if : Bool → ℕ

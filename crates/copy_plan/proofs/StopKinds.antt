@@ -2,11 +2,10 @@
 use Rattle.std.proofs.Common.{refl, sym, ap, ◌∙◌}
 use Rattle.std.proofs.lemmas.Bool.{eqb-true, false≢true}
 use Rattle.std.specs.Prelude.{ℕ, ◌≡◌, ◌==◌, if◌then◌else◌, Bool, true, false, List, [], ◌∷◌}
-use Rattle.copy_plan.specs.declared.kinds.Kind.{Kind}
-use Rattle.copy_plan.specs.declared.kinds.Kind.TheVariants as kind
-use Rattle.copy_plan.specs.declared.stop.Stop.{Stop}
-use Rattle.copy_plan.specs.declared.stop.Stop.TheVariants as stop
+use Rattle.copy_plan.specs.{declared.kinds.Kind.Kind, declared.stop.Stop.Stop}
 use Rattle.copy_plan.specs.Kinds.{copy_stop, first_or, is_of}
+use Rattle.copy_plan.specs.declared.kinds.Kind.TheVariants as kind
+use Rattle.copy_plan.specs.declared.stop.Stop.TheVariants as stop
 
 -- none of the stops is of a kind
 abbrev pub NoneOf : Kind → List Stop → Type 0

@@ -1,9 +1,8 @@
 -- To be believed.
 -- How a copy stops, by how its tasks did.
 use Rattle.std.specs.Prelude.{ℕ, ◌==◌, if◌then◌else◌, Bool, true, false, List, [], ◌∷◌}
-use Rattle.copy_plan.specs.declared.kinds.Kind.{Kind}
+use Rattle.copy_plan.specs.{declared.kinds.Kind.Kind, declared.stop.Stop.Stop}
 use Rattle.copy_plan.specs.declared.kinds.Kind.TheVariants as kind
-use Rattle.copy_plan.specs.declared.stop.Stop.{Stop}
 use Rattle.copy_plan.specs.declared.stop.Stop.TheVariants as stop
 
 -- whether a stop is of a kind

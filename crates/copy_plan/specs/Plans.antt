@@ -1,9 +1,8 @@
 -- To be believed.
 -- Planned signals: to whom each goes, and which are due.
 use Rattle.std.specs.Prelude.{ℕ, ◌≡◌, ◌≤◌, ◌+◌, ◌++◌, ◌&&◌, nat_le, if◌then◌else◌, List, [], ◌∷◌, get_or}
-use Rattle.copy_plan.specs.declared.gate.Who.{Who}
+use Rattle.copy_plan.specs.{declared.gate.Who.Who, declared.plan.Planned.Planned}
 use Rattle.copy_plan.specs.declared.gate.Who.TheVariants as who
-use Rattle.copy_plan.specs.declared.plan.Planned.{Planned}
 
 -- the number of a worker's task, of those of the reader, the relay and the writer
 abbrev pub target_of : List ℕ → Who → ℕ

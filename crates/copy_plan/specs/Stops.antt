@@ -1,8 +1,7 @@
 -- To be believed.
 -- The stops of workers.
-use Rattle.copy_plan.specs.declared.stop.Halt.{Halt}
+use Rattle.copy_plan.specs.{declared.stop.Halt.Halt, declared.stop.Stop.Stop}
 use Rattle.copy_plan.specs.declared.stop.Halt.TheVariants as halt
-use Rattle.copy_plan.specs.declared.stop.Stop.{Stop}
 use Rattle.copy_plan.specs.declared.stop.Stop.TheVariants as stop
 
 abbrev pub stop_of : Halt → Stop

@@ -2,28 +2,17 @@
 use Rattle.std.proofs.Common.{refl, sym, ◌∙◌, ap, subst, append-nil, append_assoc, arith}
 use Rattle.std.specs.Prelude.{ℕ, ◌≡◌, ◌≢◌, ◌+◌, ◌++◌, Bool, true, false, if◌then◌else◌, None, List, [], ◌∷◌}
 use Rattle.wait_model.specs.declared.steps.Step.TheVariants as step
-use Rattle.wait_model.specs.declared.tasks.Taken.{Taken}
+use Rattle.wait_model.specs.{declared.tasks.Taken.Taken, SignalCounts.takes_fatal, Tasks.task_of, Tasks.taken_of}
+use Rattle.wait_model.specs.{Totals.total, Words.flag}
 use Rattle.wait_model.specs.declared.tasks.Taken.TheVariants as taken
-use Rattle.wait_model.specs.SignalCounts.{takes_fatal}
-use Rattle.wait_model.specs.Tasks.{task_of, taken_of}
-use Rattle.wait_model.specs.Totals.{total}
-use Rattle.wait_model.specs.Words.{flag}
-use Rattle.wait_rule.specs.declared.journal.Item.{Item}
-use Rattle.wait_rule.specs.declared.journal.Item.TheVariants as item
+use Rattle.wait_rule.specs.{declared.journal.Item.Item, HandedPermits.StaysOff, Items.steps_of, Known.Known}
+use Rattle.wait_rule.specs.{Pipes.end_item, Pipes.no_end, PipeSays.EndsStay, PipeSays.end_at, Queues.IsIdle}
+use Rattle.wait_rule.specs.{Queues.index, Stays.Carries, Stays.unchanged, Tallies.amount_of, Tallies.amounts_of}
 use Rattle.wait_rule.specs.Aside.{Grows, IsAsideItem, raised_by, signals_of}
-use Rattle.wait_rule.specs.HandedPermits.{StaysOff}
-use Rattle.wait_rule.specs.Items.{steps_of}
-use Rattle.wait_rule.specs.Known.{Known}
-use Rattle.wait_rule.specs.Pipes.{end_item, no_end}
-use Rattle.wait_rule.specs.PipeSays.{EndsStay, end_at}
-use Rattle.wait_rule.specs.Queues.{IsIdle, index}
 use Rattle.wait_rule.specs.Says.{AddsOf, HasSignalled, IsUp, added, history_of, told_of}
-use Rattle.wait_rule.specs.Stays.{Carries, unchanged}
-use Rattle.wait_rule.specs.Tallies.{amount_of, amounts_of}
-use Rattle.wait_rule.proofs.KnownLaws.AsideCalls.{items_stay_off}
-use Rattle.wait_rule.proofs.KnownLaws.PipeItems.{end_append}
-use Rattle.wait_rule.proofs.KnownLaws.TallySteps.{amounts_append}
-use Rattle.wait_rule.proofs.TableSteps.ItemLists.{steps_append}
+use Rattle.wait_rule.specs.declared.journal.Item.TheVariants as item
+use Rattle.wait_rule.proofs.{KnownLaws.AsideCalls.items_stay_off, KnownLaws.PipeItems.end_append}
+use Rattle.wait_rule.proofs.{KnownLaws.TallySteps.amounts_append, TableSteps.ItemLists.steps_append}
 use Rattle.wait_class.specs.Posts.{IsOut}
 use Rattle.wait_pipe.specs.Pieces.{RestsBehindPiece}
 use Rattle.copy_plan.specs.declared.TheConstants.{ENDED_CELL}

@@ -1,18 +1,10 @@
 -- Parts of a worker's turns: what two of them make together, and what one makes that does nothing.
 use Rattle.std.proofs.Common.{refl, sym, ◌∙◌, ap, subst, append_assoc, append-nil, arith}
 use Rattle.std.specs.Prelude.{ℕ, ◌≡◌, ◌+◌, ◌≤◌, List, [], ◌∷◌, ◌++◌}
-use Rattle.wait_model.specs.declared.steps.Step.{Step}
-use Rattle.wait_model.specs.SignalCounts.{takes_fatal}
-use Rattle.wait_model.specs.Totals.{total}
-use Rattle.wait_rule.specs.declared.journal.Item.{Item}
-use Rattle.wait_rule.specs.declared.journal.Journal.{Journal}
-use Rattle.wait_rule.specs.Aside.{Grows}
-use Rattle.wait_rule.specs.Items.{steps_of}
-use Rattle.wait_rule.specs.Journals.{pushed}
-use Rattle.wait_rule.specs.Known.{Known}
-use Rattle.wait_rule.specs.Pipes.{End, moved_bytes}
-use Rattle.wait_rule.specs.PipeSays.{EndsStay, end_at}
-use Rattle.wait_rule.specs.Says.{history_of}
+use Rattle.wait_model.specs.{declared.steps.Step.Step, SignalCounts.takes_fatal, Totals.total}
+use Rattle.wait_rule.specs.{declared.journal.Item.Item, declared.journal.Journal.Journal, Aside.Grows, Items.steps_of}
+use Rattle.wait_rule.specs.{Journals.pushed, Known.Known, Pipes.End, Pipes.moved_bytes, PipeSays.EndsStay}
+use Rattle.wait_rule.specs.{PipeSays.end_at, Says.history_of}
 use Rattle.wait_pipe.specs.Pieces.{IsSettled, Moved}
 use Rattle.copy_plan.specs.declared.stop.Halt.{Halt}
 use Rattle.copy_plan.specs.declared.stop.Halt.TheVariants as halt

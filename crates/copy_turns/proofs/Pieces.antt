@@ -4,9 +4,7 @@ use Rattle.std.proofs.lemmas.List.{length-take-le, take_all, take-append-drop}
 use Rattle.std.specs.Prelude.{ℕ, ◌≡◌, ◌+◌, ◌-◌, ◌≤◌, ◌++◌, Result, Ok, Err, IfErr, MatchResult, List, [], length, take}
 use Rattle.std.specs.Prelude.{drop}
 use Rattle.edge_io.proofs.Known.{take-rest}
-use Rattle.wait_rule.specs.Aside.{Grows}
-use Rattle.wait_rule.specs.Known.{Known}
-use Rattle.wait_rule.specs.PipeSays.{end_at}
+use Rattle.wait_rule.specs.{Aside.Grows, Known.Known, PipeSays.end_at}
 use Rattle.wait_pipe.specs.declared.pieces.PipeEnd.{PipeEnd}
 use Rattle.wait_pipe.specs.declared.pieces.PipeEnd.TheVariants as pipe_end
 use Rattle.wait_pipe.specs.Pieces.{IsPipeCause, IsReadCause, IsSettled, Moved, RestsBehindPiece}
@@ -14,10 +12,9 @@ use Rattle.copy_plan.specs.declared.stop.Halt.{Halt}
 use Rattle.copy_plan.specs.declared.stop.Halt.TheVariants as halt
 use Rattle.copy_turns.specs.Turns.{CountedAll, HasGotBytes, HandedAll, HandedFront}
 use Rattle.copy_turns.specs.Work.{Apart, HaltsBy, IsAtWork, IsHalt, IsOwnHalt}
-use Rattle.copy_turns.proofs.Frames.{own_kills, piece_works}
+use Rattle.copy_turns.proofs.{Frames.own_kills, Frames.piece_works, Stopping.own_halt}
 use Rattle.copy_turns.proofs.PartLaws.{halt_before, moved_ends, moved_none, moved_then, sums_counted, sums_then}
 use Rattle.copy_turns.proofs.PartLaws.{took_before, works_same, works_then}
-use Rattle.copy_turns.proofs.Stopping.{own_halt}
 
 pub got_none : (k : ℕ) (a : Known) → IsAtWork a → IsSettled (end_at k a) → HasGotBytes k a a []
 got_none k a work settled = record {

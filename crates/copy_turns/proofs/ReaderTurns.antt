@@ -4,20 +4,14 @@ use Rattle.std.specs.Prelude.{ℕ, ◌≡◌, ◌+◌, ◌<◌, ◌≤◌, ◌++
 use Rattle.std.proofs.lemmas.List.{length-take-le}
 use Rattle.std.specs.Io.KnownBytes.{prepend_known}
 use Rattle.edge_io.specs.Faults.{HasRisen}
-use Rattle.wait_rule.specs.Aside.{Grows, signals_of}
-use Rattle.wait_rule.specs.Known.{Known}
-use Rattle.wait_rule.specs.Pipes.{write_end}
-use Rattle.wait_rule.specs.PipeSays.{EndsStay, writing}
+use Rattle.wait_rule.specs.{Aside.Grows, Aside.signals_of, Known.Known, Pipes.write_end, PipeSays.EndsStay}
+use Rattle.wait_rule.specs.PipeSays.{writing}
 use Rattle.wait_pipe.specs.Pieces.{IsSettled}
-use Rattle.copy_plan.specs.declared.TheConstants.{LONGEST}
-use Rattle.copy_plan.specs.declared.plan.Planned.{Planned}
-use Rattle.copy_plan.specs.declared.stop.Halt.{Halt}
+use Rattle.copy_plan.specs.{declared.TheConstants.LONGEST, declared.plan.Planned.Planned, declared.stop.Halt.Halt}
+use Rattle.copy_plan.specs.{declared.stop.Stop.Stop, Plans.due_at, Plans.due_in, Stops.stop_of}
 use Rattle.copy_plan.specs.declared.stop.Halt.TheVariants as halt
-use Rattle.copy_plan.specs.declared.stop.Stop.{Stop}
 use Rattle.copy_plan.specs.declared.stop.Stop.TheVariants as stop
-use Rattle.copy_plan.specs.Plans.{due_at, due_in}
 use Rattle.copy_turns.specs.Raises.{sent_to}
-use Rattle.copy_plan.specs.Stops.{stop_of}
 use Rattle.copy_turns.specs.Turns.{HandedAll, HandedFront, IfEnded, IsTooLong, IsReaderStop, RaisedFor, Reading}
 use Rattle.copy_turns.specs.Work.{Apart, IsAtWork, IsHalt, SignalsStay, SumsStay, Works}
 use Rattle.copy_plan.proofs.DueTimes.{due_at_then, rises_then}

@@ -3,16 +3,13 @@ use Rattle.std.proofs.Common.{refl, sym, ◌∙◌, ap, subst, append_assoc, app
 use Rattle.std.specs.Prelude.{ℕ, ◌≡◌, ◌≢◌, ◌+◌, ◌%◌, ◌^◌, ◌/◌, ◌<◌, List, [], ◌++◌, length}
 use Rattle.std.specs.Prelude.{Option, None, Some}
 use Rattle.wait_model.specs.declared.layout.TheConstants.{PIPE_ENDS}
-use Rattle.wait_rule.specs.Aside.{Grows}
-use Rattle.wait_rule.specs.Known.{Known}
+use Rattle.wait_rule.specs.{Aside.Grows, Known.Known}
 use Rattle.wait_rule.specs.Pipes.{End, moved_bytes, read_end, write_end}
 use Rattle.wait_rule.specs.PipeSays.{end_at, reading, writing}
 use Rattle.wait_pipe.specs.Pieces.{IsAtEnd, IsSettled, Moved}
-use Rattle.copy_plan.specs.declared.stop.Halt.{Halt}
+use Rattle.copy_plan.specs.{declared.stop.Halt.Halt, declared.stop.Stop.Stop, Stops.stop_of}
 use Rattle.copy_plan.specs.declared.stop.Halt.TheVariants as halt
-use Rattle.copy_plan.specs.declared.stop.Stop.{Stop}
 use Rattle.copy_plan.specs.declared.stop.Stop.TheVariants as stop
-use Rattle.copy_plan.specs.Stops.{stop_of}
 use Rattle.copy_turns.specs.Turns.{HasGotBytes, HandedAll, HandedFront, IsRelayStop, Relaying}
 use Rattle.copy_turns.specs.Work.{Apart, IsAtWork, IsHalt, IsOwnHalt, TookKill}
 use Rattle.copy_turns.proofs.PartLaws.{counted_none, counted_same, counted_then, ends_moved, sums_counted, sums_then, took_before, works_same, works_then}

@@ -2,11 +2,8 @@
 use Rattle.std.proofs.Common.{refl, sym, ◌∙◌, ap, subst, append-nil, append_assoc, arith}
 use Rattle.std.proofs.lemmas.List.{take_more}
 use Rattle.std.specs.Prelude.{ℕ, ◌≡◌, ◌≤◌, ◌<◌, ◌+◌, ◌++◌, Bool, true, false, if◌then◌else◌, List, [], ◌∷◌, length, take, get_or}
-use Rattle.wait_rule.specs.Aside.{Raised, signals_of}
-use Rattle.wait_rule.specs.Known.{Known}
-use Rattle.wait_rule.specs.PipeSays.{EndsStay}
-use Rattle.wait_rule.specs.Says.{HasSignalled}
-use Rattle.wait_rule.specs.Stays.{Carries, unchanged}
+use Rattle.wait_rule.specs.{Aside.Raised, Aside.signals_of, Known.Known, PipeSays.EndsStay, Says.HasSignalled}
+use Rattle.wait_rule.specs.{Stays.Carries, Stays.unchanged}
 use Rattle.copy_turns.proofs.Frames.{sent_ends, sent_signals, sent_spared, sent_sums, sent_works}
 use Rattle.copy_plan.specs.declared.plan.Planned.{Planned}
 use Rattle.copy_plan.proofs.DueParts.{due_passed_before, due_passed_behind, due_taken}

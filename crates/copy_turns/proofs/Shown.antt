@@ -6,8 +6,7 @@ use Rattle.std.proofs.lemmas.List.Folds.{concat-append}
 use Rattle.std.specs.Prelude.{ℕ, ◌≡◌, ◌≢◌, ◌≤◌, ◌++◌, List, [], ◌∷◌, length, take, Option, None, Some}
 use Rattle.std.specs.List.{concat}
 use Rattle.func_head.specs.Walks.{EntryState, shown, shown_all}
-use Rattle.copy_plan.specs.declared.stop.Stop.{Stop}
-use Rattle.copy_plan.specs.declared.TheConstants.{PIECE}
+use Rattle.copy_plan.specs.{declared.stop.Stop.Stop, declared.TheConstants.PIECE}
 use Rattle.copy_plan.specs.declared.stop.Stop.TheVariants as stop
 use Rattle.copy_turns.specs.Watched.{IsPiece, ShowsPieces, UnlessFailed}
 

@@ -1,13 +1,11 @@
 -- How workers stop, by cases.
 use Rattle.std.specs.Prelude.{ℕ, ◌≡◌, Option, None, Some, refl}
 use Rattle.wait_rule.specs.Known.{Known}
-use Rattle.copy_plan.specs.declared.stop.Halt.{Halt}
-use Rattle.copy_plan.specs.declared.stop.Halt.TheVariants as halt
-use Rattle.copy_plan.specs.declared.stop.Stop.{Stop}
-use Rattle.copy_plan.specs.declared.stop.Stop.TheVariants as stop
+use Rattle.copy_plan.specs.{declared.stop.Halt.Halt, declared.stop.Stop.Stop}
 use Rattle.copy_plan.specs.Stops.{IfFinished, IfTaken, stop_of}
-use Rattle.copy_turns.specs.Turns.{IfStopped, IfWhole}
-use Rattle.copy_turns.specs.Work.{IsHalt, IsOwnHalt}
+use Rattle.copy_plan.specs.declared.stop.Halt.TheVariants as halt
+use Rattle.copy_plan.specs.declared.stop.Stop.TheVariants as stop
+use Rattle.copy_turns.specs.{Turns.IfStopped, Turns.IfWhole, Work.IsHalt, Work.IsOwnHalt}
 
 pub finished_map : (how : Stop) (X Y : Type 0) → (X → Y) → IfFinished how X → IfFinished how Y
 finished_map stop.Finished X Y f x = f x

@@ -3,12 +3,9 @@ use Rattle.std.proofs.Common.{arith, refl, sym, subst}
 use Rattle.std.proofs.lemmas.List.{drop_all, drop-drop}
 use Rattle.std.specs.Prelude.{ℕ, ◌≡◌, ◌+◌, ◌-◌, ◌++◌, false, Ok, Err, List, [], ◌∷◌, length, take, drop}
 use Rattle.edge_io.proofs.Known.{take-rest}
-use Rattle.wait_rule.specs.Aside.{Raised}
-use Rattle.wait_rule.specs.Known.{Known}
-use Rattle.wait_pipe.specs.declared.pieces.PipeEnd.{PipeEnd}
+use Rattle.wait_rule.specs.{Aside.Raised, Known.Known}
+use Rattle.wait_pipe.specs.{declared.pieces.PipeEnd.PipeEnd, Pieces.IsReadCause, Trails.ReadsPiece, Trails.WritesPiece}
 use Rattle.wait_pipe.specs.declared.pieces.PipeEnd.TheVariants as pipe_end
-use Rattle.wait_pipe.specs.Pieces.{IsReadCause}
-use Rattle.wait_pipe.specs.Trails.{ReadsPiece, WritesPiece}
 use Rattle.copy_plan.specs.declared.stop.Halt.{Halt}
 use Rattle.copy_turns.specs.Transfers.{Again, GetsPiece, Heard, InterruptedRead, Puts, PutsWhole, SendsEach}
 use Rattle.copy_turns.specs.Transfers.{heard_again, one_more, took_front}

@@ -3,20 +3,14 @@ use Rattle.std.proofs.Common.{refl, sym, ◌∙◌, ap, subst, append_assoc, app
 use Rattle.std.specs.Prelude.{ℕ, ◌≡◌, ◌+◌, ◌%◌, ◌^◌, ◌<◌, ◌≤◌, List, [], ◌++◌, length}
 use Rattle.std.specs.Prelude.{Option, None, Some}
 use Rattle.std.specs.Io.KnownBytes.{append_known}
-use Rattle.wait_rule.specs.Aside.{Grows}
-use Rattle.wait_rule.specs.Known.{Known}
-use Rattle.wait_rule.specs.Pipes.{read_end}
-use Rattle.wait_rule.specs.PipeSays.{reading}
-use Rattle.edge_io.specs.Faults.{HasCounted, HasRisen}
-use Rattle.edge_io.specs.Text.{HoldsPrefix}
+use Rattle.wait_rule.specs.{Aside.Grows, Known.Known, Pipes.read_end, PipeSays.reading}
+use Rattle.edge_io.specs.{Faults.HasCounted, Faults.HasRisen, Text.HoldsPrefix}
 use Rattle.edge_io.proofs.Known.{append_known-twice}
 use Rattle.func_head.specs.Walks.{EntryState, shown}
 use Rattle.wait_pipe.specs.Pieces.{IsAtEnd, IsSettled, Moved}
-use Rattle.copy_plan.specs.declared.stop.Halt.{Halt}
+use Rattle.copy_plan.specs.{declared.stop.Halt.Halt, declared.stop.Stop.Stop, Stops.stop_of}
 use Rattle.copy_plan.specs.declared.stop.Halt.TheVariants as halt
-use Rattle.copy_plan.specs.declared.stop.Stop.{Stop}
 use Rattle.copy_plan.specs.declared.stop.Stop.TheVariants as stop
-use Rattle.copy_plan.specs.Stops.{stop_of}
 use Rattle.copy_turns.specs.Turns.{CountedAll, HasGotBytes, IfWhole, IsWriterStop, SinkRises, Writing}
 use Rattle.copy_turns.specs.Watched.{IsPiece, UnlessFailed}
 use Rattle.copy_turns.specs.Work.{Apart, IsAtWork, IsOwnHalt, TookKill}

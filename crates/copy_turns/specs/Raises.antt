@@ -2,8 +2,7 @@
 -- What is sent for planned signals.
 use Rattle.std.specs.Prelude.{ℕ, if◌then◌else◌, List, [], ◌∷◌}
 use Rattle.wait_rule.specs.Aside.{Raised}
-use Rattle.copy_plan.specs.declared.plan.Planned.{Planned}
-use Rattle.copy_plan.specs.Plans.{target_of}
+use Rattle.copy_plan.specs.{declared.plan.Planned.Planned, Plans.target_of}
 
 -- what is raised for them
 abbrev pub raised_for : List ℕ → Planned → Raised

@@ -1,9 +1,7 @@
 -- To be believed.
 -- What parts of a worker's turn make: whole calls one behind the other, each by its own trail.
 use Rattle.std.specs.Prelude.{ℕ, ◌≡◌, Bool, true, false, Result, Ok, Err, List, [], ◌∷◌, drop}
-use Rattle.wait_rule.specs.Aside.{Raised}
-use Rattle.wait_rule.specs.Known.{Known}
-use Rattle.wait_rule.specs.Says.{HasSignalled}
+use Rattle.wait_rule.specs.{Aside.Raised, Known.Known, Says.HasSignalled}
 use Rattle.wait_pipe.specs.declared.pieces.PipeEnd.TheVariants as pipe_end
 use Rattle.wait_pipe.specs.Trails.{ReadsPiece, WritesPiece}
 use Rattle.copy_plan.specs.declared.stop.Halt.{Halt}

@@ -4,23 +4,16 @@ use Rattle.std.specs.Prelude.{ℕ, ◌≡◌, ◌≢◌, ◌+◌, ◌%◌, ◌^�
 use Rattle.std.specs.Prelude.{true, Option, None, Some, IfSome}
 use Rattle.std.specs.Io.KnownBytes.{append_known, prepend_known}
 use Rattle.wait_model.specs.declared.layout.TheConstants.{PIPE_ENDS}
-use Rattle.wait_rule.specs.Aside.{signals_of}
-use Rattle.wait_rule.specs.Ends.{WasWorn}
-use Rattle.wait_rule.specs.Known.{Known}
+use Rattle.wait_rule.specs.{Aside.signals_of, Ends.WasWorn, Known.Known}
 use Rattle.wait_rule.specs.Pipes.{moved_bytes, read_end, write_end}
 use Rattle.wait_rule.specs.PipeSays.{EndsStay, end_at, reading, writing}
 use Rattle.edge_io.specs.Faults.{HasCounted, HasRisen}
 use Rattle.func_head.specs.Walks.{EntryState}
 use Rattle.wait_pipe.specs.Pieces.{IsAtEnd, IsSettled, Moved}
-use Rattle.copy_plan.specs.declared.TheConstants.{LONGEST}
-use Rattle.copy_plan.specs.declared.plan.Planned.{Planned}
-use Rattle.copy_plan.specs.declared.stop.Halt.{Halt}
-use Rattle.copy_plan.specs.declared.stop.Stop.{Stop}
+use Rattle.copy_plan.specs.{declared.TheConstants.LONGEST, declared.plan.Planned.Planned, declared.stop.Halt.Halt}
+use Rattle.copy_plan.specs.{declared.stop.Stop.Stop, Plans.Rises, Plans.due_at, Stops.IfFinished}
 use Rattle.copy_plan.specs.declared.stop.Stop.TheVariants as stop
-use Rattle.copy_plan.specs.Plans.{Rises, due_at}
-use Rattle.copy_plan.specs.Stops.{IfFinished}
-use Rattle.copy_turns.specs.Raises.{sent_to}
-use Rattle.copy_turns.specs.Watched.{ShowsPieces}
+use Rattle.copy_turns.specs.{Raises.sent_to, Watched.ShowsPieces}
 use Rattle.copy_turns.specs.Work.{Counted, IsHalt, SignalsStay, SumsStay, TookKill, Works}
 
 -- All of a piece was put into the pipe of end k and counted; or a front of it was put, and nothing counted.

@@ -3,8 +3,7 @@
 use Rattle.std.specs.Prelude.{ℕ, ◌≡◌, ◌<◌, ◌≤◌, ◌++◌, List, [], length, Option, Some}
 use Rattle.std.specs.List.{All, concat}
 use Rattle.func_head.specs.Walks.{EntryState, shown_all}
-use Rattle.copy_plan.specs.declared.TheConstants.{PIECE}
-use Rattle.copy_plan.specs.declared.stop.Stop.{Stop}
+use Rattle.copy_plan.specs.{declared.TheConstants.PIECE, declared.stop.Stop.Stop}
 use Rattle.copy_plan.specs.declared.stop.Stop.TheVariants as stop
 
 -- unless the sink failed

@@ -2,21 +2,12 @@
 -- A worker between two parts of its turns, and what each part leaves as it was.
 use Rattle.std.specs.Prelude.{ℕ, ◌≡◌, ◌≢◌, ◌+◌, ◌<◌, Bool, true, false}
 use Rattle.wait_model.specs.declared.steps.Step.TheVariants as step
-use Rattle.wait_model.specs.SignalCounts.{takes_fatal}
-use Rattle.wait_model.specs.Tasks.{task_of}
-use Rattle.wait_model.specs.Totals.{total}
-use Rattle.wait_model.specs.Watches.{page}
+use Rattle.wait_model.specs.{SignalCounts.takes_fatal, Tasks.task_of, Totals.total, Watches.page}
 use Rattle.wait_rule.specs.declared.journal.Item.TheVariants as item
-use Rattle.wait_rule.specs.Aside.{Grows, signals_of}
-use Rattle.wait_rule.specs.Bits.{KeepsBitOf}
-use Rattle.wait_rule.specs.Ends.{WasWorn}
-use Rattle.wait_rule.specs.LeftEntries.{LeftOff}
-use Rattle.wait_rule.specs.Known.{Known}
-use Rattle.wait_rule.specs.PipeSays.{EndsStay, end_at}
-use Rattle.wait_rule.specs.Queues.{IsIdle}
-use Rattle.wait_rule.specs.Says.{Excuse, IsUp, OwesBut, added, history_of, no_excuse}
-use Rattle.wait_rule.specs.Stays.{with_bit}
+use Rattle.wait_rule.specs.{Aside.Grows, Aside.signals_of, Bits.KeepsBitOf, Ends.WasWorn, LeftEntries.LeftOff}
+use Rattle.wait_rule.specs.{Known.Known, PipeSays.EndsStay, PipeSays.end_at, Queues.IsIdle, Stays.with_bit}
 use Rattle.wait_rule.specs.Tallies.{amounts_of}
+use Rattle.wait_rule.specs.Says.{Excuse, IsUp, OwesBut, added, history_of, no_excuse}
 use Rattle.wait_class.specs.Posts.{IsOut}
 use Rattle.wait_pipe.specs.declared.pieces.PipeEnd.{PipeEnd}
 use Rattle.wait_pipe.specs.declared.pieces.PipeEnd.TheVariants as pipe_end

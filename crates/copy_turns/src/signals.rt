@@ -1,11 +1,9 @@
 //! Signals that a worker takes and sends.
 
 ghost use Rattle.std.specs.Prelude.{◌≡◌, ◌++◌, MatchBool};
-ghost use Rattle.wait_rule.specs.Aside.{signals_of};
-ghost use Rattle.wait_rule.specs.PipeSays.{EndsStay};
+ghost use Rattle.wait_rule.specs.{Aside.signals_of, PipeSays.EndsStay};
 ghost use Rattle.copy_plan.specs.Plans.{due_in};
-ghost use Rattle.copy_turns.specs.Raises.{sent_to};
-ghost use Rattle.copy_turns.specs.Transfers.{SendsEach};
+ghost use Rattle.copy_turns.specs.{Raises.sent_to, Transfers.SendsEach};
 ghost use Rattle.copy_turns.specs.Work.{Apart, IsAtWork, SumsStay, TookKill, TookNoKill, TookOwn, Works};
 
 use copy_plan::Planned;

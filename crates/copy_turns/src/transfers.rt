@@ -2,11 +2,9 @@
 
 ghost use Rattle.std.specs.Prelude.{◌≡◌, ◌<◌, ◌≤◌, [], length, take, IfErr, IfOk, MatchResult};
 ghost use Rattle.wait_model.specs.declared.layout.TheConstants.{PIPES};
-ghost use Rattle.wait_rule.specs.Pipes.{read_end, write_end};
-ghost use Rattle.wait_rule.specs.PipeSays.{reading, writing};
+ghost use Rattle.wait_rule.specs.{Pipes.read_end, Pipes.write_end, PipeSays.reading, PipeSays.writing};
 ghost use Rattle.wait_pipe.specs.Pieces.{IsAtEnd, IsSettled};
-ghost use Rattle.copy_turns.specs.Transfers.{GetsPiece, PutsWhole};
-ghost use Rattle.copy_turns.specs.Turns.{HasGotBytes, HandedFront};
+ghost use Rattle.copy_turns.specs.{Transfers.GetsPiece, Transfers.PutsWhole, Turns.HasGotBytes, Turns.HandedFront};
 ghost use Rattle.copy_turns.specs.Work.{Apart, GoesOnBy, HaltsBy, IsAtWork, IsOwnHalt};
 
 use crate::signals::is_killed;

@@ -1,17 +1,11 @@
 -- How many permits a task's steps give and take along a run, by what holds of its history at each place.
 use Rattle.std.proofs.Common.{sym, subst, append_assoc, append-nil}
 use Rattle.std.specs.Prelude.{ℕ, List, [], ◌∷◌, ◌++◌}
-use Rattle.wait_model.specs.declared.points.Next.{Next}
-use Rattle.wait_model.specs.declared.points.Next.TheVariants as next
-use Rattle.wait_model.specs.declared.points.Point.{Point}
-use Rattle.wait_model.specs.declared.points.Seen.{Seen}
+use Rattle.wait_model.specs.{declared.points.Next.Next, declared.points.Point.Point, declared.points.Seen.Seen}
 use Rattle.wait_model.specs.declared.steps.Step.{Step}
+use Rattle.wait_model.specs.declared.points.Next.TheVariants as next
 use Rattle.wait_model.specs.declared.steps.Step.TheVariants as step
-use Rattle.wait_rule.specs.declared.journal.Item.{Item}
-use Rattle.wait_rule.specs.Items.{steps_of}
-use Rattle.wait_rule.specs.Known.{Known}
-use Rattle.wait_rule.specs.LeftEntries.{Order}
-use Rattle.wait_rule.specs.Says.{history_of}
+use Rattle.wait_rule.specs.{declared.journal.Item.Item, Items.steps_of, Known.Known, LeftEntries.Order, Says.history_of}
 use Rattle.wait_rule.specs.Transitions.{AreLooks, Finds, Goes, IsMadeFor, IsStepFor, OnlyLooks, Program, StepOrLook}
 use Rattle.wait_rule.specs.Transitions.{Transition, after_transition, by_look, by_step}
 use Rattle.wait_rule.proofs.KnownLaws.HandedSteps.{OrderStep, order_front, order_step}

@@ -2,26 +2,19 @@
 use Rattle.std.proofs.Common.{refl, subst, arith, inl, inr}
 use Rattle.std.specs.Prelude.{ℕ, false, Result, Ok, Err}
 use Rattle.wait_model.specs.declared.points.AwaitPoint.TheVariants as awaiting
-use Rattle.wait_model.specs.declared.points.Next.{Next}
+use Rattle.wait_model.specs.{declared.points.Next.Next, declared.tasks.SleepState.SleepState}
 use Rattle.wait_model.specs.declared.points.Next.TheVariants as next
 use Rattle.wait_model.specs.declared.points.Point.TheVariants as at
-use Rattle.wait_model.specs.declared.tasks.SleepState.{SleepState}
-use Rattle.wait_rule.specs.Known.{Known}
-use Rattle.wait_rule.specs.LeftEntries.{Order}
-use Rattle.wait_rule.specs.Says.{history_of}
-use Rattle.wait_rule.specs.Transitions.{Program}
+use Rattle.wait_rule.specs.{Known.Known, LeftEntries.Order, Says.history_of, Transitions.Program}
 use Rattle.wait_rule.proofs.KnownLaws.HandedSteps.{order_front}
 use Rattle.wait_rule.proofs.SaidEvents.Fronts.{history_grows, number_stays}
 use Rattle.wait_class.specs.Posts.{Runs}
-use Rattle.count_sem.specs.declared.down_calls.SemEnd.{SemEnd}
-use Rattle.count_sem.specs.declared.down_calls.SemEnd.TheVariants as sem_end
-use Rattle.count_sem.specs.DownEnds.{end_answer}
-use Rattle.count_sem.specs.SemAnswers.{DownCounts, DownsAreCounted}
+use Rattle.count_sem.specs.{declared.down_calls.SemEnd.SemEnd, DownEnds.end_answer, SemAnswers.DownCounts}
+use Rattle.count_sem.specs.{SemAnswers.DownsAreCounted, SemPrograms.down_program}
 use Rattle.count_sem.specs.SemPermits.{FindsNoEnd, permits_given, permits_taken}
-use Rattle.count_sem.specs.SemPrograms.{down_program}
-use Rattle.count_sem.proofs.AnswerRuns.{run_holds}
-use Rattle.count_sem.proofs.DownEvents.{down_points}
-use Rattle.count_sem.proofs.DownPermits.{DownPlace, down_looks}
+use Rattle.count_sem.specs.declared.down_calls.SemEnd.TheVariants as sem_end
+use Rattle.count_sem.proofs.{AnswerRuns.run_holds, DownEvents.down_points, DownPermits.DownPlace}
+use Rattle.count_sem.proofs.DownPermits.{down_looks}
 
 -- what a run of the program makes of the account
 pub run_counts : (c me g t : ℕ) (st : SleepState) (old new : Known) (from to : Next)

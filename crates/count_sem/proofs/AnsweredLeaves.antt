@@ -1,51 +1,34 @@
 -- What a `down` takes that its task may leave, by its answer.
 use Rattle.std.proofs.Common.{refl, sym, ◌∙◌, ap, subst, inl, inr}
 use Rattle.std.specs.Prelude.{ℕ, ◌≡◌, Bool, true, false, Some, Result, Ok, Err, List, [], ◌∷◌, ◌++◌}
-use Rattle.wait_model.specs.declared.calls.Answer.{Answer}
+use Rattle.wait_model.specs.{declared.calls.Answer.Answer, declared.steps.Step.Step, Fold.view_of, Permits.dealt}
+use Rattle.wait_model.specs.{Programs.signalled, Programs.zero_answer, Runs.own}
 use Rattle.wait_model.specs.declared.calls.Answer.TheVariants as answer
 use Rattle.wait_model.specs.declared.points.AwaitPoint.TheVariants as awaiting
 use Rattle.wait_model.specs.declared.points.Next.TheVariants as next
 use Rattle.wait_model.specs.declared.points.Point.TheVariants as at
-use Rattle.wait_model.specs.declared.steps.Step.{Step}
 use Rattle.wait_model.specs.declared.steps.Step.TheVariants as step
-use Rattle.wait_model.specs.Fold.{view_of}
-use Rattle.wait_model.specs.Permits.{dealt}
-use Rattle.wait_model.specs.Programs.{signalled, zero_answer}
-use Rattle.wait_model.specs.Runs.{own}
-use Rattle.wait_rule.specs.Known.{Known}
+use Rattle.wait_rule.specs.{Known.Known, Says.history_of}
 use Rattle.wait_rule.specs.LeftEntries.{LeftOff, Order, OrderOf}
-use Rattle.wait_rule.specs.Says.{history_of}
-use Rattle.wait_rule.proofs.KnownLaws.HandedSteps.{order_front}
-use Rattle.wait_rule.proofs.KnownLaws.TaskHistories.{history_after}
-use Rattle.wait_class.specs.declared.stages.Run.{Run}
-use Rattle.wait_class.specs.declared.stages.Turn.{Turn}
+use Rattle.wait_rule.proofs.{KnownLaws.HandedSteps.order_front, KnownLaws.TaskHistories.history_after}
+use Rattle.wait_class.specs.{declared.stages.Run.Run, declared.stages.Turn.Turn, Posts.Runs, Tables.Advances}
+use Rattle.wait_class.specs.{Tables.next_in, Wholes.HasRested}
 use Rattle.wait_class.specs.declared.stages.Turn.TheVariants as turn
-use Rattle.wait_class.specs.Posts.{Runs}
-use Rattle.wait_class.specs.Tables.{Advances, next_in}
-use Rattle.wait_class.specs.Wholes.{HasRested}
-use Rattle.wait_leave.specs.declared.exits.Exit.{Exit}
-use Rattle.wait_leave.specs.declared.exits.Until.{Until}
-use Rattle.wait_leave.specs.Leaves.{GoesOut, asked_run}
+use Rattle.wait_leave.specs.{declared.exits.Exit.Exit, declared.exits.Until.Until, Leaves.GoesOut, Leaves.asked_run}
 use Rattle.wait_leave.specs.OnTheWay.{OnTheWay, left_at, straight}
-use Rattle.count_sem.specs.declared.down_calls.SemEnd.{SemEnd}
-use Rattle.count_sem.specs.declared.down_calls.SemEnd.TheVariants as sem_end
-use Rattle.count_sem.specs.declared.downs.DownCall.{DownCall}
-use Rattle.count_sem.specs.declared.downs.DownOutcome.{DownOutcome}
-use Rattle.count_sem.specs.declared.downs.DownOutcome.TheVariants as outcome
-use Rattle.count_sem.specs.declared.downs.DownStage.{DownStage}
-use Rattle.count_sem.specs.declared.downs.DownStage.TheVariants as stage
-use Rattle.count_sem.specs.DownEnds.{down_end_in}
+use Rattle.count_sem.specs.{declared.down_calls.SemEnd.SemEnd, declared.downs.DownCall.DownCall}
+use Rattle.count_sem.specs.{declared.downs.DownOutcome.DownOutcome, declared.downs.DownStage.DownStage}
+use Rattle.count_sem.specs.{DownEnds.down_end_in, Downs.down_table, SemAnswers.LeftDownsAreCounted}
+use Rattle.count_sem.specs.SemAnswers.{UntilCounts}
 use Rattle.count_sem.specs.DownLeaves.{ClosesDown, LeavesDown, down_exit, down_exits, end_until, stopped_until}
-use Rattle.count_sem.specs.Downs.{down_table}
-use Rattle.count_sem.specs.SemAnswers.{LeftDownsAreCounted, UntilCounts}
 use Rattle.count_sem.specs.SemPermits.{FindsNoEnd, permits_given, permits_taken}
 use Rattle.count_sem.specs.SemPrograms.{down_program, joined, pass_point}
+use Rattle.count_sem.specs.declared.down_calls.SemEnd.TheVariants as sem_end
+use Rattle.count_sem.specs.declared.downs.DownOutcome.TheVariants as outcome
+use Rattle.count_sem.specs.declared.downs.DownStage.TheVariants as stage
+use Rattle.count_sem.proofs.{AnsweredUps.has_still, DownEndings.part_runs, DownPermits.DownPlace, LoadedEnds.loaded_on}
 use Rattle.count_sem.proofs.AnsweredDowns.{counts_by, order_before, run_counts}
-use Rattle.count_sem.proofs.AnsweredUps.{has_still}
-use Rattle.count_sem.proofs.DownEndings.{part_runs}
 use Rattle.count_sem.proofs.DownHolds.{IsCalm, asleep_on, stores_calm}
-use Rattle.count_sem.proofs.DownPermits.{DownPlace}
-use Rattle.count_sem.proofs.LoadedEnds.{loaded_on}
 
 abbrev DownExit : Type 0
 DownExit = Exit DownStage DownOutcome

@@ -2,35 +2,21 @@
 use Rattle.std.proofs.Common.{refl, ◌∙◌, ap, subst, arith, eq-eqb, inl, inr}
 use Rattle.std.specs.Prelude.{ℕ, suc, ◌≡◌, ◌+◌, ◌-◌, ◌==◌, ◌⊎◌, pos, Bool, true, false, if◌then◌else◌, List, [], ◌∷◌}
 use Rattle.std.specs.Prelude.{◌++◌}
-use Rattle.wait_model.specs.declared.layout.TheConstants.{ALL_DONE}
-use Rattle.wait_model.specs.declared.calls.Answer.{Answer}
+use Rattle.wait_model.specs.{declared.layout.TheConstants.ALL_DONE, declared.calls.Answer.Answer}
+use Rattle.wait_model.specs.{declared.points.Given.Given, declared.points.Next.Next, declared.points.Planned.Planned}
+use Rattle.wait_model.specs.{declared.points.Point.Point, declared.points.Seen.Seen, declared.steps.Step.Step}
+use Rattle.wait_model.specs.{declared.watches.Watch.Watch, Counts.taken_done, Fold.view_of, Programs.done_in}
+use Rattle.wait_model.specs.{Programs.is_at_end, Runs.own, Views.blank, Watches.number_of, Words.flag}
+use Rattle.wait_model.specs.Permits.{Dealt, dealt, done_head, is_in, none_dealt}
 use Rattle.wait_model.specs.declared.calls.Answer.TheVariants as answer
 use Rattle.wait_model.specs.declared.calls.Event.TheVariants as event
 use Rattle.wait_model.specs.declared.points.CountPoint.TheVariants as counting
-use Rattle.wait_model.specs.declared.points.Given.{Given}
-use Rattle.wait_model.specs.declared.points.Next.{Next}
 use Rattle.wait_model.specs.declared.points.Next.TheVariants as next
-use Rattle.wait_model.specs.declared.points.Planned.{Planned}
-use Rattle.wait_model.specs.declared.points.Point.{Point}
 use Rattle.wait_model.specs.declared.points.Point.TheVariants as at
-use Rattle.wait_model.specs.declared.points.Seen.{Seen}
-use Rattle.wait_model.specs.declared.steps.Step.{Step}
 use Rattle.wait_model.specs.declared.steps.Step.TheVariants as step
-use Rattle.wait_model.specs.declared.watches.Watch.{Watch}
 use Rattle.wait_model.specs.declared.watches.Watch.TheVariants as watch
-use Rattle.wait_model.specs.Counts.{taken_done}
-use Rattle.wait_model.specs.Fold.{view_of}
-use Rattle.wait_model.specs.Permits.{Dealt, dealt, done_head, is_in, none_dealt}
-use Rattle.wait_model.specs.Programs.{done_in, is_at_end}
-use Rattle.wait_model.specs.Runs.{own}
-use Rattle.wait_model.specs.Views.{blank}
-use Rattle.wait_model.specs.Watches.{number_of}
-use Rattle.wait_model.specs.Words.{flag}
 use Rattle.wait_model.proofs.PermitLaws.OwnTurns.{deals_snoc}
-use Rattle.wait_rule.specs.declared.journal.Item.{Item}
-use Rattle.wait_rule.specs.Known.{Known}
-use Rattle.wait_rule.specs.LeftEntries.{Order}
-use Rattle.wait_rule.specs.Says.{history_of}
+use Rattle.wait_rule.specs.{declared.journal.Item.Item, Known.Known, LeftEntries.Order, Says.history_of}
 use Rattle.wait_rule.specs.Transitions.{Finds, FindsStep, IsMadeFor, IsStepFor, Program, by_look, by_step}
 use Rattle.wait_rule.proofs.KnownLaws.HandedSteps.{OrderStep, away_next, order_front}
 use Rattle.wait_rule.proofs.SaidEvents.Fronts.{history_grows, number_stays}

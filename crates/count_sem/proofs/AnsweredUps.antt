@@ -3,51 +3,36 @@ use Rattle.std.proofs.Common.{refl, sym, ◌∙◌, ap, subst, arith, eq-eqb}
 use Rattle.std.proofs.lemmas.Bool.Decides.{nat_tests}
 use Rattle.std.specs.Prelude.{ℕ, zero, ◌≡◌, ◌+◌, ◌==◌, ◌&&◌, ◌||◌, not, nat_lt, pos, Bool, true, false, if◌then◌else◌}
 use Rattle.std.specs.Prelude.{Option, Some, None, Result, Ok, Err, List, [], ◌∷◌, ◌++◌}
-use Rattle.wait_model.specs.declared.layout.TheConstants.{ALL_DONE}
-use Rattle.wait_model.specs.declared.calls.Answer.{Answer}
+use Rattle.wait_model.specs.{declared.layout.TheConstants.ALL_DONE, declared.calls.Answer.Answer}
+use Rattle.wait_model.specs.{declared.points.Given.Given, declared.points.Next.Next, declared.points.Planned.Planned}
+use Rattle.wait_model.specs.{declared.points.Point.Point, declared.points.Seen.Seen}
+use Rattle.wait_model.specs.{declared.queues.CalledEntry.CalledEntry, declared.steps.Step.Step}
+use Rattle.wait_model.specs.{declared.watches.Aim.Aim, declared.watches.Entry.Entry, declared.watches.Watch.Watch}
+use Rattle.wait_model.specs.{Fold.holding, Fold.view_of, Runs.is_publishing, Runs.own, Tables.Table, Tasks.meets}
+use Rattle.wait_model.specs.{Views.View, Views.blank, Words.flag}
+use Rattle.wait_model.specs.Permits.{Dealt, dealt, done_head, is_in, none_dealt, shows_at}
+use Rattle.wait_model.specs.Watches.{head_of, mask_of, number_of, stands_at}
 use Rattle.wait_model.specs.declared.calls.Answer.TheVariants as answer
 use Rattle.wait_model.specs.declared.calls.Event.TheVariants as event
 use Rattle.wait_model.specs.declared.points.CountPoint.TheVariants as counting
-use Rattle.wait_model.specs.declared.points.Given.{Given}
-use Rattle.wait_model.specs.declared.points.Next.{Next}
 use Rattle.wait_model.specs.declared.points.Next.TheVariants as next
-use Rattle.wait_model.specs.declared.points.Planned.{Planned}
-use Rattle.wait_model.specs.declared.points.Point.{Point}
 use Rattle.wait_model.specs.declared.points.Point.TheVariants as at
-use Rattle.wait_model.specs.declared.points.Seen.{Seen}
 use Rattle.wait_model.specs.declared.points.SelectPoint.TheVariants as selecting
-use Rattle.wait_model.specs.declared.queues.CalledEntry.{CalledEntry}
-use Rattle.wait_model.specs.declared.steps.Step.{Step}
 use Rattle.wait_model.specs.declared.steps.Step.TheVariants as step
-use Rattle.wait_model.specs.declared.watches.Aim.{Aim}
-use Rattle.wait_model.specs.declared.watches.Entry.{Entry}
 use Rattle.wait_model.specs.declared.watches.Mode.TheVariants as mode
-use Rattle.wait_model.specs.declared.watches.Watch.{Watch}
 use Rattle.wait_model.specs.declared.watches.Watch.TheVariants as watch
-use Rattle.wait_model.specs.Fold.{holding, view_of}
-use Rattle.wait_model.specs.Permits.{Dealt, dealt, done_head, is_in, none_dealt, shows_at}
-use Rattle.wait_model.specs.Runs.{is_publishing, own}
-use Rattle.wait_model.specs.Tables.{Table}
-use Rattle.wait_model.specs.Tasks.{meets}
-use Rattle.wait_model.specs.Views.{View, blank}
-use Rattle.wait_model.specs.Watches.{head_of, mask_of, number_of, stands_at}
-use Rattle.wait_model.specs.Words.{flag}
 use Rattle.wait_model.proofs.PermitLaws.OwnTurns.{clash, deals_snoc}
-use Rattle.wait_rule.specs.declared.journal.Item.{Item}
-use Rattle.wait_rule.specs.Interleavings.{table_of}
-use Rattle.wait_rule.specs.Known.{Known}
-use Rattle.wait_rule.specs.LeftEntries.{Order}
+use Rattle.wait_rule.specs.{declared.journal.Item.Item, Interleavings.table_of, Known.Known, LeftEntries.Order}
 use Rattle.wait_rule.specs.Says.{history_of}
 use Rattle.wait_rule.specs.Transitions.{Finds, FindsStep, IsMadeFor, IsStepFor, Program, by_look, by_step}
 use Rattle.wait_rule.proofs.KnownLaws.HandedSteps.{AddsLow, IsAwayAt, OrderStep, away_next, off_there, order_front}
 use Rattle.wait_rule.proofs.KnownLaws.HandedSteps.{order_view}
 use Rattle.wait_rule.proofs.SaidEvents.Fronts.{history_grows, number_stays}
 use Rattle.wait_class.specs.Tables.{plan_program}
-use Rattle.count_sem.specs.declared.ups.SemFull.{SemFull}
+use Rattle.count_sem.specs.{declared.ups.SemFull.SemFull, Ups.up_answer}
 use Rattle.count_sem.specs.SemAnswers.{CountsMore, UpsAreCounted, up_gives}
 use Rattle.count_sem.specs.SemPermits.{gives_permit, permits_given, permits_taken, takes_permit}
 use Rattle.count_sem.specs.SemPrograms.{is_full, sem_head, up_next, up_plan}
-use Rattle.count_sem.specs.Ups.{up_answer}
 use Rattle.count_sem.proofs.AnswerRuns.{LooksHold, PointsHold, run_holds}
 use Rattle.count_sem.proofs.SemPoints.{IsIn, in_on, lock_in, view_more, wake_keeps}
 use Rattle.count_sem.proofs.SemSums.{counted_snoc}

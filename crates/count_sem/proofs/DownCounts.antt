@@ -2,61 +2,45 @@
 use Rattle.std.proofs.Common.{◌∙◌, ap, sym, refl, subst, arith, append_assoc, eqb-true}
 use Rattle.std.specs.Prelude.{ℕ, ◌≡◌, ◌≤◌, ◌==◌, ◌||◌, Bool, true, false, is_some, if◌then◌else◌, Option, Some, None}
 use Rattle.std.specs.Prelude.{[], ◌∷◌, ◌++◌}
-use Rattle.wait_model.specs.declared.layout.TheConstants.{ALL_DONE}
+use Rattle.wait_model.specs.{declared.layout.TheConstants.ALL_DONE, declared.points.Next.Next}
+use Rattle.wait_model.specs.{declared.points.Seen.Seen, declared.steps.Step.Step, declared.watches.Entry.Entry}
+use Rattle.wait_model.specs.{Programs.is_at_end, Tasks.looks_in, Watches.head_of, Words.entry_of}
+use Rattle.wait_model.specs.PointFacts.{IsHome, Zone, absent, waits}
+use Rattle.wait_model.specs.Views.{View as Told, off as taken_off, shown}
 use Rattle.wait_model.specs.declared.calls.Answer.TheVariants as answer
 use Rattle.wait_model.specs.declared.points.AwaitPoint.TheVariants as awaiting
-use Rattle.wait_model.specs.declared.points.Next.{Next}
 use Rattle.wait_model.specs.declared.points.Next.TheVariants as next
 use Rattle.wait_model.specs.declared.points.Point.TheVariants as at
 use Rattle.wait_model.specs.declared.points.PreparePoint.TheVariants as preparing
-use Rattle.wait_model.specs.declared.points.Seen.{Seen}
-use Rattle.wait_model.specs.declared.steps.Step.{Step}
 use Rattle.wait_model.specs.declared.steps.Step.TheVariants as step
-use Rattle.wait_model.specs.declared.watches.Entry.{Entry}
 use Rattle.wait_model.specs.declared.watches.Watch.TheVariants as watch
-use Rattle.wait_model.specs.PointFacts.{IsHome, Zone, absent, waits}
-use Rattle.wait_model.specs.Programs.{is_at_end}
-use Rattle.wait_model.specs.Tasks.{looks_in}
-use Rattle.wait_model.specs.Views.{View as Told, off as taken_off, shown}
-use Rattle.wait_model.specs.Watches.{head_of}
-use Rattle.wait_model.specs.Words.{entry_of}
 use Rattle.wait_model.proofs.SentenceLaws.SentenceAwaits.{shown_count}
 use Rattle.wait_rule.specs.declared.journal.Item.TheVariants as item
-use Rattle.wait_rule.specs.Counts.{FindsCount}
-use Rattle.wait_rule.specs.Items.{Book}
-use Rattle.wait_rule.specs.Known.{Known}
+use Rattle.wait_rule.specs.{Counts.FindsCount, Items.Book, Known.Known, Stays.Carries, Stays.unchanged}
 use Rattle.wait_rule.specs.Says.{added, history_of, told_of}
 use Rattle.wait_rule.specs.Queues.{IsAgreedHold, index, saw}
-use Rattle.wait_rule.specs.Stays.{Carries, unchanged}
-use Rattle.wait_rule.proofs.KnownLaws.AfterSteps.{told_added}
-use Rattle.wait_rule.proofs.KnownLaws.TaskHistories.{history_after}
+use Rattle.wait_rule.proofs.{KnownLaws.AfterSteps.told_added, KnownLaws.TaskHistories.history_after}
 use Rattle.wait_rule.proofs.KnownLaws.Transitions.{only_none}
-use Rattle.wait_class.specs.Findings.{with_value}
+use Rattle.wait_class.specs.{Findings.with_value, declared.stages.Run.Run}
 use Rattle.wait_class.specs.Posts.{EndsWith, HasSeenOwn, Post, Stands, own_of}
 use Rattle.wait_class.specs.Tables.{IsAt, Turned, falls, next_in, post_of}
 use Rattle.wait_class.specs.Laws.{IsPlainTurn, TurnTrail, turn_post}
-use Rattle.wait_class.specs.declared.stages.Run.{Run}
 use Rattle.wait_class.specs.declared.stages.Turn.TheVariants as turn
-use Rattle.wait_class.proofs.CalmSteps.{calm_saw}
+use Rattle.wait_class.proofs.{CalmSteps.calm_saw, OwnSteps.own_goes, Turns.GoesOn, Turns.advance_by}
 use Rattle.wait_class.proofs.Ground.Keeping.{keeps_none, keeps_on, own_keeps}
 use Rattle.wait_class.proofs.Ground.Standing.{finds_own, home_waits, seen_book, seen_home, seen_looks, seen_off}
 use Rattle.wait_class.proofs.Ground.Standing.{seen_shows, seen_stands}
-use Rattle.wait_class.proofs.OwnSteps.{own_goes}
-use Rattle.wait_class.proofs.Turns.{GoesOn, advance_by}
 use Rattle.wait_event.specs.Waits.{is_queue}
 use Rattle.completion_cell.specs.HeldPermits.{HasBegunHold, Knows, WaitsIn}
+use Rattle.completion_cell.proofs.{AwaitTrails.again_begun, Ground.step_behind}
 use Rattle.completion_cell.proofs.AwaitCounts.{keeps_unchanged, loads_known, none_is, still_stands_at}
-use Rattle.completion_cell.proofs.AwaitTrails.{again_begun}
-use Rattle.completion_cell.proofs.Ground.{step_behind}
-use Rattle.count_sem.specs.SemPrograms.{again_next}
+use Rattle.count_sem.specs.{SemPrograms.again_next, declared.downs.DownCall.DownCall}
+use Rattle.count_sem.specs.declared.downs.DownStage.{DownStage}
 use Rattle.count_sem.specs.Downs.{DownKeeps, DownTurn, FoundZero, HasCount, HasWalk, again_by, again_to, down_head}
 use Rattle.count_sem.specs.Downs.{down_post, down_table, first_by, first_to}
-use Rattle.count_sem.specs.declared.downs.DownCall.{DownCall}
 use Rattle.count_sem.specs.declared.downs.DownOutcome.TheVariants as outcome
-use Rattle.count_sem.specs.declared.downs.DownStage.{DownStage}
 use Rattle.count_sem.specs.declared.downs.DownStage.TheVariants as stage
-use Rattle.count_sem.proofs.DownLaws.{told_by}
-use Rattle.count_sem.proofs.DownTrails.{own_same, walk_on}
+use Rattle.count_sem.proofs.{DownLaws.told_by, DownTrails.own_same, DownTrails.walk_on}
 
 -- where the program goes on is where the call does
 first_next : (zero looks ends : Bool)

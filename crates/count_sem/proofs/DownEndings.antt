@@ -1,25 +1,20 @@
 -- Whole calls of `down`: how they begin, how a task stands behind them, and what they say at their end.
 use Rattle.std.proofs.Common.{◌∙◌, ap, sym, refl, subst}
 use Rattle.std.specs.Prelude.{ℕ, ◌≡◌, ◌≢◌, ◌<◌, ◌||◌, Bool, false, List, [], ◌∷◌}
-use Rattle.wait_model.specs.declared.layout.TheConstants.{COMPLETIONS}
+use Rattle.wait_model.specs.{declared.layout.TheConstants.COMPLETIONS, declared.points.Next.Next}
+use Rattle.wait_model.specs.declared.tasks.SleepState.{SleepState}
+use Rattle.wait_model.specs.Tasks.{pending, state_mask, task_of}
 use Rattle.wait_model.specs.declared.points.AwaitPoint.TheVariants as awaiting
-use Rattle.wait_model.specs.declared.points.Next.{Next}
 use Rattle.wait_model.specs.declared.points.Next.TheVariants as next
 use Rattle.wait_model.specs.declared.points.Point.TheVariants as at
 use Rattle.wait_model.specs.declared.steps.Step.TheVariants as step
-use Rattle.wait_model.specs.declared.tasks.SleepState.{SleepState}
-use Rattle.wait_model.specs.Tasks.{pending, state_mask, task_of}
-use Rattle.wait_rule.specs.HeldValues.{count_in}
-use Rattle.wait_rule.specs.Known.{Known}
-use Rattle.wait_rule.specs.LeftEntries.{LeftOff}
-use Rattle.wait_rule.specs.Queues.{IsIdle, IsTold}
-use Rattle.wait_rule.specs.Says.{IsUp, history_of}
+use Rattle.wait_rule.specs.{HeldValues.count_in, Known.Known, LeftEntries.LeftOff, Queues.IsIdle, Queues.IsTold}
+use Rattle.wait_rule.specs.{Says.IsUp, Says.history_of}
 use Rattle.wait_rule.specs.Transitions.{Goes, Program, Transition, after_transition}
 use Rattle.wait_rule.proofs.KnownLaws.OtherCalls.{Adding, goes_adding}
+use Rattle.wait_class.specs.{declared.stages.Run.Run, declared.stages.Turn.Turn}
 use Rattle.wait_class.specs.Posts.{EndsWith, IsOut, Post, Runs, Stands, own_of}
 use Rattle.wait_class.specs.Tables.{Advances, IsAt, IsEnded, Plan, next_in, plan_program}
-use Rattle.wait_class.specs.declared.stages.Run.{Run}
-use Rattle.wait_class.specs.declared.stages.Turn.{Turn}
 use Rattle.wait_class.specs.declared.stages.Turn.TheVariants as turn
 use Rattle.wait_event.proofs.Behind.{behind_at}
 use Rattle.wait_class.proofs.Wholes.{begins}
@@ -27,14 +22,12 @@ use Rattle.wait_event.specs.Waits.{has_queued_in}
 pub use Rattle.completion_cell.proofs.Behind.{StandsBehind, behind_carried, behind_clean, behind_idle}
 pub use Rattle.completion_cell.proofs.OtherCells.{stays_off_by}
 use Rattle.completion_cell.proofs.OtherCells.{IsAside, asks_aside}
+use Rattle.count_sem.specs.{DownEnds.EndsDown, DownEnds.down_end_in, declared.downs.DownCall.DownCall}
+use Rattle.count_sem.specs.{declared.downs.DownOutcome.DownOutcome, declared.downs.DownStage.DownStage}
 use Rattle.count_sem.specs.SemPrograms.{down_plan, down_program, joined, joins, sem_head}
 use Rattle.count_sem.specs.Downs.{DownKeeps, FoundNoSeat, FoundDownSignal, IsFreshDown, OutFor, StoodThere}
 use Rattle.count_sem.specs.Downs.{WentOutOfDown, down_answer, down_post, down_table, found_zero, left_queue}
-use Rattle.count_sem.specs.DownEnds.{EndsDown, down_end_in}
-use Rattle.count_sem.specs.declared.downs.DownCall.{DownCall}
-use Rattle.count_sem.specs.declared.downs.DownOutcome.{DownOutcome}
 use Rattle.count_sem.specs.declared.downs.DownOutcome.TheVariants as outcome
-use Rattle.count_sem.specs.declared.downs.DownStage.{DownStage}
 use Rattle.count_sem.specs.declared.downs.DownStage.TheVariants as stage
 
 -- a task that is idle, with its entry off, may begin

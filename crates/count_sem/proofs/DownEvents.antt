@@ -3,58 +3,43 @@ use Rattle.std.proofs.Common.{refl, sym, ◌∙◌, ap, subst, arith, eq-eqb, in
 use Rattle.std.proofs.lemmas.Bool.Decides.{nat_tests}
 use Rattle.std.specs.Prelude.{ℕ, zero, suc, ◌≡◌, ◌+◌, ◌-◌, ◌<◌, ◌≤◌, ◌==◌, ◌||◌, Bool, true, false, is_some}
 use Rattle.std.specs.Prelude.{if◌then◌else◌, Option, Some, None, List, [], ◌∷◌, ◌++◌}
-use Rattle.wait_model.specs.declared.layout.TheConstants.{ALL_DONE, ENTRIES}
+use Rattle.wait_model.specs.{declared.layout.TheConstants.ALL_DONE, declared.layout.TheConstants.ENTRIES}
+use Rattle.wait_model.specs.{declared.points.Given.Given, declared.points.Next.Next, declared.points.Planned.Planned}
+use Rattle.wait_model.specs.{declared.points.Point.Point, declared.points.Seen.Seen}
+use Rattle.wait_model.specs.{declared.queues.CalledEntry.CalledEntry, declared.queues.Member.Member}
+use Rattle.wait_model.specs.{declared.steps.Step.Step, declared.tasks.SleepState.SleepState}
+use Rattle.wait_model.specs.{declared.watches.Entry.Entry, declared.watches.Watch.Watch, Facts.Agrees, Fold.view_of}
+use Rattle.wait_model.specs.{Queues.entry_from, Queues.is_entry, Views.Look, Views.shown}
+use Rattle.wait_model.specs.Permits.{dealt, done_head, shows_at}
+use Rattle.wait_model.specs.Programs.{ends_with, go, is_at_end, signalled, zero_answer}
+use Rattle.wait_model.specs.Runs.{called_as, called_by, own}
+use Rattle.wait_model.specs.Tasks.{looks_in, meets, pending, sleep_of, state_mask}
+use Rattle.wait_model.specs.Watches.{head_of, mask_of, number_of, owner}
 use Rattle.wait_model.specs.declared.calls.Answer.TheVariants as answer
 use Rattle.wait_model.specs.declared.calls.Event.TheVariants as event
 use Rattle.wait_model.specs.declared.points.AwaitPoint.TheVariants as awaiting
 use Rattle.wait_model.specs.declared.points.FinishPoint.TheVariants as finishing
-use Rattle.wait_model.specs.declared.points.Given.{Given}
 use Rattle.wait_model.specs.declared.points.LeavePoint.TheVariants as leaving
-use Rattle.wait_model.specs.declared.points.Next.{Next}
 use Rattle.wait_model.specs.declared.points.Next.TheVariants as next
-use Rattle.wait_model.specs.declared.points.Planned.{Planned}
-use Rattle.wait_model.specs.declared.points.Point.{Point}
 use Rattle.wait_model.specs.declared.points.Point.TheVariants as at
 use Rattle.wait_model.specs.declared.points.PreparePoint.TheVariants as preparing
-use Rattle.wait_model.specs.declared.points.Seen.{Seen}
 use Rattle.wait_model.specs.declared.points.SelectPoint.TheVariants as selecting
-use Rattle.wait_model.specs.declared.queues.CalledEntry.{CalledEntry}
 use Rattle.wait_model.specs.declared.queues.Form.TheVariants as forms
-use Rattle.wait_model.specs.declared.queues.Member.{Member}
-use Rattle.wait_model.specs.declared.steps.Step.{Step}
 use Rattle.wait_model.specs.declared.steps.Step.TheVariants as step
-use Rattle.wait_model.specs.declared.tasks.SleepState.{SleepState}
-use Rattle.wait_model.specs.declared.watches.Entry.{Entry}
 use Rattle.wait_model.specs.declared.watches.Mode.TheVariants as mode
-use Rattle.wait_model.specs.declared.watches.Watch.{Watch}
 use Rattle.wait_model.specs.declared.watches.Watch.TheVariants as watch
-use Rattle.wait_model.specs.Facts.{Agrees}
-use Rattle.wait_model.specs.Fold.{view_of}
-use Rattle.wait_model.specs.Permits.{dealt, done_head, shows_at}
-use Rattle.wait_model.specs.Programs.{ends_with, go, is_at_end, signalled, zero_answer}
-use Rattle.wait_model.specs.Queues.{entry_from, is_entry}
-use Rattle.wait_model.specs.Runs.{called_as, called_by, own}
-use Rattle.wait_model.specs.Tasks.{looks_in, meets, pending, sleep_of, state_mask}
-use Rattle.wait_model.specs.Views.{Look, shown}
-use Rattle.wait_model.specs.Watches.{head_of, mask_of, number_of, owner}
 use Rattle.wait_model.proofs.PermitLaws.OwnTurns.{clash, known_is}
 use Rattle.wait_model.proofs.QueueLaws.QueueOrder.{IsFirstFrom, first_is}
-use Rattle.wait_rule.specs.declared.journal.Item.{Item}
-use Rattle.wait_rule.specs.HeldValues.{count_in}
-use Rattle.wait_rule.specs.Interleavings.{table_of}
-use Rattle.wait_rule.specs.Known.{Known}
-use Rattle.wait_rule.specs.Queues.{index}
-use Rattle.wait_rule.specs.Says.{history_of, told_of}
-use Rattle.wait_rule.specs.Shown.{shown_entry, shown_queue}
+use Rattle.wait_rule.specs.{declared.journal.Item.Item, HeldValues.count_in, Interleavings.table_of, Known.Known}
+use Rattle.wait_rule.specs.{Queues.index, Says.history_of, Says.told_of, Shown.shown_entry, Shown.shown_queue}
 use Rattle.wait_rule.specs.Transitions.{Finds, FindsFirst, FindsStep, IsMadeFor, IsSeenAs, IsStepFor, Program, by_look}
 use Rattle.wait_rule.specs.Transitions.{by_step}
 use Rattle.wait_rule.proofs.KnownLaws.HandedSteps.{OrderStep}
-use Rattle.wq_head.proofs.MemberStands.{look_is_shown}
-use Rattle.wq_head.proofs.ShownQueue.{queue_in_order}
+use Rattle.wq_head.proofs.{MemberStands.look_is_shown, ShownQueue.queue_in_order}
 use Rattle.count_sem.specs.SemPermits.{IsRaise, IsSemStep, takes_permit}
 use Rattle.count_sem.specs.SemPrograms.{again_next, down_part, joined, pass_gives, pass_next, sem_head, sem_lock}
 use Rattle.count_sem.specs.SemPrograms.{sem_set, sem_unlock}
-use Rattle.count_sem.proofs.AnswerRuns.{PointsHold}
+use Rattle.count_sem.proofs.{AnswerRuns.PointsHold, SemCalls.low_of, SemCalls.some_of}
 use Rattle.count_sem.proofs.AnsweredUps.{Has, has_still, has_take, locked}
 use Rattle.count_sem.proofs.DownHolds.{HasCome, IsAsleep, IsCalm, IsGone, IsPast, IsSpent, IsStill, IsThere, IsWaiting}
 use Rattle.count_sem.proofs.DownHolds.{agrees_in, asleep_on, asleep_unlock, come_lock, gone_on, gone_spent, load_calm}
@@ -63,7 +48,6 @@ use Rattle.count_sem.proofs.DownHolds.{spent_on, spent_other, state_calm, still_
 use Rattle.count_sem.proofs.DownHolds.{waiting_on, waiting_spent, wake_calm}
 use Rattle.count_sem.proofs.DownPermits.{DownHolds, DownPlace, downer}
 use Rattle.count_sem.proofs.LoadedEnds.{HasLoadedEnd, at_end, found_end, loaded_on}
-use Rattle.count_sem.proofs.SemCalls.{low_of, some_of}
 use Rattle.count_sem.proofs.SemPoints.{FoundLow, IsIn, found_low, loads_it, lock_in, low_on, lowers_one, nobody_first}
 use Rattle.count_sem.proofs.SemPoints.{off_keeps}
 

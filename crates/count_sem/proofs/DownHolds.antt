@@ -5,29 +5,19 @@ use Rattle.std.proofs.lemmas.Bool.Decides.{eqb_tells}
 use Rattle.std.specs.Prelude.{ℕ, ◌≡◌, ◌≢◌, ◌+◌, ◌⊎◌, ◌==◌, ◌&&◌, not, Bool, true, false, if◌then◌else◌, Option, Some}
 use Rattle.std.specs.Prelude.{None, List, [], ◌∷◌, ◌++◌}
 use Rattle.wait_model.specs.declared.calls.Event.TheVariants as event
-use Rattle.wait_model.specs.declared.points.Given.{Given}
-use Rattle.wait_model.specs.declared.steps.Step.{Step}
-use Rattle.wait_model.specs.declared.steps.Step.TheVariants as step
-use Rattle.wait_model.specs.declared.tasks.Sleep.{Sleep}
-use Rattle.wait_model.specs.declared.watches.Aim.{Aim}
-use Rattle.wait_model.specs.declared.watches.Entry.{Entry}
-use Rattle.wait_model.specs.Facts.{Agrees}
+use Rattle.wait_model.specs.{declared.points.Given.Given, declared.steps.Step.Step, declared.tasks.Sleep.Sleep}
+use Rattle.wait_model.specs.{declared.watches.Aim.Aim, declared.watches.Entry.Entry, Facts.Agrees, Runs.own}
+use Rattle.wait_model.specs.{Tables.Table, Watches.head_of, Watches.stands_at, Words.entry_of}
 use Rattle.wait_model.specs.Fold.{after, holding, view_of}
 use Rattle.wait_model.specs.Permits.{Dealt, dealt, done_head, is_in, is_seen, leaves, none_dealt, shows_at}
-use Rattle.wait_model.specs.Runs.{own}
-use Rattle.wait_model.specs.Tables.{Table}
 use Rattle.wait_model.specs.Views.{Hold, Look, View, blank, elsewhere, look_at, off as taken_off, shown}
 use Rattle.wait_model.specs.Views.{unseen as not_seen}
-use Rattle.wait_model.specs.Watches.{head_of, stands_at}
-use Rattle.wait_model.specs.Words.{entry_of}
-use Rattle.wait_model.proofs.Functions.{put_at, put_other}
-use Rattle.wait_model.proofs.PermitLaws.OwnTurns.{clash, deals_snoc}
+use Rattle.wait_model.specs.declared.steps.Step.TheVariants as step
+use Rattle.wait_model.proofs.{Functions.put_at, Functions.put_other, PermitLaws.OwnTurns.clash}
+use Rattle.wait_model.proofs.{PermitLaws.OwnTurns.deals_snoc, StepLaws.UnlockSteps.unlock_hold}
 use Rattle.wait_model.proofs.PermitLaws.PermitTurns.{look_seen, not_unseen, seen_shows}
-use Rattle.wait_model.proofs.StepLaws.UnlockSteps.{unlock_hold}
-use Rattle.wait_rule.specs.Interleavings.{table_of}
-use Rattle.wait_rule.specs.Known.{Known}
-use Rattle.wait_rule.specs.LeftEntries.{Order}
-use Rattle.wait_rule.specs.Transitions.{IsSeenAs, IsStepFor}
+use Rattle.wait_rule.specs.{Interleavings.table_of, Known.Known, LeftEntries.Order, Transitions.IsSeenAs}
+use Rattle.wait_rule.specs.Transitions.{IsStepFor}
 use Rattle.wait_rule.proofs.KnownLaws.HandedSteps.{AddsLow, IsAwayAt, OrderStep, away_next, order_view}
 use Rattle.wait_rule.proofs.KnownLaws.Moments.{kept_of}
 use Rattle.count_sem.proofs.AnsweredUps.{Has, IsQuiet, has_gift, has_still, has_take, others, unleft_look}

@@ -7,29 +7,23 @@ use Rattle.wait_model.specs.declared.points.Point.TheVariants as at
 use Rattle.wait_model.specs.declared.points.PreparePoint.TheVariants as preparing
 use Rattle.wait_model.specs.declared.steps.Step.TheVariants as step
 use Rattle.wait_model.specs.Tasks.{state_mask}
-use Rattle.wait_rule.specs.Known.{Known}
-use Rattle.wait_rule.specs.Queues.{walk_of_hold}
-use Rattle.wait_rule.specs.Says.{history_of}
-use Rattle.wait_rule.specs.Stays.{with_left_entry}
-use Rattle.wait_rule.specs.Transitions.{StepOrLook, Transition}
+use Rattle.wait_rule.specs.{Known.Known, Queues.walk_of_hold, Says.history_of, Stays.with_left_entry}
+use Rattle.wait_rule.specs.{Transitions.StepOrLook, Transitions.Transition}
 use Rattle.wait_class.specs.Posts.{own_of}
 use Rattle.wait_class.specs.Laws.{Calm, IsLawfulCallTable, LawOf, LookLaw, PareLaw, QueueLaw}
 use Rattle.wait_class.specs.declared.stages.Turn.TheVariants as turn
-use Rattle.wait_class.proofs.Histories.{unmoved_by}
+use Rattle.wait_class.proofs.{Histories.unmoved_by, Stays.stays_but}
 use Rattle.wait_class.proofs.Holds.{draw_by, give_by, lock_by, pare_by, queue_by, state_by, unlock_by}
-use Rattle.wait_class.proofs.Stays.{stays_but}
 use Rattle.wait_class.proofs.Ways.{look_by, sleep_by, way}
 use Rattle.wait_event.specs.Waits.{is_queue, has_queued_in}
 use Rattle.wait_event.proofs.Tellings.{or_none, queues_append, quiet_queues}
-use Rattle.completion_cell.proofs.AwaitAdds.{QueuesAtCell}
-use Rattle.completion_cell.proofs.AwaitLaws.{joined_knows, or_yes}
-use Rattle.completion_cell.proofs.AwaitTrails.{first_begun, knows_look, knows_looks, knows_none, knows_off}
-use Rattle.completion_cell.proofs.AwaitTrails.{knows_saw, knows_state, knows_stayed}
-use Rattle.completion_cell.proofs.Ground.{count_after_step, head_there, looked_count}
+use Rattle.completion_cell.proofs.{AwaitAdds.QueuesAtCell, AwaitLaws.joined_knows, AwaitLaws.or_yes}
 use Rattle.completion_cell.proofs.WaitFronts.{waits_may_end}
+use Rattle.completion_cell.proofs.AwaitTrails.{first_begun, knows_look, knows_looks, knows_none, knows_off, knows_saw}
+use Rattle.completion_cell.proofs.AwaitTrails.{knows_state, knows_stayed}
+use Rattle.completion_cell.proofs.Ground.{count_after_step, head_there, looked_count}
+use Rattle.count_sem.specs.{declared.downs.DownCall.DownCall, declared.downs.DownStage.DownStage}
 use Rattle.count_sem.specs.Downs.{DownTells, GaveBack, down_depth, down_doing, down_head, down_table}
-use Rattle.count_sem.specs.declared.downs.DownCall.{DownCall}
-use Rattle.count_sem.specs.declared.downs.DownStage.{DownStage}
 use Rattle.count_sem.specs.declared.downs.DownStage.TheVariants as stage
 use Rattle.count_sem.proofs.DownTrails.{gave_back, left_given, left_none, left_taken, lock_walk, out_signal, still_down}
 use Rattle.count_sem.proofs.DownTrails.{zero_on}

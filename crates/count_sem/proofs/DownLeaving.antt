@@ -3,51 +3,38 @@ use Rattle.std.proofs.Common.{◌∙◌, ap, sym, refl, subst}
 use Rattle.std.specs.Prelude.{ℕ, ◌≡◌, ◌≢◌, Bool, true, false, is_some, None, Result, List}
 use Rattle.std.specs.Prelude.{[]}
 use Rattle.wait_model.specs.declared.points.FinishPoint.TheVariants as finishing
-use Rattle.wait_model.specs.declared.points.Point.{Point}
+use Rattle.wait_model.specs.{declared.points.Point.Point, declared.points.Seen.Seen, declared.steps.Step.Step}
+use Rattle.wait_model.specs.{declared.tasks.SleepState.SleepState, declared.watches.Watch.Watch}
 use Rattle.wait_model.specs.declared.points.Point.TheVariants as at
-use Rattle.wait_model.specs.declared.points.Seen.{Seen}
-use Rattle.wait_model.specs.declared.steps.Step.{Step}
-use Rattle.wait_model.specs.declared.tasks.SleepState.{SleepState}
-use Rattle.wait_model.specs.declared.watches.Watch.{Watch}
 use Rattle.wait_model.specs.declared.watches.Watch.TheVariants as watch
-use Rattle.wait_rule.specs.HandedPermits.{StaysOff}
-use Rattle.wait_rule.specs.Known.{Known}
-use Rattle.wait_rule.specs.LeftEntries.{LeftOff}
-use Rattle.wait_rule.specs.Queues.{IsIdle, index}
-use Rattle.wait_rule.specs.Says.{IsClean, IsUp, told_of}
+use Rattle.wait_rule.specs.{HandedPermits.StaysOff, Known.Known, LeftEntries.LeftOff, Queues.IsIdle, Queues.index}
 use Rattle.wait_rule.specs.Stays.{Carries}
+use Rattle.wait_rule.specs.Says.{IsClean, IsUp, told_of}
 use Rattle.wait_rule.proofs.KnownLaws.OtherCalls.{Adding}
-use Rattle.wait_class.specs.Posts.{IsOut, own_of}
+use Rattle.wait_class.specs.{Posts.IsOut, Posts.own_of, declared.stages.Run.Run, declared.stages.Turn.Turn}
+use Rattle.wait_class.specs.{Tables.IsEnded, Tables.Plan}
 use Rattle.wait_class.specs.declared.stages.Doing.TheVariants as doing
-use Rattle.wait_class.specs.declared.stages.Run.{Run}
-use Rattle.wait_class.specs.declared.stages.Turn.{Turn}
 use Rattle.wait_class.specs.declared.stages.Turn.TheVariants as turn
-use Rattle.wait_class.specs.Tables.{IsEnded, Plan}
 use Rattle.wait_class.proofs.Histories.{unmoved_by}
 use Rattle.wait_event.specs.Ends.{wait_change}
-use Rattle.wait_leave.specs.declared.exits.Until.{Until}
-use Rattle.wait_leave.specs.ExitLaws.{AreLawfulExits, AwakeOn}
-use Rattle.wait_leave.specs.Leaves.{with_asked}
-use Rattle.wait_leave.specs.OnTheWay.{IsOnWay, OnTheWay}
+use Rattle.wait_leave.specs.{declared.exits.Until.Until, ExitLaws.AreLawfulExits, ExitLaws.AwakeOn, Leaves.with_asked}
+use Rattle.wait_leave.specs.{OnTheWay.IsOnWay, OnTheWay.OnTheWay}
 use Rattle.wait_leave.proofs.ExitForms.{AskLaw, LawAt, either_awake, if_asked, lawful_exits, out_at_once, out_rested}
 use Rattle.wait_leave.proofs.Ways.{way_asked, way_keeps, way_lands, way_makes, way_plan}
 use Rattle.completion_cell.proofs.AwaitLeaving.{cell_in, rest_adds}
 use Rattle.completion_cell.proofs.OtherCells.{IsAside, aside_on}
+use Rattle.count_sem.specs.{declared.down_calls.SemEnd.SemEnd, declared.downs.DownCall.DownCall}
+use Rattle.count_sem.specs.{declared.downs.DownOutcome.DownOutcome, declared.downs.DownStage.DownStage}
 use Rattle.count_sem.specs.DownLeaves.{ClosesDown, EndsDownUntil, IsDownLeftFor, IsDownUntil, LeavesDown, down_exit}
 use Rattle.count_sem.specs.DownLeaves.{down_exits, end_until, out_awake, stopped_until}
 use Rattle.count_sem.specs.Downs.{DownKeeps, DownTrailEnd, FoundZero, GaveBack, IsFreshDown, OutFor, down_table}
 use Rattle.count_sem.specs.Downs.{left_queue, looked_by}
-use Rattle.count_sem.specs.declared.down_calls.SemEnd.{SemEnd}
-use Rattle.count_sem.specs.declared.downs.DownCall.{DownCall}
-use Rattle.count_sem.specs.declared.downs.DownOutcome.{DownOutcome}
 use Rattle.count_sem.specs.declared.downs.DownOutcome.TheVariants as outcome
-use Rattle.count_sem.specs.declared.downs.DownStage.{DownStage}
 use Rattle.count_sem.specs.declared.downs.DownStage.TheVariants as stage
+use Rattle.count_sem.proofs.{DownLaws.down_lawful, DownTrails.still_down}
 use Rattle.count_sem.proofs.DownEndings.{StandsBehind, behind_carried, behind_clean, behind_idle, down_adds, part_runs}
 use Rattle.count_sem.proofs.DownEndings.{plain_behind, stays_off_by}
-use Rattle.count_sem.proofs.DownLaws.{down_lawful}
 use Rattle.count_sem.proofs.DownPasses.{given_by, passed_adds, passed_behind, passed_here}
-use Rattle.count_sem.proofs.DownTrails.{still_down}
 
 -- what it has found stays where it is asked
 asked_zero : (k : Known) (r : DownCall) (more : List Step) → FoundZero k r more → FoundZero k (down_exits.asks r) more

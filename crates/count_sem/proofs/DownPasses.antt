@@ -4,30 +4,20 @@ use Rattle.std.specs.Prelude.{ℕ, ◌≢◌, false, Ok}
 use Rattle.wait_model.specs.declared.points.AwaitPoint.TheVariants as awaiting
 use Rattle.wait_model.specs.declared.points.Next.TheVariants as next
 use Rattle.wait_model.specs.declared.points.Point.TheVariants as at
-use Rattle.wait_model.specs.declared.tasks.SleepState.{SleepState}
-use Rattle.wait_model.specs.Programs.{zero_answer}
-use Rattle.wait_rule.specs.Known.{Known}
-use Rattle.wait_rule.specs.LeftEntries.{LeftOff}
-use Rattle.wait_rule.specs.Queues.{index}
-use Rattle.wait_rule.specs.Says.{told_of}
-use Rattle.wait_rule.specs.Stays.{with_entry, with_left_entry}
+use Rattle.wait_model.specs.{declared.tasks.SleepState.SleepState, Programs.zero_answer}
+use Rattle.wait_rule.specs.{Known.Known, LeftEntries.LeftOff, Queues.index, Says.told_of, Stays.with_entry}
+use Rattle.wait_rule.specs.Stays.{with_left_entry}
 use Rattle.wait_rule.proofs.KnownLaws.OtherCalls.{Adding}
+use Rattle.wait_class.specs.{Tables.Advances, Tables.IsEnded, declared.stages.Run.Run}
 use Rattle.wait_class.specs.Posts.{IsOut, Runs, own_of}
-use Rattle.wait_class.specs.Tables.{Advances, IsEnded}
-use Rattle.wait_class.specs.declared.stages.Run.{Run}
 use Rattle.wait_class.specs.declared.stages.Turn.TheVariants as turn
-use Rattle.wait_class.proofs.Ground.Going.{runs_on}
-use Rattle.wait_class.proofs.Ground.Keeping.{keeps_of, keeps_on}
-use Rattle.wait_class.proofs.Wholes.{none_of}
+use Rattle.wait_class.proofs.{Ground.Going.runs_on, Ground.Keeping.keeps_of, Ground.Keeping.keeps_on, Wholes.none_of}
 pub use Rattle.completion_cell.proofs.OtherCells.{given_by}
 use Rattle.completion_cell.proofs.OtherCells.{IsAside}
-use Rattle.count_sem.specs.SemPrograms.{down_program, pass_point}
+use Rattle.count_sem.specs.{SemPrograms.down_program, SemPrograms.pass_point, DownEnds.EndsDown, Passes.HasPassedOn}
+use Rattle.count_sem.specs.{Passes.pass_change, declared.downs.DownCall.DownCall, declared.downs.DownStage.DownStage}
 use Rattle.count_sem.specs.Downs.{DownKeeps, IsFreshDown, down_table, down_watch}
-use Rattle.count_sem.specs.DownEnds.{EndsDown}
-use Rattle.count_sem.specs.Passes.{HasPassedOn, pass_change}
-use Rattle.count_sem.specs.declared.downs.DownCall.{DownCall}
 use Rattle.count_sem.specs.declared.downs.DownOutcome.TheVariants as outcome
-use Rattle.count_sem.specs.declared.downs.DownStage.{DownStage}
 use Rattle.count_sem.specs.declared.downs.DownStage.TheVariants as stage
 use Rattle.count_sem.proofs.DownEndings.{StandsBehind, down_adds, part_runs}
 use Rattle.count_sem.proofs.DownTrails.{own_same}

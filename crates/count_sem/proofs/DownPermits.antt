@@ -1,33 +1,27 @@
 -- The points of a `down`: how many permits its task has given and taken there.
 use Rattle.std.proofs.Common.{refl, ◌∙◌, inl, inr}
 use Rattle.std.specs.Prelude.{ℕ, zero, suc, ◌≡◌, ◌+◌, ◌<◌, ◌≤◌, ◌⊎◌, ◌==◌, pos, true, false, List}
-use Rattle.wait_model.specs.declared.layout.TheConstants.{ENTRIES}
-use Rattle.wait_model.specs.declared.calls.Answer.{Answer}
+use Rattle.wait_model.specs.{declared.layout.TheConstants.ENTRIES, declared.calls.Answer.Answer}
+use Rattle.wait_model.specs.{declared.points.Next.Next, declared.points.Point.Point, declared.steps.Step.Step}
+use Rattle.wait_model.specs.{declared.tasks.SleepState.SleepState, Fold.view_of, Runs.own}
+use Rattle.wait_model.specs.Permits.{done_head, is_in, shows_at}
 use Rattle.wait_model.specs.declared.calls.Answer.TheVariants as answer
 use Rattle.wait_model.specs.declared.points.AwaitPoint.TheVariants as awaiting
 use Rattle.wait_model.specs.declared.points.FinishPoint.TheVariants as finishing
 use Rattle.wait_model.specs.declared.points.LeavePoint.TheVariants as leaving
-use Rattle.wait_model.specs.declared.points.Next.{Next}
 use Rattle.wait_model.specs.declared.points.Next.TheVariants as next
-use Rattle.wait_model.specs.declared.points.Point.{Point}
 use Rattle.wait_model.specs.declared.points.Point.TheVariants as at
 use Rattle.wait_model.specs.declared.points.PreparePoint.TheVariants as preparing
 use Rattle.wait_model.specs.declared.points.SelectPoint.TheVariants as selecting
-use Rattle.wait_model.specs.declared.steps.Step.{Step}
 use Rattle.wait_model.specs.declared.steps.Step.TheVariants as step
-use Rattle.wait_model.specs.declared.tasks.SleepState.{SleepState}
-use Rattle.wait_model.specs.Fold.{view_of}
-use Rattle.wait_model.specs.Permits.{done_head, is_in, shows_at}
-use Rattle.wait_model.specs.Runs.{own}
 use Rattle.wait_rule.specs.Transitions.{Program}
 use Rattle.wait_rule.proofs.KnownLaws.HandedSteps.{IsAwayAt, away_next}
 use Rattle.count_sem.specs.SemPrograms.{down_program}
-use Rattle.count_sem.proofs.AnswerRuns.{LooksHold}
+use Rattle.count_sem.proofs.{AnswerRuns.LooksHold, LoadedEnds.HasLoadedEnd, LoadedEnds.loaded_on}
 use Rattle.count_sem.proofs.AnsweredUps.{Has, has_still, unleft_look}
 use Rattle.count_sem.proofs.DownHolds.{HasCome, IsAsleep, IsGone, IsPast, IsSpent, IsThere, IsWaiting, asleep_saw}
 use Rattle.count_sem.proofs.DownHolds.{come_saw, gone_saw, gone_spent, has_left, has_past, has_saw, left_more, past_saw}
 use Rattle.count_sem.proofs.DownHolds.{saw_shows, spent_saw, there_saw, there_spent, waiting_saw, waiting_spent}
-use Rattle.count_sem.proofs.LoadedEnds.{HasLoadedEnd, loaded_on}
 use Rattle.count_sem.proofs.SemPoints.{FoundLow, IsIn, in_on, low_on, saw_keeps}
 
 module _ (c me g t : ℕ) where

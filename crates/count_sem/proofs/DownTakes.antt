@@ -2,53 +2,35 @@
 use Rattle.std.proofs.Common.{◌∙◌, ap, sym, refl, subst, arith, inl}
 use Rattle.std.proofs.lemmas.Bool.Decides.{nat_tests}
 use Rattle.std.specs.Prelude.{ℕ, ◌≡◌, ◌<◌, ◌≤◌, ◌-◌, ◌==◌, if◌then◌else◌, Bool, true, false, Some, [], ◌∷◌}
-use Rattle.wait_model.specs.declared.layout.TheConstants.{ALL_DONE}
+use Rattle.wait_model.specs.{declared.layout.TheConstants.ALL_DONE, declared.points.Next.Next, declared.steps.Step.Step}
+use Rattle.wait_model.specs.{PointFacts.IsHome, PointFacts.absent, Runs.is_publishing, Runs.own, Views.Look}
 use Rattle.wait_model.specs.declared.points.AwaitPoint.TheVariants as awaiting
-use Rattle.wait_model.specs.declared.points.Next.{Next}
 use Rattle.wait_model.specs.declared.points.Next.TheVariants as next
 use Rattle.wait_model.specs.declared.points.Point.TheVariants as at
-use Rattle.wait_model.specs.declared.steps.Step.{Step}
 use Rattle.wait_model.specs.declared.steps.Step.TheVariants as step
 use Rattle.wait_model.specs.declared.watches.Watch.TheVariants as watch
-use Rattle.wait_model.specs.PointFacts.{IsHome, absent}
-use Rattle.wait_model.specs.Runs.{is_publishing, own}
-use Rattle.wait_model.specs.Views.{Look}
 use Rattle.wait_rule.specs.declared.journal.Item.TheVariants as item
-use Rattle.wait_rule.specs.Counts.{StoresCount}
-use Rattle.wait_rule.specs.Known.{Known}
-use Rattle.wait_rule.specs.Queues.{MayUnqueue, index}
+use Rattle.wait_rule.specs.{Counts.StoresCount, Known.Known, Queues.MayUnqueue, Queues.index, Transitions.IsSeenAs}
+use Rattle.wait_rule.specs.Transitions.{OnlyLooks}
 use Rattle.wait_rule.specs.Says.{added, stored_with, told_of}
 use Rattle.wait_rule.specs.Stays.{Carries, take_off_change, unchanged}
-use Rattle.wait_rule.specs.Transitions.{IsSeenAs, OnlyLooks}
-use Rattle.wait_rule.proofs.KnownLaws.MemberBits.{bit_looks}
-use Rattle.wait_rule.proofs.KnownLaws.Transitions.{only_none}
-use Rattle.wq_head.specs.Adds.{HasRemoved}
-use Rattle.wq_head.specs.Holds.{IsHolding}
-use Rattle.wait_class.specs.Findings.{saw_nothing, with_value}
+use Rattle.wait_rule.proofs.{KnownLaws.MemberBits.bit_looks, KnownLaws.Transitions.only_none}
+use Rattle.wq_head.specs.{Adds.HasRemoved, Holds.IsHolding}
+use Rattle.wait_class.specs.{Findings.saw_nothing, Findings.with_value, declared.stages.Run.Run}
 use Rattle.wait_class.specs.Posts.{Post, Stands, own_of}
 use Rattle.wait_class.specs.Tables.{IsAt, Turned, falls, next_in, post_of}
 use Rattle.wait_class.specs.Laws.{Calm, IsPlainTurn, TurnTrail, turn_post}
-use Rattle.wait_class.specs.declared.stages.Run.{Run}
 use Rattle.wait_class.specs.declared.stages.Turn.TheVariants as turn
-use Rattle.wait_class.proofs.CalmSteps.{calm_removed}
-use Rattle.wait_class.proofs.Ground.Keeping.{keeps_taken}
-use Rattle.wait_class.proofs.Ground.Standing.{carried_stands, owner_own}
-use Rattle.wait_class.proofs.OwnSteps.{own_goes}
-use Rattle.wait_class.proofs.Turns.{GoesOn, advance_by}
+use Rattle.wait_class.proofs.{CalmSteps.calm_removed, Ground.Keeping.keeps_taken, Ground.Standing.carried_stands}
+use Rattle.wait_class.proofs.{Ground.Standing.owner_own, OwnSteps.own_goes, Turns.GoesOn, Turns.advance_by}
 use Rattle.wait_event.specs.Waits.{is_queue}
-use Rattle.completion_cell.specs.Asks.{HasCountedDone}
-use Rattle.completion_cell.specs.HeldPermits.{Knows, WaitsIn}
-use Rattle.completion_cell.proofs.AwaitCounts.{keeps_unchanged, still_stands_at}
-use Rattle.completion_cell.proofs.AwaitTakes.{waits_less}
-use Rattle.completion_cell.proofs.AwaitTrails.{knows_by}
-use Rattle.completion_cell.proofs.Completing.{stored_agreed}
-use Rattle.completion_cell.proofs.Ground.{step_behind}
+use Rattle.completion_cell.specs.{Asks.HasCountedDone, HeldPermits.Knows, HeldPermits.WaitsIn}
+use Rattle.completion_cell.proofs.{AwaitCounts.keeps_unchanged, AwaitCounts.still_stands_at, AwaitTakes.waits_less}
+use Rattle.completion_cell.proofs.{AwaitTrails.knows_by, Completing.stored_agreed, Ground.step_behind}
+use Rattle.count_sem.specs.{declared.downs.DownCall.DownCall, declared.downs.DownStage.DownStage}
 use Rattle.count_sem.specs.Downs.{down_head, down_table, takes_by, takes_to}
-use Rattle.count_sem.specs.declared.downs.DownCall.{DownCall}
-use Rattle.count_sem.specs.declared.downs.DownStage.{DownStage}
 use Rattle.count_sem.specs.declared.downs.DownStage.TheVariants as stage
-use Rattle.count_sem.proofs.DownCounts.{at_end, end_is}
-use Rattle.count_sem.proofs.DownLaws.{told_by}
+use Rattle.count_sem.proofs.{DownCounts.at_end, DownCounts.end_is, DownLaws.told_by}
 
 takes_next : (ends : Bool) → ◌≡◌ {A = Next} (next.Go (at.Await (if ends then awaiting.Unlock else awaiting.Last false)))
     (next_in down_table (turn.Again (takes_by ends)))

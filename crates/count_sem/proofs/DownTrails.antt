@@ -2,35 +2,24 @@
 use Rattle.std.proofs.Common.{◌∙◌, ap, sym, refl, subst, append-nil, eqb-true}
 use Rattle.std.specs.Prelude.{ℕ, ◌≡◌, ◌==◌, ◌&&◌, if◌then◌else◌, Bool, true, false, is_some, Option, Some, None, List}
 use Rattle.std.specs.Prelude.{[], ◌∷◌, ◌++◌}
-use Rattle.wait_model.specs.declared.steps.Step.{Step}
-use Rattle.wait_model.specs.declared.steps.Step.TheVariants as step
-use Rattle.wait_model.specs.declared.watches.Aim.{Aim}
+use Rattle.wait_model.specs.{declared.steps.Step.Step, declared.watches.Aim.Aim, Watches.mask_of, Watches.same}
+use Rattle.wait_model.specs.Words.{entry_of}
 use Rattle.wait_model.specs.Fold.{after, begun, view_of}
 use Rattle.wait_model.specs.Tasks.{pending, state_mask, task_of}
 use Rattle.wait_model.specs.Views.{View, Walk, blank}
-use Rattle.wait_model.specs.Watches.{mask_of, same}
-use Rattle.wait_model.specs.Words.{entry_of}
+use Rattle.wait_model.specs.declared.steps.Step.TheVariants as step
 use Rattle.wait_model.proofs.HistoryLaws.HoldLooks.{after_snoc}
-use Rattle.wait_rule.specs.Known.{Known}
-use Rattle.wait_rule.specs.Queues.{index, walk_of_hold}
-use Rattle.wait_rule.specs.Says.{history_of, told_of}
-use Rattle.wait_class.specs.Posts.{EndsWith, own_of}
-use Rattle.wait_class.specs.Laws.{Calm, Unmoved}
+use Rattle.wait_rule.specs.{Known.Known, Queues.index, Queues.walk_of_hold, Says.history_of, Says.told_of}
+use Rattle.wait_class.specs.{Posts.EndsWith, Posts.own_of, Laws.Calm, Laws.Unmoved}
 use Rattle.wait_class.proofs.Histories.{ends_calm, ends_still}
-use Rattle.wq_head.specs.Selects.{simple_aim}
-use Rattle.wq_head.specs.Walking.{IsUnder}
-use Rattle.wq_head.proofs.FullHeads.{one_of}
-use Rattle.wq_head.proofs.SimpleEntries.{walk_is_simple}
+use Rattle.wq_head.specs.{Selects.simple_aim, Walking.IsUnder}
+use Rattle.wq_head.proofs.{FullHeads.one_of, SimpleEntries.walk_is_simple}
 use Rattle.completion_cell.specs.HeldPermits.{Held, Knows, WaitsIn}
-use Rattle.completion_cell.proofs.AwaitTrails.{knows_by, still_left}
-use Rattle.completion_cell.proofs.Completing.{done_simple}
-use Rattle.completion_cell.proofs.HeldSteps.{held_by}
-use Rattle.completion_cell.proofs.WaitFronts.{waits_on}
-use Rattle.count_sem.specs.SemPrograms.{sem_head}
+use Rattle.completion_cell.proofs.{AwaitTrails.knows_by, AwaitTrails.still_left, Completing.done_simple}
+use Rattle.completion_cell.proofs.{HeldSteps.held_by, WaitFronts.waits_on}
+use Rattle.count_sem.specs.{SemPrograms.sem_head, declared.downs.DownCall.DownCall, declared.downs.DownStage.DownStage}
 use Rattle.count_sem.specs.Downs.{DownTrail, FoundDownSignal, FoundZero, GaveBack, HasCount, HasFoundZero, HasLeftDown}
 use Rattle.count_sem.specs.Downs.{HasWalk, OutFor, SeesOwn, WentOutOfDown, down_head, found_zero, looked_by}
-use Rattle.count_sem.specs.declared.downs.DownCall.{DownCall}
-use Rattle.count_sem.specs.declared.downs.DownStage.{DownStage}
 use Rattle.count_sem.specs.declared.downs.DownStage.TheVariants as stage
 
 -- the own entry is the same one

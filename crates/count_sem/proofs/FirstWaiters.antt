@@ -2,39 +2,28 @@
 use Rattle.std.proofs.Common.{◌∙◌, ap, sym, refl, subst, arith}
 use Rattle.std.proofs.lemmas.Bool.Decides.{nat_tests}
 use Rattle.std.specs.Prelude.{ℕ, ◌≡◌, Some, [], ◌∷◌}
-use Rattle.wait_model.specs.declared.layout.TheConstants.{MEMBERS}
-use Rattle.wait_model.specs.declared.calls.Event.TheVariants as event
-use Rattle.wait_model.specs.declared.points.Next.{Next}
-use Rattle.wait_model.specs.declared.points.Next.TheVariants as next
-use Rattle.wait_model.specs.declared.points.Planned.{Planned}
-use Rattle.wait_model.specs.declared.points.Point.{Point}
-use Rattle.wait_model.specs.declared.points.Point.TheVariants as at
-use Rattle.wait_model.specs.declared.points.Seen.{Seen}
-use Rattle.wait_model.specs.declared.points.SelectPoint.TheVariants as selecting
-use Rattle.wait_model.specs.declared.queues.CalledEntry.{CalledEntry}
-use Rattle.wait_model.specs.declared.steps.Step.TheVariants as step
-use Rattle.wait_model.specs.declared.watches.Entry.{Entry}
-use Rattle.wait_model.specs.declared.watches.Mode.TheVariants as mode
-use Rattle.wait_model.specs.Programs.{go}
-use Rattle.wait_model.specs.Queues.{is_entry, entry_from}
+use Rattle.wait_model.specs.{declared.layout.TheConstants.MEMBERS, declared.points.Next.Next}
+use Rattle.wait_model.specs.{declared.points.Planned.Planned, declared.points.Point.Point, declared.points.Seen.Seen}
+use Rattle.wait_model.specs.{declared.queues.CalledEntry.CalledEntry, declared.watches.Entry.Entry, Programs.go}
+use Rattle.wait_model.specs.{Queues.is_entry, Queues.entry_from, Tasks.task_of, Watches.mask_of, Watches.owner}
 use Rattle.wait_model.specs.Runs.{called_as, called_by, called_of}
-use Rattle.wait_model.specs.Tasks.{task_of}
-use Rattle.wait_model.specs.Watches.{mask_of, owner}
+use Rattle.wait_model.specs.declared.calls.Event.TheVariants as event
+use Rattle.wait_model.specs.declared.points.Next.TheVariants as next
+use Rattle.wait_model.specs.declared.points.Point.TheVariants as at
+use Rattle.wait_model.specs.declared.points.SelectPoint.TheVariants as selecting
+use Rattle.wait_model.specs.declared.steps.Step.TheVariants as step
+use Rattle.wait_model.specs.declared.watches.Mode.TheVariants as mode
 use Rattle.wait_model.proofs.QueueLaws.QueueOrder.{IsFirstFrom, first_is}
 use Rattle.wait_rule.specs.declared.journal.Item.TheVariants as item
-use Rattle.wait_rule.specs.Known.{Known}
-use Rattle.wait_rule.specs.Says.{added}
+use Rattle.wait_rule.specs.{Known.Known, Says.added}
 use Rattle.wait_rule.specs.Shown.{shown_entry, shown_queue, queue_below}
 use Rattle.wait_rule.specs.Transitions.{Goes, IsMadeFor, IsTransition, OnlyLooks, Program, Transition, by_step}
 use Rattle.wait_rule.proofs.KnownLaws.MemberBits.{bit_looks}
 use Rattle.wait_rule.proofs.KnownLaws.Transitions.{looks_first, only_none}
 use Rattle.wq_head.specs.Selects.{HasSelected, SelectsFirst, simple_aim}
-use Rattle.wq_head.proofs.EntryWakes.{blank_seen}
-use Rattle.wq_head.proofs.FirstEntries.{wake_book, wake_notes}
-use Rattle.wq_head.proofs.LookingHold.{looks_only}
-use Rattle.wq_head.proofs.MemberStands.{entry_shown}
-use Rattle.wq_head.proofs.ShownMembers.{place_same}
-use Rattle.wq_head.proofs.ShownQueue.{queue_in_order, queue_has}
+use Rattle.wq_head.proofs.{EntryWakes.blank_seen, FirstEntries.wake_book, FirstEntries.wake_notes}
+use Rattle.wq_head.proofs.{LookingHold.looks_only, MemberStands.entry_shown, ShownMembers.place_same}
+use Rattle.wq_head.proofs.{ShownQueue.queue_in_order, ShownQueue.queue_has}
 use Rattle.wait_class.specs.Posts.{Runs}
 use Rattle.count_sem.specs.SemPrograms.{gives_to}
 

@@ -4,22 +4,16 @@ use Rattle.std.proofs.lemmas.Bool.Decides.{nat_tests}
 use Rattle.std.proofs.lemmas.List.{get_or-map, length-map}
 use Rattle.std.specs.Prelude.{ℕ, ◌≡◌, ◌<◌, ◌≤◌, ◌+◌, ◌-◌, ◌/◌, ◌%◌, nat_lt, if◌then◌else◌, Bool, true, false, Option}
 use Rattle.std.specs.Prelude.{Some, None, List, length, map, slice_index, slice_index_or, MatchBool}
+use Rattle.wait_model.specs.{declared.entry_words.EntryWord.EntryWord, declared.queues.CalledEntry.CalledEntry}
+use Rattle.wait_model.specs.{declared.queues.Member.Member as Stand, Watches.owner}
 use Rattle.wait_model.specs.declared.layout.TheConstants.{ENTRIES, SLOTS, TASKS}
-use Rattle.wait_model.specs.declared.entry_words.EntryWord.{EntryWord}
-use Rattle.wait_model.specs.declared.queues.CalledEntry.{CalledEntry}
-use Rattle.wait_model.specs.declared.queues.Member.{Member as Stand}
 use Rattle.wait_model.specs.Queues.{IsIn, entry_from, is_entry, rank}
 use Rattle.wait_model.specs.Runs.{called_as, called_by, called_of}
-use Rattle.wait_model.specs.Watches.{owner}
 use Rattle.wait_model.proofs.QueueLaws.QueueOrder.{IsFirstFrom, first_is}
-use Rattle.wait_rule.specs.Known.{Known}
-use Rattle.wait_rule.specs.Queues.{index}
-use Rattle.wait_rule.specs.Shown.{shown_entry, shown_queue}
-use Rattle.wq_head.specs.declared.lists.Member.{Member}
-use Rattle.wq_head.specs.declared.lists.Member.TheVariants as member
-use Rattle.wq_head.specs.declared.lists.Members.{Members}
+use Rattle.wait_rule.specs.{Known.Known, Queues.index, Shown.shown_entry, Shown.shown_queue}
+use Rattle.wq_head.specs.{declared.lists.Member.Member, declared.lists.Members.Members, Selects.ShowsNoEntry}
 use Rattle.wq_head.specs.Lists.{member_by, members_in, stand_in}
-use Rattle.wq_head.specs.Selects.{ShowsNoEntry}
+use Rattle.wq_head.specs.declared.lists.Member.TheVariants as member
 use Rattle.wq_head.proofs.FirstEntries.{index_of}
 use Rattle.wq_head.proofs.MemberStands.{entry_shown, few, shown_place}
 use Rattle.wq_head.proofs.SelectingHold.{InSelection, first_here, none_left, passes_mark}

@@ -2,45 +2,30 @@
 use Rattle.std.proofs.Common.{◌∙◌, ap, sym, refl, subst, arith, inl, inr}
 use Rattle.std.proofs.lemmas.Bool.Decides.{nat_tests}
 use Rattle.std.specs.Prelude.{ℕ, ◌≡◌, ◌≢◌, ◌<◌, ◌≤◌, ◌-◌, ◌⊎◌, true, false, Option, Some, [], ◌∷◌, ◌++◌}
-use Rattle.wait_model.specs.declared.layout.TheConstants.{FIRST_SIMPLE_HEAD}
+use Rattle.wait_model.specs.{declared.layout.TheConstants.FIRST_SIMPLE_HEAD, declared.points.Planned.Planned}
+use Rattle.wait_model.specs.{declared.points.Seen.Seen, declared.queues.CalledEntry.CalledEntry, Programs.zero_answer}
+use Rattle.wait_model.specs.Views.{Look}
+use Rattle.wait_model.specs.Permits.{done_head, is_seen, shows_at}
+use Rattle.wait_model.specs.Runs.{called_by, own, set_step}
 use Rattle.wait_model.specs.declared.points.Next.TheVariants as next
-use Rattle.wait_model.specs.declared.points.Planned.{Planned}
 use Rattle.wait_model.specs.declared.points.Point.TheVariants as at
-use Rattle.wait_model.specs.declared.points.Seen.{Seen}
 use Rattle.wait_model.specs.declared.points.SelectPoint.TheVariants as selecting
-use Rattle.wait_model.specs.declared.queues.CalledEntry.{CalledEntry}
 use Rattle.wait_model.specs.declared.steps.Step.TheVariants as step
 use Rattle.wait_model.specs.declared.watches.Watch.TheVariants as watch
-use Rattle.wait_model.specs.Permits.{done_head, is_seen, shows_at}
-use Rattle.wait_model.specs.Programs.{zero_answer}
-use Rattle.wait_model.specs.Runs.{called_by, own, set_step}
-use Rattle.wait_model.specs.Views.{Look}
 use Rattle.wait_rule.specs.declared.journal.Item.TheVariants as item
-use Rattle.wait_rule.specs.Counts.{StoresCount}
-use Rattle.wait_rule.specs.HandedPermits.{OwesNoPermit}
-use Rattle.wait_rule.specs.Known.{Known}
-use Rattle.wait_rule.specs.LeftEntries.{OrderOf}
-use Rattle.wait_rule.specs.Queues.{IsWholeBook, MayRise}
+use Rattle.wait_rule.specs.{Counts.StoresCount, HandedPermits.OwesNoPermit, Known.Known, LeftEntries.OrderOf}
+use Rattle.wait_rule.specs.{Queues.IsWholeBook, Queues.MayRise, Shown.look_entry, Shown.shown_entry}
+use Rattle.wait_rule.specs.{Transitions.OnlyLooks, Transitions.by_step}
 use Rattle.wait_rule.specs.Says.{IsUp, added, history_of, told_of, unlocked_with}
-use Rattle.wait_rule.specs.Shown.{look_entry, shown_entry}
 use Rattle.wait_rule.specs.Stays.{Carries, only_looks, unchanged, unlock_change}
-use Rattle.wait_rule.specs.Transitions.{OnlyLooks, by_step}
-use Rattle.wait_rule.proofs.KnownLaws.CarriedTasks.{unchanged_none}
-use Rattle.wait_rule.proofs.KnownLaws.HeldPermits.{owed}
-use Rattle.wait_rule.proofs.KnownLaws.Transitions.{only_none}
-use Rattle.wait_rule.proofs.KnownLaws.Turns.{serve_looks}
-use Rattle.wq_head.specs.Holds.{IsHolding}
-use Rattle.wq_head.specs.Looks.{Looks}
+use Rattle.wait_rule.proofs.{KnownLaws.CarriedTasks.unchanged_none, KnownLaws.HeldPermits.owed}
+use Rattle.wait_rule.proofs.{KnownLaws.Transitions.only_none, KnownLaws.Turns.serve_looks}
+use Rattle.wq_head.specs.{Holds.IsHolding, Looks.Looks, Walking.IsUnder}
 use Rattle.wq_head.specs.Selects.{HasSelected, IsSimpleHold, KeepsHold, SelectsMany, ShowsNoEntry, simple_aim}
-use Rattle.wq_head.specs.Walking.{IsUnder}
-use Rattle.wq_head.proofs.CarriedHolds.{unlock_carried}
-use Rattle.wq_head.proofs.FirstEntries.{no_entry}
-use Rattle.wq_head.proofs.KeptHolds.{hold_carried, hold_holds, hold_looks, hold_same, hold_simple}
-use Rattle.wq_head.proofs.LookingHold.{looks_only}
+use Rattle.wq_head.proofs.{CarriedHolds.unlock_carried, FirstEntries.no_entry, LookingHold.looks_only}
 use Rattle.wq_head.proofs.MemberStands.{look_is_shown}
-use Rattle.wait_class.specs.Findings.{saw_nothing, with_value}
-use Rattle.wait_class.specs.Posts.{own_of}
-use Rattle.wait_class.specs.Tables.{IsEnded}
+use Rattle.wq_head.proofs.KeptHolds.{hold_carried, hold_holds, hold_looks, hold_same, hold_simple}
+use Rattle.wait_class.specs.{Findings.saw_nothing, Findings.with_value, Posts.own_of, Tables.IsEnded}
 use Rattle.wait_class.specs.declared.stages.Run.{Run}
 use Rattle.wait_class.proofs.Ground.Going.{runs_looks, runs_on, runs_one}
 use Rattle.completion_cell.specs.Asks.{HasCountedDone}
@@ -49,16 +34,12 @@ use Rattle.completion_cell.proofs.Completing.{done_simple, looked_around, looked
 use Rattle.completion_cell.proofs.Ground.{looked_count, quiet_store, holding_on}
 use Rattle.completion_cell.proofs.Permits.{inside_join, inside_looks, inside_step, nobody, selection_inside}
 use Rattle.completion_cell.proofs.Permits.{store_inside, store_owes, unlocked_steps}
+use Rattle.count_sem.specs.{Downs.down_table, declared.downs.DownCall.DownCall}
 use Rattle.count_sem.specs.SemPrograms.{down_program, gives_to, joined, pass_gives, pass_point, sem_head}
-use Rattle.count_sem.specs.Downs.{down_table}
 use Rattle.count_sem.specs.Passes.{HasPassedOn, HasWaiter, pass_change}
-use Rattle.count_sem.specs.declared.downs.DownCall.{DownCall}
 use Rattle.count_sem.specs.declared.downs.DownOutcome.TheVariants as outcome
-use Rattle.count_sem.proofs.DownTakes.{lowers_none}
-use Rattle.count_sem.proofs.FirstWaiters.{gives_runs}
-use Rattle.count_sem.proofs.FoundWaiters.{first_waits}
-use Rattle.count_sem.proofs.PassedHolds.{Passes, passes_owing_none}
-use Rattle.count_sem.proofs.SemBooks.{book_store}
+use Rattle.count_sem.proofs.{DownTakes.lowers_none, FirstWaiters.gives_runs, FoundWaiters.first_waits}
+use Rattle.count_sem.proofs.{PassedHolds.Passes, PassedHolds.passes_owing_none, SemBooks.book_store}
 
 -- an event of a part of a program, in the whole of it
 abbrev plan_joined : Planned → Planned

@@ -2,19 +2,13 @@
 use Rattle.std.proofs.Common.{◌∙◌, ap, arith, append_assoc}
 use Rattle.std.proofs.lemmas.Bool.Decides.{nat_tests}
 use Rattle.std.specs.Prelude.{ℕ, ◌≡◌, ◌<◌, true, Option, List, [], ◌∷◌, ◌++◌}
-use Rattle.wait_model.specs.declared.layout.TheConstants.{ALL_DONE}
+use Rattle.wait_model.specs.{declared.layout.TheConstants.ALL_DONE, declared.points.Given.Given}
+use Rattle.wait_model.specs.{declared.points.Seen.Seen, declared.steps.Step.Step, declared.watches.Watch.Watch}
+use Rattle.wait_model.specs.{Programs.done_in, Programs.is_at_end, Watches.number_of}
 use Rattle.wait_model.specs.declared.calls.Event.TheVariants as event
-use Rattle.wait_model.specs.declared.points.Given.{Given}
-use Rattle.wait_model.specs.declared.points.Seen.{Seen}
-use Rattle.wait_model.specs.declared.steps.Step.{Step}
 use Rattle.wait_model.specs.declared.steps.Step.TheVariants as step
-use Rattle.wait_model.specs.declared.watches.Watch.{Watch}
 use Rattle.wait_model.specs.declared.watches.Watch.TheVariants as watch
-use Rattle.wait_model.specs.Programs.{done_in, is_at_end}
-use Rattle.wait_model.specs.Watches.{number_of}
-use Rattle.wait_rule.specs.Known.{Known}
-use Rattle.wait_rule.specs.Says.{history_of}
-use Rattle.wait_rule.specs.Transitions.{FindsStep, IsStepFor}
+use Rattle.wait_rule.specs.{Known.Known, Says.history_of, Transitions.FindsStep, Transitions.IsStepFor}
 
 -- a load of the task's has found the count at its end
 pub record HasLoadedEnd (c : ℕ) (es : List Step) : Type 0 where

@@ -1,25 +1,20 @@
 -- A `down` that hands a permit on in its last hold does not sleep in it.
 use Rattle.std.proofs.Common.{refl}
 use Rattle.std.specs.Prelude.{ℕ, zero, suc, ◌≡◌, Bool, true, false, Option, Some, None}
-use Rattle.wait_model.specs.declared.points.Planned.{Planned}
-use Rattle.wait_model.specs.declared.points.Point.{Point}
+use Rattle.wait_model.specs.{declared.points.Planned.Planned, declared.points.Point.Point, declared.points.Seen.Seen}
+use Rattle.wait_model.specs.{declared.queues.CalledEntry.CalledEntry, declared.tasks.SleepState.SleepState}
+use Rattle.wait_model.specs.Programs.{zero_answer}
 use Rattle.wait_model.specs.declared.points.Point.TheVariants as at
 use Rattle.wait_model.specs.declared.points.Next.TheVariants as next
-use Rattle.wait_model.specs.declared.points.Seen.{Seen}
 use Rattle.wait_model.specs.declared.points.SelectPoint.TheVariants as selecting
-use Rattle.wait_model.specs.declared.queues.CalledEntry.{CalledEntry}
-use Rattle.wait_model.specs.declared.tasks.SleepState.{SleepState}
-use Rattle.wait_model.specs.Programs.{zero_answer}
 use Rattle.wait_rule.specs.Known.{Known}
 use Rattle.wait_class.specs.Tables.{SleepsNot}
 use Rattle.wait_class.proofs.AwakeSteps.{sleeps_not_on, sleeps_not_same}
 use Rattle.wait_leave.specs.ExitLaws.{AwakeOn}
 use Rattle.wait_leave.proofs.Awake.{goes_awake}
-use Rattle.count_sem.specs.DownLeaves.{ClosesDown}
-use Rattle.count_sem.specs.Passes.{HasPassedOn}
-use Rattle.count_sem.specs.SemPrograms.{down_program, joined, pass_gives, pass_next, pass_point}
-use Rattle.count_sem.specs.declared.downs.DownCall.{DownCall}
+use Rattle.count_sem.specs.{DownLeaves.ClosesDown, Passes.HasPassedOn, declared.downs.DownCall.DownCall}
 use Rattle.count_sem.specs.declared.downs.DownOutcome.{DownOutcome}
+use Rattle.count_sem.specs.SemPrograms.{down_program, joined, pass_gives, pass_next, pass_point}
 use Rattle.count_sem.specs.declared.downs.DownOutcome.TheVariants as outcome
 
 abbrev pass_awake : Point → Bool

@@ -3,32 +3,23 @@ use Rattle.std.proofs.Common.{◌∙◌, ap, sym, refl, subst, arith, append_ass
 use Rattle.std.proofs.lemmas.Bool.Decides.{eqb_tells}
 use Rattle.std.specs.Prelude.{ℕ, ◌≡◌, ◌+◌, ◌-◌, ◌==◌, ◌&&◌, ◌⊎◌, not, Bool, true, false, if◌then◌else◌, Option, Some}
 use Rattle.std.specs.Prelude.{None, List, [], ◌∷◌, ◌++◌}
-use Rattle.wait_model.specs.declared.steps.Step.{Step}
-use Rattle.wait_model.specs.declared.steps.Step.TheVariants as step
-use Rattle.wait_model.specs.declared.watches.Entry.{Entry}
-use Rattle.wait_model.specs.declared.watches.Watch.TheVariants as watch
-use Rattle.wait_model.specs.Fold.{after, view_of}
+use Rattle.wait_model.specs.{declared.steps.Step.Step, declared.watches.Entry.Entry, Fold.after, Fold.view_of, Runs.own}
+use Rattle.wait_model.specs.{Tables.Table, Watches.head_of, Watches.stands_at, Words.entry_of, Words.flag}
 use Rattle.wait_model.specs.Permits.{Dealt, MayGiveBack, ShowsNobody, after_read, after_store, dealt, debt_after}
 use Rattle.wait_model.specs.Permits.{done_head, is_in, is_seen, none_dealt, shows_at}
-use Rattle.wait_model.specs.Runs.{own}
-use Rattle.wait_model.specs.Tables.{Table}
 use Rattle.wait_model.specs.Views.{Look, View, blank, elsewhere, look_at, off, shown}
-use Rattle.wait_model.specs.Watches.{head_of, stands_at}
-use Rattle.wait_model.specs.Words.{entry_of, flag}
-use Rattle.wait_model.proofs.Functions.{put_at}
-use Rattle.wait_model.proofs.HistoryLaws.HoldLooks.{after_snoc}
-use Rattle.wait_model.proofs.PermitLaws.OwnTurns.{clash, deals_snoc}
+use Rattle.wait_model.specs.declared.steps.Step.TheVariants as step
+use Rattle.wait_model.specs.declared.watches.Watch.TheVariants as watch
+use Rattle.wait_model.proofs.{Functions.put_at, HistoryLaws.HoldLooks.after_snoc, PermitLaws.OwnTurns.clash}
+use Rattle.wait_model.proofs.PermitLaws.OwnTurns.{deals_snoc}
 use Rattle.wait_model.proofs.PermitLaws.PermitTurns.{look_seen, not_unseen, seen_shows}
-use Rattle.wait_rule.specs.HandedPermits.{OwesNoPermit}
-use Rattle.wait_rule.specs.Interleavings.{table_of}
-use Rattle.wait_rule.specs.Known.{Known}
+use Rattle.wait_rule.specs.{HandedPermits.OwesNoPermit, Interleavings.table_of, Known.Known, Says.history_of}
+use Rattle.wait_rule.specs.Says.{told_of}
 use Rattle.wait_rule.specs.LeftEntries.{Order, OrderOf, dealt_of}
-use Rattle.wait_rule.specs.Says.{history_of, told_of}
-use Rattle.wait_rule.proofs.KnownLaws.CalledPermits.{order_as}
-use Rattle.wait_rule.proofs.KnownLaws.HandedPermits.{cell_is}
+use Rattle.wait_rule.proofs.{KnownLaws.CalledPermits.order_as, KnownLaws.HandedPermits.cell_is}
+use Rattle.wait_rule.proofs.KnownLaws.Moments.{kept_of}
 use Rattle.wait_rule.proofs.KnownLaws.HandedSteps.{OrderStep, order_front, order_step, order_view}
 use Rattle.wait_rule.proofs.KnownLaws.HeldPermits.{AreInside, IsInside, owed, owed_by}
-use Rattle.wait_rule.proofs.KnownLaws.Moments.{kept_of}
 use Rattle.completion_cell.proofs.Permits.{Inside}
 
 -- in a hold of the head that has seen the own entry off, with so many permits to take or to hand on

@@ -3,52 +3,36 @@ use Rattle.std.proofs.Common.{◌∙◌, ap, sym, refl, subst, arith, inl, inr, 
 use Rattle.std.proofs.lemmas.Bool.Decides.{nat_tests}
 use Rattle.std.specs.Prelude.{ℕ, ◌≡◌, ◌<◌, ◌≤◌, ◌+◌, ◌-◌, if◌then◌else◌, Bool, true, false, Option, Some, None}
 use Rattle.std.specs.Prelude.{Result, Err, Ok, [], ◌∷◌, ◌++◌}
-use Rattle.wait_model.specs.declared.layout.TheConstants.{FIRST_SIMPLE_HEAD}
+use Rattle.wait_model.specs.{declared.layout.TheConstants.FIRST_SIMPLE_HEAD, declared.points.CountPoint.CountPoint}
+use Rattle.wait_model.specs.{declared.points.Seen.Seen, declared.queues.CalledEntry.CalledEntry, Permits.done_head}
+use Rattle.wait_model.specs.{Programs.zero_answer, Runs.called_by, Runs.set_step}
 use Rattle.wait_model.specs.declared.calls.Call.TheVariants as calls
-use Rattle.wait_model.specs.declared.points.CountPoint.{CountPoint}
 use Rattle.wait_model.specs.declared.points.CountPoint.TheVariants as counting
 use Rattle.wait_model.specs.declared.points.Next.TheVariants as next
 use Rattle.wait_model.specs.declared.points.Point.TheVariants as at
-use Rattle.wait_model.specs.declared.points.Seen.{Seen}
 use Rattle.wait_model.specs.declared.points.SelectPoint.TheVariants as selecting
-use Rattle.wait_model.specs.declared.queues.CalledEntry.{CalledEntry}
 use Rattle.wait_model.specs.declared.steps.Step.TheVariants as step
 use Rattle.wait_model.specs.declared.watches.Mode.TheVariants as mode
 use Rattle.wait_model.specs.declared.watches.Watch.TheVariants as watch
-use Rattle.wait_model.specs.Permits.{done_head}
-use Rattle.wait_model.specs.Programs.{zero_answer}
-use Rattle.wait_model.specs.Runs.{called_by, set_step}
 use Rattle.wait_rule.specs.declared.journal.Item.TheVariants as item
-use Rattle.wait_rule.specs.Counts.{FindsCount, StoresCount}
-use Rattle.wait_rule.specs.HandedPermits.{OwesNoPermit, StaysOff}
-use Rattle.wait_rule.specs.Known.{Known}
-use Rattle.wait_rule.specs.LeftEntries.{LeftOff}
+use Rattle.wait_rule.specs.{Counts.FindsCount, Counts.StoresCount, HandedPermits.OwesNoPermit, HandedPermits.StaysOff}
+use Rattle.wait_rule.specs.{Known.Known, LeftEntries.LeftOff, Shown.shown_entry}
 use Rattle.wait_rule.specs.Queues.{IsTold, IsWholeBook, walk_of_hold}
 use Rattle.wait_rule.specs.Says.{IsFree, IsUp, added, history_of, unlocked_with}
-use Rattle.wait_rule.specs.Shown.{shown_entry}
 use Rattle.wait_rule.specs.Stays.{Carries, Stays, StaysOwing, lock_change, no_entries, only_looks, publish_change}
 use Rattle.wait_rule.specs.Stays.{unchanged}
 use Rattle.wait_rule.specs.Transitions.{OnlyLooks, Program, by_step}
-use Rattle.wait_rule.proofs.KnownLaws.CarriedCounts.{as_publish}
-use Rattle.wait_rule.proofs.KnownLaws.CarriedTasks.{unchanged_first, unchanged_none}
-use Rattle.wait_rule.proofs.KnownLaws.HeldPermits.{owed}
-use Rattle.wait_rule.proofs.KnownLaws.TaskHistories.{history_after}
-use Rattle.wait_rule.proofs.KnownLaws.Transitions.{only_none}
+use Rattle.wait_rule.proofs.{KnownLaws.CarriedCounts.as_publish, KnownLaws.CarriedTasks.unchanged_first}
+use Rattle.wait_rule.proofs.{KnownLaws.CarriedTasks.unchanged_none, KnownLaws.HeldPermits.owed}
+use Rattle.wait_rule.proofs.{KnownLaws.TaskHistories.history_after, KnownLaws.Transitions.only_none}
 use Rattle.wait_rule.proofs.KnownLaws.Turns.{serve_looks}
-use Rattle.wq_head.specs.Holds.{HasLocked, IsHolding}
-use Rattle.wq_head.specs.LockTurns.{TookLock}
+use Rattle.wq_head.specs.{Holds.HasLocked, Holds.IsHolding, LockTurns.TookLock}
 use Rattle.wq_head.specs.Selects.{HasSelected, IsSimpleHold, KeepsHold, ShowsNoEntry, simple_aim}
-use Rattle.wq_head.proofs.CarriedHolds.{unlock_carried}
-use Rattle.wq_head.proofs.FirstEntries.{no_entry}
-use Rattle.wq_head.proofs.KeptHolds.{hold_carried, hold_holds}
-use Rattle.wq_head.proofs.LockWaits.{turn_of}
-use Rattle.wq_head.proofs.LookingHold.{looks_only}
-use Rattle.wq_head.proofs.SelectedRuns.{lock_goes}
+use Rattle.wq_head.proofs.{CarriedHolds.unlock_carried, FirstEntries.no_entry, KeptHolds.hold_carried}
+use Rattle.wq_head.proofs.{KeptHolds.hold_holds, LockWaits.turn_of, LookingHold.looks_only, SelectedRuns.lock_goes}
 use Rattle.wq_head.proofs.SimpleHolds.{own_done}
 use Rattle.wait_event.specs.Conds.{set_change}
-use Rattle.wait_class.specs.Findings.{saw_nothing, with_value}
-use Rattle.wait_class.specs.Posts.{Runs}
-use Rattle.wait_class.specs.Tables.{plan_program}
+use Rattle.wait_class.specs.{Findings.saw_nothing, Findings.with_value, Posts.Runs, Tables.plan_program}
 use Rattle.wait_class.proofs.Ground.Going.{runs_looks, runs_on, runs_one}
 use Rattle.wait_class.proofs.Histories.{unlocked_history}
 use Rattle.completion_cell.specs.Asks.{HasCountedDone}
@@ -58,13 +42,11 @@ use Rattle.completion_cell.proofs.Completing.{stored_agreed}
 use Rattle.completion_cell.proofs.Ground.{quiet_store, step_behind, holding_on}
 use Rattle.completion_cell.proofs.Permits.{MayEndHold, ends_off, ends_owing_none, hold_made, inside_join, inside_step}
 use Rattle.completion_cell.proofs.Permits.{nobody, selection_inside, store_inside}
-use Rattle.count_sem.specs.declared.ups.SemFull.{SemFull}
-use Rattle.count_sem.specs.declared.ups.TheConstants.{FULL}
+use Rattle.count_sem.specs.{declared.ups.SemFull.SemFull, declared.ups.TheConstants.FULL, Ups.FoundNobody}
+use Rattle.count_sem.specs.Ups.{HasRaised}
 use Rattle.count_sem.specs.SemPrograms.{full_answer, gives_to, is_full, sem_head, up_next, up_plan}
-use Rattle.count_sem.specs.Ups.{FoundNobody, HasRaised}
 use Rattle.count_sem.proofs.FirstWaiters.{gives_runs}
-use Rattle.count_sem.proofs.SemBooks.{SameBook, book_load, book_on, book_store, nobody_on}
-use Rattle.count_sem.proofs.SemBooks.{whole_on}
+use Rattle.count_sem.proofs.SemBooks.{SameBook, book_load, book_on, book_store, nobody_on, whole_on}
 
 -- the program's lock, and its unlocks
 module _ (me d : ℕ) where

@@ -1,16 +1,12 @@
 -- Loads and stores of a count change nothing of what a hold has seen.
 use Rattle.std.proofs.Common.{◌∙◌, ap, sym, refl}
 use Rattle.std.specs.Prelude.{ℕ, ◌≡◌, ◌||◌, ◌==◌, nat_lt, if◌then◌else◌, Bool, true, false}
-use Rattle.wait_model.specs.declared.layout.TheConstants.{ALL_DONE}
-use Rattle.wait_model.specs.declared.steps.Step.{Step}
+use Rattle.wait_model.specs.{declared.layout.TheConstants.ALL_DONE, declared.steps.Step.Step, Runs.set_step}
+use Rattle.wait_model.specs.Views.{View as Told}
 use Rattle.wait_model.specs.declared.steps.Step.TheVariants as step
 use Rattle.wait_model.specs.declared.watches.Watch.TheVariants as watch
-use Rattle.wait_model.specs.Runs.{set_step}
-use Rattle.wait_model.specs.Views.{View as Told}
 use Rattle.wait_rule.specs.declared.journal.Item.TheVariants as item
-use Rattle.wait_rule.specs.Known.{Known}
-use Rattle.wait_rule.specs.Notes.{Notes}
-use Rattle.wait_rule.specs.Queues.{IsWholeBook}
+use Rattle.wait_rule.specs.{Known.Known, Notes.Notes, Queues.IsWholeBook}
 use Rattle.wait_rule.specs.Says.{added, noted, told_of}
 use Rattle.wait_rule.proofs.KnownLaws.AfterSteps.{noted_added, told_added}
 use Rattle.wq_head.specs.Selects.{ShowsNoEntry}

@@ -3,41 +3,31 @@ use Rattle.std.proofs.Common.{refl, sym, ◌∙◌, ap, subst, arith, inl, inr}
 use Rattle.std.proofs.lemmas.Bool.Decides.{eqb_tells, nat_tests}
 use Rattle.std.specs.Prelude.{ℕ, zero, suc, ◌≡◌, ◌≢◌, ◌-◌, ◌<◌, ◌==◌, ◌||◌, Bool, true, false, if◌then◌else◌, is_some}
 use Rattle.std.specs.Prelude.{Option, Some, None, List, [], ◌∷◌, ◌++◌}
-use Rattle.wait_model.specs.declared.layout.TheConstants.{ALL_DONE}
+use Rattle.wait_model.specs.{declared.layout.TheConstants.ALL_DONE, declared.points.Next.Next}
+use Rattle.wait_model.specs.{declared.points.Planned.Planned, declared.points.Point.Point, declared.points.Seen.Seen}
+use Rattle.wait_model.specs.{declared.queues.CalledEntry.CalledEntry, declared.steps.Step.Step}
+use Rattle.wait_model.specs.{declared.tasks.SleepState.SleepState, Counts.taken_done, Permits.ShowsNobody}
+use Rattle.wait_model.specs.{Permits.done_head, Watches.number_of}
+use Rattle.wait_model.specs.Programs.{done_in, ends_with, go, is_at_end, signalled}
+use Rattle.wait_model.specs.Tasks.{looks_in, pending, state_mask}
 use Rattle.wait_model.specs.declared.calls.Answer.TheVariants as answer
 use Rattle.wait_model.specs.declared.calls.Event.TheVariants as event
 use Rattle.wait_model.specs.declared.points.AwaitPoint.TheVariants as awaiting
 use Rattle.wait_model.specs.declared.points.CountPoint.TheVariants as counting
 use Rattle.wait_model.specs.declared.points.FinishPoint.TheVariants as finishing
 use Rattle.wait_model.specs.declared.points.LeavePoint.TheVariants as leaving
-use Rattle.wait_model.specs.declared.points.Next.{Next}
 use Rattle.wait_model.specs.declared.points.Next.TheVariants as next
-use Rattle.wait_model.specs.declared.points.Planned.{Planned}
-use Rattle.wait_model.specs.declared.points.Point.{Point}
 use Rattle.wait_model.specs.declared.points.Point.TheVariants as at
 use Rattle.wait_model.specs.declared.points.PreparePoint.TheVariants as preparing
-use Rattle.wait_model.specs.declared.points.Seen.{Seen}
 use Rattle.wait_model.specs.declared.points.SelectPoint.TheVariants as selecting
-use Rattle.wait_model.specs.declared.queues.CalledEntry.{CalledEntry}
 use Rattle.wait_model.specs.declared.queues.Form.TheVariants as forms
-use Rattle.wait_model.specs.declared.steps.Step.{Step}
 use Rattle.wait_model.specs.declared.steps.Step.TheVariants as step
-use Rattle.wait_model.specs.declared.tasks.SleepState.{SleepState}
 use Rattle.wait_model.specs.declared.watches.Watch.TheVariants as watch
-use Rattle.wait_model.specs.Counts.{taken_done}
-use Rattle.wait_model.specs.Permits.{ShowsNobody, done_head}
-use Rattle.wait_model.specs.Programs.{done_in, ends_with, go, is_at_end, signalled}
-use Rattle.wait_model.specs.Tasks.{looks_in, pending, state_mask}
-use Rattle.wait_model.specs.Watches.{number_of}
 use Rattle.wait_model.proofs.PermitLaws.OwnTurns.{known_is}
-use Rattle.wait_rule.specs.HeldValues.{count_in}
-use Rattle.wait_rule.specs.Known.{Known}
-use Rattle.wait_rule.specs.LeftEntries.{Order}
-use Rattle.wait_rule.specs.Says.{history_of, told_of}
+use Rattle.wait_rule.specs.{HeldValues.count_in, Known.Known, LeftEntries.Order, Says.history_of, Says.told_of}
 use Rattle.wait_rule.specs.Transitions.{Finds, FindsStep, IsStepFor, Program, by_step}
 use Rattle.wait_rule.proofs.SaidEvents.Fronts.{number_stays}
-use Rattle.wait_class.specs.Posts.{Runs}
-use Rattle.wait_class.specs.Tables.{plan_program}
+use Rattle.wait_class.specs.{Posts.Runs, Tables.plan_program}
 use Rattle.count_sem.specs.SemPrograms.{again_next, down_part, down_plan, down_program, down_queue, is_full, joined}
 use Rattle.count_sem.specs.SemPrograms.{leave_queue, pass_gives, pass_next, sem_head, sem_unlock, try_down_plan}
 use Rattle.count_sem.specs.SemPrograms.{up_next, up_plan}

@@ -3,29 +3,18 @@ use Rattle.std.proofs.Common.{refl, sym, ◌∙◌, ap, subst, arith, eq-eqb, in
 use Rattle.std.proofs.lemmas.Bool.Decides.{eqb_tells, nat_tests}
 use Rattle.std.specs.Prelude.{ℕ, zero, suc, ◌≡◌, ◌≢◌, ◌<◌, ◌+◌, ◌==◌, Bool, true, false, ◌&&◌, Some, List, [], ◌∷◌}
 use Rattle.std.specs.Prelude.{◌++◌}
-use Rattle.wait_model.specs.declared.layout.TheConstants.{ALL_DONE, TASKS}
-use Rattle.wait_model.specs.declared.steps.Step.{Step}
+use Rattle.wait_model.specs.{declared.layout.TheConstants.ALL_DONE, declared.layout.TheConstants.TASKS}
+use Rattle.wait_model.specs.{declared.steps.Step.Step, Facts.Kept, Fold.view_of, Functions.put, PermitFacts.IsExact}
+use Rattle.wait_model.specs.{PermitFacts.dealt_in, Rows.Allowed, Runs.own, Tables.Table, Tables.start, Totals.sum_below}
+use Rattle.wait_model.specs.{Views.View, Views.blank, Watches.stands_at, Words.flag}
+use Rattle.wait_model.specs.Permits.{done_head, is_handed, is_in, is_seen}
 use Rattle.wait_model.specs.declared.steps.Step.TheVariants as step
 use Rattle.wait_model.specs.declared.watches.Watch.TheVariants as watch
-use Rattle.wait_model.specs.Facts.{Kept}
-use Rattle.wait_model.specs.Fold.{view_of}
-use Rattle.wait_model.specs.Functions.{put}
-use Rattle.wait_model.specs.Permits.{done_head, is_handed, is_in, is_seen}
-use Rattle.wait_model.specs.PermitFacts.{IsExact, dealt_in}
-use Rattle.wait_model.specs.Rows.{Allowed}
-use Rattle.wait_model.specs.Runs.{own}
-use Rattle.wait_model.specs.Tables.{Table, start}
-use Rattle.wait_model.specs.Totals.{sum_below}
-use Rattle.wait_model.specs.Views.{View, blank}
-use Rattle.wait_model.specs.Watches.{stands_at}
-use Rattle.wait_model.specs.Words.{flag}
+use Rattle.wait_model.proofs.{HistoryLaws.StepTotals.sum_same, HistoryLaws.StepTotals.sum_zero}
+use Rattle.wait_model.proofs.{PermitLaws.OwnTurns.clash, PermitLaws.OwnTurns.in_is, PermitLaws.PermitTurns.due}
 use Rattle.wait_model.proofs.Functions.{put_case, put_other, put_same}
-use Rattle.wait_model.proofs.HistoryLaws.StepTotals.{sum_same, sum_zero}
-use Rattle.wait_model.proofs.PermitLaws.OwnTurns.{clash, in_is}
-use Rattle.wait_model.proofs.PermitLaws.PermitTurns.{due}
 use Rattle.wait_rule.specs.Interleavings.{AreAllowed, AreHanded, TaskStep, table_of}
-use Rattle.wait_rule.proofs.KnownLaws.HandedPermits.{accounted_of}
-use Rattle.wait_rule.proofs.KnownLaws.Moments.{kept_of}
+use Rattle.wait_rule.proofs.{KnownLaws.HandedPermits.accounted_of, KnownLaws.Moments.kept_of}
 use Rattle.count_sem.specs.SemPermits.{AllKeepPermits, AllUseAsSemaphore, FindsNoEnd, IsSemStep, KeepsPermits}
 use Rattle.count_sem.specs.SemPermits.{RuleKeepsPermits, StepsKeepPermits, UsesAsSemaphore, permits_given}
 use Rattle.count_sem.specs.SemPermits.{permits_taken}

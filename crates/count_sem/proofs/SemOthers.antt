@@ -1,28 +1,19 @@
 -- A program about another watch changes no count of a semaphore.
 use Rattle.std.proofs.Common.{sym, ◌∙◌, subst, append_assoc, append-nil}
 use Rattle.std.specs.Prelude.{ℕ, ◌≡◌, true, false, Option, List, [], ◌∷◌, ◌++◌}
-use Rattle.wait_model.specs.declared.calls.Event.{Event}
+use Rattle.wait_model.specs.{declared.calls.Event.Event, declared.points.Given.Given, declared.points.Next.Next}
+use Rattle.wait_model.specs.{declared.points.Point.Point, declared.steps.Step.Step, declared.watches.Watch.Watch}
+use Rattle.wait_model.specs.{Views.View, Views.blank, Watches.same}
 use Rattle.wait_model.specs.declared.calls.Event.TheVariants as event
-use Rattle.wait_model.specs.declared.points.Given.{Given}
-use Rattle.wait_model.specs.declared.points.Next.{Next}
 use Rattle.wait_model.specs.declared.points.Next.TheVariants as next
-use Rattle.wait_model.specs.declared.points.Point.{Point}
-use Rattle.wait_model.specs.declared.steps.Step.{Step}
 use Rattle.wait_model.specs.declared.steps.Step.TheVariants as step
-use Rattle.wait_model.specs.declared.watches.Watch.{Watch}
 use Rattle.wait_model.specs.declared.watches.Watch.TheVariants as watch
-use Rattle.wait_model.specs.Views.{View, blank}
-use Rattle.wait_model.specs.Watches.{same}
-use Rattle.wait_rule.specs.declared.journal.Item.{Item}
-use Rattle.wait_rule.specs.declared.journal.Item.TheVariants as item
-use Rattle.wait_rule.specs.Items.{steps_of}
-use Rattle.wait_rule.specs.Known.{Known}
-use Rattle.wait_rule.specs.Says.{history_of}
+use Rattle.wait_rule.specs.{declared.journal.Item.Item, Items.steps_of, Known.Known, Says.history_of}
 use Rattle.wait_rule.specs.Transitions.{AreLooks, AreScansOf, Goes, IsMadeFor, IsStepFor, OnlyLooks, Program}
 use Rattle.wait_rule.specs.Transitions.{StepOrLook, Transition, after_transition, by_look, by_step}
+use Rattle.wait_rule.specs.declared.journal.Item.TheVariants as item
 use Rattle.wait_rule.proofs.SaidEvents.Fronts.{looks_history, step_history, steps_made}
-use Rattle.count_sem.specs.SemPermits.{IsSemStep, UsesAsSemaphore}
-use Rattle.count_sem.specs.SemUses.{OthersKeepUse}
+use Rattle.count_sem.specs.{SemPermits.IsSemStep, SemPermits.UsesAsSemaphore, SemUses.OthersKeepUse}
 use Rattle.count_sem.proofs.SemSums.{sem_more}
 
 module _ (d : ℕ) where

@@ -4,47 +4,33 @@ use Rattle.std.proofs.Common.{refl, sym, ◌∙◌, ap, subst, arith, eq-eqb}
 use Rattle.std.proofs.lemmas.Bool.Decides.{nat_tests}
 use Rattle.std.specs.Prelude.{ℕ, ◌≡◌, ◌≢◌, ◌+◌, ◌-◌, ◌<◌, ◌==◌, ◌||◌, nat_lt, Bool, true, false, if◌then◌else◌, Option}
 use Rattle.std.specs.Prelude.{Some, None, List, [], ◌∷◌, ◌++◌}
+use Rattle.wait_model.specs.{declared.points.Given.Given, declared.points.Seen.Seen}
+use Rattle.wait_model.specs.{declared.queues.CalledEntry.CalledEntry, declared.queues.Member.Member}
+use Rattle.wait_model.specs.{declared.steps.Step.Step, declared.watches.Entry.Entry, declared.watches.Watch.Watch}
+use Rattle.wait_model.specs.{Facts.Agrees, Fold.after, Fold.view_of, Queues.entry_from, Queues.is_entry, Rows.Allowed}
+use Rattle.wait_model.specs.Words.{entry_of}
 use Rattle.wait_model.specs.declared.layout.TheConstants.{ALL_DONE, ENTRIES, MEMBERS}
-use Rattle.wait_model.specs.declared.calls.Event.TheVariants as event
-use Rattle.wait_model.specs.declared.points.Given.{Given}
-use Rattle.wait_model.specs.declared.points.Seen.{Seen}
-use Rattle.wait_model.specs.declared.queues.CalledEntry.{CalledEntry}
-use Rattle.wait_model.specs.declared.queues.Member.{Member}
-use Rattle.wait_model.specs.declared.steps.Step.{Step}
-use Rattle.wait_model.specs.declared.steps.Step.TheVariants as step
-use Rattle.wait_model.specs.declared.watches.Entry.{Entry}
-use Rattle.wait_model.specs.declared.watches.Watch.{Watch}
-use Rattle.wait_model.specs.declared.watches.Watch.TheVariants as watch
-use Rattle.wait_model.specs.Facts.{Agrees}
-use Rattle.wait_model.specs.Fold.{after, view_of}
 use Rattle.wait_model.specs.Permits.{ShowsNobody, done_head, shows_at}
-use Rattle.wait_model.specs.Queues.{entry_from, is_entry}
-use Rattle.wait_model.specs.Rows.{Allowed}
 use Rattle.wait_model.specs.Runs.{called_as, called_by, called_of, is_publishing}
 use Rattle.wait_model.specs.Views.{View, Look, blank, elsewhere, look_at, shown, unseen}
 use Rattle.wait_model.specs.Watches.{head_of, owner, same, stands_at}
-use Rattle.wait_model.specs.Words.{entry_of}
-use Rattle.wait_model.proofs.Functions.{put_at}
-use Rattle.wait_model.proofs.HistoryLaws.HoldLooks.{after_snoc}
-use Rattle.wait_model.proofs.PermitLaws.OwnTurns.{clash}
+use Rattle.wait_model.specs.declared.calls.Event.TheVariants as event
+use Rattle.wait_model.specs.declared.steps.Step.TheVariants as step
+use Rattle.wait_model.specs.declared.watches.Watch.TheVariants as watch
+use Rattle.wait_model.proofs.{Functions.put_at, HistoryLaws.HoldLooks.after_snoc, PermitLaws.OwnTurns.clash}
+use Rattle.wait_model.proofs.{QueueLaws.QueueOrder.IsFirstFrom, QueueLaws.QueueOrder.first_is}
 use Rattle.wait_model.proofs.PermitLaws.PermitTurns.{look_seen, not_unseen, seen_shows}
-use Rattle.wait_model.proofs.QueueLaws.QueueOrder.{IsFirstFrom, first_is}
+use Rattle.wait_rule.specs.{Known.Known, Says.history_of, Says.told_of, Shown.shown_entry, Shown.shown_queue}
 use Rattle.wait_rule.specs.HeldValues.{CountsStand, count_in, value_after}
 use Rattle.wait_rule.specs.Interleavings.{AreAllowed, TaskStep, table_of}
-use Rattle.wait_rule.specs.Known.{Known}
-use Rattle.wait_rule.specs.Says.{history_of, told_of}
-use Rattle.wait_rule.specs.Shown.{shown_entry, shown_queue}
 use Rattle.wait_rule.specs.Transitions.{FindsFirst, FindsStep, IsStepFor}
-use Rattle.wait_rule.proofs.KnownLaws.HandedSteps.{OrderStep, order_view}
-use Rattle.wait_rule.proofs.KnownLaws.HeldCounts.{counts_next}
-use Rattle.wait_rule.proofs.KnownLaws.Moments.{kept_of}
+use Rattle.wait_rule.proofs.{KnownLaws.HandedSteps.OrderStep, KnownLaws.HandedSteps.order_view}
+use Rattle.wait_rule.proofs.{KnownLaws.HeldCounts.counts_next, KnownLaws.Moments.kept_of}
 use Rattle.wq_head.specs.Selects.{ShowsNoEntry}
 use Rattle.wq_head.proofs.MemberStands.{entry_shown, shown_place}
 use Rattle.wq_head.proofs.ShownQueue.{queue_has, queue_in_order, queue_of}
-use Rattle.completion_cell.proofs.Ground.{value_append}
-use Rattle.completion_cell.proofs.Permits.{nobody}
-use Rattle.count_sem.specs.declared.ups.TheConstants.{FULL}
-use Rattle.count_sem.specs.SemPermits.{IsSemStep}
+use Rattle.completion_cell.proofs.{Ground.value_append, Permits.nobody}
+use Rattle.count_sem.specs.{declared.ups.TheConstants.FULL, SemPermits.IsSemStep}
 
 -- a held count stands as its hold has loaded or stored it
 counts_stand : (xs : List TaskStep) → AreAllowed xs → CountsStand (table_of xs)

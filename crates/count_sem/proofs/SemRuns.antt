@@ -1,24 +1,14 @@
 -- What a task has made of a program that changes a count as the law on permits asks for, by what holds of its history
 -- at each point.
 use Rattle.std.specs.Prelude.{ℕ, Option, List, [], ◌∷◌, ◌++◌}
-use Rattle.wait_model.specs.declared.calls.Event.{Event}
+use Rattle.wait_model.specs.{declared.calls.Event.Event, declared.points.Given.Given, declared.points.Next.Next}
+use Rattle.wait_model.specs.{declared.points.Planned.Planned, declared.points.Point.Point, declared.points.Seen.Seen}
+use Rattle.wait_model.specs.{declared.steps.Step.Step, Fold.view_of, Views.View, Views.blank}
 use Rattle.wait_model.specs.declared.calls.Event.TheVariants as event
-use Rattle.wait_model.specs.declared.points.Given.{Given}
-use Rattle.wait_model.specs.declared.points.Next.{Next}
 use Rattle.wait_model.specs.declared.points.Next.TheVariants as next
-use Rattle.wait_model.specs.declared.points.Planned.{Planned}
-use Rattle.wait_model.specs.declared.points.Point.{Point}
-use Rattle.wait_model.specs.declared.points.Seen.{Seen}
-use Rattle.wait_model.specs.declared.steps.Step.{Step}
 use Rattle.wait_model.specs.declared.steps.Step.TheVariants as step
-use Rattle.wait_model.specs.Fold.{view_of}
-use Rattle.wait_model.specs.Views.{View, blank}
-use Rattle.wait_rule.specs.declared.journal.Item.{Item}
-use Rattle.wait_rule.specs.Known.{Known}
-use Rattle.wait_rule.specs.LeftEntries.{Order}
-use Rattle.wait_rule.specs.Says.{history_of}
-use Rattle.wait_rule.specs.Transitions.{Finds, Goes, IsMadeFor, IsStepFor, Program}
-use Rattle.wait_rule.specs.Transitions.{Transition, by_look, by_step}
+use Rattle.wait_rule.specs.{declared.journal.Item.Item, Known.Known, LeftEntries.Order, Says.history_of}
+use Rattle.wait_rule.specs.Transitions.{Finds, Goes, IsMadeFor, IsStepFor, Program, Transition, by_look, by_step}
 use Rattle.wait_rule.proofs.KnownLaws.HandedSteps.{OrderStep}
 use Rattle.count_sem.specs.SemPermits.{IsSemStep, UsesAsSemaphore}
 use Rattle.count_sem.proofs.AnswerRuns.{LooksHold, PointsHold, run_holds}

@@ -1,10 +1,7 @@
 -- The worked histories of semaphores, computed.
 use Rattle.std.proofs.Common.{refl, arith}
 use Rattle.std.specs.Prelude.{◌≡◌, true, false}
-use Rattle.wait_model.specs.Runs.{own}
-use Rattle.wait_model.specs.Totals.{sum_below}
-use Rattle.wait_model.specs.Watches.{head_of}
-use Rattle.wait_model.specs.Words.{entry_of}
+use Rattle.wait_model.specs.{Runs.own, Totals.sum_below, Watches.head_of, Words.entry_of}
 use Rattle.count_sem.specs.WorkedSemaphores.{WorkedSemaphores}
 
 pub worked_semaphores : WorkedSemaphores

@@ -1,22 +1,14 @@
 -- What a step adds to the permits that its task has given and taken, and to the sums over all tasks.
 use Rattle.std.proofs.Common.{sym, ◌∙◌, ap, arith}
 use Rattle.std.specs.Prelude.{ℕ, ◌≡◌, ◌≢◌, ◌+◌, ◌<◌, Bool, List, [], ◌∷◌, ◌++◌}
-use Rattle.wait_model.specs.declared.layout.TheConstants.{TASKS}
-use Rattle.wait_model.specs.declared.steps.Step.{Step}
-use Rattle.wait_model.specs.Fold.{after, after_all}
+use Rattle.wait_model.specs.{declared.layout.TheConstants.TASKS, declared.steps.Step.Step, Fold.after, Fold.after_all}
+use Rattle.wait_model.specs.{Runs.own, Tables.Table, Tables.next, Totals.sum_below, Views.View, Views.blank}
+use Rattle.wait_model.specs.{Watches.stands_at, Words.flag}
 use Rattle.wait_model.specs.Permits.{Dealt, deals, deals_all, done_head, none_dealt}
 use Rattle.wait_model.specs.PermitFacts.{AreViewsTold, dealt_in, is_settled}
-use Rattle.wait_model.specs.Runs.{own}
-use Rattle.wait_model.specs.Tables.{Table, next}
-use Rattle.wait_model.specs.Totals.{sum_below}
-use Rattle.wait_model.specs.Views.{View, blank}
-use Rattle.wait_model.specs.Watches.{stands_at}
-use Rattle.wait_model.specs.Words.{flag}
-use Rattle.wait_model.proofs.Functions.{put_other, put_same}
-use Rattle.wait_model.proofs.HistoryLaws.StepTotals.{sum_grown}
+use Rattle.wait_model.proofs.{Functions.put_other, Functions.put_same, HistoryLaws.StepTotals.sum_grown}
+use Rattle.wait_model.proofs.{PermitLaws.PermitTurns.due, PermitLaws.Sums.rest_is, PermitLaws.Sums.rest_same}
 use Rattle.wait_model.proofs.PermitLaws.OwnTurns.{other_dealt, other_view, own_dealt, own_view}
-use Rattle.wait_model.proofs.PermitLaws.PermitTurns.{due}
-use Rattle.wait_model.proofs.PermitLaws.Sums.{rest_is, rest_same}
 use Rattle.count_sem.specs.SemPermits.{AreSemSteps, IsSemStep, counted_from, gives_permit, permits_given, permits_taken}
 use Rattle.count_sem.specs.SemPermits.{takes_permit}
 

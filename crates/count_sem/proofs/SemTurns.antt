@@ -3,33 +3,23 @@ use Rattle.std.proofs.Common.{refl, sym, ◌∙◌, ap, subst, arith, inl, inr}
 use Rattle.std.proofs.lemmas.Bool.Decides.{eqb_tells}
 use Rattle.std.specs.Prelude.{ℕ, ◌≡◌, ◌≢◌, ◌+◌, ◌<◌, ◌≤◌, ◌⊎◌, Bool, true, false, not, ◌&&◌, ◌==◌, if◌then◌else◌}
 use Rattle.std.specs.Prelude.{Option, Some, None}
-use Rattle.wait_model.specs.declared.layout.TheConstants.{TASKS, ENTRIES}
-use Rattle.wait_model.specs.declared.steps.Step.{Step}
-use Rattle.wait_model.specs.declared.steps.Step.TheVariants as step
-use Rattle.wait_model.specs.declared.watches.Aim.{Aim}
-use Rattle.wait_model.specs.declared.watches.Entry.{Entry}
-use Rattle.wait_model.specs.declared.watches.Watch.TheVariants as watch
-use Rattle.wait_model.specs.Facts.{Agrees, Kept}
-use Rattle.wait_model.specs.Fold.{after, holding}
-use Rattle.wait_model.specs.Functions.{put}
+use Rattle.wait_model.specs.{declared.layout.TheConstants.TASKS, declared.layout.TheConstants.ENTRIES}
+use Rattle.wait_model.specs.{declared.steps.Step.Step, declared.watches.Aim.Aim, declared.watches.Entry.Entry}
+use Rattle.wait_model.specs.{Facts.Agrees, Facts.Kept, Fold.after, Fold.holding, Functions.put, Rows.Allowed, Runs.own}
+use Rattle.wait_model.specs.{Tables.Table, Tables.next, Totals.sum_below, Words.entry_of, Words.flag}
 use Rattle.wait_model.specs.Permits.{Dealt, HandsOnOf, MayGiveBack, ShowsNobody, deals, done_head, is_in, is_seen}
 use Rattle.wait_model.specs.Permits.{shows_at}
 use Rattle.wait_model.specs.PermitFacts.{AreViewsTold, IsExact, dealt_in, is_settled}
-use Rattle.wait_model.specs.Rows.{Allowed}
-use Rattle.wait_model.specs.Runs.{own}
-use Rattle.wait_model.specs.Tables.{Table, next}
-use Rattle.wait_model.specs.Totals.{sum_below}
 use Rattle.wait_model.specs.Views.{Hold, Look, View, look_at, off, shown, unseen}
 use Rattle.wait_model.specs.Watches.{head_of, owner, stands_at}
-use Rattle.wait_model.specs.Words.{entry_of, flag}
+use Rattle.wait_model.specs.declared.steps.Step.TheVariants as step
+use Rattle.wait_model.specs.declared.watches.Watch.TheVariants as watch
+use Rattle.wait_model.proofs.{PermitLaws.PermitQueues.owner_small, StepLaws.UnlockSteps.unlock_hold}
 use Rattle.wait_model.proofs.Functions.{put_at, put_other, put_same}
 use Rattle.wait_model.proofs.PermitLaws.OwnTurns.{clash, held_is, in_is, out}
-use Rattle.wait_model.proofs.PermitLaws.PermitQueues.{owner_small}
 use Rattle.wait_model.proofs.PermitLaws.PermitTurns.{due, due_settled, due_standing, look_seen, seen_of, seen_shows}
 use Rattle.wait_model.proofs.PermitLaws.PermitTurns.{unsettled}
-use Rattle.wait_model.proofs.StepLaws.UnlockSteps.{unlock_hold}
-use Rattle.count_sem.specs.declared.ups.TheConstants.{FULL}
-use Rattle.count_sem.specs.SemPermits.{IsRaise, IsSemStep}
+use Rattle.count_sem.specs.{declared.ups.TheConstants.FULL, SemPermits.IsRaise, SemPermits.IsSemStep}
 use Rattle.count_sem.proofs.SemSums.{due_of, due_then, given_sum, gives, owed_moved, owed_other, owed_own, owed_to}
 use Rattle.count_sem.proofs.SemSums.{sums_next, takes}
 

@@ -6,32 +6,24 @@ use Rattle.wait_model.specs.declared.calls.Call.TheVariants as calls
 use Rattle.wait_model.specs.declared.points.CountPoint.TheVariants as counting
 use Rattle.wait_model.specs.declared.points.Next.TheVariants as next
 use Rattle.wait_model.specs.declared.points.Point.TheVariants as at
-use Rattle.wait_model.specs.declared.steps.Step.{Step}
+use Rattle.wait_model.specs.{declared.steps.Step.Step, Programs.count_after, Watches.head_of}
 use Rattle.wait_model.specs.declared.steps.Step.TheVariants as step
 use Rattle.wait_model.specs.declared.watches.Watch.TheVariants as watch
-use Rattle.wait_model.specs.Programs.{count_after}
-use Rattle.wait_model.specs.Watches.{head_of}
 use Rattle.wait_rule.specs.declared.journal.Item.TheVariants as item
-use Rattle.wait_rule.specs.Counts.{FindsCount, StoresCount}
-use Rattle.wait_rule.specs.HandedPermits.{OwesNoPermit, StaysOff}
-use Rattle.wait_rule.specs.Known.{Known}
-use Rattle.wait_rule.specs.LeftEntries.{LeftOff}
-use Rattle.wait_rule.specs.Queues.{IsTold, walk_of_hold}
+use Rattle.wait_rule.specs.{Counts.FindsCount, Counts.StoresCount, HandedPermits.OwesNoPermit, HandedPermits.StaysOff}
+use Rattle.wait_rule.specs.{Known.Known, LeftEntries.LeftOff, Queues.IsTold, Queues.walk_of_hold}
+use Rattle.wait_rule.specs.Transitions.{call_program}
 use Rattle.wait_rule.specs.Says.{IsFree, added, history_of, unlocked_with}
 use Rattle.wait_rule.specs.Stays.{Carries, lock_change, unchanged, unlock_change}
-use Rattle.wait_rule.specs.Transitions.{call_program}
-use Rattle.wait_rule.proofs.KnownLaws.CarriedTasks.{unchanged_on}
-use Rattle.wait_rule.proofs.KnownLaws.TaskHistories.{history_after}
+use Rattle.wait_rule.proofs.{KnownLaws.CarriedTasks.unchanged_on, KnownLaws.TaskHistories.history_after}
 use Rattle.wq_head.specs.Holds.{HasLocked, IsHolding}
 use Rattle.wait_event.specs.Entries.{hold_change}
 use Rattle.wait_class.specs.Posts.{Runs}
-use Rattle.wait_class.proofs.Ground.Going.{runs_on}
-use Rattle.wait_class.proofs.Histories.{unlocked_history}
+use Rattle.wait_class.proofs.{Ground.Going.runs_on, Histories.unlocked_history}
 use Rattle.completion_cell.specs.Asks.{HasCountedDone, TakesOne, hit_answer}
-use Rattle.completion_cell.proofs.Asking.{locked_history, none_held, steps_on, take_carried, take_history, take_runs, counted_after}
-use Rattle.completion_cell.proofs.Asking.{whole_carried}
-use Rattle.completion_cell.proofs.CallPermits.{try_hold}
-use Rattle.completion_cell.proofs.Completing.{count_agreed}
+use Rattle.completion_cell.proofs.{CallPermits.try_hold, Completing.count_agreed}
+use Rattle.completion_cell.proofs.Asking.{locked_history, none_held, steps_on, take_carried, take_history, take_runs}
+use Rattle.completion_cell.proofs.Asking.{counted_after, whole_carried}
 use Rattle.completion_cell.proofs.Ground.{count_loads, count_locks, count_unlocks, holding_on}
 use Rattle.completion_cell.proofs.Permits.{MayEndHold, ends_off, ends_owing_none}
 use Rattle.count_sem.specs.Ups.{HasTakenPermit}

@@ -1,27 +1,21 @@
 -- To be believed.
 -- What whole calls of `down` say.
 use Rattle.std.specs.Prelude.{ℕ, ◌≡◌, ◌∷◌, Bool, true, false, Some, Result, Ok, Err}
-use Rattle.wait_model.specs.declared.calls.Answer.{Answer}
+use Rattle.wait_model.specs.{declared.calls.Answer.Answer, declared.tasks.SleepState.SleepState, Programs.signalled}
+use Rattle.wait_model.specs.Programs.{zero_answer}
+use Rattle.wait_model.specs.Tasks.{pending, state_mask, task_of}
 use Rattle.wait_model.specs.declared.calls.Answer.TheVariants as answer
 use Rattle.wait_model.specs.declared.points.AwaitPoint.TheVariants as awaiting
 use Rattle.wait_model.specs.declared.points.Next.TheVariants as next
 use Rattle.wait_model.specs.declared.points.Point.TheVariants as at
 use Rattle.wait_model.specs.declared.steps.Step.TheVariants as step
-use Rattle.wait_model.specs.declared.tasks.SleepState.{SleepState}
-use Rattle.wait_model.specs.Programs.{signalled, zero_answer}
-use Rattle.wait_model.specs.Tasks.{pending, state_mask, task_of}
-use Rattle.wait_rule.specs.Ends.{WasWorn}
-use Rattle.wait_rule.specs.HeldValues.{count_in}
-use Rattle.wait_rule.specs.Known.{Known}
-use Rattle.wait_rule.specs.Says.{history_of}
+use Rattle.wait_rule.specs.{Ends.WasWorn, HeldValues.count_in, Known.Known, Says.history_of}
 use Rattle.wait_class.specs.Posts.{EndsWith, Runs, own_of}
 use Rattle.wait_event.specs.Waits.{has_queued_in}
-use Rattle.count_sem.specs.SemPrograms.{down_program, sem_head}
+use Rattle.count_sem.specs.{SemPrograms.down_program, SemPrograms.sem_head, declared.down_calls.SemEnd.SemEnd}
+use Rattle.count_sem.specs.{declared.downs.DownCall.DownCall, declared.downs.DownOutcome.DownOutcome}
 use Rattle.count_sem.specs.Downs.{StoodThere, down_head, found_zero, left_queue}
-use Rattle.count_sem.specs.declared.down_calls.SemEnd.{SemEnd}
 use Rattle.count_sem.specs.declared.down_calls.SemEnd.TheVariants as sem_end
-use Rattle.count_sem.specs.declared.downs.DownCall.{DownCall}
-use Rattle.count_sem.specs.declared.downs.DownOutcome.{DownOutcome}
 use Rattle.count_sem.specs.declared.downs.DownOutcome.TheVariants as outcome
 
 -- the answer of one that has ended

@@ -1,26 +1,18 @@
 -- To be believed.
 -- A `down` that its task leaves: its exits, and what it says.
 use Rattle.std.specs.Prelude.{ℕ, ◌≡◌, Bool, true, false, Option, Some, None, Result}
-use Rattle.wait_model.specs.declared.points.Point.{Point}
+use Rattle.wait_model.specs.{declared.points.Point.Point, declared.tasks.SleepState.SleepState}
 use Rattle.wait_model.specs.declared.points.Point.TheVariants as at
-use Rattle.wait_model.specs.declared.tasks.SleepState.{SleepState}
 use Rattle.wait_rule.specs.Known.{Known}
-use Rattle.wait_class.specs.declared.stages.Run.{Run}
+use Rattle.wait_class.specs.{declared.stages.Run.Run, Posts.EndsWith, Posts.own_of}
 use Rattle.wait_class.specs.declared.stages.Turn.TheVariants as turn
-use Rattle.wait_class.specs.Posts.{EndsWith, own_of}
-use Rattle.wait_leave.specs.declared.exits.Exit.{Exit}
-use Rattle.wait_leave.specs.declared.exits.Until.{Until}
+use Rattle.wait_leave.specs.{declared.exits.Exit.Exit, declared.exits.Until.Until, Leaves.Exits, OnTheWay.OnTheWay}
 use Rattle.wait_leave.specs.declared.exits.Until.TheVariants as until
-use Rattle.wait_leave.specs.Leaves.{Exits}
-use Rattle.wait_leave.specs.OnTheWay.{OnTheWay}
+use Rattle.count_sem.specs.{DownEnds.IsDownCause, DownEnds.down_end_in, Passes.HasPassedOn}
+use Rattle.count_sem.specs.{declared.down_calls.SemEnd.SemEnd, declared.downs.DownCall.DownCall}
+use Rattle.count_sem.specs.{declared.downs.DownOutcome.DownOutcome, declared.downs.DownStage.DownStage}
 use Rattle.count_sem.specs.Downs.{IsFreshDown, StoodThere, down_table, found_zero, left_queue, looked_by}
-use Rattle.count_sem.specs.DownEnds.{IsDownCause, down_end_in}
-use Rattle.count_sem.specs.Passes.{HasPassedOn}
-use Rattle.count_sem.specs.declared.down_calls.SemEnd.{SemEnd}
-use Rattle.count_sem.specs.declared.downs.DownCall.{DownCall}
-use Rattle.count_sem.specs.declared.downs.DownOutcome.{DownOutcome}
 use Rattle.count_sem.specs.declared.downs.DownOutcome.TheVariants as outcome
-use Rattle.count_sem.specs.declared.downs.DownStage.{DownStage}
 use Rattle.count_sem.specs.declared.downs.DownStage.TheVariants as stage
 
 -- It goes out in its hold alone, where that has loaded 0 and has found its entry queued, if it was before: so who was

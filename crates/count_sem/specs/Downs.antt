@@ -3,53 +3,37 @@
 -- places say of its last steps.
 use Rattle.std.specs.Prelude.{ℕ, ◌≡◌, ◌<◌, ◌||◌, ◌==◌, Bool, true, false, is_some, if◌then◌else◌, Option, Some, None}
 use Rattle.std.specs.Prelude.{List, [], ◌∷◌}
-use Rattle.wait_model.specs.declared.layout.TheConstants.{ALL_DONE, COMPLETIONS}
-use Rattle.wait_model.specs.declared.calls.Answer.{Answer}
+use Rattle.wait_model.specs.{declared.layout.TheConstants.ALL_DONE, declared.layout.TheConstants.COMPLETIONS}
+use Rattle.wait_model.specs.{declared.calls.Answer.Answer, declared.points.Point.Point, declared.steps.Step.Step}
+use Rattle.wait_model.specs.{declared.tasks.SleepState.SleepState, declared.watches.Aim.Aim}
+use Rattle.wait_model.specs.{declared.watches.Entry.Entry, declared.watches.Watch.Watch, PointFacts.absent}
+use Rattle.wait_model.specs.{Programs.signalled, Programs.zero_answer, Words.entry_of}
+use Rattle.wait_model.specs.Tasks.{looks_in, pending, state_mask, task_of}
+use Rattle.wait_model.specs.Views.{Walk, off as taken_off, shown}
 use Rattle.wait_model.specs.declared.calls.Answer.TheVariants as answer
 use Rattle.wait_model.specs.declared.points.AwaitPoint.TheVariants as awaiting
 use Rattle.wait_model.specs.declared.points.FinishPoint.TheVariants as finishing
 use Rattle.wait_model.specs.declared.points.LeavePoint.TheVariants as leaving
-use Rattle.wait_model.specs.declared.points.Point.{Point}
 use Rattle.wait_model.specs.declared.points.Point.TheVariants as at
 use Rattle.wait_model.specs.declared.points.PreparePoint.TheVariants as preparing
-use Rattle.wait_model.specs.declared.steps.Step.{Step}
 use Rattle.wait_model.specs.declared.steps.Step.TheVariants as step
-use Rattle.wait_model.specs.declared.tasks.SleepState.{SleepState}
-use Rattle.wait_model.specs.declared.watches.Aim.{Aim}
-use Rattle.wait_model.specs.declared.watches.Entry.{Entry}
-use Rattle.wait_model.specs.declared.watches.Watch.{Watch}
 use Rattle.wait_model.specs.declared.watches.Watch.TheVariants as watch
-use Rattle.wait_model.specs.PointFacts.{absent}
-use Rattle.wait_model.specs.Programs.{signalled, zero_answer}
-use Rattle.wait_model.specs.Tasks.{looks_in, pending, state_mask, task_of}
-use Rattle.wait_model.specs.Views.{Walk, off as taken_off, shown}
-use Rattle.wait_model.specs.Words.{entry_of}
-use Rattle.wait_rule.specs.Ends.{WasWorn}
-use Rattle.wait_rule.specs.HeldValues.{count_in}
-use Rattle.wait_rule.specs.Known.{Known}
-use Rattle.wait_rule.specs.LeftEntries.{LeftOff}
-use Rattle.wait_rule.specs.Says.{history_of, told_of}
-use Rattle.wait_rule.specs.Stays.{with_left_entry}
-use Rattle.wait_rule.specs.Tickets.{no_ticket, taken}
+use Rattle.wait_rule.specs.{Ends.WasWorn, HeldValues.count_in, Known.Known, LeftEntries.LeftOff, Says.history_of}
+use Rattle.wait_rule.specs.{Says.told_of, Stays.with_left_entry, Tickets.no_ticket, Tickets.taken}
 use Rattle.wait_rule.specs.Transitions.{Transition}
-use Rattle.wq_head.specs.Selects.{simple_aim}
-use Rattle.wq_head.specs.Walking.{IsUnder}
-use Rattle.wait_class.specs.Posts.{EndsWith, KeepsBut, Post, own_of}
-use Rattle.wait_class.specs.Tables.{CallTable}
-use Rattle.wait_class.specs.declared.stages.Added.{Added}
-use Rattle.wait_class.specs.declared.stages.Added.TheVariants as adds
-use Rattle.wait_class.specs.declared.stages.Doing.{Doing}
-use Rattle.wait_class.specs.declared.stages.Doing.TheVariants as doing
+use Rattle.wq_head.specs.{Selects.simple_aim, Walking.IsUnder}
+use Rattle.wait_class.specs.{Tables.CallTable, declared.stages.Added.Added, declared.stages.Doing.Doing}
 use Rattle.wait_class.specs.declared.stages.Turn.{Turn}
+use Rattle.wait_class.specs.Posts.{EndsWith, KeepsBut, Post, own_of}
+use Rattle.wait_class.specs.declared.stages.Added.TheVariants as adds
+use Rattle.wait_class.specs.declared.stages.Doing.TheVariants as doing
 use Rattle.wait_class.specs.declared.stages.Turn.TheVariants as turn
 use Rattle.wait_event.specs.Waits.{has_queued_in}
 use Rattle.wait_leave.specs.Leaves.{with_asked}
 use Rattle.completion_cell.specs.HeldPermits.{HasBegunHold, Knows, WaitsIn}
-use Rattle.count_sem.specs.SemPrograms.{down_plan, sem_head}
-use Rattle.count_sem.specs.declared.downs.DownCall.{DownCall}
-use Rattle.count_sem.specs.declared.downs.DownOutcome.{DownOutcome}
+use Rattle.count_sem.specs.{SemPrograms.down_plan, SemPrograms.sem_head, declared.downs.DownCall.DownCall}
+use Rattle.count_sem.specs.{declared.downs.DownOutcome.DownOutcome, declared.downs.DownStage.DownStage}
 use Rattle.count_sem.specs.declared.downs.DownOutcome.TheVariants as outcome
-use Rattle.count_sem.specs.declared.downs.DownStage.{DownStage}
 use Rattle.count_sem.specs.declared.downs.DownStage.TheVariants as stage
 
 -- The stages: the point of the program, what is done there, and whether the ticket of its lock is drawn.

@@ -1,18 +1,13 @@
 -- To be believed.
 -- What a `down` says that hands a permit on in its last hold.
 use Rattle.std.specs.Prelude.{ℕ, ◌≡◌, ◌<◌, Bool, Some, None, ◌∷◌, []}
-use Rattle.wait_model.specs.declared.layout.TheConstants.{ENTRIES}
+use Rattle.wait_model.specs.{declared.layout.TheConstants.ENTRIES, declared.watches.Entry.Entry, Programs.zero_answer}
 use Rattle.wait_model.specs.declared.points.Next.TheVariants as next
 use Rattle.wait_model.specs.declared.steps.Step.TheVariants as step
-use Rattle.wait_model.specs.declared.watches.Entry.{Entry}
-use Rattle.wait_model.specs.Programs.{zero_answer}
-use Rattle.wait_rule.specs.Known.{Known}
-use Rattle.wait_rule.specs.Shown.{shown_entry}
+use Rattle.wait_rule.specs.{Known.Known, Shown.shown_entry, Tickets.no_ticket}
 use Rattle.wait_rule.specs.Stays.{Carries, Change, only_looks}
-use Rattle.wait_rule.specs.Tickets.{no_ticket}
 use Rattle.wait_class.specs.Posts.{EndsWith, Runs}
-use Rattle.count_sem.specs.SemPrograms.{down_program, pass_point}
-use Rattle.count_sem.specs.Downs.{down_head}
+use Rattle.count_sem.specs.{SemPrograms.down_program, SemPrograms.pass_point, Downs.down_head}
 use Rattle.count_sem.specs.declared.downs.DownCall.{DownCall}
 
 -- the hold shows an entry of its head

@@ -1,19 +1,13 @@
 -- To be believed.
 -- What a call on a semaphore gives and takes, by its answer.
 use Rattle.std.specs.Prelude.{ℕ, ◌≡◌, ◌+◌, ◌≤◌, Bool, Result, Ok, Err}
-use Rattle.wait_model.specs.declared.tasks.SleepState.{SleepState}
-use Rattle.wait_model.specs.Words.{flag}
-use Rattle.wait_rule.specs.Known.{Known}
-use Rattle.wait_rule.specs.LeftEntries.{LeftOff, OrderOf}
-use Rattle.wait_rule.specs.Says.{history_of}
+use Rattle.wait_model.specs.{declared.tasks.SleepState.SleepState, Words.flag}
+use Rattle.wait_rule.specs.{Known.Known, LeftEntries.LeftOff, LeftEntries.OrderOf, Says.history_of}
 use Rattle.wait_leave.specs.declared.exits.Until.{Until}
 use Rattle.wait_leave.specs.declared.exits.Until.TheVariants as until
-use Rattle.count_sem.specs.declared.down_calls.SemEnd.{SemEnd}
-use Rattle.count_sem.specs.declared.ups.SemFull.{SemFull}
-use Rattle.count_sem.specs.DownEnds.{EndsDown}
-use Rattle.count_sem.specs.DownLeaves.{EndsDownUntil}
+use Rattle.count_sem.specs.{declared.down_calls.SemEnd.SemEnd, declared.ups.SemFull.SemFull, DownEnds.EndsDown}
+use Rattle.count_sem.specs.{DownLeaves.EndsDownUntil, Ups.HasRaised, Ups.HasTakenPermit}
 use Rattle.count_sem.specs.SemPermits.{FindsNoEnd, permits_given, permits_taken}
-use Rattle.count_sem.specs.Ups.{HasRaised, HasTakenPermit}
 
 -- the task has given and taken so many permits of semaphore d more
 pub record CountsMore (old new : Known) (d given taken : ℕ) : Type 0 where

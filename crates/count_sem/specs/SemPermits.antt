@@ -1,25 +1,16 @@
 -- To be believed.
 -- Permits of semaphores: none is counted while a task is queued, and those that were given were taken or are counted.
 use Rattle.std.specs.Prelude.{ℕ, ◌≡◌, ◌≢◌, ◌<◌, ◌+◌, ◌==◌, ◌&&◌, not, Bool, true, false, Some, List, [], ◌∷◌, ◌++◌}
-use Rattle.wait_model.specs.declared.layout.TheConstants.{ALL_DONE, TASKS}
-use Rattle.wait_model.specs.declared.steps.Step.{Step}
-use Rattle.wait_model.specs.declared.steps.Step.TheVariants as step
-use Rattle.wait_model.specs.declared.watches.Watch.TheVariants as watch
-use Rattle.wait_model.specs.Fold.{after}
+use Rattle.wait_model.specs.{declared.layout.TheConstants.ALL_DONE, declared.layout.TheConstants.TASKS}
+use Rattle.wait_model.specs.{declared.steps.Step.Step, Fold.after, Runs.own, Tables.Table, Totals.sum_below, Views.View}
+use Rattle.wait_model.specs.{Views.blank, Watches.stands_at, Words.entry_of, Words.flag}
 use Rattle.wait_model.specs.Permits.{Dealt, ShowsNobody, deals, dealt, done_head, finds_handed, handed_to, is_in}
 use Rattle.wait_model.specs.Permits.{none_dealt}
-use Rattle.wait_model.specs.Runs.{own}
-use Rattle.wait_model.specs.Tables.{Table}
-use Rattle.wait_model.specs.Totals.{sum_below}
-use Rattle.wait_model.specs.Views.{View, blank}
-use Rattle.wait_model.specs.Watches.{stands_at}
-use Rattle.wait_model.specs.Words.{entry_of, flag}
-use Rattle.wait_rule.specs.declared.journal.Item.{Item}
-use Rattle.wait_rule.specs.declared.journal.Journal.{Journal}
+use Rattle.wait_model.specs.declared.steps.Step.TheVariants as step
+use Rattle.wait_model.specs.declared.watches.Watch.TheVariants as watch
+use Rattle.wait_rule.specs.{declared.journal.Item.Item, declared.journal.Journal.Journal, Rule.IsRuled, Says.IsShown}
+use Rattle.wait_rule.specs.{TableLaws.HasAll, TableLaws.histories_in}
 use Rattle.wait_rule.specs.Interleavings.{AreAllowed, AreHanded, TaskStep, table_of}
-use Rattle.wait_rule.specs.Rule.{IsRuled}
-use Rattle.wait_rule.specs.Says.{IsShown}
-use Rattle.wait_rule.specs.TableLaws.{HasAll, histories_in}
 use Rattle.count_sem.specs.declared.ups.TheConstants.{FULL}
 
 -- What a task whose entry is x does to semaphore d by a step, by what it knows before it. It gives a permit: it raises

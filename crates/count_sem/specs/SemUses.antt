@@ -4,20 +4,14 @@ use Rattle.std.specs.Prelude.{ℕ, ◌≡◌, Bool, true, false}
 use Rattle.wait_model.specs.declared.points.AwaitPoint.TheVariants as awaiting
 use Rattle.wait_model.specs.declared.points.CountPoint.TheVariants as counting
 use Rattle.wait_model.specs.declared.points.FinishPoint.TheVariants as finishing
-use Rattle.wait_model.specs.declared.points.Next.{Next}
+use Rattle.wait_model.specs.{declared.points.Next.Next, declared.points.Point.Point}
+use Rattle.wait_model.specs.{declared.tasks.SleepState.SleepState, Watches.same}
 use Rattle.wait_model.specs.declared.points.Next.TheVariants as next
-use Rattle.wait_model.specs.declared.points.Point.{Point}
 use Rattle.wait_model.specs.declared.points.Point.TheVariants as at
 use Rattle.wait_model.specs.declared.points.SelectPoint.TheVariants as selecting
-use Rattle.wait_model.specs.declared.tasks.SleepState.{SleepState}
 use Rattle.wait_model.specs.declared.watches.Watch.TheVariants as watch
-use Rattle.wait_model.specs.Watches.{same}
-use Rattle.wait_rule.specs.Known.{Known}
-use Rattle.wait_rule.specs.LeftEntries.{OrderOf}
-use Rattle.wait_rule.specs.Says.{history_of}
-use Rattle.wait_rule.specs.Transitions.{Program}
-use Rattle.wait_class.specs.Posts.{Runs}
-use Rattle.wait_class.specs.Tables.{plan_program}
+use Rattle.wait_rule.specs.{Known.Known, LeftEntries.OrderOf, Says.history_of, Transitions.Program}
+use Rattle.wait_class.specs.{Posts.Runs, Tables.plan_program}
 use Rattle.count_sem.specs.SemPermits.{UsesAsSemaphore}
 use Rattle.count_sem.specs.SemPrograms.{down_plan, down_program, try_down_plan, up_plan}
 

@@ -1,27 +1,21 @@
 -- To be believed.
 -- What the calls on semaphores say that wait for nobody but a lock.
 use Rattle.std.specs.Prelude.{ℕ, ◌≡◌, ◌≤◌, ◌==◌, not, Bool, false, Option, Result, Ok, Err, List, [], ◌∷◌, ◌++◌}
-use Rattle.wait_model.specs.declared.calls.Answer.{Answer}
+use Rattle.wait_model.specs.{declared.calls.Answer.Answer, declared.steps.Step.Step, declared.watches.Aim.Aim}
+use Rattle.wait_model.specs.Programs.{zero_answer}
 use Rattle.wait_model.specs.declared.points.CountPoint.TheVariants as counting
 use Rattle.wait_model.specs.declared.points.Next.TheVariants as next
 use Rattle.wait_model.specs.declared.points.Point.TheVariants as at
 use Rattle.wait_model.specs.declared.points.SelectPoint.TheVariants as selecting
-use Rattle.wait_model.specs.declared.steps.Step.{Step}
 use Rattle.wait_model.specs.declared.steps.Step.TheVariants as step
-use Rattle.wait_model.specs.declared.watches.Aim.{Aim}
 use Rattle.wait_model.specs.declared.watches.Watch.TheVariants as watch
-use Rattle.wait_model.specs.Programs.{zero_answer}
-use Rattle.wait_rule.specs.Known.{Known}
-use Rattle.wait_rule.specs.LeftEntries.{LeftOff}
-use Rattle.wait_rule.specs.Queues.{IsTold, IsWholeBook}
+use Rattle.wait_rule.specs.{Known.Known, LeftEntries.LeftOff, Queues.IsTold, Queues.IsWholeBook}
 use Rattle.wait_rule.specs.Says.{IsFree, IsUp, history_of}
-use Rattle.wait_class.specs.Posts.{EndsWith, Runs}
-use Rattle.wait_class.specs.Tables.{plan_program}
+use Rattle.wait_class.specs.{Posts.EndsWith, Posts.Runs, Tables.plan_program}
 use Rattle.wq_head.specs.LockTurns.{TookLock}
 use Rattle.wq_head.specs.Selects.{HasSelected, IsSimpleHold, KeepsHold, ShowsNoEntry}
 use Rattle.completion_cell.specs.Asks.{hit_answer}
-use Rattle.count_sem.specs.declared.ups.TheConstants.{FULL}
-use Rattle.count_sem.specs.declared.ups.SemFull.{SemFull}
+use Rattle.count_sem.specs.{declared.ups.TheConstants.FULL, declared.ups.SemFull.SemFull}
 use Rattle.count_sem.specs.SemPrograms.{full_answer, sem_head, try_down_plan, up_plan}
 
 -- the answer of an `up`; where the count was full its hold loaded that, and changed nothing

@@ -2,16 +2,12 @@
 -- Semaphores in small histories: permits that are counted and taken, one that is given to a sleeper, and a signal that
 -- ends a sleep.
 use Rattle.std.specs.Prelude.{ℕ, ◌≡◌, ◌+◌, ◌-◌, ◌^◌, true, Some, List, [], ◌∷◌, ◌++◌}
-use Rattle.wait_model.specs.declared.steps.Step.{Step}
+use Rattle.wait_model.specs.{declared.steps.Step.Step, Fold.view_of, Permits.done_head, Permits.handed_to, Runs.own}
+use Rattle.wait_model.specs.{Views.View, Words.entry_word}
+use Rattle.wait_model.specs.Tables.{Table, start, steps}
+use Rattle.wait_model.specs.WorkedPermits.{entry_at, finds_off, gives_back, locks, waits}
 use Rattle.wait_model.specs.declared.steps.Step.TheVariants as step
 use Rattle.wait_model.specs.declared.watches.Watch.TheVariants as watch
-use Rattle.wait_model.specs.Fold.{view_of}
-use Rattle.wait_model.specs.Permits.{done_head, handed_to}
-use Rattle.wait_model.specs.Runs.{own}
-use Rattle.wait_model.specs.Tables.{Table, start, steps}
-use Rattle.wait_model.specs.Views.{View}
-use Rattle.wait_model.specs.WorkedPermits.{entry_at, finds_off, gives_back, locks, waits}
-use Rattle.wait_model.specs.Words.{entry_word}
 use Rattle.count_sem.specs.SemPermits.{IsSemStep, permits_given, permits_taken}
 
 -- holds that raise and lower the count from what they find, and one that finds none

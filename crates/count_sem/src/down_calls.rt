@@ -2,20 +2,14 @@
 
 ghost use Rattle.std.specs.Prelude.{◌≡◌, ◌≢◌, ◌<◌};
 ghost use Rattle.wait_model.specs.declared.layout.TheConstants.{COMPLETIONS};
-ghost use Rattle.wait_rule.specs.HandedPermits.{StaysOff};
-ghost use Rattle.wait_rule.specs.LeftEntries.{LeftOff};
+ghost use Rattle.wait_rule.specs.{HandedPermits.StaysOff, LeftEntries.LeftOff, Says.IsClean, Says.IsUp, Stays.Carries};
 ghost use Rattle.wait_rule.specs.Queues.{IsIdle, IsTold, index};
-ghost use Rattle.wait_rule.specs.Says.{IsClean, IsUp};
-ghost use Rattle.wait_rule.specs.Stays.{Carries};
-ghost use Rattle.wait_class.specs.Posts.{IsOut};
+ghost use Rattle.wait_class.specs.{Posts.IsOut, Tables.Advances, Tables.IsAt, UnderWay.IsUnderWay};
 ghost use Rattle.wait_class.specs.declared.stages.Turn.TheVariants as turn;
-ghost use Rattle.wait_class.specs.Tables.{Advances, IsAt};
-ghost use Rattle.wait_class.specs.UnderWay.{IsUnderWay};
 ghost use Rattle.wait_event.specs.Ends.{wait_change};
 ghost use Rattle.count_sem.specs.declared.downs.DownOutcome.TheVariants as ended;
 ghost use Rattle.count_sem.specs.declared.downs.DownStage.TheVariants as stage;
-ghost use Rattle.count_sem.specs.Downs.{IsFreshDown, down_table};
-ghost use Rattle.count_sem.specs.DownEnds.{EndsDown, down_end_in};
+ghost use Rattle.count_sem.specs.{Downs.IsFreshDown, Downs.down_table, DownEnds.EndsDown, DownEnds.down_end_in};
 
 use crate::downs::{DownCall, DownOutcome, DownRun, DownStage};
 use crate::passes::pass;

@@ -2,11 +2,9 @@
 
 ghost use Rattle.std.specs.Prelude.{◌≡◌, ◌≢◌, ◌<◌, None, true};
 ghost use Rattle.wait_model.specs.declared.layout.TheConstants.{COMPLETIONS};
-ghost use Rattle.wait_rule.specs.HandedPermits.{StaysOff};
-ghost use Rattle.wait_rule.specs.LeftEntries.{LeftOff};
-ghost use Rattle.wait_rule.specs.Queues.{IsIdle, index};
-ghost use Rattle.wait_rule.specs.Says.{IsClean, IsUp, told_of};
+ghost use Rattle.wait_rule.specs.{HandedPermits.StaysOff, LeftEntries.LeftOff, Queues.IsIdle, Queues.index};
 ghost use Rattle.wait_rule.specs.Stays.{Carries};
+ghost use Rattle.wait_rule.specs.Says.{IsClean, IsUp, told_of};
 ghost use Rattle.wait_class.specs.Posts.{IsOut};
 ghost use Rattle.wait_class.specs.Tables.{IsAt, IsEnded, SleepsNot};
 ghost use Rattle.wait_class.specs.declared.stages.Turn.TheVariants as turn;

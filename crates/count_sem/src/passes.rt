@@ -2,26 +2,17 @@
 
 ghost use Rattle.std.specs.Prelude.{◌≡◌, ◌≤◌, [], IfErr, IfOk, MatchBool, MatchResult, Ok};
 ghost use Rattle.wait_model.specs.declared.layout.TheConstants.{FIRST_SIMPLE_HEAD};
-ghost use Rattle.wait_rule.specs.PassedLocks.{PassesNone};
-ghost use Rattle.wait_rule.specs.Queues.{IsWholeBook};
-ghost use Rattle.wait_rule.specs.Says.{IsClean, IsUp};
-ghost use Rattle.wait_rule.specs.Tried.{IsStarved};
-ghost use Rattle.wq_head.specs.Holds.{IsHolding};
-ghost use Rattle.wq_head.specs.Looks.{Looks};
-ghost use Rattle.wq_head.specs.Roused.{IsRousing, tasks_in};
-ghost use Rattle.wq_head.specs.Selects.{ShowsNoEntry};
-ghost use Rattle.wait_class.specs.Tables.{Advances, IsEnded};
-ghost use Rattle.wait_class.specs.UnderWay.{IsUnderWay};
+ghost use Rattle.wait_rule.specs.{PassedLocks.PassesNone, Queues.IsWholeBook, Says.IsClean, Says.IsUp, Tried.IsStarved};
+ghost use Rattle.wq_head.specs.{Holds.IsHolding, Looks.Looks, Roused.IsRousing, Roused.tasks_in, Selects.ShowsNoEntry};
+ghost use Rattle.wait_class.specs.{Tables.Advances, Tables.IsEnded, UnderWay.IsUnderWay};
 ghost use Rattle.wait_class.specs.declared.stages.Turn.TheVariants as turn;
 ghost use Rattle.count_sem.specs.declared.downs.DownOutcome.TheVariants as outcome;
 ghost use Rattle.count_sem.specs.declared.downs.DownStage.TheVariants as stage;
 ghost use Rattle.wait_leave.specs.OnTheWay.{IsOnWay, OnTheWay};
 ghost use Rattle.wait_leave.specs.declared.exits.Until.TheVariants as until;
 ghost use Rattle.completion_cell.specs.CellTurns.{cell_head};
-ghost use Rattle.count_sem.specs.DownEnds.{EndsDown};
-ghost use Rattle.count_sem.specs.DownLeaves.{EndsDownUntil, down_exits};
-ghost use Rattle.count_sem.specs.Downs.{IsFreshDown, down_table};
-ghost use Rattle.count_sem.specs.Passes.{HasPassedOn, HasWaiter};
+ghost use Rattle.count_sem.specs.{DownEnds.EndsDown, DownLeaves.EndsDownUntil, DownLeaves.down_exits};
+ghost use Rattle.count_sem.specs.{Downs.IsFreshDown, Downs.down_table, Passes.HasPassedOn, Passes.HasWaiter};
 
 use crate::downs::DownRun;
 use crate::ups::lower_one;

@@ -12,12 +12,9 @@ use Rattle.wait_model.specs.declared.calls.Call.{Call}
 use Rattle.wait_model.specs.declared.calls.Call.TheVariants as call
 use Rattle.wait_model.specs.declared.watches.Mode.TheVariants as mode
 use Rattle.wait_model.specs.declared.layout.TheConstants.{FIRST_SIMPLE, PLAIN_CONDITIONS, TASKS}
-use Rattle.wait_script.specs.declared.line.Line.{Line}
+use Rattle.wait_script.specs.{declared.line.Line.Line, declared.version.Version.TheVariants.One, Versions.last_task}
+use Rattle.wait_script.specs.{Lines.events_asked, Spelling.IsFit, Spelling.IsFitCall}
 use Rattle.wait_script.specs.declared.line.Line.TheVariants as line
-use Rattle.wait_script.specs.declared.version.Version.TheVariants.{One}
-use Rattle.wait_script.specs.Versions.{last_task}
-use Rattle.wait_script.specs.Lines.{events_asked}
-use Rattle.wait_script.specs.Spelling.{IsFit, IsFitCall}
 use Rattle.drill_gen.specs.Drill.{callers, call_kinds, conds, most_steps, plain, int, int_ex, task_in, kind_in}
 use Rattle.drill_gen.specs.Drill.{drawn_cond, whom_in, call_of, drawn_call, drawn_lines, drawn_from, drill_of}
 

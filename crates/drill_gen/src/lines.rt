@@ -2,8 +2,7 @@
 
 ghost use Rattle.std.specs.Prelude.{◌≡◌, ◌*◌, ◌≤◌, ◌++◌, IfOk, OnOk, All, sum_by};
 ghost use Rattle.rand_xoshiro.specs.SplitMix64.{mix_u64};
-ghost use Rattle.wait_script.specs.Lines.{events_asked};
-ghost use Rattle.wait_script.specs.Spelling.{IsFitScript, IsPlayable};
+ghost use Rattle.wait_script.specs.{Lines.events_asked, Spelling.IsFitScript, Spelling.IsPlayable};
 ghost use Rattle.drill_gen.specs.Drill.{drawn_lines, drill_of};
 
 use crate::draw::{call_drawn, task_drawn};

@@ -3,8 +3,7 @@ use Rattle.std.proofs.Common.{◌≡◌, ℕ, List, [], ◌++◌, Option, Some, 
 use Rattle.std.proofs.lemmas.List.{append-nil}
 use Rattle.std.specs.Io.KnownBytes.{append_known}
 use Rattle.edge_io.specs.Text.{HoldsPrefix, Midway, WritesText, BuffersText}
-use Rattle.edge_io.proofs.Known.{append_known-twice}
-use Rattle.edge_io.proofs.Prefix.{later}
+use Rattle.edge_io.proofs.{Known.append_known-twice, Prefix.later}
 
 -- room was made, and then a text was written into the buffer
 pub buffered : {T E : Type 0} (r : Result T E) (old now : Option (List ℕ)) (before made after text : List ℕ)

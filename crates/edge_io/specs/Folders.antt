@@ -1,9 +1,8 @@
 -- To be believed.
 -- What is known of the files of a folder: the definitions that the contracts of folders cite.
 use Rattle.std.specs.Prelude.{◌≡◌, ℕ, List, [], false, Option, Some, None, IfSome, IsSome, bytes_eq, Result, Ok, Err}
-use Rattle.edge_io.specs.declared.folder.OpenFault.{OpenFault}
+use Rattle.edge_io.specs.{declared.folder.OpenFault.OpenFault, Faults.HasCounted}
 use Rattle.edge_io.specs.declared.folder.OpenFault.TheVariants.{Failed, OutOfMemory, NoSuchFile}
-use Rattle.edge_io.specs.Faults.{HasCounted}
 
 -- The bytes of the file of each name, and None for a name that no file has.
 abbrev pub Files : Type 0

@@ -2,11 +2,8 @@
 -- Why the calls of the examples end without what they were to give.
 use Rattle.std.specs.Prelude.{ℕ, ◌⊎◌, Bool}
 use Rattle.examples_threads.specs.declared.driver.TheConstants.{FOR_ANSWER, FOR_DEVICE, IDLE, STATUS}
-use Rattle.wait_event.specs.Conds.{HasSet}
-use Rattle.wait_event.specs.Ends.{IsEndCause}
-use Rattle.wait_event.specs.declared.wait_events.WaitEnd.{WaitEnd}
-use Rattle.wait_model.specs.declared.queues.Walked.{Walked}
-use Rattle.wait_model.specs.declared.tasks.How.{How}
+use Rattle.wait_event.specs.{Conds.HasSet, Ends.IsEndCause, declared.wait_events.WaitEnd.WaitEnd}
+use Rattle.wait_model.specs.{declared.queues.Walked.Walked, declared.tasks.How.How}
 use Rattle.wait_model.specs.declared.watches.Mode.TheVariants as mode
 use Rattle.wait_model.specs.declared.watches.Watch.TheVariants as watch
 use Rattle.wait_rule.specs.Known.{Known}

@@ -1,11 +1,9 @@
 //! A thread's task, with what holds of it between any two of its calls.
 
 ghost use Rattle.std.specs.Prelude.{◌≡◌, ◌<◌, IfErr, IfOk};
-ghost use Rattle.wait_model.specs.declared.layout.TheConstants.{FIRST_SIMPLE};
-ghost use Rattle.wait_model.specs.declared.queues.Walked.{Walked};
+ghost use Rattle.wait_model.specs.{declared.layout.TheConstants.FIRST_SIMPLE, declared.queues.Walked.Walked};
 ghost use Rattle.wait_model.specs.declared.watches.Mode.TheVariants as mode;
-ghost use Rattle.wait_rule.specs.Known.{Known};
-ghost use Rattle.wait_rule.specs.Says.{IsClean, RestsIn};
+ghost use Rattle.wait_rule.specs.{Known.Known, Says.IsClean, Says.RestsIn};
 ghost use Rattle.wait_event.specs.Conds.{HasSet, HasTakenCond};
 ghost use Rattle.examples_threads.specs.Causes.{WaitEnded};
 

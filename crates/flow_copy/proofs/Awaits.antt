@@ -6,36 +6,23 @@ use Rattle.wait_model.specs.declared.calls.Call.TheVariants as calls
 use Rattle.wait_model.specs.declared.points.AwaitPoint.TheVariants as awaiting
 use Rattle.wait_model.specs.declared.points.Next.TheVariants as next
 use Rattle.wait_model.specs.declared.points.Point.TheVariants as at
-use Rattle.wait_model.specs.declared.queues.Walked.{Walked}
-use Rattle.wait_model.specs.declared.tasks.SleepState.TheVariants as states
-use Rattle.wait_model.specs.declared.tasks.TaskRecord.{TaskRecord}
-use Rattle.wait_model.specs.declared.watches.Watch.TheVariants as watch
-use Rattle.wait_model.specs.Watches.{page}
+use Rattle.wait_model.specs.{declared.queues.Walked.Walked, declared.tasks.TaskRecord.TaskRecord, Watches.page}
 use Rattle.wait_model.specs.Tasks.{meets, pending, state_mask, task_of}
-use Rattle.wait_rule.specs.declared.journal.Item.{Item}
-use Rattle.wait_rule.specs.declared.journal.Item.TheVariants as item
+use Rattle.wait_model.specs.declared.tasks.SleepState.TheVariants as states
+use Rattle.wait_model.specs.declared.watches.Watch.TheVariants as watch
+use Rattle.wait_rule.specs.{declared.journal.Item.Item, Bits.SetsBit, HandedPermits.StaysOff, Known.Known}
+use Rattle.wait_rule.specs.{PipeSays.EndsStay, Stays.Carries, Tallies.amount_of, Transitions.call_program}
 use Rattle.wait_rule.specs.Aside.{Grows, GrowsAside, signals_of}
-use Rattle.wait_rule.specs.Bits.{SetsBit}
-use Rattle.wait_rule.specs.HandedPermits.{StaysOff}
-use Rattle.wait_rule.specs.Known.{Known}
-use Rattle.wait_rule.specs.PipeSays.{EndsStay}
 use Rattle.wait_rule.specs.Queues.{IsAgreedHold, IsIdle, index}
 use Rattle.wait_rule.specs.Says.{FindsTally, IsClean, IsUp, added}
-use Rattle.wait_rule.specs.Stays.{Carries}
-use Rattle.wait_rule.specs.Tallies.{amount_of}
-use Rattle.wait_rule.specs.Transitions.{call_program}
-use Rattle.wait_rule.proofs.KnownLaws.AsideCalls.{calls_grow_aside}
-use Rattle.wait_rule.proofs.KnownLaws.CarriedEnds.{programs_leave_ends}
-use Rattle.wait_event.specs.declared.wait_events.WaitEnd.{WaitEnd}
+use Rattle.wait_rule.specs.declared.journal.Item.TheVariants as item
+use Rattle.wait_rule.proofs.{KnownLaws.AsideCalls.calls_grow_aside, KnownLaws.CarriedEnds.programs_leave_ends}
+use Rattle.wait_event.specs.{declared.wait_events.WaitEnd.WaitEnd, Ends.wait_change}
 use Rattle.wait_event.specs.declared.wait_events.WaitEnd.TheVariants as wait_end
-use Rattle.wait_class.specs.Posts.{IsOut}
-use Rattle.wait_event.specs.Ends.{wait_change}
-use Rattle.wait_class.specs.Posts.{Runs}
+use Rattle.wait_class.specs.Posts.{IsOut, Runs}
 use Rattle.completion_cell.specs.AwaitEnds.{EndsAwait, answer_of_await}
-use Rattle.bit_wait.specs.declared.wait_calls.BitEnd.{BitEnd}
+use Rattle.bit_wait.specs.{declared.wait_calls.BitEnd.BitEnd, Clears.HasClearedBit, Tries.HasTriedBit}
 use Rattle.bit_wait.specs.declared.wait_calls.BitEnd.TheVariants as bit_end
-use Rattle.bit_wait.specs.Clears.{HasClearedBit}
-use Rattle.bit_wait.specs.Tries.{HasTriedBit}
 use Rattle.page_lock.specs.PageEnds.{EndsPageLock}
 use Rattle.copy_plan.specs.declared.TheConstants.{COUNTED_PAGE, ENDED_CELL}
 use Rattle.copy_ends.specs.Copied.{IsControlEnd, ReadTally}

@@ -2,41 +2,28 @@
 use Rattle.std.proofs.Common.{refl, sym, ◌∙◌, ap, subst, inr, append-nil, arith}
 use Rattle.std.specs.Prelude.{ℕ, ◌≡◌, ◌≢◌, ◌+◌, ◌<◌, ◌==◌, ◌&&◌, not, if◌then◌else◌, Bool, true, false, None, Result}
 use Rattle.std.proofs.lemmas.Bool.Decides.{nat_tests}
-use Rattle.wait_model.specs.declared.calls.Call.{Call}
-use Rattle.wait_model.specs.declared.calls.Call.TheVariants as calls
-use Rattle.wait_model.specs.declared.layout.TheConstants.{FIRST_DONE_HEAD}
-use Rattle.wait_model.specs.declared.points.Next.{Next}
-use Rattle.wait_model.specs.declared.points.Next.TheVariants as next
-use Rattle.wait_model.specs.declared.points.Point.TheVariants as at
-use Rattle.wait_model.specs.declared.queues.Walked.{Walked}
-use Rattle.wait_model.specs.declared.tasks.SleepState.{SleepState}
-use Rattle.wait_model.specs.declared.watches.Watch.{Watch}
-use Rattle.wait_model.specs.declared.watches.Watch.TheVariants as watch
-use Rattle.wait_model.specs.Points.{call_watch}
+use Rattle.wait_model.specs.{declared.calls.Call.Call, declared.layout.TheConstants.FIRST_DONE_HEAD}
+use Rattle.wait_model.specs.{declared.points.Next.Next, declared.queues.Walked.Walked}
+use Rattle.wait_model.specs.{declared.tasks.SleepState.SleepState, declared.watches.Watch.Watch, Points.call_watch}
 use Rattle.wait_model.specs.Views.{View as Told}
 use Rattle.wait_model.specs.Watches.{hashed, head_of, page}
-use Rattle.wait_rule.specs.declared.journal.Item.{Item}
-use Rattle.wait_rule.specs.declared.journal.Item.TheVariants as item
-use Rattle.wait_rule.specs.Aside.{GrowsAside, raises_none}
-use Rattle.wait_rule.specs.Bits.{KeepsBitOf}
-use Rattle.wait_rule.specs.HandedPermits.{StaysOff}
-use Rattle.wait_rule.specs.Known.{Known}
-use Rattle.wait_rule.specs.PipeSays.{EndsStay}
+use Rattle.wait_model.specs.declared.calls.Call.TheVariants as calls
+use Rattle.wait_model.specs.declared.points.Next.TheVariants as next
+use Rattle.wait_model.specs.declared.points.Point.TheVariants as at
+use Rattle.wait_model.specs.declared.watches.Watch.TheVariants as watch
+use Rattle.wait_rule.specs.{declared.journal.Item.Item, Aside.GrowsAside, Aside.raises_none, Bits.KeepsBitOf}
+use Rattle.wait_rule.specs.{HandedPermits.StaysOff, Known.Known, PipeSays.EndsStay, Tallies.amount_of}
+use Rattle.wait_rule.specs.{Tallies.amounts_of, Transitions.call_program}
 use Rattle.wait_rule.specs.Queues.{IsIdle, IsTold, index}
 use Rattle.wait_rule.specs.Says.{AsksNoPage, Obligation, Excuse, IsUp, OwesBut, TriesNone, added, excuses, has_duty}
 use Rattle.wait_rule.specs.Says.{no_excuse, page_asked, told_of}
 use Rattle.wait_rule.specs.Stays.{Carries, unchanged, with_bit, with_bits}
-use Rattle.wait_rule.specs.Tallies.{amount_of, amounts_of}
-use Rattle.wait_rule.specs.Transitions.{call_program}
-use Rattle.wait_rule.proofs.KnownLaws.AsideCalls.{calls_grow_aside}
-use Rattle.wait_rule.proofs.KnownLaws.CarriedEnds.{programs_leave_ends}
+use Rattle.wait_rule.specs.declared.journal.Item.TheVariants as item
+use Rattle.wait_rule.proofs.{KnownLaws.AsideCalls.calls_grow_aside, KnownLaws.CarriedEnds.programs_leave_ends}
 use Rattle.wait_rule.proofs.KnownLaws.OtherCalls.{others_stay_off}
-use Rattle.wait_class.specs.Posts.{IsOut}
-use Rattle.wait_class.specs.Posts.{Runs}
-use Rattle.bit_wait.specs.declared.wait_calls.BitEnd.{BitEnd}
-use Rattle.bit_wait.specs.Clears.{GivesBack, HasClearedBit}
-use Rattle.page_lock.specs.PageEnds.{EndsPageLock}
-use Rattle.page_lock.specs.PageStays.{TakesPage}
+use Rattle.wait_class.specs.Posts.{IsOut, Runs}
+use Rattle.bit_wait.specs.{declared.wait_calls.BitEnd.BitEnd, Clears.GivesBack, Clears.HasClearedBit}
+use Rattle.page_lock.specs.{PageEnds.EndsPageLock, PageStays.TakesPage}
 use Rattle.copy_plan.specs.declared.TheConstants.{COUNTED_PAGE, ENDED_CELL}
 use Rattle.copy_turns.specs.Turns.{CountedAll}
 use Rattle.copy_turns.specs.Work.{Apart, IsAtWork, Locks, Works, but_ends}

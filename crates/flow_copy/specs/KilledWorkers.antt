@@ -1,13 +1,11 @@
 -- To be believed.
 -- What follows from the program of a worker for the fatal signals that it takes.
 use Rattle.std.specs.Prelude.{ℕ, true, List}
-use Rattle.wait_rule.specs.Known.{Known}
-use Rattle.wait_rule.specs.Pipes.{read_end, write_end}
+use Rattle.wait_rule.specs.{Known.Known, Pipes.read_end, Pipes.write_end}
 use Rattle.completion_cell.specs.Completes.{HasCompleted}
 use Rattle.wait_pipe.specs.Trails.{ClosesEnd}
+use Rattle.copy_plan.specs.{declared.plan.Planned.Planned, declared.stop.Stop.Stop}
 use Rattle.copy_plan.specs.declared.TheConstants.{ENDED_CELL, SINK_PIPE, SOURCE_PIPE}
-use Rattle.copy_plan.specs.declared.plan.Planned.{Planned}
-use Rattle.copy_plan.specs.declared.stop.Stop.{Stop}
 use Rattle.copy_plan.specs.declared.stop.Stop.TheVariants as stop
 use Rattle.copy_turns.specs.Work.{TookNoKill, TookOwn}
 use Rattle.flow_copy.specs.Workers.{ReaderGoes, RelayGoes, WriterGoes}

@@ -6,8 +6,7 @@ use Rattle.wait_rule.specs.Known.{Known}
 use Rattle.bit_wait.specs.declared.wait_calls.BitEnd.{BitEnd}
 use Rattle.bit_wait.specs.declared.wait_calls.BitEnd.TheVariants as bit_end
 use Rattle.page_lock.specs.PageEnds.{EndsPageLock}
-use Rattle.copy_plan.specs.declared.TheConstants.{COUNTED_PAGE}
-use Rattle.copy_plan.specs.declared.stop.Halt.{Halt}
+use Rattle.copy_plan.specs.{declared.TheConstants.COUNTED_PAGE, declared.stop.Halt.Halt}
 use Rattle.copy_plan.specs.declared.stop.Halt.TheVariants as halt
 use Rattle.copy_turns.specs.Transfers.{Heard, Repeats}
 

@@ -9,31 +9,19 @@ use Rattle.wait_model.specs.declared.queues.Walked.{Walked}
 use Rattle.wait_model.specs.declared.tasks.SleepState.TheVariants as state
 use Rattle.wait_rule.specs.declared.journal.EndAct.TheVariants as act
 use Rattle.wait_rule.specs.declared.journal.Item.TheVariants as item
-use Rattle.wait_rule.specs.Journals.{has_of}
-use Rattle.wait_rule.specs.Known.{Known}
-use Rattle.wait_rule.specs.Pipes.{read_end, write_end}
-use Rattle.wait_rule.specs.Says.{added, newcomer}
+use Rattle.wait_rule.specs.{Journals.has_of, Known.Known, Pipes.read_end, Pipes.write_end, Says.added, Says.newcomer}
 use Rattle.wait_event.specs.declared.wait_events.WaitEnd.TheVariants as wait_end
-use Rattle.bit_wait.specs.Clears.{HasClearedBit}
-use Rattle.bit_wait.specs.declared.wait_calls.BitEnd.{BitEnd}
+use Rattle.bit_wait.specs.{Clears.HasClearedBit, declared.wait_calls.BitEnd.BitEnd}
 use Rattle.bit_wait.specs.declared.wait_calls.BitEnd.TheVariants as bit_end
-use Rattle.completion_cell.specs.AwaitEnds.{EndsAwait}
-use Rattle.completion_cell.specs.Completes.{HasCompleted}
+use Rattle.completion_cell.specs.{AwaitEnds.EndsAwait, Completes.HasCompleted}
 use Rattle.page_lock.specs.PageEnds.{EndsPageLock}
 use Rattle.wait_pipe.specs.Trails.{ClosesEnd}
+use Rattle.copy_plan.specs.{declared.plan.Planned.Planned, declared.stop.Halt.Halt, declared.stop.ReaderEnd.ReaderEnd}
+use Rattle.copy_plan.specs.{declared.stop.Stop.Stop, declared.stop.WorkerEnd.WorkerEnd, Plans.due_in, Stops.stop_of}
 use Rattle.copy_plan.specs.declared.TheConstants.{COUNTED_PAGE, ENDED_CELL, LONGEST, PIECE, SINK_PIPE, SOURCE_PIPE}
-use Rattle.copy_plan.specs.declared.plan.Planned.{Planned}
-use Rattle.copy_plan.specs.declared.stop.Halt.{Halt}
-use Rattle.copy_plan.specs.declared.stop.ReaderEnd.{ReaderEnd}
-use Rattle.copy_plan.specs.declared.stop.Stop.{Stop}
 use Rattle.copy_plan.specs.declared.stop.Stop.TheVariants as stop
-use Rattle.copy_plan.specs.declared.stop.WorkerEnd.{WorkerEnd}
-use Rattle.copy_plan.specs.Plans.{due_in}
-use Rattle.copy_plan.specs.Stops.{stop_of}
-use Rattle.copy_turns.specs.Raises.{sent_to}
+use Rattle.copy_turns.specs.{Raises.sent_to, Watched.IsPiece, Work.TookOwn}
 use Rattle.copy_turns.specs.Transfers.{GetsPiece, PutsWhole, SendsEach}
-use Rattle.copy_turns.specs.Watched.{IsPiece}
-use Rattle.copy_turns.specs.Work.{TookOwn}
 use Rattle.copy_ends.specs.Copied.{WaitsTimes, worker_numbers}
 use Rattle.flow_copy.specs.PageWaits.{PageWaits}
 

@@ -3,9 +3,7 @@
 ghost use Rattle.std.specs.Prelude.{◌≡◌, ◌≤◌, ◌-◌, ◌%◌, ◌^◌, length};
 ghost use Rattle.std.specs.Prelude.{IfErr, IfOk, OnErr};
 ghost use Rattle.wait_model.specs.declared.layout.TheConstants.{TASKS};
-ghost use Rattle.wait_rule.specs.Aside.{GrowsAside};
-ghost use Rattle.wait_rule.specs.Says.{IsClean, newcomer};
-ghost use Rattle.wait_rule.specs.TallyLaws.{tally_in};
+ghost use Rattle.wait_rule.specs.{Aside.GrowsAside, Says.IsClean, Says.newcomer, TallyLaws.tally_in};
 ghost use Rattle.copy_plan.specs.declared.TheConstants.{COUNTED_PAGE, SIGNALS};
 ghost use Rattle.copy_plan.specs.declared.stop.Stop.TheVariants as stop;
 ghost use Rattle.flow_copy.specs.Workers.{FollowsPrograms};

@@ -2,13 +2,11 @@
 
 ghost use Rattle.std.specs.Prelude.{◌≡◌, ◌<◌, IfErr, MatchResult};
 ghost use Rattle.wait_model.specs.declared.layout.TheConstants.{PIPES};
-ghost use Rattle.wait_rule.specs.Pipes.{write_end};
-ghost use Rattle.wait_rule.specs.PipeSays.{writing};
+ghost use Rattle.wait_rule.specs.{Pipes.write_end, PipeSays.writing};
 ghost use Rattle.wait_pipe.specs.Pieces.{IsSettled};
 ghost use Rattle.copy_turns.specs.Turns.{CountedAll, HandedAll, HandedFront};
 ghost use Rattle.copy_turns.specs.Work.{Apart, IsAtWork, IsOwnHalt, Locks};
-ghost use Rattle.flow_copy.specs.PageWaits.{PageWaits};
-ghost use Rattle.flow_copy.specs.Workers.{CountsBytes, HandsBytes};
+ghost use Rattle.flow_copy.specs.{PageWaits.PageWaits, Workers.CountsBytes, Workers.HandsBytes};
 
 use bit_wait::BitEnd;
 use copy_plan::COUNTED_PAGE;

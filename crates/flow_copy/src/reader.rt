@@ -9,8 +9,7 @@ ghost use Rattle.edge_io.specs.Faults.{HasRisen};
 ghost use Rattle.copy_plan.specs.declared.gate.Who.TheVariants as who;
 ghost use Rattle.copy_plan.specs.declared.TheConstants.{LONGEST, PIECE, SIGNALS};
 ghost use Rattle.copy_ends.specs.Did.{IsIdler, ReaderDid, ReaderWorked};
-ghost use Rattle.copy_turns.specs.Turns.{Reading};
-ghost use Rattle.copy_turns.specs.Work.{IsAtWork};
+ghost use Rattle.copy_turns.specs.{Turns.Reading, Work.IsAtWork};
 ghost use Rattle.flow_copy.specs.Workers.{FromSource, ReaderGoes, ReaderTurn, ReaderTurns, ReaderWorks};
 
 use crate::parts::hand_on;

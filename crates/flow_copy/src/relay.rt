@@ -2,14 +2,12 @@
 
 ghost use Rattle.std.specs.Prelude.{◌≡◌, ◌≢◌, ◌<◌, Some};
 ghost use Rattle.wait_model.specs.declared.layout.TheConstants.{PIPES};
-ghost use Rattle.wait_rule.specs.Pipes.{read_end};
-ghost use Rattle.wait_rule.specs.PipeSays.{reading, writing};
+ghost use Rattle.wait_rule.specs.{Pipes.read_end, PipeSays.reading, PipeSays.writing};
 ghost use Rattle.wait_pipe.specs.Pieces.{IsSettled};
 ghost use Rattle.copy_plan.specs.declared.gate.Who.TheVariants as who;
 ghost use Rattle.copy_plan.specs.declared.TheConstants.{SINK_PIPE, SOURCE_PIPE};
 ghost use Rattle.copy_ends.specs.Did.{IsIdler, RelayDid, RelayWorked};
-ghost use Rattle.copy_turns.specs.Turns.{Relaying};
-ghost use Rattle.copy_turns.specs.Work.{IsAtWork};
+ghost use Rattle.copy_turns.specs.{Turns.Relaying, Work.IsAtWork};
 ghost use Rattle.flow_copy.specs.Workers.{GetsAnd, RelayGoes, RelayTurn, RelayTurns, RelayWorks, RelaysPiece};
 
 use crate::parts::hand_on;

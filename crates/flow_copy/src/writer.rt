@@ -6,8 +6,7 @@ ghost use Rattle.wait_rule.specs.PipeSays.{reading};
 ghost use Rattle.wait_pipe.specs.Pieces.{IsSettled};
 ghost use Rattle.copy_plan.specs.declared.gate.Who.TheVariants as who;
 ghost use Rattle.copy_ends.specs.Did.{IsIdler, WriterDid, WriterWorked};
-ghost use Rattle.copy_turns.specs.Turns.{Writing};
-ghost use Rattle.copy_turns.specs.Work.{IsAtWork};
+ghost use Rattle.copy_turns.specs.{Turns.Writing, Work.IsAtWork};
 ghost use Rattle.flow_copy.specs.Workers.{WriterGoes, WriterTurn, WriterTurns, WriterWorks};
 
 use crate::parts::count;

@@ -4,42 +4,31 @@ use Rattle.std.proofs.lemmas.Bool.{eqb-true}
 use Rattle.std.specs.Prelude.{ℕ, ◌≡◌, ◌≢◌, ◌<◌, ◌==◌, if◌then◌else◌, Bool, true, false, List, length, take, Option, None, Some, Result, Ok, Err, IfSome}
 use Rattle.wait_model.specs.declared.layout.TheConstants.{PIPES}
 use Rattle.wait_model.specs.declared.points.Point.TheVariants as at
-use Rattle.wait_rule.specs.Ends.{WasWorn}
-use Rattle.wait_rule.specs.Known.{Known}
+use Rattle.wait_rule.specs.{Ends.WasWorn, Known.Known, Queues.IsIdle, Queues.index, Says.IsUp, Stays.Carries}
 use Rattle.wait_rule.specs.Pipes.{End, bytes_in, moved_bytes, read_end, write_end}
 use Rattle.wait_rule.specs.PipeSays.{KeepsEnd, reading, writing}
-use Rattle.wait_rule.specs.Queues.{IsIdle, index}
-use Rattle.wait_rule.specs.Says.{IsUp}
-use Rattle.wait_rule.specs.Stays.{Carries}
 use Rattle.wait_class.specs.Posts.{IsOut}
-use Rattle.wait_pipe.specs.Pieces.{IsAtEnd, IsSettled}
-use Rattle.wait_pipe.specs.declared.peeks.PipeState.{PipeState}
-use Rattle.wait_pipe.specs.PipeStates.{OnlyLooked, TellsOfPipe}
+use Rattle.wait_pipe.specs.{Pieces.IsAtEnd, Pieces.IsSettled, declared.peeks.PipeState.PipeState, PipeStates.OnlyLooked}
+use Rattle.wait_pipe.specs.PipeStates.{TellsOfPipe}
 use Rattle.wq_head.specs.declared.adds.Worn.{Worn}
-use Rattle.poll_wait.specs.declared.turns.Poll.{Poll}
-use Rattle.poll_wait.specs.declared.turns.PollEnd.{PollEnd}
-use Rattle.poll_wait.specs.declared.turns.PollEnd.TheVariants as poll_end
-use Rattle.poll_wait.specs.declared.turns.Ready.{Ready}
+use Rattle.poll_wait.specs.{declared.turns.Poll.Poll, declared.turns.PollEnd.PollEnd, declared.turns.Ready.Ready}
+use Rattle.poll_wait.specs.Seconds.{IsSecondOut}
 use Rattle.poll_wait.specs.Polls.{EndsPoll, EndsWorn, FindsNoPlace, PollGoesOn, StaysBesidePoll, loaded, poll_change}
 use Rattle.poll_wait.specs.Polls.{ready_of}
-use Rattle.poll_wait.specs.Seconds.{IsSecondOut}
+use Rattle.poll_wait.specs.declared.turns.PollEnd.TheVariants as poll_end
 use Rattle.poll_wait.proofs.Sides.{rest_beside}
-use Rattle.copy_plan.specs.declared.TheConstants.{ENDED_CELL}
-use Rattle.copy_plan.specs.declared.stop.Stop.{Stop}
+use Rattle.copy_plan.specs.{declared.TheConstants.ENDED_CELL, declared.stop.Stop.Stop}
 use Rattle.copy_plan.specs.declared.stop.Stop.TheVariants as stop
 use Rattle.copy_turns.specs.Turns.{IfStopped}
 use Rattle.copy_turns.specs.Work.{Apart, IsAtWork, but_ends}
 use Rattle.copy_turns.proofs.PartLaws.{sums_then, works_then}
 use Rattle.copy_ends.proofs.Ends.{worn_later}
+use Rattle.flow_merge.specs.{declared.sides.Found.Found, declared.sides.Side.Side, Mergers.IsMergerStop}
+use Rattle.flow_merge.specs.{MergerWords.found_in, MergerWords.poll_stop, Passed.side_pipe}
 use Rattle.flow_merge.specs.declared.TheConstants.{LEFT_PIPE, MERGED_PIPE, RIGHT_PIPE}
-use Rattle.flow_merge.specs.declared.sides.Found.{Found}
-use Rattle.flow_merge.specs.declared.sides.Found.TheVariants as found
-use Rattle.flow_merge.specs.declared.sides.Side.{Side}
-use Rattle.flow_merge.specs.declared.sides.Side.TheVariants as sides
-use Rattle.flow_merge.specs.Mergers.{IsMergerStop}
-use Rattle.flow_merge.specs.MergerWords.{found_in, poll_stop}
-use Rattle.flow_merge.specs.Passed.{side_pipe}
 use Rattle.flow_merge.specs.Sides.{BothAtEnd, IsWornStop, LookedAtSides}
+use Rattle.flow_merge.specs.declared.sides.Found.TheVariants as found
+use Rattle.flow_merge.specs.declared.sides.Side.TheVariants as sides
 
 -- an end that keeps what its task knows of its own part
 pub keeps_same : (e f : End) → f ≡ e → KeepsEnd e f

@@ -4,31 +4,20 @@ use Rattle.std.specs.Prelude.{ℕ, ◌≡◌, ◌+◌, ◌*◌, ◌<◌, ◌%◌
 use Rattle.std.specs.Io.KnownBytes.{append_known}
 use Rattle.atomic_table.specs.Seated.{TableId}
 use Rattle.bit_wait.specs.declared.wait_calls.BitEnd.{BitEnd}
-use Rattle.wait_model.specs.declared.layout.TheConstants.{CLAIMS, TASKS}
-use Rattle.wait_model.specs.SignalCounts.{takes_fatal}
-use Rattle.wait_model.specs.Totals.{total}
-use Rattle.wait_rule.specs.declared.journal.Item.{Item}
-use Rattle.wait_rule.specs.declared.journal.Journal.{Journal}
-use Rattle.wait_rule.specs.Items.{steps_of}
-use Rattle.wait_rule.specs.Journals.{has_of}
-use Rattle.wait_rule.specs.Known.{Known}
+use Rattle.wait_model.specs.{declared.layout.TheConstants.CLAIMS, declared.layout.TheConstants.TASKS}
+use Rattle.wait_model.specs.{SignalCounts.takes_fatal, Totals.total}
+use Rattle.wait_rule.specs.{declared.journal.Item.Item, declared.journal.Journal.Journal, Items.steps_of}
+use Rattle.wait_rule.specs.{Journals.has_of, Known.Known, TableLaws.HasAll, Tallies.amounts_of}
 use Rattle.wait_rule.specs.Pipes.{Delivers, End, end_of, moved_bytes, read_end, was_refused, write_end}
 use Rattle.wait_rule.specs.PipeSays.{end_at, reading, writing}
 use Rattle.wait_rule.specs.Says.{IsShown, history_of, newcomer}
-use Rattle.wait_rule.specs.TableLaws.{HasAll}
-use Rattle.wait_rule.specs.Tallies.{amounts_of}
 use Rattle.wait_pipe.specs.Pieces.{IsAtEnd}
 use Rattle.edge_io.specs.Faults.{HasRisen}
-use Rattle.copy_plan.specs.declared.TheConstants.{COUNTED_PAGE}
-use Rattle.copy_plan.specs.declared.stop.ReaderEnd.{ReaderEnd}
-use Rattle.copy_plan.specs.declared.stop.Stop.{Stop}
+use Rattle.copy_plan.specs.{declared.TheConstants.COUNTED_PAGE, declared.stop.ReaderEnd.ReaderEnd}
+use Rattle.copy_plan.specs.{declared.stop.Stop.Stop, Plans.due_at}
 use Rattle.copy_plan.specs.declared.stop.Stop.TheVariants as stop
-use Rattle.copy_plan.specs.Plans.{due_at}
-use Rattle.copy_plan.proofs.DueTimes.{due_at_kills}
-use Rattle.copy_plan.proofs.StopKinds.{IsNamedNone, named_none}
-use Rattle.copy_turns.specs.Raises.{kills_in}
-use Rattle.copy_turns.specs.Turns.{IsReaderStop, IsWriterStop}
-use Rattle.copy_turns.specs.Work.{TookKill}
+use Rattle.copy_plan.proofs.{DueTimes.due_at_kills, StopKinds.IsNamedNone, StopKinds.named_none}
+use Rattle.copy_turns.specs.{Raises.kills_in, Turns.IsReaderStop, Turns.IsWriterStop, Work.TookKill}
 use Rattle.copy_turns.proofs.Sends.{sent_kills}
 use Rattle.copy_ends.specs.Copied.{IsNotTaken}
 use Rattle.copy_ends.specs.Did.{ReaderWorked, Refused, WriterWorked}

@@ -4,29 +4,25 @@ use Rattle.std.proofs.lemmas.Bool.{false≢true}
 use Rattle.std.specs.Prelude.{ℕ, ◌≡◌, ◌≢◌, ◌==◌, ◌%◌, ◌^◌, ◌++◌, ◌&&◌, Bool, true, false, if◌then◌else◌, [], Some}
 use Rattle.wait_rule.specs.declared.journal.EndAct.TheVariants as act
 use Rattle.wait_rule.specs.declared.journal.Item.TheVariants as item
-use Rattle.wait_rule.specs.Aside.{Grows, signals_of}
-use Rattle.wait_rule.specs.Known.{Known}
+use Rattle.wait_rule.specs.{Aside.Grows, Aside.signals_of, Known.Known, Stays.Carries, Stays.claim_change}
+use Rattle.wait_rule.specs.Tallies.{amounts_of}
 use Rattle.wait_rule.specs.Pipes.{End, closed, moved_bytes, new_end, read_end, write_end}
 use Rattle.wait_rule.specs.PipeSays.{EndBecomes, end_at, reading}
 use Rattle.wait_rule.specs.Says.{Excuse, OwesBut, OwesNothing, added, no_excuse}
-use Rattle.wait_rule.specs.Stays.{Carries, claim_change}
-use Rattle.wait_rule.specs.Tallies.{amounts_of}
 use Rattle.wait_pipe.specs.Pieces.{IsAtEnd, IsSettled}
-use Rattle.copy_plan.specs.declared.stop.Stop.{Stop}
+use Rattle.copy_plan.specs.{declared.stop.Stop.Stop, declared.stop.WorkerEnd.WorkerEnd}
 use Rattle.copy_plan.specs.declared.stop.Stop.TheVariants as stop
-use Rattle.copy_plan.specs.declared.stop.WorkerEnd.{WorkerEnd}
 use Rattle.copy_turns.specs.Work.{IsAtWork}
 use Rattle.copy_turns.proofs.PartLaws.{counted_none, counted_sums, grows_same, grows_then, sums_counted, sums_then, took_later}
 use Rattle.copy_turns.proofs.Stopping.{taken_map, untaken}
 use Rattle.copy_ends.specs.Did.{IsIdler, Refused, Served}
 use Rattle.copy_ends.proofs.Ends.{Closes, Finishes, Leaves, end_closed, fails, opens, refused_later, works_idler, worn_later}
+use Rattle.flow_merge.specs.{declared.merger.Has.Has, declared.sides.Side.Side}
 use Rattle.flow_merge.specs.declared.TheConstants.{LEFT_PIPE, MERGED_PIPE, RIGHT_PIPE}
-use Rattle.flow_merge.specs.declared.merger.Has.{Has}
-use Rattle.flow_merge.specs.declared.sides.Side.{Side}
-use Rattle.flow_merge.specs.declared.sides.Side.TheVariants as sides
 use Rattle.flow_merge.specs.Mergers.{HasEnds, IsMergerStop, LacksEnd, MergerDid, MergerWorked, Merging}
 use Rattle.flow_merge.specs.MergerSteps.{Claimed, HoldsOpen, MergesIf, OpensEnds, RestStays, Shut, ShutsEnds, with_if}
 use Rattle.flow_merge.specs.Passed.{read_of, sent_of, side_pipe}
+use Rattle.flow_merge.specs.declared.sides.Side.TheVariants as sides
 use Rattle.flow_merge.proofs.Turns.{merger_before, passed_none}
 
 abbrev left : ℕ

@@ -1,10 +1,8 @@
 -- The turns of a merger.
 use Rattle.std.proofs.Common.{refl, sym, ◌∙◌, ap, subst, append_assoc, append-nil, arith, length-append}
 use Rattle.std.specs.Prelude.{ℕ, ◌≡◌, ◌+◌, ◌^◌, ◌<◌, List, [], ◌∷◌, ◌++◌, length, Option, None, Some}
-use Rattle.wait_rule.specs.Aside.{Grows}
-use Rattle.wait_rule.specs.Known.{Known}
-use Rattle.wait_rule.specs.Pipes.{moved_bytes, read_end}
-use Rattle.wait_rule.specs.PipeSays.{reading, writing}
+use Rattle.wait_rule.specs.{Aside.Grows, Known.Known, Pipes.moved_bytes, Pipes.read_end, PipeSays.reading}
+use Rattle.wait_rule.specs.PipeSays.{writing}
 use Rattle.wait_pipe.specs.Pieces.{IsSettled}
 use Rattle.copy_plan.specs.declared.stop.Stop.{Stop}
 use Rattle.copy_plan.specs.declared.stop.Stop.TheVariants as stop
@@ -14,13 +12,11 @@ use Rattle.copy_turns.proofs.PartLaws.{counted_none, counted_same, counted_then,
 use Rattle.copy_turns.proofs.PartLaws.{works_then}
 use Rattle.copy_turns.proofs.Stopping.{finished, stopped_map, whole_map}
 use Rattle.copy_turns.proofs.Sums.{sum_none, sum_then}
-use Rattle.flow_merge.specs.declared.TheConstants.{LEFT_PIPE, MERGED_PIPE, RIGHT_PIPE}
-use Rattle.flow_merge.specs.declared.sides.Side.{Side}
-use Rattle.flow_merge.specs.declared.sides.Side.TheVariants as sides
-use Rattle.flow_merge.specs.Mergers.{IsMergerStop, Merging}
-use Rattle.flow_merge.specs.MergerWords.{goes_behind}
-use Rattle.flow_merge.specs.Passed.{Passed, Piece, bytes_if, merged_bytes, bytes_of, read_of, sent_of, side_pipe}
+use Rattle.flow_merge.specs.{declared.sides.Side.Side, Mergers.IsMergerStop, Mergers.Merging, MergerWords.goes_behind}
 use Rattle.flow_merge.specs.Sides.{LookedAtSides}
+use Rattle.flow_merge.specs.declared.TheConstants.{LEFT_PIPE, MERGED_PIPE, RIGHT_PIPE}
+use Rattle.flow_merge.specs.Passed.{Passed, Piece, bytes_if, merged_bytes, bytes_of, read_of, sent_of, side_pipe}
+use Rattle.flow_merge.specs.declared.sides.Side.TheVariants as sides
 use Rattle.flow_merge.proofs.Looks.{kept_moved, kept_settled}
 
 -- pieces behind pieces

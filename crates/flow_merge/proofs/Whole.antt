@@ -5,23 +5,15 @@ use Rattle.std.specs.Prelude.{ℕ, ◌≡◌, ◌+◌, ◌<◌, ◌-◌, ◌%◌
 use Rattle.atomic_table.specs.Seated.{TableId}
 use Rattle.bit_wait.specs.declared.wait_calls.BitEnd.{BitEnd}
 use Rattle.wait_model.specs.declared.layout.TheConstants.{TASKS}
-use Rattle.wait_rule.specs.declared.journal.Item.{Item}
-use Rattle.wait_rule.specs.declared.journal.Journal.{Journal}
-use Rattle.wait_rule.specs.Aside.{GrowsAside}
-use Rattle.wait_rule.specs.Ends.{WasWorn}
+use Rattle.wait_rule.specs.{declared.journal.Item.Item, declared.journal.Journal.Journal, Aside.GrowsAside}
+use Rattle.wait_rule.specs.{Ends.WasWorn, Known.Known, Tallies.amounts_of, TallyLaws.tally_in}
 use Rattle.wait_rule.specs.Journals.{fresh, has_of, pushed}
-use Rattle.wait_rule.specs.Known.{Known}
 use Rattle.wait_rule.specs.Says.{IsClean, IsShown, newcomer, seen_with}
-use Rattle.wait_rule.specs.Tallies.{amounts_of}
-use Rattle.wait_rule.specs.TallyLaws.{tally_in}
-use Rattle.wait_rule.proofs.KnownLaws.CountedTallies.{newcomers_count_none}
-use Rattle.wait_rule.proofs.WornHeads.WornNotes.{joined_late}
-use Rattle.copy_plan.specs.declared.TheConstants.{COUNTED_PAGE}
-use Rattle.copy_plan.specs.declared.kinds.Kind.{Kind}
-use Rattle.copy_plan.specs.declared.kinds.Kind.TheVariants as kind
-use Rattle.copy_plan.specs.declared.stop.Stop.{Stop}
-use Rattle.copy_plan.specs.declared.stop.Stop.TheVariants as stop
+use Rattle.wait_rule.proofs.{KnownLaws.CountedTallies.newcomers_count_none, WornHeads.WornNotes.joined_late}
+use Rattle.copy_plan.specs.{declared.TheConstants.COUNTED_PAGE, declared.kinds.Kind.Kind, declared.stop.Stop.Stop}
 use Rattle.copy_plan.specs.Kinds.{copy_stop, first_or, is_of}
+use Rattle.copy_plan.specs.declared.kinds.Kind.TheVariants as kind
+use Rattle.copy_plan.specs.declared.stop.Stop.TheVariants as stop
 use Rattle.copy_plan.proofs.StopKinds.{finished_names_none}
 use Rattle.copy_ends.specs.Copied.{ControlEnds, Controlled, HasNoSteps, NotesAreLate, ReadTally, joined_all}
 use Rattle.copy_ends.specs.Did.{ReaderDid, WriterDid}
@@ -29,11 +21,10 @@ use Rattle.flow_copy.specs.Workers.{ControllerGoes, FromSource, ReaderGoes, Writ
 use Rattle.copy_ends.proofs.Crews.{crew, grown_view, of_each, parts_from}
 use Rattle.copy_ends.proofs.Idlers.{joined_clean}
 use Rattle.copy_ends.proofs.JoinedSums.{found_tally, joined_counts, last_list, last_tally, one_counts}
+use Rattle.flow_merge.specs.{Mergers.MergerDid, MergerWords.MergerGoes}
 use Rattle.flow_merge.specs.Merged.{Drawn, CrewEnds, SinkFilled, Five, FiveDid, FollowsMerge, HasFive, HoldsMerged}
 use Rattle.flow_merge.specs.Merged.{IsMergeStop, Merged, MergesAll, NoneHurt, no_targets, stops_of}
 use Rattle.flow_merge.specs.declared.TheConstants.{LEFT_PIPE, MERGED_PIPE, RIGHT_PIPE}
-use Rattle.flow_merge.specs.Mergers.{MergerDid}
-use Rattle.flow_merge.specs.MergerWords.{MergerGoes}
 use Rattle.flow_merge.proofs.Merged.{counted_all, has_controller, has_left, has_merger, has_right, has_writer}
 use Rattle.flow_merge.proofs.Merged.{holds_merged, joined, joined_has, merges_all, none_hurt}
 

@@ -4,25 +4,18 @@ use Rattle.std.specs.Prelude.{ℕ, ◌≡◌, ◌+◌, ◌*◌, ◌%◌, ◌^◌
 use Rattle.std.specs.Io.KnownBytes.{append_known, prepend_known}
 use Rattle.atomic_table.specs.Seated.{TableId}
 use Rattle.bit_wait.specs.declared.wait_calls.BitEnd.{BitEnd}
-use Rattle.wait_rule.specs.declared.journal.Journal.{Journal}
-use Rattle.wait_rule.specs.Journals.{has_of}
-use Rattle.wait_rule.specs.Known.{Known}
-use Rattle.wait_rule.specs.Says.{IsShown, newcomer}
+use Rattle.wait_rule.specs.{declared.journal.Journal.Journal, Journals.has_of, Known.Known, Says.IsShown, Says.newcomer}
 use Rattle.edge_io.specs.Text.{HoldsPrefix}
-use Rattle.copy_plan.specs.declared.stop.ReaderEnd.{ReaderEnd}
-use Rattle.copy_plan.specs.declared.stop.Stop.{Stop}
+use Rattle.copy_plan.specs.{declared.stop.ReaderEnd.ReaderEnd, declared.stop.Stop.Stop}
+use Rattle.copy_plan.specs.{declared.stop.WorkerEnd.WorkerEnd, Kinds.copy_stop}
 use Rattle.copy_plan.specs.declared.stop.Stop.TheVariants as stop
-use Rattle.copy_plan.specs.declared.stop.WorkerEnd.{WorkerEnd}
-use Rattle.copy_plan.specs.Kinds.{copy_stop}
 use Rattle.copy_ends.specs.Copied.{ControlEnds, Controlled, NotesAreLate, control_stop}
 use Rattle.copy_ends.specs.Did.{ReaderDid, WriterDid}
 use Rattle.flow_copy.specs.Workers.{ControllerGoes, FromSource, ReaderGoes, WriterGoes}
+use Rattle.flow_merge.specs.{declared.sides.Side.Side, Mergers.MergerDid, MergerWords.MergerGoes}
 use Rattle.flow_merge.specs.declared.TheConstants.{LEFT_PIPE, MERGED_PIPE, RIGHT_PIPE}
-use Rattle.flow_merge.specs.declared.sides.Side.{Side}
-use Rattle.flow_merge.specs.declared.sides.Side.TheVariants as sides
-use Rattle.flow_merge.specs.Mergers.{MergerDid}
-use Rattle.flow_merge.specs.MergerWords.{MergerGoes}
 use Rattle.flow_merge.specs.Passed.{Passed, Piece, merged_bytes, bytes_of, read_of, sent_of}
+use Rattle.flow_merge.specs.declared.sides.Side.TheVariants as sides
 
 -- the readers send no signals, so nobody's number is planned
 abbrev pub no_targets : List ℕ

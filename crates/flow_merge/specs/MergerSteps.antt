@@ -2,18 +2,14 @@
 -- What the claims of a merger's ends and their closing leave of it.
 use Rattle.std.specs.Prelude.{ℕ, ◌≡◌, ◌≢◌, ◌/◌, Bool, true, false, if◌then◌else◌, Some}
 use Rattle.wait_model.specs.declared.layout.TheConstants.{PIPE_ENDS}
-use Rattle.wait_rule.specs.Aside.{Grows}
-use Rattle.wait_rule.specs.Known.{Known}
+use Rattle.wait_rule.specs.{Aside.Grows, Known.Known, Says.Excuse, Says.OwesBut, Stays.with_end}
 use Rattle.wait_rule.specs.Pipes.{closed, new_end, read_end, was_refused, write_end}
 use Rattle.wait_rule.specs.PipeSays.{EndBecomes, IsOpen, end_at}
-use Rattle.wait_rule.specs.Says.{Excuse, OwesBut}
-use Rattle.wait_rule.specs.Stays.{with_end}
 use Rattle.copy_plan.specs.declared.stop.Stop.TheVariants as stop
 use Rattle.copy_plan.specs.declared.stop.WorkerEnd.{WorkerEnd}
 use Rattle.copy_turns.specs.Work.{IsAtWork, SignalsStay, SumsStay}
+use Rattle.flow_merge.specs.{declared.merger.Has.Has, Mergers.Merging}
 use Rattle.flow_merge.specs.declared.TheConstants.{LEFT_PIPE, MERGED_PIPE, RIGHT_PIPE}
-use Rattle.flow_merge.specs.declared.merger.Has.{Has}
-use Rattle.flow_merge.specs.Mergers.{Merging}
 
 -- excused of an end where it has it
 abbrev pub with_if : ℕ → Bool → Excuse → Excuse

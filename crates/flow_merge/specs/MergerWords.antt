@@ -4,27 +4,20 @@ use Rattle.std.specs.Prelude.{ℕ, ◌≡◌, ◌==◌, ◌&&◌, if◌then◌el
 use Rattle.std.specs.Prelude.{Option, None, Some, Result, Err, List}
 use Rattle.wait_model.specs.declared.tasks.SleepState.TheVariants as state
 use Rattle.wait_model.specs.declared.watches.Watch.TheVariants as watch
-use Rattle.wait_rule.specs.Known.{Known}
-use Rattle.wait_rule.specs.Pipes.{read_end, write_end}
-use Rattle.wait_pipe.specs.declared.peeks.PipeState.{PipeState}
-use Rattle.wait_pipe.specs.PipeStates.{PeeksRead}
-use Rattle.wait_pipe.specs.Trails.{ClosesEnd}
-use Rattle.poll_wait.specs.declared.turns.Poll.{Poll}
-use Rattle.poll_wait.specs.declared.turns.PollEnd.{PollEnd}
-use Rattle.poll_wait.specs.declared.turns.PollEnd.TheVariants as poll_end
-use Rattle.poll_wait.specs.declared.turns.Ready.{Ready}
+use Rattle.wait_rule.specs.{Known.Known, Pipes.read_end, Pipes.write_end}
+use Rattle.wait_pipe.specs.{declared.peeks.PipeState.PipeState, PipeStates.PeeksRead, Trails.ClosesEnd}
+use Rattle.poll_wait.specs.{declared.turns.Poll.Poll, declared.turns.PollEnd.PollEnd, declared.turns.Ready.Ready}
 use Rattle.poll_wait.specs.Polls.{EndsPoll}
+use Rattle.poll_wait.specs.declared.turns.PollEnd.TheVariants as poll_end
 use Rattle.copy_plan.specs.declared.stop.Stop.{Stop}
 use Rattle.copy_plan.specs.declared.stop.Stop.TheVariants as stop
 use Rattle.copy_turns.specs.Work.{TookOwn}
 use Rattle.flow_copy.specs.Workers.{ClaimsEnd, GetsAnd, RelaysPiece, ThenCompletes}
-use Rattle.flow_merge.specs.declared.TheConstants.{LEFT_PIPE, MERGED_PIPE, RIGHT_PIPE}
-use Rattle.flow_merge.specs.declared.merger.Has.{Has}
-use Rattle.flow_merge.specs.declared.sides.Found.{Found}
-use Rattle.flow_merge.specs.declared.sides.Found.TheVariants as found
-use Rattle.flow_merge.specs.declared.sides.Side.{Side}
-use Rattle.flow_merge.specs.declared.sides.Side.TheVariants as sides
+use Rattle.flow_merge.specs.{declared.merger.Has.Has, declared.sides.Found.Found, declared.sides.Side.Side}
 use Rattle.flow_merge.specs.Passed.{side_pipe}
+use Rattle.flow_merge.specs.declared.TheConstants.{LEFT_PIPE, MERGED_PIPE, RIGHT_PIPE}
+use Rattle.flow_merge.specs.declared.sides.Found.TheVariants as found
+use Rattle.flow_merge.specs.declared.sides.Side.TheVariants as sides
 
 -- what two looks find: cells on the left side, or else on the right one, or both sides at their ends, or neither
 abbrev pub found_in : PipeState → PipeState → Found

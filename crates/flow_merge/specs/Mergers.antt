@@ -1,15 +1,12 @@
 -- To be believed.
 -- What turns of a merger come to, and what it did from its first step to its last.
 use Rattle.std.specs.Prelude.{ℕ, ◌≡◌, ◌≢◌, ◌+◌, ◌%◌, ◌^◌, ◌⊎◌, ◌++◌, true, [], length, Option}
-use Rattle.wait_rule.specs.Ends.{WasWorn}
-use Rattle.wait_rule.specs.Known.{Known}
+use Rattle.wait_rule.specs.{Ends.WasWorn, Known.Known}
 use Rattle.wait_rule.specs.Pipes.{moved_bytes, read_end, write_end}
 use Rattle.wait_rule.specs.PipeSays.{end_at, reading, writing}
 use Rattle.wait_pipe.specs.Pieces.{IsAtEnd, IsSettled}
-use Rattle.copy_plan.specs.declared.stop.Stop.{Stop}
+use Rattle.copy_plan.specs.{declared.stop.Stop.Stop, declared.stop.WorkerEnd.WorkerEnd, Stops.IfFinished, Stops.IfTaken}
 use Rattle.copy_plan.specs.declared.stop.Stop.TheVariants as stop
-use Rattle.copy_plan.specs.declared.stop.WorkerEnd.{WorkerEnd}
-use Rattle.copy_plan.specs.Stops.{IfFinished, IfTaken}
 use Rattle.copy_turns.specs.Turns.{IfStopped, IfWhole}
 use Rattle.copy_turns.specs.Work.{Counted, SignalsStay, TookKill, Works}
 use Rattle.copy_ends.specs.Did.{Completes, Refused, Served}

@@ -1,15 +1,13 @@
 -- To be believed.
 -- What a merger knows after it looked at its sides, or waited for them.
-use Rattle.wait_rule.specs.Ends.{WasWorn}
-use Rattle.wait_rule.specs.Known.{Known}
+use Rattle.wait_rule.specs.{Ends.WasWorn, Known.Known}
 use Rattle.wait_rule.specs.PipeSays.{KeepsEnd, reading, writing}
 use Rattle.wait_pipe.specs.Pieces.{IsAtEnd}
 use Rattle.copy_plan.specs.declared.stop.Stop.{Stop}
 use Rattle.copy_plan.specs.declared.stop.Stop.TheVariants as stop
 use Rattle.copy_turns.specs.Work.{SignalsStay, SumsStay, Works}
+use Rattle.flow_merge.specs.{declared.sides.Side.Side, Passed.side_pipe}
 use Rattle.flow_merge.specs.declared.TheConstants.{LEFT_PIPE, MERGED_PIPE, RIGHT_PIPE}
-use Rattle.flow_merge.specs.declared.sides.Side.{Side}
-use Rattle.flow_merge.specs.Passed.{side_pipe}
 
 -- Of its three ends it may have seen more of the other ones, and all else of them stays.
 pub record LookedAtSides (old new : Known) : Type 0 where

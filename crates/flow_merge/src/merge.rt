@@ -2,8 +2,7 @@
 
 ghost use Rattle.std.specs.Prelude.{◌≡◌, ◌-◌, ◌%◌, ◌^◌, IfErr, IfOk, OnErr};
 ghost use Rattle.wait_model.specs.declared.layout.TheConstants.{TASKS};
-ghost use Rattle.wait_rule.specs.Says.{IsClean, newcomer};
-ghost use Rattle.wait_rule.specs.TallyLaws.{tally_in};
+ghost use Rattle.wait_rule.specs.{Says.IsClean, Says.newcomer, TallyLaws.tally_in};
 ghost use Rattle.copy_plan.specs.declared.TheConstants.{COUNTED_PAGE};
 ghost use Rattle.copy_plan.specs.declared.stop.Stop.TheVariants as stop;
 ghost use Rattle.copy_ends.specs.Copied.{HasNoSteps};

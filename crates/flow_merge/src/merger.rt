@@ -8,8 +8,7 @@ ghost use Rattle.wait_pipe.specs.Pieces.{IsSettled};
 ghost use Rattle.copy_plan.specs.declared.gate.Who.TheVariants as who;
 ghost use Rattle.copy_ends.specs.Did.{IsIdler};
 ghost use Rattle.copy_turns.specs.Work.{IsAtWork};
-ghost use Rattle.flow_merge.specs.declared.TheConstants.{MERGED_PIPE};
-ghost use Rattle.flow_merge.specs.declared.sides.Side.{Side};
+ghost use Rattle.flow_merge.specs.{declared.TheConstants.MERGED_PIPE, declared.sides.Side.Side, Passed.side_pipe};
 ghost use Rattle.flow_merge.specs.Mergers.{MergerDid, MergerWorked, Merging};
 ghost use Rattle.flow_merge.specs.MergerSteps.{HoldsOpen, MergesIf, OpensEnds, Shut, ShutsEnds};
 ghost use Rattle.flow_merge.specs.MergerWords.{
@@ -24,7 +23,6 @@ ghost use Rattle.flow_merge.specs.MergerWords.{
   TurnsIf,
   goes_behind,
 };
-ghost use Rattle.flow_merge.specs.Passed.{side_pipe};
 
 use crate::sides::{Found, Side, look_both, wait_both};
 use crate::{LEFT_PIPE, MERGED_PIPE, RIGHT_PIPE};

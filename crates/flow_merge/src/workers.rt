@@ -4,10 +4,8 @@ ghost use Rattle.std.specs.Prelude.{◌≡◌, [], IfErr, IfOk};
 ghost use Rattle.copy_ends.specs.Copied.{ControlEnds, Controlled};
 ghost use Rattle.copy_ends.specs.Did.{IsIdler, ReaderDid, WriterDid};
 ghost use Rattle.flow_copy.specs.Workers.{ControllerGoes, FromSource, ReaderGoes, WriterGoes};
+ghost use Rattle.flow_merge.specs.{Merged.no_targets, Mergers.MergerDid, MergerWords.MergerGoes};
 ghost use Rattle.flow_merge.specs.declared.TheConstants.{LEFT_PIPE, MERGED_PIPE, RIGHT_PIPE};
-ghost use Rattle.flow_merge.specs.Merged.{no_targets};
-ghost use Rattle.flow_merge.specs.Mergers.{MergerDid};
-ghost use Rattle.flow_merge.specs.MergerWords.{MergerGoes};
 
 use crate::merger::merger_task;
 use crate::{LEFT_PIPE, MERGED_PIPE, RIGHT_PIPE};

@@ -7,8 +7,7 @@ use Rattle.std.proofs.Math.Seq.{take-suc-set, drop-cons}
 use Rattle.std.proofs.Math.Nat.{min-le_left}
 use Rattle.std.proofs.lemmas.Bool.{eqb-false}
 use Rattle.std.proofs.lemmas.List.{take_all, drop-set-lt, take-append-drop, map-set, length-map}
-use Rattle.wait_model.specs.declared.queues.Walked.{Walked}
-use Rattle.wait_model.specs.declared.queues.End.{End}
+use Rattle.wait_model.specs.{declared.queues.Walked.Walked, declared.queues.End.End}
 use Rattle.wait_model.specs.declared.queues.End.TheVariants as ends
 use Rattle.func_head.specs.declared.walks.Turn.{Turn}
 use Rattle.func_head.specs.Walks.{EntryState, Walk, answer_of, is_above, is_below, counted, called, after_answer}

@@ -3,8 +3,7 @@
 use Rattle.std.specs.Prelude.{◌≡◌, ◌+◌, ◌-◌, ◌^◌, ◌==◌, ◌&&◌, ℕ, ℤ, pos, negsuc, zero, suc, List, map, [], ◌∷◌, Bool}
 use Rattle.std.specs.Prelude.{true, false, min, if◌then◌else◌, Option, Some, None}
 use Rattle.func_head.specs.declared.walks.Turn.{Turn}
-use Rattle.wait_model.specs.declared.layout.TheConstants.{NORMAL}
-use Rattle.wait_model.specs.declared.queues.Walked.{Walked}
+use Rattle.wait_model.specs.{declared.layout.TheConstants.NORMAL, declared.queues.Walked.Walked}
 use Rattle.wait_model.specs.declared.queues.End.{End}
 use Rattle.wait_model.specs.declared.queues.End.TheVariants as ends
 

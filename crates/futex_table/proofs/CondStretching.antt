@@ -1,63 +1,45 @@
 -- Waits for condition variables that go on by stretches: what a stretch comes to, and what such a wait says at its end.
 use Rattle.std.proofs.Common.{◌∙◌, refl, sym, subst}
 use Rattle.std.specs.Prelude.{ℕ, ◌≡◌, ◌<◌, ◌^◌, Bool, true, false, MatchBool, Result}
-use Rattle.wait_model.specs.declared.layout.TheConstants.{FIRST_SIMPLE}
-use Rattle.wait_model.specs.declared.queues.Walked.{Walked}
+use Rattle.wait_model.specs.{declared.layout.TheConstants.FIRST_SIMPLE, declared.queues.Walked.Walked}
+use Rattle.wait_model.specs.{declared.tasks.SleepState.SleepState, declared.watches.Aim.Aim}
 use Rattle.wait_model.specs.declared.steps.Step.TheVariants as step
-use Rattle.wait_model.specs.declared.tasks.SleepState.{SleepState}
-use Rattle.wait_model.specs.declared.watches.Aim.{Aim}
 use Rattle.wait_model.specs.declared.watches.Mode.TheVariants as mode
 use Rattle.wait_model.specs.declared.watches.Watch.TheVariants as watch
 use Rattle.wait_rule.specs.declared.journal.Item.TheVariants as item
-use Rattle.wait_rule.specs.Known.{Known}
-use Rattle.wait_rule.specs.Queues.{IsIdle, index}
-use Rattle.wait_rule.specs.Says.{IsUp, added}
-use Rattle.wait_rule.specs.Stays.{Carries, unchanged}
+use Rattle.wait_rule.specs.{Known.Known, Queues.IsIdle, Queues.index, Says.IsUp, Says.added, Stays.Carries}
+use Rattle.wait_rule.specs.Stays.{unchanged}
 use Rattle.wait_rule.proofs.KnownLaws.CarriedTasks.{unchanged_none}
-use Rattle.wq_head.specs.declared.adds.Worn.{Worn}
-use Rattle.wq_head.specs.declared.wakes.WakeRun.{WakeRun}
-use Rattle.wq_head.specs.declared.wakes.WakeStage.{WakeStage}
+use Rattle.wq_head.specs.{declared.adds.Worn.Worn, declared.wakes.WakeRun.WakeRun, declared.wakes.WakeStage.WakeStage}
+use Rattle.wq_head.specs.{Turns.IsAtWake, Turns.IsWakeOver, Walks.IsFull, Walks.MayWake}
 use Rattle.wq_head.specs.declared.wakes.WakeStage.TheVariants as wakes
-use Rattle.wq_head.specs.Turns.{IsAtWake, IsWakeOver}
-use Rattle.wq_head.specs.Walks.{IsFull, MayWake}
-use Rattle.wait_class.specs.Posts.{IsOut}
+use Rattle.wait_class.specs.{Posts.IsOut, declared.stages.Run.Run}
 use Rattle.wait_class.specs.Tables.{Advances, Lands, SleepsNot}
-use Rattle.wait_class.specs.declared.stages.Run.{Run}
 use Rattle.wait_class.specs.declared.stages.Turn.TheVariants as turn
-use Rattle.wait_event.specs.Conds.{set_change}
-use Rattle.wait_event.specs.Ends.{wait_change}
+use Rattle.wait_event.specs.{Conds.set_change, Ends.wait_change}
 use Rattle.wait_event.proofs.Setting.{has_set, set_carries}
-use Rattle.wait_leave.specs.declared.exits.Until.{Until}
+use Rattle.wait_leave.specs.{declared.exits.Until.Until, OnTheWay.OnTheWay}
 use Rattle.wait_leave.specs.declared.exits.Until.TheVariants as until
-use Rattle.wait_leave.specs.OnTheWay.{OnTheWay}
 use Rattle.wait_leave.proofs.Ways.{way_again, way_as, way_lands, way_risen, way_then}
-use Rattle.futex_table.specs.declared.cond_stretches.CondStage.{CondStage}
-use Rattle.futex_table.specs.declared.cond_stretches.CondWait.{CondWait}
-use Rattle.futex_table.specs.declared.cond_vars.CondEnd.{CondEnd}
-use Rattle.futex_table.specs.declared.futexes.FutexEnd.{FutexEnd}
-use Rattle.futex_table.specs.declared.lock_stretches.LockStage.{LockStage}
-use Rattle.futex_table.specs.declared.waits.FutexOutcome.{FutexOutcome}
-use Rattle.futex_table.specs.declared.waits.FutexStage.{FutexStage}
-use Rattle.futex_table.specs.declared.waits.FutexStage.TheVariants as stage
-use Rattle.futex_table.specs.declared.waits.FutexWait.{FutexWait}
+use Rattle.futex_table.specs.{declared.cond_stretches.CondStage.CondStage, declared.cond_stretches.CondWait.CondWait}
+use Rattle.futex_table.specs.{declared.cond_vars.CondEnd.CondEnd, declared.futexes.FutexEnd.FutexEnd}
+use Rattle.futex_table.specs.{declared.lock_stretches.LockStage.LockStage, declared.waits.FutexOutcome.FutexOutcome}
+use Rattle.futex_table.specs.{declared.waits.FutexStage.FutexStage, declared.waits.FutexWait.FutexWait}
+use Rattle.futex_table.specs.{FutexEnds.futex_aim, FutexTables.futex_table, Holding.OthersStayHeld, Holding.holds_mutex}
+use Rattle.futex_table.specs.{TallyUses.LeavesTallies, TallyUses.StoresWord}
 use Rattle.futex_table.specs.CondStretches.{EndsCond, IsCondWaiting, IsCondAsleep, IsCondAt, IsCondUnderWay, IsForCond}
 use Rattle.futex_table.specs.CondStretches.{IsGivingBack, IsRelocking, LeavesCond, awaited_to}
 use Rattle.futex_table.specs.CondVars.{WaitsForCond, cond_answer, cond_change}
-use Rattle.futex_table.specs.FutexEnds.{futex_aim}
 use Rattle.futex_table.specs.FutexLeaves.{EndsFutexUntil, futex_exits, futex_until_in}
-use Rattle.futex_table.specs.FutexTables.{futex_table}
-use Rattle.futex_table.specs.Holding.{OthersStayHeld, holds_mutex}
 use Rattle.futex_table.specs.LockLeaves.{WaitsForCondUntil, cond_until_answer, is_held_until}
 use Rattle.futex_table.specs.LockStretches.{AskedIf, IsLockAsleep, IsLockAt, IsMutexLocking, LeavesLock, MutexTurn}
 use Rattle.futex_table.specs.LockStretches.{FutexWaitTurn}
 use Rattle.futex_table.specs.Mutexes.{HasFreedMutex, LocksMutex, is_locked}
-use Rattle.futex_table.specs.TallyUses.{LeavesTallies, StoresWord}
+use Rattle.futex_table.specs.declared.waits.FutexStage.TheVariants as stage
+use Rattle.futex_table.proofs.{FutexLaws.futex_lawful, LeftTallies.until_leaves, LockLeaving.cond_until_held}
 use Rattle.futex_table.proofs.CondVaring.{cond_on, load_held, of_set, of_unchanged, of_wait, sets_out}
-use Rattle.futex_table.proofs.FutexLaws.{futex_lawful}
 use Rattle.futex_table.proofs.FutexLeaving.{ends_until, futex_may_leave, left_carried, left_held, left_idle, left_out}
 use Rattle.futex_table.proofs.FutexLeaving.{left_up}
-use Rattle.futex_table.proofs.LeftTallies.{until_leaves}
-use Rattle.futex_table.proofs.LockLeaving.{cond_until_held}
 use Rattle.futex_table.proofs.LockStretching.{lock_begins, plain_wait, way_dozed}
 use Rattle.futex_table.proofs.Mutexing.{idle_still, out_still, set_frees, set_others}
 use Rattle.futex_table.proofs.Tallying.{freed_leaves, leaves_on, load_leaves, woken_adds}

@@ -6,21 +6,16 @@ use Rattle.wait_model.specs.declared.watches.Mode.TheVariants as mode
 use Rattle.wait_model.specs.declared.watches.Watch.{Watch}
 use Rattle.wait_model.specs.declared.watches.Watch.TheVariants as watch
 use Rattle.wait_rule.specs.declared.journal.Item.TheVariants as item
-use Rattle.wait_rule.specs.Known.{Known}
+use Rattle.wait_rule.specs.{Known.Known, Says.added, Stays.Carries, Stays.unchanged}
 use Rattle.wait_rule.specs.Queues.{IsAgreedHold, IsIdle, index}
-use Rattle.wait_rule.specs.Says.{added}
-use Rattle.wait_rule.specs.Stays.{Carries, unchanged}
 use Rattle.wq_head.specs.declared.adds.Worn.{Worn}
 use Rattle.wait_class.specs.Posts.{IsOut}
-use Rattle.wait_event.specs.Conds.{set_change}
-use Rattle.wait_event.specs.Ends.{wait_change}
+use Rattle.wait_event.specs.{Conds.set_change, Ends.wait_change}
 use Rattle.wait_event.proofs.Changes.{carried_on, carried_wider, out_on}
-use Rattle.futex_table.specs.declared.cond_vars.CondEnd.{CondEnd}
-use Rattle.futex_table.specs.declared.futexes.FutexEnd.{FutexEnd}
-use Rattle.futex_table.specs.declared.futexes.FutexEnd.TheVariants as futex_end
+use Rattle.futex_table.specs.{declared.cond_vars.CondEnd.CondEnd, declared.futexes.FutexEnd.FutexEnd, Mutexes.is_locked}
 use Rattle.futex_table.specs.CondVars.{cond_answer, cond_change, is_mutex_held}
 use Rattle.futex_table.specs.Holding.{HoldsMutex, StayHeld, holds_mutex}
-use Rattle.futex_table.specs.Mutexes.{is_locked}
+use Rattle.futex_table.specs.declared.futexes.FutexEnd.TheVariants as futex_end
 use Rattle.futex_table.proofs.Mutexing.{one_holds}
 
 -- a task that holds no head may load

@@ -1,27 +1,21 @@
 -- The add of a wait's entry.
 use Rattle.std.proofs.Common.{◌∙◌, ap, sym, refl, subst, inl, inr, lt-ltb}
 use Rattle.std.specs.Prelude.{ℕ, ◌≡◌, ◌<◌, Bool, if◌then◌else◌, Result, Ok, Err, IfOk, IfErr}
-use Rattle.wait_model.specs.declared.layout.TheConstants.{FIRST_SIMPLE}
+use Rattle.wait_model.specs.{declared.layout.TheConstants.FIRST_SIMPLE, declared.watches.Kind.Kind}
+use Rattle.wait_model.specs.{declared.watches.Watch.Watch, Watches.kind_for}
 use Rattle.wait_model.specs.declared.queues.Form.TheVariants as forms
-use Rattle.wait_model.specs.declared.watches.Kind.{Kind}
 use Rattle.wait_model.specs.declared.watches.Kind.TheVariants as kind
-use Rattle.wait_model.specs.declared.watches.Watch.{Watch}
-use Rattle.wait_model.specs.Watches.{kind_for}
-use Rattle.wait_rule.specs.Ends.{WasWorn}
-use Rattle.wait_rule.specs.Known.{Known}
-use Rattle.wait_rule.specs.Queues.{index}
-use Rattle.wq_head.specs.declared.adds.Worn.{Worn}
+use Rattle.wait_rule.specs.{Ends.WasWorn, Known.Known, Queues.index}
+use Rattle.wq_head.specs.{declared.adds.Worn.Worn, Holds.IsHolding}
 use Rattle.wq_head.specs.Adds.{HasAdded, IsFormPlace, IsFormWorn}
-use Rattle.wq_head.specs.Holds.{IsHolding}
 use Rattle.wait_class.specs.declared.stages.Doing.TheVariants as doing
 use Rattle.wait_class.specs.Laws.{AddsOwn, HasJoined, IsWornFor}
 use Rattle.wait_class.specs.Queueing.{IsForBy, form_entry}
 use Rattle.wait_class.proofs.FormPlaces.{form_is, form_left, form_worn}
 use Rattle.wait_class.proofs.Ground.Keeping.{keeps_queued}
+use Rattle.futex_table.specs.{declared.waits.FutexStage.FutexStage, declared.waits.FutexWait.FutexWait}
 use Rattle.futex_table.specs.FutexTables.{futex_doing, futex_table, futex_word}
-use Rattle.futex_table.specs.declared.waits.FutexStage.{FutexStage}
 use Rattle.futex_table.specs.declared.waits.FutexStage.TheVariants as stage
-use Rattle.futex_table.specs.declared.waits.FutexWait.{FutexWait}
 
 queue_only : (s : FutexStage) → futex_doing s ≡ doing.Queue → s ≡ stage.Queue
 queue_only stage.Queue here = refl

@@ -4,10 +4,9 @@ use Rattle.std.specs.Prelude.{ℕ, ◌≡◌, ◌==◌, Bool, true, false, None,
 use Rattle.wait_model.specs.declared.steps.Step.TheVariants as step
 use Rattle.wait_model.specs.declared.tasks.SleepState.{SleepState}
 use Rattle.wait_model.specs.Tasks.{pending, state_mask, task_of}
-use Rattle.wait_rule.specs.Known.{Known}
+use Rattle.wait_rule.specs.{Known.Known, Stays.Carries}
 use Rattle.wait_rule.specs.Queues.{IsIdle, IsTold, index}
 use Rattle.wait_rule.specs.Says.{IsClean, IsUp, told_of}
-use Rattle.wait_rule.specs.Stays.{Carries}
 use Rattle.wait_event.specs.Ends.{wait_change}
 use Rattle.wait_event.proofs.Behind.{IsBehind, behind_at, carried_behind, clean_behind, idle_behind, owes_behind}
 use Rattle.wait_class.specs.declared.stages.Run.{Run}
@@ -16,14 +15,13 @@ use Rattle.wait_class.specs.Posts.{EndsWith, FoundWorn, IsOut, Keeps, own_of}
 use Rattle.wait_class.specs.Tables.{Advances, IsAt, IsEnded, Plan}
 use Rattle.wait_class.proofs.Wholes.{begins, ended_runs}
 use Rattle.wait_leave.specs.Leaves.{with_asked}
+use Rattle.futex_table.specs.{declared.waits.FutexOutcome.FutexOutcome, declared.waits.FutexStage.FutexStage}
+use Rattle.futex_table.specs.declared.waits.FutexWait.{FutexWait}
 use Rattle.futex_table.specs.FutexTables.{FoundOff, FutexTrailEnd, HasLoadedWord, IsFreshFutexWait, IsFutex}
 use Rattle.futex_table.specs.FutexTables.{futex_answer, futex_end, futex_head, futex_plan, futex_table, futex_word}
 use Rattle.futex_table.specs.FutexEnds.{EndsFutexWait, IsFutexCause, futex_answer_of, futex_end_in}
-use Rattle.futex_table.specs.declared.waits.FutexOutcome.{FutexOutcome}
 use Rattle.futex_table.specs.declared.waits.FutexOutcome.TheVariants as outcome
-use Rattle.futex_table.specs.declared.waits.FutexStage.{FutexStage}
 use Rattle.futex_table.specs.declared.waits.FutexStage.TheVariants as stage
-use Rattle.futex_table.specs.declared.waits.FutexWait.{FutexWait}
 
 -- a task that is idle, with its entry off, may begin
 pub begins_at : (k : Known) (r : Run FutexWait) → IsFutex r.of → IsTold k → IsUp k → IsIdle k → IsOut k

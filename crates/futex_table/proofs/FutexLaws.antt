@@ -7,33 +7,25 @@ use Rattle.wait_model.specs.declared.points.LeavePoint.TheVariants as leaving
 use Rattle.wait_model.specs.declared.points.Next.TheVariants as next
 use Rattle.wait_model.specs.declared.points.Point.TheVariants as at
 use Rattle.wait_model.specs.declared.points.PreparePoint.TheVariants as preparing
-use Rattle.wait_model.specs.declared.calls.Event.{Event}
+use Rattle.wait_model.specs.{declared.calls.Event.Event, declared.watches.Entry.Entry, Programs.go, Watches.number_of}
+use Rattle.wait_model.specs.Words.{entry_of}
+use Rattle.wait_model.specs.Tasks.{looks_in, pending, state_mask, task_of}
 use Rattle.wait_model.specs.declared.calls.Event.TheVariants as event
 use Rattle.wait_model.specs.declared.steps.Step.TheVariants as step
-use Rattle.wait_model.specs.declared.watches.Entry.{Entry}
-use Rattle.wait_model.specs.Programs.{go}
-use Rattle.wait_model.specs.Tasks.{looks_in, pending, state_mask, task_of}
-use Rattle.wait_model.specs.Watches.{number_of}
-use Rattle.wait_model.specs.Words.{entry_of}
-use Rattle.wait_rule.specs.HandedPermits.{OwesNoPermit}
-use Rattle.wait_rule.specs.Known.{Known}
-use Rattle.wait_rule.specs.Queues.{index}
-use Rattle.wait_rule.specs.Says.{history_of}
+use Rattle.wait_rule.specs.{HandedPermits.OwesNoPermit, Known.Known, Queues.index, Says.history_of}
 use Rattle.wq_head.proofs.PermitHeads.{owes_low}
 use Rattle.wait_class.specs.declared.stages.Turn.TheVariants as turn
 use Rattle.wait_class.specs.Laws.{Calm, GiveLaw, HeedLaw, IsLawfulCallTable, LawOf, LoadLaw, LockLaw, PareLaw, PeekLaw}
 use Rattle.wait_class.specs.Laws.{QueueLaw, UnlockLaw, mask_in}
-use Rattle.wait_class.proofs.Ground.Standing.{home_waits}
+use Rattle.wait_class.proofs.{Ground.Standing.home_waits, Stays.wait_stays}
 use Rattle.wait_class.proofs.Holds.{LockWay, draw_by, give_by, lock_by, lock_to, lock_way, pare_by, peek_by, queue_by}
 use Rattle.wait_class.proofs.Holds.{state_by, unlock_by}
-use Rattle.wait_class.proofs.Stays.{wait_stays}
 use Rattle.wait_class.proofs.Ways.{go_if, load_fork, sleep_by, way}
+use Rattle.futex_table.specs.{declared.waits.FutexStage.FutexStage, declared.waits.FutexWait.FutexWait}
 use Rattle.futex_table.specs.FutexTables.{FutexTrail, FutexTrailEnd, IsFutex, futex_depth, futex_doing, futex_head}
 use Rattle.futex_table.specs.FutexTables.{futex_loaded, futex_table, futex_word, leaves_first, slept_steps}
 use Rattle.futex_table.specs.declared.waits.FutexOutcome.TheVariants as outcome
-use Rattle.futex_table.specs.declared.waits.FutexStage.{FutexStage}
 use Rattle.futex_table.specs.declared.waits.FutexStage.TheVariants as stage
-use Rattle.futex_table.specs.declared.waits.FutexWait.{FutexWait}
 use Rattle.futex_table.proofs.FutexHeads.{futex_low}
 use Rattle.futex_table.proofs.FutexTrails.{ends_snoc, futex_rises, futex_still, gives_at_once, held_off, joins}
 use Rattle.futex_table.proofs.FutexTrails.{leaves_entry, left_by_more, left_more, loaded_more, loads, never_stays}

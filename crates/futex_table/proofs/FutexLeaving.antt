@@ -2,47 +2,36 @@
 use Rattle.std.proofs.Common.{◌∙◌, ap, refl, subst}
 use Rattle.std.specs.Prelude.{ℕ, ◌≡◌, Bool, true, false, is_some, None, Result, [], ◌∷◌}
 use Rattle.wait_model.specs.declared.points.FinishPoint.TheVariants as finishing
-use Rattle.wait_model.specs.declared.points.Point.{Point}
+use Rattle.wait_model.specs.{declared.points.Point.Point, declared.points.Seen.Seen}
+use Rattle.wait_model.specs.{declared.tasks.SleepState.SleepState, Tasks.state_mask}
 use Rattle.wait_model.specs.declared.points.Point.TheVariants as at
-use Rattle.wait_model.specs.declared.points.Seen.{Seen}
 use Rattle.wait_model.specs.declared.steps.Step.TheVariants as step
-use Rattle.wait_model.specs.declared.tasks.SleepState.{SleepState}
-use Rattle.wait_model.specs.Tasks.{state_mask}
-use Rattle.wait_rule.specs.Known.{Known}
+use Rattle.wait_rule.specs.{Known.Known, Stays.Carries}
 use Rattle.wait_rule.specs.Queues.{IsIdle, IsTold, index}
 use Rattle.wait_rule.specs.Says.{IsClean, IsUp, told_of}
-use Rattle.wait_rule.specs.Stays.{Carries}
-use Rattle.wait_class.specs.Posts.{IsOut, Keeps}
+use Rattle.wait_class.specs.{Posts.IsOut, Posts.Keeps, declared.stages.Run.Run, declared.stages.Turn.Turn}
+use Rattle.wait_class.specs.{Tables.IsEnded, Tables.Plan, Wholes.HasRested}
 use Rattle.wait_class.specs.declared.stages.Doing.TheVariants as doing
-use Rattle.wait_class.specs.declared.stages.Run.{Run}
-use Rattle.wait_class.specs.declared.stages.Turn.{Turn}
 use Rattle.wait_class.specs.declared.stages.Turn.TheVariants as turn
-use Rattle.wait_class.specs.Tables.{IsEnded, Plan}
-use Rattle.wait_class.specs.Wholes.{HasRested}
 use Rattle.wait_event.specs.Ends.{wait_change}
-use Rattle.wait_leave.specs.declared.exits.Until.{Until}
-use Rattle.wait_leave.specs.declared.exits.Until.TheVariants as until
-use Rattle.wait_leave.specs.ExitLaws.{AreLawfulExits, AwakeOn}
-use Rattle.wait_leave.specs.Leaves.{stays_awake, with_asked}
+use Rattle.wait_leave.specs.{declared.exits.Until.Until, ExitLaws.AreLawfulExits, ExitLaws.AwakeOn, Leaves.stays_awake}
+use Rattle.wait_leave.specs.Leaves.{with_asked}
 use Rattle.wait_leave.specs.OnTheWay.{IsOnWay, OnTheWay, left_at, straight}
+use Rattle.wait_leave.specs.declared.exits.Until.TheVariants as until
 use Rattle.wait_leave.proofs.ExitForms.{AskLaw, LawAt, either_awake, lawful_exits, out_at_once, out_rested}
 use Rattle.wait_leave.proofs.Ways.{way_as, way_asked, way_keeps, way_lands, way_makes, way_plan}
-use Rattle.futex_table.specs.declared.futexes.FutexEnd.{FutexEnd}
-use Rattle.futex_table.specs.declared.waits.FutexOutcome.{FutexOutcome}
-use Rattle.futex_table.specs.declared.waits.FutexOutcome.TheVariants as outcome
-use Rattle.futex_table.specs.declared.waits.FutexStage.{FutexStage}
-use Rattle.futex_table.specs.declared.waits.FutexStage.TheVariants as stage
-use Rattle.futex_table.specs.declared.waits.FutexWait.{FutexWait}
+use Rattle.futex_table.specs.{declared.futexes.FutexEnd.FutexEnd, declared.waits.FutexOutcome.FutexOutcome}
+use Rattle.futex_table.specs.{declared.waits.FutexStage.FutexStage, declared.waits.FutexWait.FutexWait}
+use Rattle.futex_table.specs.{Holding.StayHeld, Holding.holds_mutex}
 use Rattle.futex_table.specs.FutexLeaves.{EndsFutexUntil, IsFutexAwake, IsFutexLeftFor, IsFutexUntil, LeavesFutex}
 use Rattle.futex_table.specs.FutexLeaves.{futex_awake, futex_exit, futex_exits, futex_until_in}
 use Rattle.futex_table.specs.FutexTables.{FutexTrailEnd, HasLeftFutex, IsFreshFutexWait, futex_head, futex_table}
-use Rattle.futex_table.specs.Holding.{StayHeld, holds_mutex}
+use Rattle.futex_table.specs.declared.waits.FutexOutcome.TheVariants as outcome
+use Rattle.futex_table.specs.declared.waits.FutexStage.TheVariants as stage
 use Rattle.wait_event.proofs.Behind.{IsBehind, carried_behind, clean_behind, idle_behind, owes_behind}
+use Rattle.futex_table.proofs.{FutexLaws.futex_lawful, Mutexing.one_holds, WordSteps.futex_holds}
 use Rattle.futex_table.proofs.FutexEndings.{cause, first_is, over_behind, plain_is}
-use Rattle.futex_table.proofs.FutexLaws.{futex_lawful}
 use Rattle.futex_table.proofs.FutexTrails.{loaded_more, stands_from, stands_more}
-use Rattle.futex_table.proofs.Mutexing.{one_holds}
-use Rattle.futex_table.proofs.WordSteps.{futex_holds}
 
 -- the exits: in the hold of its load, before its sleep, and in the hold that takes its entry off
 asks_law : AskLaw futex_table futex_exits

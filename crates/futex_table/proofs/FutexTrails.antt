@@ -1,24 +1,13 @@
 -- What the history of a wait on a futex ends with, after more steps.
 use Rattle.std.proofs.Common.{◌∙◌, ap, sym, refl, subst, append_assoc, inl, inr}
 use Rattle.std.specs.Prelude.{ℕ, ◌≡◌, Bool, true, false, if◌then◌else◌, is_some, Option, None, List, [], ◌∷◌, ◌++◌}
-use Rattle.wait_model.specs.declared.steps.Step.{Step}
-use Rattle.wait_model.specs.declared.steps.Step.TheVariants as step
-use Rattle.wait_model.specs.declared.watches.Aim.{Aim}
-use Rattle.wait_model.specs.declared.watches.Entry.{Entry}
+use Rattle.wait_model.specs.{declared.steps.Step.Step, declared.watches.Aim.Aim, declared.watches.Entry.Entry}
+use Rattle.wait_model.specs.{Functions.put, Histories.Lacks, Views.View, Views.blank, Words.entry_of}
 use Rattle.wait_model.specs.Fold.{after, is_off, view_of}
-use Rattle.wait_model.specs.Functions.{put}
-use Rattle.wait_model.specs.Histories.{Lacks}
-use Rattle.wait_model.specs.Views.{View, blank}
-use Rattle.wait_model.specs.Words.{entry_of}
-use Rattle.wait_model.proofs.Functions.{put_same}
-use Rattle.wait_model.proofs.HistoryLaws.HoldLooks.{after_snoc}
-use Rattle.wait_model.proofs.HistoryLaws.Stretches.{lacks_append}
-use Rattle.wait_rule.specs.declared.journal.Item.{Item}
-use Rattle.wait_rule.specs.Items.{steps_of}
-use Rattle.wait_rule.specs.Known.{Known}
-use Rattle.wait_rule.specs.Queues.{index}
-use Rattle.wait_rule.specs.Says.{history_of, told_of}
-use Rattle.wait_rule.specs.Transitions.{AreLooks, OnlyLooks}
+use Rattle.wait_model.specs.declared.steps.Step.TheVariants as step
+use Rattle.wait_model.proofs.{Functions.put_same, HistoryLaws.HoldLooks.after_snoc, HistoryLaws.Stretches.lacks_append}
+use Rattle.wait_rule.specs.{declared.journal.Item.Item, Items.steps_of, Known.Known, Queues.index, Says.history_of}
+use Rattle.wait_rule.specs.{Says.told_of, Transitions.AreLooks, Transitions.OnlyLooks}
 use Rattle.wait_class.specs.Posts.{EndsWith, IsOut, own_of}
 use Rattle.wait_class.specs.Laws.{Calm, HasJoined, Unmoved, moves_entries}
 use Rattle.wait_class.proofs.Histories.{ends_calm, ends_still, stored_history, unmoved_by}

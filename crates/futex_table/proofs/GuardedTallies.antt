@@ -2,27 +2,22 @@
 use Rattle.std.proofs.Common.{◌∙◌, ap, refl, sym, subst, arith, inl, inr}
 use Rattle.std.proofs.lemmas.Bool.Decides.{eqb_tells, nat_tests}
 use Rattle.std.specs.Prelude.{ℕ, ◌+◌, ◌%◌, ◌^◌, ◌<◌, ◌≡◌, ◌≢◌, ◌⊎◌, ◌==◌, ◌&&◌, ◌||◌, not, Bool, true, false, Option, Some, None, List, [], ◌∷◌, ◌++◌}
-use Rattle.wait_model.specs.declared.layout.TheConstants.{TASKS}
-use Rattle.wait_model.specs.declared.steps.Step.{Step}
+use Rattle.wait_model.specs.{declared.layout.TheConstants.TASKS, declared.steps.Step.Step, Functions.put, Words.flag}
+use Rattle.wait_model.specs.Totals.{total}
+use Rattle.wait_model.specs.Tables.{Table, next, start}
 use Rattle.wait_model.specs.declared.steps.Step.TheVariants as step
 use Rattle.wait_model.specs.declared.watches.Watch.TheVariants as watch
-use Rattle.wait_model.specs.Functions.{put}
-use Rattle.wait_model.specs.Tables.{Table, next, start}
-use Rattle.wait_model.specs.Words.{flag}
 use Rattle.wait_model.proofs.Functions.{put_other, put_same}
 use Rattle.wait_model.proofs.HistoryLaws.StepTotals.{sum_same, sum_zero, total_grown}
-use Rattle.wait_model.specs.Totals.{total}
+use Rattle.wait_rule.specs.{Setters.step_by, TableLaws.histories_in}
 use Rattle.wait_rule.specs.Interleavings.{AreAllowed, TaskStep, table_of}
-use Rattle.wait_rule.specs.Setters.{step_by}
-use Rattle.wait_rule.specs.TableLaws.{histories_in}
 use Rattle.futex_table.specs.GuardedTallies.{AllCountAdds, AllReadAdds, AllUseTally, AreTallySteps, CountsAdds}
 use Rattle.futex_table.specs.GuardedTallies.{IsTallyStep, RuleCountsAdds, StepsCountAdds, UsesTally, adds_in}
 use Rattle.futex_table.specs.GuardedTallies.{opens_after, tally_adds}
 use Rattle.futex_table.specs.GuardedWords.{IsGuardedStep, IsGuardedWord, read_after, read_from, read_in}
 use Rattle.futex_table.specs.Holding.{holds_after, holds_from, holds_in}
 use Rattle.futex_table.specs.OneHolder.{AreUnopened, IsMutexStep, stores_word}
-use Rattle.futex_table.proofs.GuardedWords.{holds_if, steps_keep_read}
-use Rattle.futex_table.proofs.Holders.{shut}
+use Rattle.futex_table.proofs.{GuardedWords.holds_if, GuardedWords.steps_keep_read, Holders.shut}
 
 -- whether a task has still to open the mutex
 abbrev pub opens_from : ℕ → List Step → Bool → Bool

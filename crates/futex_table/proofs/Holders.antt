@@ -2,14 +2,10 @@
 use Rattle.std.proofs.Common.{◌∙◌, ap, refl, sym, subst, arith, inl, inr}
 use Rattle.std.proofs.lemmas.Bool.Decides.{eqb_tells, nat_tests}
 use Rattle.std.specs.Prelude.{ℕ, zero, suc, ◌+◌, ◌<◌, ◌≤◌, ◌≡◌, ◌≢◌, ◌⊎◌, ◌==◌, ◌||◌, not, eqb, Bool, true, false, if◌then◌else◌, List, [], ◌∷◌, ◌++◌}
-use Rattle.wait_model.specs.declared.layout.TheConstants.{TASKS}
-use Rattle.wait_model.specs.declared.steps.Step.{Step}
+use Rattle.wait_model.specs.{declared.layout.TheConstants.TASKS, declared.steps.Step.Step, Functions.put, Rows.Allowed}
+use Rattle.wait_model.specs.{Tables.Table, Tables.next, Words.flag}
 use Rattle.wait_model.specs.declared.steps.Step.TheVariants as step
 use Rattle.wait_model.specs.declared.watches.Watch.TheVariants as watch
-use Rattle.wait_model.specs.Functions.{put}
-use Rattle.wait_model.specs.Rows.{Allowed}
-use Rattle.wait_model.specs.Tables.{Table, next}
-use Rattle.wait_model.specs.Words.{flag}
 use Rattle.wait_model.proofs.Functions.{put_other, put_same}
 use Rattle.wait_rule.specs.Interleavings.{AreAllowed, TaskStep, table_of}
 use Rattle.wait_rule.specs.Setters.{step_by}

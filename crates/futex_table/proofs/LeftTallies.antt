@@ -6,21 +6,15 @@ use Rattle.wait_model.specs.declared.tasks.SleepState.{SleepState}
 use Rattle.wait_rule.specs.declared.journal.Item.TheVariants as item
 use Rattle.wait_rule.specs.Known.{Known}
 use Rattle.wait_rule.proofs.KnownLaws.TaskHistories.{history_after}
-use Rattle.wait_class.specs.declared.stages.Run.{Run}
-use Rattle.wait_class.specs.declared.stages.Turn.{Turn}
+use Rattle.wait_class.specs.{declared.stages.Run.Run, declared.stages.Turn.Turn, Wholes.HasRested}
 use Rattle.wait_class.specs.declared.stages.Turn.TheVariants as turn
-use Rattle.wait_class.specs.Wholes.{HasRested}
-use Rattle.wait_leave.specs.declared.exits.Until.{Until}
-use Rattle.wait_leave.specs.Leaves.{GoesOut, asked_run}
+use Rattle.wait_leave.specs.{declared.exits.Until.Until, Leaves.GoesOut, Leaves.asked_run}
 use Rattle.wait_leave.specs.OnTheWay.{OnTheWay, left_at, straight}
-use Rattle.futex_table.specs.declared.futexes.FutexEnd.{FutexEnd}
-use Rattle.futex_table.specs.declared.waits.FutexOutcome.{FutexOutcome}
-use Rattle.futex_table.specs.declared.waits.FutexStage.{FutexStage}
+use Rattle.futex_table.specs.{declared.futexes.FutexEnd.FutexEnd, declared.waits.FutexOutcome.FutexOutcome}
+use Rattle.futex_table.specs.{declared.waits.FutexStage.FutexStage, declared.waits.FutexWait.FutexWait}
+use Rattle.futex_table.specs.{FutexLeaves.EndsFutexUntil, FutexLeaves.futex_exits, FutexTables.futex_table}
+use Rattle.futex_table.specs.{TallyUses.AddsToTally, TallyUses.LeavesTallies}
 use Rattle.futex_table.specs.declared.waits.FutexStage.TheVariants as stage
-use Rattle.futex_table.specs.declared.waits.FutexWait.{FutexWait}
-use Rattle.futex_table.specs.FutexLeaves.{EndsFutexUntil, futex_exits}
-use Rattle.futex_table.specs.FutexTables.{futex_table}
-use Rattle.futex_table.specs.TallyUses.{AddsToTally, LeavesTallies}
 use Rattle.futex_table.proofs.Tallying.{adds_none, adds_on, futex_adds, grows_one, one_adds}
 
 module _ (m c : ℕ) where

@@ -2,17 +2,13 @@
 use Rattle.std.proofs.Common.{◌∙◌, ap, refl, sym, subst}
 use Rattle.std.specs.Prelude.{ℕ, suc, ◌≡◌, ◌||◌, Bool, false, Option, Some, None, Result, Ok, Err}
 use Rattle.wait_model.specs.declared.tasks.SleepState.TheVariants as states
-use Rattle.wait_rule.specs.Known.{Known}
-use Rattle.wait_rule.specs.Queues.{IsIdle, index}
-use Rattle.wait_rule.specs.Says.{IsUp}
-use Rattle.wait_rule.specs.Stays.{Carries, unchanged}
+use Rattle.wait_rule.specs.{Known.Known, Queues.IsIdle, Queues.index, Says.IsUp, Stays.Carries, Stays.unchanged}
 use Rattle.wq_head.specs.declared.adds.Worn.{Worn}
 use Rattle.wait_class.specs.Posts.{IsOut}
 use Rattle.wait_event.specs.Ends.{wait_change}
 use Rattle.wait_leave.specs.declared.exits.Until.{Until}
 use Rattle.wait_leave.specs.declared.exits.Until.TheVariants as until
-use Rattle.futex_table.specs.declared.futexes.FutexEnd.{FutexEnd}
-use Rattle.futex_table.specs.FutexLeaves.{EndsFutexUntil}
+use Rattle.futex_table.specs.{declared.futexes.FutexEnd.FutexEnd, FutexLeaves.EndsFutexUntil}
 use Rattle.futex_table.specs.Holding.{OthersStayHeld, StayHeld, holds_mutex}
 use Rattle.futex_table.specs.LockLeaves.{AsksRound, HasAskedRounds, LocksMutexUntil, cond_until_answer, is_held_until}
 use Rattle.futex_table.specs.LockLeaves.{is_locked_until, round_end, worn_until}

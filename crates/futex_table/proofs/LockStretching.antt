@@ -3,49 +3,39 @@ use Rattle.std.proofs.Common.{◌∙◌, ap, refl, sym, subst}
 use Rattle.std.specs.Prelude.{ℕ, zero, suc, ◌≡◌, ◌||◌, Bool, true, false, Option, Some, None, MatchBool, Result, Ok, Err, [], ◌∷◌}
 use Rattle.wait_model.specs.declared.tasks.SleepState.{SleepState}
 use Rattle.wait_model.specs.declared.tasks.SleepState.TheVariants as states
-use Rattle.wait_rule.specs.Known.{Known}
-use Rattle.wait_rule.specs.Queues.{IsIdle, index}
+use Rattle.wait_rule.specs.{Known.Known, Queues.IsIdle, Queues.index, Says.IsUp, Says.added, Stays.Carries}
+use Rattle.wait_rule.specs.Stays.{unchanged}
 use Rattle.wait_rule.specs.declared.journal.Item.TheVariants as item
-use Rattle.wait_rule.specs.Says.{IsUp, added}
-use Rattle.wait_rule.specs.Stays.{Carries, unchanged}
 use Rattle.wq_head.specs.declared.adds.Worn.{Worn}
-use Rattle.wait_class.specs.Posts.{IsOut}
+use Rattle.wait_class.specs.{Posts.IsOut, declared.stages.Run.Run}
 use Rattle.wait_class.specs.Tables.{Advances, IsStop, Lands, SleepsNot, ticket_at}
-use Rattle.wait_class.specs.declared.stages.Run.{Run}
 use Rattle.wait_class.specs.declared.stages.Turn.TheVariants as turn
-use Rattle.wait_class.proofs.AwakeSteps.{only_awake, sleeps_not_on}
-use Rattle.wait_class.proofs.Turns.{free_head}
-use Rattle.wait_class.proofs.UnderWay.{woke_on}
+use Rattle.wait_class.proofs.{AwakeSteps.only_awake, AwakeSteps.sleeps_not_on, Turns.free_head, UnderWay.woke_on}
 use Rattle.wait_event.specs.Ends.{wait_change}
 use Rattle.wait_leave.specs.declared.exits.Until.{Until}
 use Rattle.wait_leave.specs.declared.exits.Until.TheVariants as until
 use Rattle.wait_leave.specs.Leaves.{GoesOut, Leaves, asked_run}
 use Rattle.wait_leave.specs.OnTheWay.{OnTheWay, left_at, straight}
 use Rattle.wait_leave.proofs.Ways.{way_again, way_as, way_lands, way_risen, way_then}
-use Rattle.futex_table.specs.declared.futexes.FutexEnd.{FutexEnd}
-use Rattle.futex_table.specs.declared.lock_stretches.LockStage.{LockStage}
-use Rattle.futex_table.specs.declared.waits.FutexOutcome.{FutexOutcome}
-use Rattle.futex_table.specs.declared.waits.FutexOutcome.TheVariants as outcome
-use Rattle.futex_table.specs.declared.waits.FutexStage.{FutexStage}
-use Rattle.futex_table.specs.declared.waits.FutexStage.TheVariants as stage
-use Rattle.futex_table.specs.declared.waits.FutexWait.{FutexWait}
-use Rattle.futex_table.specs.FutexEnds.{EndsFutexWait, futex_end_in}
+use Rattle.futex_table.specs.{declared.futexes.FutexEnd.FutexEnd, declared.lock_stretches.LockStage.LockStage}
+use Rattle.futex_table.specs.{declared.waits.FutexOutcome.FutexOutcome, declared.waits.FutexStage.FutexStage}
+use Rattle.futex_table.specs.{declared.waits.FutexWait.FutexWait, FutexEnds.EndsFutexWait, FutexEnds.futex_end_in}
+use Rattle.futex_table.specs.{FutexTables.futex_point, FutexTables.futex_table, TallyUses.LeavesTallies}
 use Rattle.futex_table.specs.FutexLeaves.{EndsFutexUntil, futex_exits, futex_until_in}
-use Rattle.futex_table.specs.FutexTables.{futex_point, futex_table}
 use Rattle.futex_table.specs.Holding.{OthersStayHeld, StayHeld, holds_mutex}
 use Rattle.futex_table.specs.LockLeaves.{AsksRound, AsksRounds, HasAskedRounds, LocksMutexUntil, is_locked_until}
 use Rattle.futex_table.specs.LockLeaves.{round_end, worn_until}
-use Rattle.futex_table.specs.LockStretches.{AskedIf, IsInRound, IsLockAsleep, IsLockAt, IsLockUnderWay, IsMutexLocking, LeavesLock, FutexWaitTurn, ended_to, waited_to}
+use Rattle.futex_table.specs.LockStretches.{AskedIf, IsInRound, IsLockAsleep, IsLockAt, IsLockUnderWay, IsMutexLocking}
+use Rattle.futex_table.specs.LockStretches.{LeavesLock, FutexWaitTurn, ended_to, waited_to}
 use Rattle.futex_table.specs.Mutexes.{HasWaitedRounds, LocksMutex, WaitsRound, WaitsRounds, worn_in}
-use Rattle.futex_table.specs.TallyUses.{LeavesTallies}
-use Rattle.futex_table.proofs.FutexEndings.{ends_futex}
-use Rattle.futex_table.proofs.FutexLaws.{futex_lawful}
-use Rattle.futex_table.proofs.FutexLeaving.{ends_until, futex_may_leave, until_as, left_carried, left_held}
-use Rattle.futex_table.proofs.FutexLeaving.{left_idle, left_out, left_up}
-use Rattle.futex_table.proofs.LeftTallies.{until_leaves}
-use Rattle.futex_table.proofs.LockLeaving.{locks_by, round_unlocks}
+use Rattle.futex_table.specs.declared.waits.FutexOutcome.TheVariants as outcome
+use Rattle.futex_table.specs.declared.waits.FutexStage.TheVariants as stage
+use Rattle.futex_table.proofs.{FutexEndings.ends_futex, FutexLaws.futex_lawful, LeftTallies.until_leaves}
+use Rattle.futex_table.proofs.{LockLeaving.locks_by, LockLeaving.round_unlocks, Tallying.leaves_none}
+use Rattle.futex_table.proofs.Tallying.{leaves_on}
+use Rattle.futex_table.proofs.FutexLeaving.{ends_until, futex_may_leave, until_as, left_carried, left_held, left_idle}
+use Rattle.futex_table.proofs.FutexLeaving.{left_out, left_up}
 use Rattle.futex_table.proofs.Mutexing.{out_still, still_waits, waits_on}
-use Rattle.futex_table.proofs.Tallying.{leaves_none, leaves_on}
 
 or_none : (b : Bool) → (b || false) ≡ b
 or_none true = refl

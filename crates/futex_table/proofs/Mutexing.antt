@@ -6,27 +6,20 @@ use Rattle.wait_model.specs.declared.points.Next.TheVariants as next
 use Rattle.wait_model.specs.declared.points.Point.TheVariants as at
 use Rattle.wait_model.specs.declared.points.WalkPoint.TheVariants as walking
 use Rattle.wait_model.specs.declared.calls.Answer.TheVariants as answer
-use Rattle.wait_model.specs.declared.queues.Walked.{Walked}
-use Rattle.wait_model.specs.declared.steps.Step.{Step}
+use Rattle.wait_model.specs.{declared.queues.Walked.Walked, declared.steps.Step.Step, declared.watches.Aim.Aim}
 use Rattle.wait_model.specs.declared.steps.Step.TheVariants as step
 use Rattle.wait_model.specs.declared.tasks.SleepState.TheVariants as states
-use Rattle.wait_model.specs.declared.watches.Aim.{Aim}
 use Rattle.wait_model.specs.declared.watches.Watch.TheVariants as watch
 use Rattle.wait_rule.specs.declared.journal.Item.TheVariants as item
-use Rattle.wait_rule.specs.Known.{Known}
-use Rattle.wait_rule.specs.Queues.{IsIdle, index}
+use Rattle.wait_rule.specs.{Known.Known, Queues.IsIdle, Queues.index, Stays.Carries, Stays.unchanged}
 use Rattle.wait_rule.specs.Says.{IsUp, added, history_of}
-use Rattle.wait_rule.specs.Stays.{Carries, unchanged}
-use Rattle.wait_rule.proofs.KnownLaws.TaskHistories.{history_after}
-use Rattle.wait_rule.proofs.KnownLaws.CarriedTasks.{unchanged_none}
-use Rattle.wq_head.specs.declared.adds.Worn.{Worn}
-use Rattle.wq_head.specs.Walks.{HasWoken}
+use Rattle.wait_rule.proofs.{KnownLaws.TaskHistories.history_after, KnownLaws.CarriedTasks.unchanged_none}
+use Rattle.wq_head.specs.{declared.adds.Worn.Worn, Walks.HasWoken}
 use Rattle.wait_class.specs.Posts.{IsOut}
 use Rattle.wait_event.specs.Ends.{wait_change}
 use Rattle.wait_event.proofs.Changes.{carried_on, carried_wider, idle_on, out_on}
 use Rattle.wait_event.proofs.Setting.{takes}
-use Rattle.futex_table.specs.declared.futexes.FutexEnd.{FutexEnd}
-use Rattle.futex_table.specs.FutexEnds.{EndsFutexWait}
+use Rattle.futex_table.specs.{declared.futexes.FutexEnd.FutexEnd, FutexEnds.EndsFutexWait}
 use Rattle.futex_table.specs.Holding.{HoldsMutex, OthersStayHeld, StayHeld, holds_after, holds_in, holds_mutex}
 use Rattle.futex_table.specs.Mutexes.{HasTriedMutex, HasWaitedRounds, LocksMutex, WaitsRound, worn_in}
 use Rattle.futex_table.proofs.WordSteps.{holds_on, walk_holds}

@@ -2,37 +2,27 @@
 use Rattle.std.proofs.Common.{◌∙◌, ap, append_assoc, arith, inl, inr, refl, subst, sym}
 use Rattle.std.proofs.lemmas.Bool.Decides.{eqb_tells, nat_tests}
 use Rattle.std.specs.Prelude.{ℕ, ◌≡◌, ◌≢◌, ◌⊎◌, ◌==◌, eqb, true, false, List, [], ◌∷◌, ◌++◌}
-use Rattle.wait_model.specs.declared.steps.Step.{Step}
+use Rattle.wait_model.specs.{declared.steps.Step.Step, Rows.Allowed, Tables.Table, Views.blank, Watches.head_of}
+use Rattle.wait_model.specs.Watches.{mask_of}
+use Rattle.wait_model.specs.Histories.{Lacks, is_publish, publishes}
+use Rattle.wait_model.specs.Tasks.{IsState, meets, state_mask}
 use Rattle.wait_model.specs.declared.steps.Step.TheVariants as step
 use Rattle.wait_model.specs.declared.watches.Mode.TheVariants as mode
-use Rattle.wait_model.specs.Histories.{Lacks, is_publish, publishes}
-use Rattle.wait_model.specs.Rows.{Allowed}
-use Rattle.wait_model.specs.Tables.{Table}
-use Rattle.wait_model.specs.Tasks.{IsState, meets, state_mask}
-use Rattle.wait_model.specs.Views.{blank}
-use Rattle.wait_model.specs.Watches.{head_of, mask_of}
 use Rattle.wait_model.proofs.Functions.{put_other, put_same}
 use Rattle.wait_model.proofs.HistoryLaws.Stretches.{lacks_append, lacks_left, lacks_right}
+use Rattle.wait_rule.specs.{Items.steps_of, Known.Known, Queues.index, Says.history_of, Setters.step_by}
 use Rattle.wait_rule.specs.Interleavings.{AreAllowed, TaskStep, table_of}
-use Rattle.wait_rule.specs.Items.{steps_of}
-use Rattle.wait_rule.specs.Known.{Known}
-use Rattle.wait_rule.specs.Queues.{index}
-use Rattle.wait_rule.specs.Says.{history_of}
-use Rattle.wait_rule.specs.Setters.{step_by}
 use Rattle.order_laws.specs.TakenOff.{AllTakeOffWoken, IsLeftQueued}
 use Rattle.order_laws.proofs.QueuedOrders.{LastOf, last_of, still_queued}
-use Rattle.wait_class.specs.declared.stages.Run.{Run}
-use Rattle.wait_class.specs.Tables.{IsAsleepAt}
+use Rattle.wait_class.specs.{declared.stages.Run.Run, Tables.IsAsleepAt}
 use Rattle.wait_class.proofs.Ground.Standing.{owner_own}
+use Rattle.futex_table.specs.{Sleepers.SleepsByValue, declared.waits.FutexStage.FutexStage}
+use Rattle.futex_table.specs.declared.waits.FutexWait.{FutexWait}
 use Rattle.futex_table.specs.FutexTables.{AreSaws, futex_head, futex_table, futex_word, slept_steps}
-use Rattle.futex_table.specs.Sleepers.{SleepsByValue}
 use Rattle.futex_table.specs.StaleSleepers.{HasWokenStale, IsOther, RuleLeavesNobody, SleepsFor, StaysOther}
 use Rattle.futex_table.specs.StaleSleepers.{StepsLeaveNobody}
-use Rattle.futex_table.specs.declared.waits.FutexStage.{FutexStage}
-use Rattle.futex_table.specs.declared.waits.FutexWait.{FutexWait}
-use Rattle.futex_table.proofs.FutexAdds.{kind_is}
+use Rattle.futex_table.proofs.{FutexAdds.kind_is, Staling.in_hold, Staling.steps_leave_no_stale}
 use Rattle.futex_table.proofs.Sleeping.{saws_turn, sleepers_queued, sleeps_for}
-use Rattle.futex_table.proofs.Staling.{in_hold, steps_leave_no_stale}
 
 -- looks are no stores
 saws_publish : (es : List Step) → AreSaws es → Lacks is_publish es

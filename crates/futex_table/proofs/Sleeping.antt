@@ -1,28 +1,20 @@
 -- Who sleeps on a futex queued its entry in a hold in which it had loaded the expected value.
 use Rattle.std.proofs.Common.{◌∙◌, ap, append_assoc, refl, subst, sym}
 use Rattle.std.specs.Prelude.{◌≡◌, ◌≢◌, true, false, Some, List, [], ◌∷◌, ◌++◌}
-use Rattle.wait_model.specs.declared.steps.Step.{Step}
+use Rattle.wait_model.specs.{declared.steps.Step.Step, declared.watches.Entry.Entry, Histories.Lacks}
+use Rattle.wait_model.specs.{Histories.turns_lock, Tables.Table, Tasks.state_mask}
 use Rattle.wait_model.specs.declared.steps.Step.TheVariants as step
-use Rattle.wait_model.specs.declared.watches.Entry.{Entry}
 use Rattle.wait_model.specs.declared.watches.Kind.TheVariants as kinds
-use Rattle.wait_model.specs.Histories.{Lacks, turns_lock}
-use Rattle.wait_model.specs.Tables.{Table}
-use Rattle.wait_model.specs.Tasks.{state_mask}
 use Rattle.wait_model.proofs.HistoryLaws.Stretches.{lacks_append}
-use Rattle.wait_rule.specs.Items.{steps_of}
-use Rattle.wait_rule.specs.Known.{Known}
-use Rattle.wait_rule.specs.Queues.{index}
-use Rattle.wait_rule.specs.Says.{history_of}
-use Rattle.wait_class.specs.declared.stages.Run.{Run}
-use Rattle.wait_class.specs.Tables.{IsAsleepAt}
+use Rattle.wait_rule.specs.{Items.steps_of, Known.Known, Queues.index, Says.history_of}
+use Rattle.wait_class.specs.{declared.stages.Run.Run, Tables.IsAsleepAt}
 use Rattle.wait_class.proofs.Ground.Standing.{owner_own}
+use Rattle.futex_table.specs.{StaleSleepers.SleepersSleepFor, StaleSleepers.SleepsFor}
+use Rattle.futex_table.specs.{declared.waits.FutexStage.FutexStage, declared.waits.FutexWait.FutexWait}
 use Rattle.futex_table.specs.FutexTables.{AreSaws, FutexTrail, SleptByValue, futex_head, futex_table, futex_word}
 use Rattle.futex_table.specs.FutexTables.{is_behind_futex_sleep}
-use Rattle.futex_table.specs.StaleSleepers.{SleepersSleepFor, SleepsFor}
 use Rattle.futex_table.specs.Sleepers.{RuleQueuedByValue, SleepersQueuedByValue, SleepsByValue, StretchesQueuedByValue}
-use Rattle.futex_table.specs.declared.waits.FutexStage.{FutexStage}
 use Rattle.futex_table.specs.declared.waits.FutexStage.TheVariants as stage
-use Rattle.futex_table.specs.declared.waits.FutexWait.{FutexWait}
 
 slept_there : (k : Known) (r : FutexWait) (s : FutexStage) → is_behind_futex_sleep s ≡ true → FutexTrail k r s
     → SleptByValue k r

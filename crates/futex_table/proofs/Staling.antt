@@ -2,33 +2,25 @@
 use Rattle.std.proofs.Common.{◌∙◌, ap, refl, sym, subst, append_assoc, arith, inl, inr}
 use Rattle.std.proofs.lemmas.Bool.Decides.{eqb_tells, nat_tests}
 use Rattle.std.specs.Prelude.{ℕ, ◌≡◌, ◌≢◌, ◌≤◌, ◌⊎◌, ◌==◌, ◌&&◌, ◌||◌, not, nat_le, eqb, Bool, true, false, if◌then◌else◌, Option, Some, None, List, [], ◌∷◌, ◌++◌}
-use Rattle.wait_model.specs.declared.steps.Step.{Step}
-use Rattle.wait_model.specs.declared.steps.Step.TheVariants as step
-use Rattle.wait_model.specs.declared.tasks.TaskRecord.{TaskRecord}
-use Rattle.wait_model.specs.declared.watches.Aim.{Aim}
-use Rattle.wait_model.specs.declared.watches.Entry.{Entry}
-use Rattle.wait_model.specs.declared.watches.Kind.{Kind}
-use Rattle.wait_model.specs.declared.watches.Kind.TheVariants as kinds
-use Rattle.wait_model.specs.declared.watches.Watch.{Watch}
-use Rattle.wait_model.specs.declared.watches.Watch.TheVariants as watch
-use Rattle.wait_model.specs.Facts.{Facts, Kept}
-use Rattle.wait_model.specs.Fold.{after, after_all, after_unlock, begun, finds_bit_set, hits, is_for_page, paused, view_of}
-use Rattle.wait_model.specs.Functions.{put}
+use Rattle.wait_model.specs.{declared.steps.Step.Step, declared.tasks.TaskRecord.TaskRecord, declared.watches.Aim.Aim}
+use Rattle.wait_model.specs.{declared.watches.Entry.Entry, declared.watches.Kind.Kind, declared.watches.Watch.Watch}
+use Rattle.wait_model.specs.{Facts.Facts, Facts.Kept, Functions.put, Rows.Allowed, Tables.Table, Tables.next}
+use Rattle.wait_model.specs.Fold.{after, after_all, after_unlock, begun, finds_bit_set, hits, is_for_page, paused}
+use Rattle.wait_model.specs.Fold.{view_of}
 use Rattle.wait_model.specs.Histories.{Lacks, publishes, turns_lock}
-use Rattle.wait_model.specs.Rows.{Allowed}
-use Rattle.wait_model.specs.Tables.{Table, next}
 use Rattle.wait_model.specs.Tasks.{meets, pending, raised, slept}
 use Rattle.wait_model.specs.Views.{Hold, View, Walk, all_passed, blank, concerns, gone, no_hold}
 use Rattle.wait_model.specs.Watches.{failing, head_of, is_bit, is_page, is_simple, is_woken, mask_of, owner, page, same}
+use Rattle.wait_model.specs.declared.steps.Step.TheVariants as step
+use Rattle.wait_model.specs.declared.watches.Kind.TheVariants as kinds
+use Rattle.wait_model.specs.declared.watches.Watch.TheVariants as watch
+use Rattle.wait_model.proofs.{HistoryLaws.Stretches.lacks_left, HistoryLaws.Stretches.lacks_right}
+use Rattle.wait_model.proofs.{StepLaws.KeptLaws.step_keeps, StepLaws.UnlockSteps.not_whole}
+use Rattle.wait_model.proofs.{StepLaws.UnlockSteps.unlock_hold, StepLaws.WakeSteps.wake_state}
 use Rattle.wait_model.proofs.Functions.{both_left, both_right, put_at, put_other, put_same}
-use Rattle.wait_model.proofs.HistoryLaws.Stretches.{lacks_left, lacks_right}
-use Rattle.wait_model.proofs.StepLaws.KeptLaws.{step_keeps}
-use Rattle.wait_model.proofs.StepLaws.UnlockSteps.{not_whole, unlock_hold}
-use Rattle.wait_model.proofs.StepLaws.WakeSteps.{wake_state}
 use Rattle.wait_rule.specs.Interleavings.{AreAllowed, TaskStep, table_of}
 use Rattle.wait_rule.specs.Setters.{step_by}
-use Rattle.wait_rule.proofs.KnownLaws.Moments.{kept_of, views_of}
-use Rattle.wait_rule.proofs.KnownLaws.SetterSteps.{anew_before}
+use Rattle.wait_rule.proofs.{KnownLaws.Moments.kept_of, KnownLaws.Moments.views_of, KnownLaws.SetterSteps.anew_before}
 use Rattle.futex_table.specs.FutexTables.{futex_head, futex_word}
 use Rattle.futex_table.specs.StaleSleepers.{HasPassedEntries, IsOther, RuleLeavesNoStale, SleepsFor, StaysOther}
 use Rattle.futex_table.specs.StaleSleepers.{StepsLeaveNoStale, is_unsteady}

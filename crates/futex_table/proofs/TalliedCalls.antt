@@ -1,21 +1,14 @@
 -- What calls leave of what is known of a tally.
 use Rattle.std.proofs.Common.{ap, sym, subst, arith}
 use Rattle.std.specs.Prelude.{ℕ, ◌+◌, ◌-◌, ◌≡◌, ◌≤◌, ◌==◌, true, IfOk, Result, Ok, Err, List, ◌++◌}
-use Rattle.wait_model.specs.declared.layout.TheConstants.{TASKS}
+use Rattle.wait_model.specs.{declared.layout.TheConstants.TASKS, Histories.Lacks, Totals.total}
 use Rattle.wait_model.specs.declared.steps.Step.TheVariants as step
 use Rattle.wait_model.specs.declared.watches.Watch.TheVariants as watch
-use Rattle.wait_model.specs.Histories.{Lacks}
-use Rattle.wait_model.specs.Totals.{total}
-use Rattle.wait_rule.specs.declared.journal.Item.{Item}
-use Rattle.wait_rule.specs.declared.journal.Item.TheVariants as item
-use Rattle.wait_rule.specs.declared.journal.Journal.{Journal}
-use Rattle.wait_rule.specs.Aside.{Grows}
-use Rattle.wait_rule.specs.Items.{steps_of}
-use Rattle.wait_rule.specs.Journals.{joined_with, left_with}
-use Rattle.wait_rule.specs.Known.{Known}
+use Rattle.wait_rule.specs.{declared.journal.Item.Item, declared.journal.Journal.Journal, Aside.Grows, Items.steps_of}
+use Rattle.wait_rule.specs.{Journals.joined_with, Journals.left_with, Known.Known}
 use Rattle.wait_rule.specs.Says.{IsShown, added, history_of, newcomer, seen_with}
-use Rattle.futex_table.specs.GuardedTallies.{UsesTally, tally_adds}
-use Rattle.futex_table.specs.Holding.{HoldsMutex}
+use Rattle.wait_rule.specs.declared.journal.Item.TheVariants as item
+use Rattle.futex_table.specs.{GuardedTallies.UsesTally, GuardedTallies.tally_adds, Holding.HoldsMutex}
 use Rattle.futex_table.specs.OneHolder.{stores_word}
 use Rattle.futex_table.specs.TalliedTasks.{CountsAdd, CutOffTallied, HasReadTally, HasTallied, JoinsTallied}
 use Rattle.futex_table.specs.TalliedTasks.{LeftTallied, ReadsAllAdds, StartsTallies, StayTallied, StayTalliedApart}

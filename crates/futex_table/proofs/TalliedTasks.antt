@@ -3,23 +3,18 @@ use Rattle.std.proofs.Common.{◌∙◌, ap, refl, sym, subst, arith, inl, inr, 
 use Rattle.std.proofs.lemmas.Bool.{leb-false, ltb-false}
 use Rattle.std.proofs.lemmas.Bool.Decides.{eqb_tells}
 use Rattle.std.specs.Prelude.{ℕ, zero, suc, ◌+◌, ◌-◌, ◌%◌, ◌^◌, ◌<◌, ◌≤◌, ◌≡◌, ◌≢◌, ◌⊎◌, ◌==◌, ◌&&◌, Bool, true, false, cond, eqb, ltb, leb, Some, List, [], ◌∷◌, ◌++◌}
-use Rattle.wait_model.specs.declared.layout.TheConstants.{TASKS}
-use Rattle.wait_model.specs.declared.steps.Step.{Step}
-use Rattle.wait_model.specs.Totals.{sum_below, total}
-use Rattle.wait_model.specs.Words.{flag}
+use Rattle.wait_model.specs.{declared.layout.TheConstants.TASKS, declared.steps.Step.Step, Totals.sum_below}
+use Rattle.wait_model.specs.{Totals.total, Words.flag}
 use Rattle.wait_model.proofs.HistoryLaws.StepTotals.{sum_grown, sum_same, sum_zero}
-use Rattle.wait_rule.specs.declared.journal.Item.{Item}
-use Rattle.wait_rule.specs.declared.journal.Journal.{Journal}
-use Rattle.wait_rule.specs.Items.{steps_of}
-use Rattle.wait_rule.specs.Journals.{fresh, handed_over, has_of, items_in, joined_with, left_with, one_within, owns, part_in, pushed, times_in}
-use Rattle.wait_rule.specs.Says.{IsShown}
-use Rattle.wait_rule.specs.TableLaws.{HasAll, histories_in}
+use Rattle.wait_rule.specs.{declared.journal.Item.Item, declared.journal.Journal.Journal, Items.steps_of, Says.IsShown}
+use Rattle.wait_rule.specs.{TableLaws.HasAll, TableLaws.histories_in}
+use Rattle.wait_rule.specs.Journals.{fresh, handed_over, has_of, items_in, joined_with, left_with, one_within, owns}
+use Rattle.wait_rule.specs.Journals.{part_in, pushed, times_in}
 use Rattle.wait_rule.proofs.TableSteps.ForksAndJoins.{alone, items_in-append, times_in-append}
 use Rattle.wait_rule.proofs.TableSteps.ItemLists.{steps_append}
 use Rattle.wait_rule.proofs.TableSteps.SeenStates.{has_none, none_in}
+use Rattle.futex_table.specs.{GuardedWords.read_in, TalliedTasks.TallyHad}
 use Rattle.futex_table.specs.GuardedTallies.{AllReadAdds, UsesTally, adds_in, tally_adds}
-use Rattle.futex_table.specs.GuardedWords.{read_in}
-use Rattle.futex_table.specs.TalliedTasks.{TallyHad}
 
 -- sums of numbers
 sum_two : (n : ℕ) (f g h : ℕ → ℕ) → ((i : ℕ) → h i ≡ f i + g i) → sum_below n h ≡ sum_below n f + sum_below n g

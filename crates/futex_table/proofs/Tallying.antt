@@ -3,51 +3,34 @@ use Rattle.std.proofs.Common.{◌∙◌, ap, append-nil, append_assoc, refl, sym
 use Rattle.std.proofs.lemmas.Bool.Decides.{nat_tests}
 use Rattle.std.specs.Prelude.{ℕ, ◌+◌, ◌%◌, ◌^◌, ◌≡◌, ◌≢◌, ◌==◌, ◌&&◌, ◌||◌, not, Bool, true, false, if◌then◌else◌, Option, Some, None, Result, List, [], ◌∷◌, ◌++◌}
 use Rattle.wait_model.specs.declared.calls.Answer.TheVariants as answer
-use Rattle.wait_model.specs.declared.calls.Event.{Event}
+use Rattle.wait_model.specs.{declared.calls.Event.Event, declared.points.Given.Given, declared.points.Next.Next}
+use Rattle.wait_model.specs.{declared.points.Point.Point, declared.points.Seen.Seen, declared.queues.Walked.Walked}
+use Rattle.wait_model.specs.{declared.steps.Step.Step, declared.tasks.SleepState.SleepState, declared.watches.Aim.Aim}
+use Rattle.wait_model.specs.{Histories.Lacks, Totals.total, Words.flag}
 use Rattle.wait_model.specs.declared.calls.Event.TheVariants as event
-use Rattle.wait_model.specs.declared.points.Given.{Given}
-use Rattle.wait_model.specs.declared.points.Next.{Next}
 use Rattle.wait_model.specs.declared.points.Next.TheVariants as next
-use Rattle.wait_model.specs.declared.points.Point.{Point}
 use Rattle.wait_model.specs.declared.points.Point.TheVariants as at
-use Rattle.wait_model.specs.declared.points.Seen.{Seen}
 use Rattle.wait_model.specs.declared.points.WalkPoint.TheVariants as walking
-use Rattle.wait_model.specs.declared.queues.Walked.{Walked}
-use Rattle.wait_model.specs.declared.steps.Step.{Step}
 use Rattle.wait_model.specs.declared.steps.Step.TheVariants as step
-use Rattle.wait_model.specs.declared.tasks.SleepState.{SleepState}
-use Rattle.wait_model.specs.declared.watches.Aim.{Aim}
 use Rattle.wait_model.specs.declared.watches.Watch.TheVariants as watch
-use Rattle.wait_model.specs.Histories.{Lacks}
-use Rattle.wait_model.specs.Totals.{total}
-use Rattle.wait_model.specs.Words.{flag}
-use Rattle.wait_rule.specs.declared.journal.Item.{Item}
-use Rattle.wait_rule.specs.declared.journal.Item.TheVariants as item
-use Rattle.wait_rule.specs.declared.journal.Journal.{Journal}
-use Rattle.wait_rule.specs.Aside.{Grows}
-use Rattle.wait_rule.specs.Items.{steps_of}
-use Rattle.wait_rule.specs.Journals.{pushed}
-use Rattle.wait_rule.specs.Known.{Known}
-use Rattle.wait_rule.specs.Says.{added, history_of}
+use Rattle.wait_rule.specs.{declared.journal.Item.Item, declared.journal.Journal.Journal, Aside.Grows, Items.steps_of}
+use Rattle.wait_rule.specs.{Journals.pushed, Known.Known, Says.added, Says.history_of}
 use Rattle.wait_rule.specs.Transitions.{AreLooks, Goes, IsMadeFor, IsStepFor, OnlyLooks, Program, StepOrLook}
 use Rattle.wait_rule.specs.Transitions.{Transition, after_step_or_look, after_transition, by_look, by_step, walk_point}
 use Rattle.wait_rule.specs.Transitions.{walk_program, with_lock}
+use Rattle.wait_rule.specs.declared.journal.Item.TheVariants as item
 use Rattle.wait_rule.proofs.KnownLaws.TaskHistories.{history_after}
 use Rattle.wq_head.specs.Walks.{HasWoken}
-use Rattle.wait_class.specs.Posts.{Runs}
-use Rattle.wait_class.specs.Tables.{plan_program}
+use Rattle.wait_class.specs.{Posts.Runs, Tables.plan_program}
 use Rattle.wait_class.proofs.Turns.{looks_history}
 use Rattle.wait_event.proofs.LookedSteps.{looks_all}
-use Rattle.futex_table.specs.declared.futexes.FutexEnd.{FutexEnd}
-use Rattle.futex_table.specs.FutexEnds.{EndsFutexWait}
-use Rattle.futex_table.specs.FutexTables.{futex_plan}
+use Rattle.futex_table.specs.{declared.futexes.FutexEnd.FutexEnd, FutexEnds.EndsFutexWait, FutexTables.futex_plan}
+use Rattle.futex_table.specs.OneHolder.{stores_word}
 use Rattle.futex_table.specs.GuardedTallies.{AreTallySteps, IsTallyStep, UsesTally, opens_after, tally_adds}
 use Rattle.futex_table.specs.GuardedWords.{read_after, read_from, read_in}
 use Rattle.futex_table.specs.Holding.{HoldsMutex, holds_after, holds_from, holds_in, holds_mutex}
-use Rattle.futex_table.specs.OneHolder.{stores_word}
 use Rattle.futex_table.specs.TallyUses.{AddsToTally, LeavesApart, LeavesTallies, OpensTallies, StoresWord}
-use Rattle.futex_table.proofs.GuardedTallies.{opens_from}
-use Rattle.futex_table.proofs.GuardedWords.{read_on}
+use Rattle.futex_table.proofs.{GuardedTallies.opens_from, GuardedWords.read_on}
 use Rattle.futex_table.proofs.WordSteps.{IsWordless, futex_wordless, no_look, step_history, walk_wordless}
 
 -- steps one behind another

@@ -4,20 +4,15 @@ use Rattle.std.specs.Prelude.{ℕ, ◌≡◌, true}
 use Rattle.wait_model.specs.declared.steps.Step.TheVariants as step
 use Rattle.wait_model.specs.declared.watches.Watch.{Watch}
 use Rattle.wait_rule.specs.declared.journal.Item.TheVariants as item
-use Rattle.wait_rule.specs.Known.{Known}
-use Rattle.wait_rule.specs.Says.{added}
-use Rattle.wait_rule.specs.Stays.{Carries, unchanged}
+use Rattle.wait_rule.specs.{Known.Known, Says.added, Stays.Carries, Stays.unchanged}
 use Rattle.wait_class.specs.declared.stages.Doing.TheVariants as doing
-use Rattle.wait_class.specs.declared.stages.Run.{Run}
-use Rattle.wait_class.specs.declared.stages.Turn.{Turn}
-use Rattle.wait_class.specs.Laws.{LoadLaw}
+use Rattle.wait_class.specs.{declared.stages.Run.Run, declared.stages.Turn.Turn, Laws.LoadLaw}
 use Rattle.wait_class.specs.Tables.{IsAt, Turned, falls, stage_watch}
 use Rattle.wait_class.proofs.States.{load_advances, load_falls}
-use Rattle.futex_table.specs.FutexTables.{futex_doing, futex_loaded, futex_table}
-use Rattle.futex_table.specs.declared.waits.FutexOutcome.{FutexOutcome}
-use Rattle.futex_table.specs.declared.waits.FutexStage.{FutexStage}
-use Rattle.futex_table.specs.declared.waits.FutexStage.TheVariants as stage
+use Rattle.futex_table.specs.{declared.waits.FutexOutcome.FutexOutcome, declared.waits.FutexStage.FutexStage}
 use Rattle.futex_table.specs.declared.waits.FutexWait.{FutexWait}
+use Rattle.futex_table.specs.FutexTables.{futex_doing, futex_loaded, futex_table}
+use Rattle.futex_table.specs.declared.waits.FutexStage.TheVariants as stage
 use Rattle.futex_table.proofs.FutexLaws.{futex_lawful, load_law}
 
 load_only : (s : FutexStage) → futex_doing s ≡ doing.Own → s ≡ stage.Load

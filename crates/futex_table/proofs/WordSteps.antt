@@ -1,45 +1,33 @@
 -- Waits on futexes and walks take and give back no mutex: none of their steps is a take or a store of a word.
 use Rattle.std.proofs.Common.{◌∙◌, ap, refl}
 use Rattle.std.specs.Prelude.{ℕ, ◌≡◌, Bool, true, false, if◌then◌else◌, is_some, Option, Some, None, List, [], ◌∷◌, ◌++◌}
-use Rattle.wait_model.specs.declared.calls.Event.{Event}
+use Rattle.wait_model.specs.{declared.calls.Event.Event, declared.points.Given.Given, declared.points.Next.Next}
+use Rattle.wait_model.specs.{declared.points.PageStage.PageStage, declared.points.Planned.Planned}
+use Rattle.wait_model.specs.{declared.points.Point.Point, declared.points.Seen.Seen}
+use Rattle.wait_model.specs.{declared.points.WalkPoint.WalkPoint, declared.queues.CalledEntry.CalledEntry}
+use Rattle.wait_model.specs.{declared.queues.Walking.Walking, declared.steps.Step.Step}
+use Rattle.wait_model.specs.{declared.tasks.SleepState.SleepState, declared.watches.Aim.Aim, declared.watches.Kind.Kind}
+use Rattle.wait_model.specs.Programs.{call_entry, call_next, hands_event, walk_event}
 use Rattle.wait_model.specs.declared.calls.Event.TheVariants as event
 use Rattle.wait_model.specs.declared.points.AddPoint.TheVariants as adding
 use Rattle.wait_model.specs.declared.points.AwaitPoint.TheVariants as awaiting
 use Rattle.wait_model.specs.declared.points.FinishPoint.TheVariants as finishing
-use Rattle.wait_model.specs.declared.points.Given.{Given}
 use Rattle.wait_model.specs.declared.points.LeavePoint.TheVariants as leaving
-use Rattle.wait_model.specs.declared.points.Next.{Next}
 use Rattle.wait_model.specs.declared.points.Next.TheVariants as next
-use Rattle.wait_model.specs.declared.points.PageStage.{PageStage}
 use Rattle.wait_model.specs.declared.points.PageStage.TheVariants as staging
-use Rattle.wait_model.specs.declared.points.Planned.{Planned}
-use Rattle.wait_model.specs.declared.points.Point.{Point}
 use Rattle.wait_model.specs.declared.points.Point.TheVariants as at
 use Rattle.wait_model.specs.declared.points.PreparePoint.TheVariants as preparing
-use Rattle.wait_model.specs.declared.points.Seen.{Seen}
-use Rattle.wait_model.specs.declared.points.WalkPoint.{WalkPoint}
 use Rattle.wait_model.specs.declared.points.WalkPoint.TheVariants as walking
-use Rattle.wait_model.specs.declared.queues.CalledEntry.{CalledEntry}
-use Rattle.wait_model.specs.declared.queues.Walking.{Walking}
-use Rattle.wait_model.specs.declared.steps.Step.{Step}
 use Rattle.wait_model.specs.declared.steps.Step.TheVariants as step
-use Rattle.wait_model.specs.declared.tasks.SleepState.{SleepState}
-use Rattle.wait_model.specs.declared.watches.Aim.{Aim}
-use Rattle.wait_model.specs.declared.watches.Kind.{Kind}
 use Rattle.wait_model.specs.declared.watches.Kind.TheVariants as kind
-use Rattle.wait_model.specs.Programs.{call_entry, call_next, hands_event, walk_event}
-use Rattle.wait_rule.specs.declared.journal.Item.{Item}
-use Rattle.wait_rule.specs.declared.journal.Item.TheVariants as item
-use Rattle.wait_rule.specs.Items.{steps_of}
-use Rattle.wait_rule.specs.Known.{Known}
-use Rattle.wait_rule.specs.Says.{added, history_of}
+use Rattle.wait_rule.specs.{declared.journal.Item.Item, Items.steps_of, Known.Known, Says.added, Says.history_of}
 use Rattle.wait_rule.specs.Transitions.{AreLooks, Goes, IsMadeFor, IsStepFor, OnlyLooks, Program, StepOrLook}
 use Rattle.wait_rule.specs.Transitions.{Transition, after_step_or_look, after_transition, by_look, by_step, walk_point}
 use Rattle.wait_rule.specs.Transitions.{walk_program, with_lock}
+use Rattle.wait_rule.specs.declared.journal.Item.TheVariants as item
 use Rattle.wait_rule.proofs.TableSteps.ItemLists.{steps_append}
-use Rattle.wait_class.specs.Posts.{Runs}
+use Rattle.wait_class.specs.{Posts.Runs, Tables.plan_program}
 use Rattle.wait_event.proofs.LookedSteps.{looks_all}
-use Rattle.wait_class.specs.Tables.{plan_program}
 use Rattle.wait_class.proofs.Turns.{looks_history}
 use Rattle.futex_table.specs.FutexTables.{futex_makes, futex_plan}
 use Rattle.futex_table.specs.Holding.{StayHeld, holds_after, holds_from, holds_in}

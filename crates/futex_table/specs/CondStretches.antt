@@ -2,51 +2,35 @@
 -- A wait for a condition variable that goes on by stretches: where it stands, how it came there, and what a stretch of
 -- it did.
 use Rattle.std.specs.Prelude.{ℕ, ◌≡◌, Bool, true, false, Result, []}
-use Rattle.wait_model.specs.declared.layout.TheConstants.{HEADS}
+use Rattle.wait_model.specs.{declared.layout.TheConstants.HEADS, Watches.head_of}
 use Rattle.wait_model.specs.declared.steps.Step.TheVariants as step
 use Rattle.wait_model.specs.declared.watches.Watch.TheVariants as watch
-use Rattle.wait_model.specs.Watches.{head_of}
 use Rattle.wait_rule.specs.declared.journal.Item.TheVariants as item
-use Rattle.wait_rule.specs.Known.{Known}
+use Rattle.wait_rule.specs.{Known.Known, Says.IsUp, Says.added, Stays.Carries, Stays.publish_change}
 use Rattle.wait_rule.specs.Queues.{IsIdle, IsTold, index}
-use Rattle.wait_rule.specs.Says.{IsUp, added}
-use Rattle.wait_rule.specs.Stays.{Carries, publish_change}
-use Rattle.wq_head.specs.declared.wakes.WakeRun.{WakeRun}
-use Rattle.wq_head.specs.declared.wakes.WakeStage.{WakeStage}
+use Rattle.wq_head.specs.{declared.wakes.WakeRun.WakeRun, declared.wakes.WakeStage.WakeStage}
+use Rattle.wq_head.specs.{declared.wakes.WakeTurn.WakeTurn, declared.rousing.Rousing.Rousing, Roused.IsRousing}
+use Rattle.wq_head.specs.{Roused.tasks_in, Turns.HasTurned, Turns.IsAtWake, Walks.HasStarved}
 use Rattle.wq_head.specs.declared.wakes.WakeStage.TheVariants as wakes
-use Rattle.wq_head.specs.declared.wakes.WakeTurn.{WakeTurn}
 use Rattle.wq_head.specs.declared.wakes.WakeTurn.TheVariants as wake
-use Rattle.wq_head.specs.declared.rousing.Rousing.{Rousing}
-use Rattle.wq_head.specs.Roused.{IsRousing, tasks_in}
-use Rattle.wq_head.specs.Turns.{HasTurned, IsAtWake}
-use Rattle.wq_head.specs.Walks.{HasStarved}
-use Rattle.wait_class.specs.Handing.{LastGiven}
-use Rattle.wait_class.specs.Posts.{IsOut}
-use Rattle.wait_class.specs.Tables.{SleepsNot, Turned}
-use Rattle.wait_class.specs.declared.stages.Run.{Run}
+use Rattle.wait_class.specs.{Handing.LastGiven, Posts.IsOut, Tables.SleepsNot, Tables.Turned, declared.stages.Run.Run}
 use Rattle.wait_class.specs.declared.stages.Turn.{Turn}
 use Rattle.wait_class.specs.declared.stages.Turn.TheVariants as turn
-use Rattle.wait_leave.specs.declared.exits.Until.{Until}
+use Rattle.wait_leave.specs.{declared.exits.Until.Until, OnTheWay.OnTheWay}
 use Rattle.wait_leave.specs.declared.exits.Until.TheVariants as until
-use Rattle.wait_leave.specs.OnTheWay.{OnTheWay}
-use Rattle.futex_table.specs.declared.cond_stretches.CondStage.{CondStage}
-use Rattle.futex_table.specs.declared.cond_stretches.CondStage.TheVariants as cond
-use Rattle.futex_table.specs.declared.cond_stretches.CondStop.{CondStop}
-use Rattle.futex_table.specs.declared.cond_stretches.CondStop.TheVariants as stop
-use Rattle.futex_table.specs.declared.cond_stretches.CondWait.{CondWait}
-use Rattle.futex_table.specs.declared.cond_vars.CondEnd.{CondEnd}
-use Rattle.futex_table.specs.declared.futexes.FutexEnd.{FutexEnd}
-use Rattle.futex_table.specs.declared.lock_stretches.LockStage.TheVariants as lock
-use Rattle.futex_table.specs.declared.waits.FutexStage.TheVariants as stage
-use Rattle.futex_table.specs.declared.waits.FutexWait.{FutexWait}
-use Rattle.futex_table.specs.CondVars.{HasLetGo, cond_change}
-use Rattle.futex_table.specs.FutexEnds.{futex_aim}
+use Rattle.futex_table.specs.{declared.cond_stretches.CondStage.CondStage, declared.cond_stretches.CondStop.CondStop}
+use Rattle.futex_table.specs.{declared.cond_stretches.CondWait.CondWait, declared.cond_vars.CondEnd.CondEnd}
+use Rattle.futex_table.specs.{declared.futexes.FutexEnd.FutexEnd, declared.waits.FutexWait.FutexWait, CondVars.HasLetGo}
+use Rattle.futex_table.specs.{CondVars.cond_change, FutexEnds.futex_aim, FutexTables.IsFreshFutexWait}
+use Rattle.futex_table.specs.{FutexTables.futex_table, Holding.OthersStayHeld, Holding.holds_mutex}
+use Rattle.futex_table.specs.TallyUses.{LeavesTallies}
 use Rattle.futex_table.specs.FutexLeaves.{EndsFutexUntil, futex_exits, futex_until_in}
-use Rattle.futex_table.specs.FutexTables.{IsFreshFutexWait, futex_table}
-use Rattle.futex_table.specs.Holding.{OthersStayHeld, holds_mutex}
 use Rattle.futex_table.specs.LockLeaves.{WaitsForCondUntil, cond_until_answer, is_held_until}
 use Rattle.futex_table.specs.LockStretches.{AskedIf, IsMutexLocking, MutexTurn, LockTurned, FutexWaitTurn}
-use Rattle.futex_table.specs.TallyUses.{LeavesTallies}
+use Rattle.futex_table.specs.declared.cond_stretches.CondStage.TheVariants as cond
+use Rattle.futex_table.specs.declared.cond_stretches.CondStop.TheVariants as stop
+use Rattle.futex_table.specs.declared.lock_stretches.LockStage.TheVariants as lock
+use Rattle.futex_table.specs.declared.waits.FutexStage.TheVariants as stage
 
 abbrev pub CondTurn : Type 0
 CondTurn = Turn CondStage CondStop

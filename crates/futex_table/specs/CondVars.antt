@@ -1,24 +1,20 @@
 -- To be believed.
 -- What the calls on condition variables say. A condition variable is a futex whose word counts the wakes.
 use Rattle.std.specs.Prelude.{ℕ, ◌+◌, ◌%◌, ◌^◌, ◌≡◌, Bool, true, false, Result, Ok, Err}
-use Rattle.wait_model.specs.declared.queues.Walked.{Walked}
+use Rattle.wait_model.specs.{declared.queues.Walked.Walked, declared.tasks.SleepState.SleepState, Watches.same}
 use Rattle.wait_model.specs.declared.steps.Step.TheVariants as step
-use Rattle.wait_model.specs.declared.tasks.SleepState.{SleepState}
 use Rattle.wait_model.specs.declared.watches.Mode.TheVariants as mode
 use Rattle.wait_model.specs.declared.watches.Watch.TheVariants as watch
-use Rattle.wait_model.specs.Watches.{same}
 use Rattle.wait_rule.specs.declared.journal.Item.TheVariants as item
-use Rattle.wait_rule.specs.Known.{Known}
-use Rattle.wait_rule.specs.Says.{added}
+use Rattle.wait_rule.specs.{Known.Known, Says.added}
 use Rattle.wait_rule.specs.Stays.{Change, only, unchanged}
 use Rattle.wq_head.specs.declared.adds.Worn.{Worn}
 use Rattle.wait_event.specs.Conds.{HasSet}
-use Rattle.futex_table.specs.declared.cond_vars.CondEnd.{CondEnd}
-use Rattle.futex_table.specs.declared.cond_vars.CondEnd.TheVariants as cond_end
-use Rattle.futex_table.specs.declared.futexes.FutexEnd.{FutexEnd}
-use Rattle.futex_table.specs.declared.futexes.FutexEnd.TheVariants as futex_end
+use Rattle.futex_table.specs.{declared.cond_vars.CondEnd.CondEnd, declared.futexes.FutexEnd.FutexEnd}
 use Rattle.futex_table.specs.FutexEnds.{EndsFutexWait}
 use Rattle.futex_table.specs.Mutexes.{HasFreedMutex, LocksMutex, is_locked}
+use Rattle.futex_table.specs.declared.cond_vars.CondEnd.TheVariants as cond_end
+use Rattle.futex_table.specs.declared.futexes.FutexEnd.TheVariants as futex_end
 
 -- The answer, by those of its wait and of the lock behind that: where the wait was worn it keeps the head and the place
 -- of the wait, and tells whether the mutex was taken; else those of the lock where that was worn; else the signal of the

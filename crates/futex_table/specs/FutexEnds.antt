@@ -1,30 +1,25 @@
 -- To be believed.
 -- What the calls on futexes say: a whole wait with the cause of its answer, a wake, and a store.
 use Rattle.std.specs.Prelude.{ℕ, ◌≡◌, ◌==◌, false, Result, Ok, Err, [], ◌∷◌}
-use Rattle.wait_model.specs.declared.calls.Answer.{Answer}
+use Rattle.wait_model.specs.{declared.calls.Answer.Answer, declared.queues.Walked.Walked}
+use Rattle.wait_model.specs.{declared.tasks.SleepState.SleepState, declared.watches.Aim.Aim, Programs.signalled}
+use Rattle.wait_model.specs.Programs.{zero_answer}
 use Rattle.wait_model.specs.declared.calls.Answer.TheVariants as answer
 use Rattle.wait_model.specs.declared.calls.Call.TheVariants as calls
 use Rattle.wait_model.specs.declared.points.AddPoint.TheVariants as adding
 use Rattle.wait_model.specs.declared.points.Next.TheVariants as next
 use Rattle.wait_model.specs.declared.points.Point.TheVariants as at
-use Rattle.wait_model.specs.declared.queues.Walked.{Walked}
 use Rattle.wait_model.specs.declared.steps.Step.TheVariants as step
-use Rattle.wait_model.specs.declared.tasks.SleepState.{SleepState}
-use Rattle.wait_model.specs.declared.watches.Aim.{Aim}
 use Rattle.wait_model.specs.declared.watches.Mode.TheVariants as mode
-use Rattle.wait_model.specs.Programs.{signalled, zero_answer}
-use Rattle.wait_rule.specs.Known.{Known}
-use Rattle.wait_rule.specs.Transitions.{call_program}
+use Rattle.wait_rule.specs.{Known.Known, Transitions.call_program}
 use Rattle.wq_head.specs.Walks.{HasEnded, HasWoken}
-use Rattle.wait_class.specs.Posts.{FoundWorn, Runs}
-use Rattle.wait_class.specs.Tables.{plan_program}
+use Rattle.wait_class.specs.{Posts.FoundWorn, Posts.Runs, Tables.plan_program}
+use Rattle.futex_table.specs.{declared.futexes.FutexEnd.FutexEnd, declared.waits.FutexOutcome.FutexOutcome}
+use Rattle.futex_table.specs.declared.waits.FutexWait.{FutexWait}
 use Rattle.futex_table.specs.FutexTables.{FoundOff, HasLoadedWord, LeftForSignal, futex_head, futex_plan, other_value}
 use Rattle.futex_table.specs.FutexTables.{futex_word}
-use Rattle.futex_table.specs.declared.futexes.FutexEnd.{FutexEnd}
 use Rattle.futex_table.specs.declared.futexes.FutexEnd.TheVariants as futex_end
-use Rattle.futex_table.specs.declared.waits.FutexOutcome.{FutexOutcome}
 use Rattle.futex_table.specs.declared.waits.FutexOutcome.TheVariants as outcome
-use Rattle.futex_table.specs.declared.waits.FutexWait.{FutexWait}
 
 -- the answer of a wait that has ended and that nobody has left, and that of its program
 abbrev pub futex_end_in : FutexWait → FutexOutcome → Result (Unit {0}) FutexEnd

@@ -2,27 +2,20 @@
 -- A wait on a futex that its task leaves: its exits, and what it says.
 use Rattle.std.specs.Prelude.{ℕ, ◌≡◌, Bool, true, false, Option, Some, None, Result}
 use Rattle.wait_model.specs.declared.points.FinishPoint.TheVariants as finishing
-use Rattle.wait_model.specs.declared.points.Point.{Point}
+use Rattle.wait_model.specs.{declared.points.Point.Point, declared.tasks.SleepState.SleepState}
 use Rattle.wait_model.specs.declared.points.Point.TheVariants as at
-use Rattle.wait_model.specs.declared.tasks.SleepState.{SleepState}
 use Rattle.wait_rule.specs.Known.{Known}
-use Rattle.wait_class.specs.Tables.{SleepsNot}
-use Rattle.wait_class.specs.declared.stages.Run.{Run}
-use Rattle.wait_class.specs.declared.stages.Turn.{Turn}
+use Rattle.wait_class.specs.{Tables.SleepsNot, declared.stages.Run.Run, declared.stages.Turn.Turn}
 use Rattle.wait_class.specs.declared.stages.Turn.TheVariants as turn
-use Rattle.wait_leave.specs.declared.exits.Exit.{Exit}
-use Rattle.wait_leave.specs.declared.exits.Until.{Until}
-use Rattle.wait_leave.specs.declared.exits.Until.TheVariants as until
-use Rattle.wait_leave.specs.Leaves.{Exits}
+use Rattle.wait_leave.specs.{declared.exits.Exit.Exit, declared.exits.Until.Until, Leaves.Exits}
 use Rattle.wait_leave.specs.OnTheWay.{OnTheWay, left_at, straight}
-use Rattle.futex_table.specs.declared.futexes.FutexEnd.{FutexEnd}
-use Rattle.futex_table.specs.declared.waits.FutexOutcome.{FutexOutcome}
-use Rattle.futex_table.specs.declared.waits.FutexOutcome.TheVariants as outcome
-use Rattle.futex_table.specs.declared.waits.FutexStage.{FutexStage}
-use Rattle.futex_table.specs.declared.waits.FutexStage.TheVariants as stage
-use Rattle.futex_table.specs.declared.waits.FutexWait.{FutexWait}
-use Rattle.futex_table.specs.FutexEnds.{IsFutexCause, futex_end_in}
+use Rattle.wait_leave.specs.declared.exits.Until.TheVariants as until
+use Rattle.futex_table.specs.{declared.futexes.FutexEnd.FutexEnd, declared.waits.FutexOutcome.FutexOutcome}
+use Rattle.futex_table.specs.{declared.waits.FutexStage.FutexStage, declared.waits.FutexWait.FutexWait}
+use Rattle.futex_table.specs.{FutexEnds.IsFutexCause, FutexEnds.futex_end_in}
 use Rattle.futex_table.specs.FutexTables.{HasLeftFutex, IsFreshFutexWait, futex_table}
+use Rattle.futex_table.specs.declared.waits.FutexOutcome.TheVariants as outcome
+use Rattle.futex_table.specs.declared.waits.FutexStage.TheVariants as stage
 
 -- It goes out in a hold: in that of its load, where that found the expected value and it has queued nothing; and in the
 -- hold that takes its entry off, where no signal was found. Before its sleep it stores RUNNING, and goes on to that hold.

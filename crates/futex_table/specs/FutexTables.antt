@@ -3,8 +3,14 @@
 -- its last steps.
 use Rattle.std.specs.Prelude.{ℕ, ◌≡◌, ◌<◌, ◌⊎◌, ◌==◌, Bool, true, false, if◌then◌else◌, is_some, Option, None, List, []}
 use Rattle.std.specs.Prelude.{◌∷◌, ◌++◌}
-use Rattle.wait_model.specs.declared.layout.TheConstants.{FIRST_SIMPLE}
-use Rattle.wait_model.specs.declared.calls.Answer.{Answer}
+use Rattle.wait_model.specs.{declared.layout.TheConstants.FIRST_SIMPLE, declared.calls.Answer.Answer}
+use Rattle.wait_model.specs.{declared.points.Next.Next, declared.points.Planned.Planned, declared.points.Point.Point}
+use Rattle.wait_model.specs.{declared.points.Seen.Seen, declared.steps.Step.Step, declared.tasks.SleepState.SleepState}
+use Rattle.wait_model.specs.{declared.watches.Aim.Aim, declared.watches.Entry.Entry, declared.watches.Watch.Watch}
+use Rattle.wait_model.specs.{Histories.Lacks, PointFacts.absent, Points.given_at, Words.entry_of}
+use Rattle.wait_model.specs.Programs.{ends_with, go, signalled, sleep_event, zero_answer}
+use Rattle.wait_model.specs.Tasks.{looks_in, pending, state_mask, task_of}
+use Rattle.wait_model.specs.Watches.{head_of, kind_for, number_of}
 use Rattle.wait_model.specs.declared.calls.Answer.TheVariants as answer
 use Rattle.wait_model.specs.declared.calls.Call.TheVariants as calls
 use Rattle.wait_model.specs.declared.calls.Event.TheVariants as event
@@ -12,48 +18,25 @@ use Rattle.wait_model.specs.declared.points.AddPoint.TheVariants as adding
 use Rattle.wait_model.specs.declared.points.AwaitPoint.TheVariants as awaiting
 use Rattle.wait_model.specs.declared.points.FinishPoint.TheVariants as finishing
 use Rattle.wait_model.specs.declared.points.LeavePoint.TheVariants as leaving
-use Rattle.wait_model.specs.declared.points.Next.{Next}
 use Rattle.wait_model.specs.declared.points.Next.TheVariants as next
-use Rattle.wait_model.specs.declared.points.Planned.{Planned}
-use Rattle.wait_model.specs.declared.points.Point.{Point}
 use Rattle.wait_model.specs.declared.points.Point.TheVariants as at
 use Rattle.wait_model.specs.declared.points.PreparePoint.TheVariants as preparing
-use Rattle.wait_model.specs.declared.points.Seen.{Seen}
 use Rattle.wait_model.specs.declared.queues.Form.TheVariants as forms
-use Rattle.wait_model.specs.declared.steps.Step.{Step}
 use Rattle.wait_model.specs.declared.steps.Step.TheVariants as step
-use Rattle.wait_model.specs.declared.tasks.SleepState.{SleepState}
-use Rattle.wait_model.specs.declared.watches.Aim.{Aim}
-use Rattle.wait_model.specs.declared.watches.Entry.{Entry}
-use Rattle.wait_model.specs.declared.watches.Watch.{Watch}
 use Rattle.wait_model.specs.declared.watches.Watch.TheVariants as watch
-use Rattle.wait_model.specs.Histories.{Lacks}
-use Rattle.wait_model.specs.PointFacts.{absent}
-use Rattle.wait_model.specs.Points.{given_at}
-use Rattle.wait_model.specs.Programs.{ends_with, go, signalled, sleep_event, zero_answer}
-use Rattle.wait_model.specs.Tasks.{looks_in, pending, state_mask, task_of}
-use Rattle.wait_model.specs.Watches.{head_of, kind_for, number_of}
-use Rattle.wait_model.specs.Words.{entry_of}
-use Rattle.wait_rule.specs.Known.{Known}
-use Rattle.wait_rule.specs.Says.{history_of}
-use Rattle.wait_rule.specs.Tickets.{no_ticket}
-use Rattle.wait_class.specs.declared.stages.Added.{Added}
-use Rattle.wait_class.specs.declared.stages.Added.TheVariants as adds
-use Rattle.wait_class.specs.declared.stages.Doing.{Doing}
-use Rattle.wait_class.specs.declared.stages.Doing.TheVariants as doing
-use Rattle.wait_class.specs.declared.stages.Turn.{Turn}
-use Rattle.wait_class.specs.declared.stages.Turn.TheVariants as turn
-use Rattle.wait_class.specs.Frames.{KeepsAll}
+use Rattle.wait_rule.specs.{Known.Known, Says.history_of, Tickets.no_ticket}
+use Rattle.wait_class.specs.{declared.stages.Added.Added, declared.stages.Doing.Doing, declared.stages.Turn.Turn}
+use Rattle.wait_class.specs.{Frames.KeepsAll, Tables.CallTable, Tables.Plan}
 use Rattle.wait_class.specs.Posts.{EndsWith, FoundWorn, IsOut, Post, own_of}
-use Rattle.wait_class.specs.Tables.{CallTable, Plan}
+use Rattle.wait_class.specs.declared.stages.Added.TheVariants as adds
+use Rattle.wait_class.specs.declared.stages.Doing.TheVariants as doing
+use Rattle.wait_class.specs.declared.stages.Turn.TheVariants as turn
 use Rattle.wait_event.specs.Waits.{off_by}
 use Rattle.wait_leave.specs.Leaves.{with_asked}
-use Rattle.futex_table.specs.declared.waits.TheConstants.{AGAIN}
-use Rattle.futex_table.specs.declared.waits.FutexOutcome.{FutexOutcome}
+use Rattle.futex_table.specs.{declared.waits.TheConstants.AGAIN, declared.waits.FutexOutcome.FutexOutcome}
+use Rattle.futex_table.specs.{declared.waits.FutexStage.FutexStage, declared.waits.FutexWait.FutexWait}
 use Rattle.futex_table.specs.declared.waits.FutexOutcome.TheVariants as outcome
-use Rattle.futex_table.specs.declared.waits.FutexStage.{FutexStage}
 use Rattle.futex_table.specs.declared.waits.FutexStage.TheVariants as stage
-use Rattle.futex_table.specs.declared.waits.FutexWait.{FutexWait}
 
 -- The word of a futex, and its head.
 abbrev pub futex_word : ℕ → Watch

@@ -2,22 +2,14 @@
 -- A tally under a mutex: a word to which the holders of the mutex alone add, each one more than it has read there. It
 -- counts the adds of all tasks.
 use Rattle.std.specs.Prelude.{ℕ, ◌+◌, ◌%◌, ◌^◌, ◌<◌, ◌≡◌, ◌==◌, ◌&&◌, ◌||◌, not, Bool, true, false, Option, Some, None, List, [], ◌∷◌}
-use Rattle.wait_model.specs.declared.layout.TheConstants.{TASKS}
-use Rattle.wait_model.specs.declared.steps.Step.{Step}
+use Rattle.wait_model.specs.{declared.layout.TheConstants.TASKS, declared.steps.Step.Step, Tables.Table}
+use Rattle.wait_model.specs.{Totals.total_below, Words.flag}
 use Rattle.wait_model.specs.declared.steps.Step.TheVariants as step
 use Rattle.wait_model.specs.declared.watches.Watch.TheVariants as watch
-use Rattle.wait_model.specs.Tables.{Table}
-use Rattle.wait_model.specs.Totals.{total_below}
-use Rattle.wait_model.specs.Words.{flag}
-use Rattle.wait_rule.specs.declared.journal.Item.{Item}
-use Rattle.wait_rule.specs.declared.journal.Journal.{Journal}
+use Rattle.wait_rule.specs.{declared.journal.Item.Item, declared.journal.Journal.Journal, Rule.IsRuled, Says.IsShown}
+use Rattle.wait_rule.specs.{TableLaws.HasAll, TableLaws.histories_in}
 use Rattle.wait_rule.specs.Interleavings.{AreAllowed, TaskStep, table_of}
-use Rattle.wait_rule.specs.Rule.{IsRuled}
-use Rattle.wait_rule.specs.Says.{IsShown}
-use Rattle.wait_rule.specs.TableLaws.{HasAll, histories_in}
-use Rattle.futex_table.specs.Holding.{holds_after}
-use Rattle.futex_table.specs.GuardedWords.{read_after, read_in}
-use Rattle.futex_table.specs.OneHolder.{stores_word}
+use Rattle.futex_table.specs.{Holding.holds_after, GuardedWords.read_after, GuardedWords.read_in, OneHolder.stores_word}
 
 -- A step of a task that uses mutex m and tally c, by whether it has still to open the mutex, whether it holds it, and
 -- what it has read in the tally since it took it. In the mutex's word it stores 1, which it holds or opens by that; in

@@ -1,17 +1,12 @@
 -- To be believed.
 -- A word that is changed by the holder of a mutex alone: what the holder has read in it stays until it changes it.
 use Rattle.std.specs.Prelude.{ℕ, ◌<◌, ◌≡◌, ◌==◌, ◌&&◌, Bool, true, false, if◌then◌else◌, Option, Some, None, List, [], ◌∷◌, ◌++◌}
-use Rattle.wait_model.specs.declared.layout.TheConstants.{TASKS}
-use Rattle.wait_model.specs.declared.steps.Step.{Step}
+use Rattle.wait_model.specs.{declared.layout.TheConstants.TASKS, declared.steps.Step.Step, Tables.Table}
 use Rattle.wait_model.specs.declared.steps.Step.TheVariants as step
 use Rattle.wait_model.specs.declared.watches.Watch.TheVariants as watch
-use Rattle.wait_model.specs.Tables.{Table}
-use Rattle.wait_rule.specs.declared.journal.Item.{Item}
+use Rattle.wait_rule.specs.{declared.journal.Item.Item, Rule.IsRuled, Setters.step_by}
 use Rattle.wait_rule.specs.Interleavings.{AreAllowed, TaskStep, table_of}
-use Rattle.wait_rule.specs.Rule.{IsRuled}
-use Rattle.wait_rule.specs.Setters.{step_by}
-use Rattle.futex_table.specs.Holding.{holds_after, holds_in}
-use Rattle.futex_table.specs.OneHolder.{IsMutexOpened}
+use Rattle.futex_table.specs.{Holding.holds_after, Holding.holds_in, OneHolder.IsMutexOpened}
 
 -- What a task has read in word c since it took mutex m: what its last load found, or what it stored behind that.
 abbrev pub read_after : ℕ → ℕ → Step → Bool → Option ℕ → Option ℕ

@@ -7,10 +7,9 @@ use Rattle.wait_rule.specs.Known.{Known}
 use Rattle.wq_head.specs.declared.adds.Worn.{Worn}
 use Rattle.wait_leave.specs.declared.exits.Until.{Until}
 use Rattle.wait_leave.specs.declared.exits.Until.TheVariants as until
-use Rattle.futex_table.specs.declared.cond_vars.CondEnd.{CondEnd}
-use Rattle.futex_table.specs.declared.futexes.FutexEnd.{FutexEnd}
-use Rattle.futex_table.specs.CondVars.{HasLetGo, cond_answer, is_mutex_held, worn_cond}
+use Rattle.futex_table.specs.{declared.cond_vars.CondEnd.CondEnd, declared.futexes.FutexEnd.FutexEnd}
 use Rattle.futex_table.specs.FutexLeaves.{EndsFutexUntil}
+use Rattle.futex_table.specs.CondVars.{HasLetGo, cond_answer, is_mutex_held, worn_cond}
 use Rattle.futex_table.specs.Mutexes.{HasTriedMutex, LocksMutex, is_locked, worn_in}
 
 -- the answer of a lock whose wait ended so, where the lock ends with it: it was left, or no place was left

@@ -2,32 +2,22 @@
 -- A lock of a mutex that goes on by stretches: where it stands, how it came there, and what a stretch of it did.
 use Rattle.std.specs.Prelude.{ℕ, ◌≡◌, ◌||◌, Bool, true, false, Option, Some, None, Result, Ok}
 use Rattle.wait_model.specs.declared.tasks.SleepState.TheVariants as states
-use Rattle.wait_rule.specs.Known.{Known}
+use Rattle.wait_rule.specs.{Known.Known, Says.IsUp, Stays.Carries}
 use Rattle.wait_rule.specs.Queues.{IsIdle, IsTold, index}
-use Rattle.wait_rule.specs.Says.{IsUp}
-use Rattle.wait_rule.specs.Stays.{Carries}
 use Rattle.wq_head.specs.declared.adds.Worn.{Worn}
-use Rattle.wait_class.specs.Posts.{IsOut}
-use Rattle.wait_class.specs.Tables.{Turned}
-use Rattle.wait_class.specs.declared.stages.Run.{Run}
-use Rattle.wait_class.specs.declared.stages.Turn.{Turn}
+use Rattle.wait_class.specs.{Posts.IsOut, Tables.Turned, declared.stages.Run.Run, declared.stages.Turn.Turn}
 use Rattle.wait_class.specs.declared.stages.Turn.TheVariants as turn
 use Rattle.wait_event.specs.Ends.{wait_change}
-use Rattle.wait_leave.specs.declared.exits.Until.{Until}
+use Rattle.wait_leave.specs.{declared.exits.Until.Until, OnTheWay.IsAsked, OnTheWay.OnTheWay}
 use Rattle.wait_leave.specs.declared.exits.Until.TheVariants as until
-use Rattle.wait_leave.specs.OnTheWay.{IsAsked, OnTheWay}
-use Rattle.futex_table.specs.declared.lock_stretches.LockStage.{LockStage}
-use Rattle.futex_table.specs.declared.lock_stretches.LockStage.TheVariants as lock
-use Rattle.futex_table.specs.declared.waits.FutexOutcome.{FutexOutcome}
-use Rattle.futex_table.specs.declared.waits.FutexStage.{FutexStage}
-use Rattle.futex_table.specs.declared.waits.FutexStage.TheVariants as stage
-use Rattle.futex_table.specs.declared.waits.FutexWait.{FutexWait}
-use Rattle.futex_table.specs.FutexLeaves.{futex_exits, futex_until_in}
-use Rattle.futex_table.specs.FutexTables.{IsFreshFutexWait, futex_table}
-use Rattle.futex_table.specs.Holding.{OthersStayHeld, holds_mutex}
+use Rattle.futex_table.specs.{declared.lock_stretches.LockStage.LockStage, declared.waits.FutexOutcome.FutexOutcome}
+use Rattle.futex_table.specs.{declared.waits.FutexStage.FutexStage, declared.waits.FutexWait.FutexWait}
+use Rattle.futex_table.specs.{FutexLeaves.futex_exits, FutexLeaves.futex_until_in, FutexTables.IsFreshFutexWait}
+use Rattle.futex_table.specs.{FutexTables.futex_table, Holding.OthersStayHeld, Holding.holds_mutex}
+use Rattle.futex_table.specs.{Mutexes.HasTriedMutex, TallyUses.LeavesTallies}
 use Rattle.futex_table.specs.LockLeaves.{HasAskedRounds, LocksMutexUntil, is_locked_until, round_end}
-use Rattle.futex_table.specs.Mutexes.{HasTriedMutex}
-use Rattle.futex_table.specs.TallyUses.{LeavesTallies}
+use Rattle.futex_table.specs.declared.lock_stretches.LockStage.TheVariants as lock
+use Rattle.futex_table.specs.declared.waits.FutexStage.TheVariants as stage
 
 -- the cause for which a call is left that may be asked to, or that nobody asks
 abbrev pub AskedIf : Bool → Type 0

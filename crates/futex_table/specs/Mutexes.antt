@@ -7,9 +7,8 @@ use Rattle.wait_model.specs.declared.watches.Mode.TheVariants as mode
 use Rattle.wait_rule.specs.Known.{Known}
 use Rattle.wq_head.specs.declared.adds.Worn.{Worn}
 use Rattle.wait_event.specs.Conds.{HasSet, HasTakenCond}
-use Rattle.futex_table.specs.declared.futexes.FutexEnd.{FutexEnd}
+use Rattle.futex_table.specs.{declared.futexes.FutexEnd.FutexEnd, FutexEnds.EndsFutexWait}
 use Rattle.futex_table.specs.declared.futexes.FutexEnd.TheVariants as futex_end
-use Rattle.futex_table.specs.FutexEnds.{EndsFutexWait}
 
 -- The task published 1 in the word, and walked over its queue with NORMAL and a count of one.
 pub record HasFreedMutex (old new : Known) (m : ℕ) : Type 0 where

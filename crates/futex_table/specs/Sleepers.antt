@@ -1,19 +1,12 @@
 -- To be believed.
 -- Who sleeps on a futex queued its entry in a hold in which it had loaded the expected value.
 use Rattle.std.specs.Prelude.{ℕ, ◌≡◌, List}
-use Rattle.wait_model.specs.declared.steps.Step.{Step}
-use Rattle.wait_model.specs.Tables.{Table}
-use Rattle.wait_rule.specs.declared.journal.Item.{Item}
-use Rattle.wait_rule.specs.Known.{Known}
-use Rattle.wait_rule.specs.Queues.{index}
-use Rattle.wait_rule.specs.Rule.{IsRuled}
-use Rattle.wait_rule.specs.Says.{history_of}
-use Rattle.wait_class.specs.declared.stages.Run.{Run}
+use Rattle.wait_model.specs.{declared.steps.Step.Step, Tables.Table}
+use Rattle.wait_rule.specs.{declared.journal.Item.Item, Known.Known, Queues.index, Rule.IsRuled, Says.history_of}
+use Rattle.wait_class.specs.{declared.stages.Run.Run, Tables.Advances, Tables.IsAsleepAt}
 use Rattle.wait_class.specs.declared.stages.Turn.TheVariants as turn
-use Rattle.wait_class.specs.Tables.{Advances, IsAsleepAt}
+use Rattle.futex_table.specs.{declared.waits.FutexStage.FutexStage, declared.waits.FutexWait.FutexWait}
 use Rattle.futex_table.specs.FutexTables.{QueuedByValue, futex_table, slept_steps}
-use Rattle.futex_table.specs.declared.waits.FutexStage.{FutexStage}
-use Rattle.futex_table.specs.declared.waits.FutexWait.{FutexWait}
 
 -- The last steps of a history: in one hold of the futex's head the word was loaded, with the expected value, entry x was
 -- queued, and the state stored; the head was given back; and the task slept.

@@ -1,30 +1,20 @@
 -- To be believed.
 -- A walk of a futex that a task makes after it has changed the word leaves nobody asleep for the value that the word had.
 use Rattle.std.specs.Prelude.{ℕ, ◌≡◌, ◌≢◌, ◌==◌, Bool, true, false, Option, Some, List, [], ◌∷◌, ◌++◌}
-use Rattle.wait_model.specs.declared.steps.Step.{Step}
+use Rattle.wait_model.specs.{declared.steps.Step.Step, declared.watches.Aim.Aim, declared.watches.Entry.Entry}
+use Rattle.wait_model.specs.{Tables.Table, Tasks.meets, Watches.mask_of, Watches.owner}
+use Rattle.wait_model.specs.Histories.{Lacks, publishes, turns_lock}
+use Rattle.wait_model.specs.Views.{View, Walk, all_passed, concerns}
 use Rattle.wait_model.specs.declared.steps.Step.TheVariants as step
-use Rattle.wait_model.specs.declared.watches.Aim.{Aim}
-use Rattle.wait_model.specs.declared.watches.Entry.{Entry}
 use Rattle.wait_model.specs.declared.watches.Kind.TheVariants as kind
 use Rattle.wait_model.specs.declared.watches.Mode.TheVariants as mode
-use Rattle.wait_model.specs.Histories.{Lacks, publishes, turns_lock}
-use Rattle.wait_model.specs.Tables.{Table}
-use Rattle.wait_model.specs.Tasks.{meets}
-use Rattle.wait_model.specs.Views.{View, Walk, all_passed, concerns}
-use Rattle.wait_model.specs.Watches.{mask_of, owner}
-use Rattle.wait_rule.specs.declared.journal.Item.{Item}
-use Rattle.wait_rule.specs.Interleavings.{AreAllowed, TaskStep, table_of}
-use Rattle.wait_rule.specs.Known.{Known}
-use Rattle.wait_rule.specs.Queues.{index}
-use Rattle.wait_rule.specs.Rule.{IsRuled}
-use Rattle.wait_rule.specs.Says.{history_of}
+use Rattle.wait_rule.specs.{declared.journal.Item.Item, Known.Known, Queues.index, Rule.IsRuled, Says.history_of}
 use Rattle.wait_rule.specs.Setters.{step_by}
+use Rattle.wait_rule.specs.Interleavings.{AreAllowed, TaskStep, table_of}
 use Rattle.order_laws.specs.TakenOff.{AllTakeOffWoken}
-use Rattle.wait_class.specs.declared.stages.Run.{Run}
-use Rattle.wait_class.specs.Tables.{IsAsleepAt}
+use Rattle.wait_class.specs.{declared.stages.Run.Run, Tables.IsAsleepAt}
+use Rattle.futex_table.specs.{declared.waits.FutexStage.FutexStage, declared.waits.FutexWait.FutexWait}
 use Rattle.futex_table.specs.FutexTables.{futex_head, futex_table, futex_word}
-use Rattle.futex_table.specs.declared.waits.FutexStage.{FutexStage}
-use Rattle.futex_table.specs.declared.waits.FutexWait.{FutexWait}
 
 -- the word has another value in the table of the steps before, and after each of the later ones, the latest first
 abbrev pub IsOther : List TaskStep → ℕ → ℕ → Type 0

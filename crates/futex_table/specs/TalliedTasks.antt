@@ -1,15 +1,10 @@
 -- To be believed.
 -- What is known of a tally under a mutex by the histories that a task has: its own, and those of the tasks that it joined.
 use Rattle.std.specs.Prelude.{ℕ, ◌+◌, ◌-◌, ◌%◌, ◌^◌, ◌<◌, ◌≤◌, ◌≡◌, ◌≢◌, true, Some}
-use Rattle.wait_model.specs.declared.layout.TheConstants.{TASKS}
-use Rattle.wait_model.specs.Totals.{sum_below}
-use Rattle.wait_rule.specs.declared.journal.Journal.{Journal}
-use Rattle.wait_rule.specs.Journals.{fresh, owns}
-use Rattle.wait_rule.specs.Known.{Known}
-use Rattle.wait_rule.specs.Says.{history_of}
-use Rattle.wait_rule.specs.TableLaws.{histories_in}
-use Rattle.futex_table.specs.GuardedTallies.{AllUseTally, adds_in}
-use Rattle.futex_table.specs.GuardedWords.{read_in}
+use Rattle.wait_model.specs.{declared.layout.TheConstants.TASKS, Totals.sum_below}
+use Rattle.wait_rule.specs.{declared.journal.Journal.Journal, Journals.fresh, Journals.owns, Known.Known}
+use Rattle.wait_rule.specs.{Says.history_of, TableLaws.histories_in}
+use Rattle.futex_table.specs.{GuardedTallies.AllUseTally, GuardedTallies.adds_in, GuardedWords.read_in}
 
 -- By the histories that a journal has, tasks use mutex m and tally c as they should, where task o opens the mutex, and
 -- added to the tally n times. It has h numbers of tasks, its own, spare and joined ones, and none twice.

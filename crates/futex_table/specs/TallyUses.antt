@@ -3,14 +3,10 @@
 use Rattle.std.specs.Prelude.{ℕ, ◌+◌, ◌≡◌, ◌≢◌, Bool, true}
 use Rattle.wait_model.specs.declared.steps.Step.TheVariants as step
 use Rattle.wait_model.specs.declared.watches.Watch.TheVariants as watch
-use Rattle.wait_model.specs.Histories.{Lacks}
-use Rattle.wait_model.specs.Totals.{total}
+use Rattle.wait_model.specs.{Histories.Lacks, Totals.total}
 use Rattle.wait_rule.specs.declared.journal.Item.TheVariants as item
-use Rattle.wait_rule.specs.Aside.{Grows}
-use Rattle.wait_rule.specs.Known.{Known}
-use Rattle.wait_rule.specs.Says.{added, history_of}
-use Rattle.futex_table.specs.GuardedTallies.{UsesTally, tally_adds}
-use Rattle.futex_table.specs.OneHolder.{stores_word}
+use Rattle.wait_rule.specs.{Aside.Grows, Known.Known, Says.added, Says.history_of}
+use Rattle.futex_table.specs.{GuardedTallies.UsesTally, GuardedTallies.tally_adds, OneHolder.stores_word}
 
 -- A task that has used mutex m and tally c as it should has done so still, and has added to the tally so many times
 -- more. Its journal has more items of its own and nothing else.

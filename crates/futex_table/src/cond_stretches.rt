@@ -2,14 +2,9 @@
 
 ghost use Rattle.std.specs.Prelude.{◌≡◌, ◌≢◌, ◌<◌, MatchBool, [], IfOk, IfSome, false, true};
 ghost use Rattle.wait_model.specs.declared.layout.TheConstants.{FIRST_SIMPLE};
-ghost use Rattle.wait_rule.specs.Known.{Known};
-ghost use Rattle.wait_rule.specs.PassedLocks.{PassesNone};
-ghost use Rattle.wait_rule.specs.Queues.{IsIdle};
-ghost use Rattle.wait_rule.specs.Says.{IsClean, IsUp};
+ghost use Rattle.wait_rule.specs.{Known.Known, PassedLocks.PassesNone, Queues.IsIdle, Says.IsClean, Says.IsUp};
 ghost use Rattle.wq_head.specs.Roused.{IsRousing, tasks_in};
-ghost use Rattle.wait_class.specs.Handing.{LastGiven};
-ghost use Rattle.wait_class.specs.Posts.{IsOut};
-ghost use Rattle.wait_class.specs.Tables.{LooksAwake, SleepsNot};
+ghost use Rattle.wait_class.specs.{Handing.LastGiven, Posts.IsOut, Tables.LooksAwake, Tables.SleepsNot};
 ghost use Rattle.wait_class.specs.declared.stages.Turn.TheVariants as turn;
 ghost use Rattle.wait_leave.specs.declared.exits.Until.TheVariants as until;
 ghost use Rattle.futex_table.specs.declared.cond_stretches.CondStage.TheVariants as stages;
@@ -25,9 +20,8 @@ ghost use Rattle.futex_table.specs.CondStretches.{
   awaited_to,
   given_by_wake,
 };
-ghost use Rattle.futex_table.specs.CondVars.{WaitsForCond, is_mutex_held};
-ghost use Rattle.futex_table.specs.Holding.{HoldsMutex, holds_mutex};
-ghost use Rattle.futex_table.specs.LockLeaves.{WaitsForCondUntil, is_held_until};
+ghost use Rattle.futex_table.specs.{CondVars.WaitsForCond, CondVars.is_mutex_held, Holding.HoldsMutex};
+ghost use Rattle.futex_table.specs.{Holding.holds_mutex, LockLeaves.WaitsForCondUntil, LockLeaves.is_held_until};
 ghost use Rattle.futex_table.specs.TalliedTasks.{StayTallied};
 
 use crate::cond_vars::CondEnd;

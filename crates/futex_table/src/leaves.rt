@@ -2,18 +2,15 @@
 
 ghost use Rattle.std.specs.Prelude.{◌≡◌, ◌<◌, None, true};
 ghost use Rattle.wait_model.specs.declared.layout.TheConstants.{FIRST_SIMPLE};
-ghost use Rattle.wait_rule.specs.Queues.{IsIdle, index};
+ghost use Rattle.wait_rule.specs.{Queues.IsIdle, Queues.index, Stays.Carries};
 ghost use Rattle.wait_rule.specs.Says.{IsClean, IsUp, told_of};
-ghost use Rattle.wait_rule.specs.Stays.{Carries};
-ghost use Rattle.wait_class.specs.Posts.{IsOut, Keeps};
-ghost use Rattle.wait_class.specs.Tables.{IsAt, SleepsNot};
+ghost use Rattle.wait_class.specs.{Posts.IsOut, Posts.Keeps, Tables.IsAt, Tables.SleepsNot};
 ghost use Rattle.wait_class.specs.declared.stages.Turn.TheVariants as turn;
 ghost use Rattle.wait_event.specs.Ends.{wait_change};
 ghost use Rattle.wait_leave.specs.OnTheWay.{IsOnWay, OnTheWay};
 ghost use Rattle.futex_table.specs.declared.waits.FutexStage.TheVariants as stages;
+ghost use Rattle.futex_table.specs.{FutexTables.IsFreshFutexWait, FutexTables.futex_table, Holding.StayHeld};
 ghost use Rattle.futex_table.specs.FutexLeaves.{EndsFutexUntil, LeavesFutex, futex_exits, futex_until_in};
-ghost use Rattle.futex_table.specs.FutexTables.{IsFreshFutexWait, futex_table};
-ghost use Rattle.futex_table.specs.Holding.{StayHeld};
 
 use crate::futexes::{FutexEnd, begin_futex, end_of_futex};
 use crate::waits::{FutexOutcome, FutexRun, FutexStage, FutexWait};

@@ -2,12 +2,10 @@
 
 ghost use Rattle.std.specs.Prelude.{◌≡◌, ◌≢◌, ◌<◌, ◌||◌, true, false};
 ghost use Rattle.wait_model.specs.declared.layout.TheConstants.{FIRST_SIMPLE};
-ghost use Rattle.wait_rule.specs.Queues.{IsIdle, index};
-ghost use Rattle.wait_rule.specs.Says.{IsUp};
-ghost use Rattle.wait_rule.specs.Stays.{Carries};
+ghost use Rattle.wait_rule.specs.{Queues.IsIdle, Queues.index, Says.IsUp, Stays.Carries};
 ghost use Rattle.wait_class.specs.Posts.{IsOut};
 ghost use Rattle.wait_event.specs.Ends.{wait_change};
-ghost use Rattle.futex_table.specs.CondVars.{cond_change};
+ghost use Rattle.futex_table.specs.{CondVars.cond_change, TalliedTasks.StayTallied, TallyUses.LeavesTallies};
 ghost use Rattle.futex_table.specs.Holding.{HoldsMutex, OthersStayHeld, holds_mutex};
 ghost use Rattle.futex_table.specs.LockLeaves.{
   LocksMutexUntil,
@@ -17,8 +15,6 @@ ghost use Rattle.futex_table.specs.LockLeaves.{
   is_locked_until,
   round_end,
 };
-ghost use Rattle.futex_table.specs.TalliedTasks.{StayTallied};
-ghost use Rattle.futex_table.specs.TallyUses.{LeavesTallies};
 
 use crate::cond_vars::{CondEnd, cond_answer};
 use crate::futexes::FutexEnd;

@@ -2,18 +2,13 @@
 
 ghost use Rattle.std.specs.Prelude.{◌≡◌, ◌<◌, MatchBool, None, IfOk, IfSome, false, true};
 ghost use Rattle.wait_model.specs.declared.layout.TheConstants.{FIRST_SIMPLE, HEADS};
-ghost use Rattle.wait_rule.specs.Known.{Known};
-ghost use Rattle.wait_rule.specs.PassedLocks.{PassesNone};
-ghost use Rattle.wait_rule.specs.Queues.{IsIdle};
-ghost use Rattle.wait_rule.specs.Says.{IsClean, IsUp};
-ghost use Rattle.wait_class.specs.Handing.{LastGiven};
-ghost use Rattle.wait_class.specs.Posts.{IsOut};
-ghost use Rattle.wait_class.specs.Tables.{LooksAwake, SleepsNot};
+ghost use Rattle.wait_rule.specs.{Known.Known, PassedLocks.PassesNone, Queues.IsIdle, Says.IsClean, Says.IsUp};
+ghost use Rattle.wait_class.specs.{Handing.LastGiven, Posts.IsOut, Tables.LooksAwake, Tables.SleepsNot};
 ghost use Rattle.wait_class.specs.declared.stages.Turn.TheVariants as turn;
 ghost use Rattle.wait_leave.specs.declared.exits.Until.TheVariants as until;
 ghost use Rattle.futex_table.specs.declared.lock_stretches.LockStage.TheVariants as stages;
-ghost use Rattle.futex_table.specs.Holding.{HoldsMutex};
-ghost use Rattle.futex_table.specs.LockLeaves.{LocksMutexUntil, is_locked_until};
+ghost use Rattle.futex_table.specs.{Holding.HoldsMutex, LockLeaves.LocksMutexUntil, LockLeaves.is_locked_until};
+ghost use Rattle.futex_table.specs.{Mutexes.LocksMutex, Mutexes.is_locked, TalliedTasks.StayTallied};
 ghost use Rattle.futex_table.specs.LockStretches.{
   IsLockUnderWay,
   IsMutexLocking,
@@ -23,8 +18,6 @@ ghost use Rattle.futex_table.specs.LockStretches.{
   LockTurnedOut,
   waited_to,
 };
-ghost use Rattle.futex_table.specs.Mutexes.{LocksMutex, is_locked};
-ghost use Rattle.futex_table.specs.TalliedTasks.{StayTallied};
 
 use crate::futexes::begin_futex;
 use crate::leaves::futex_until_of;

@@ -4,14 +4,11 @@ ghost use Rattle.std.specs.Prelude.{◌≡◌, ◌<◌, ◌||◌, true, false, I
 ghost use Rattle.wait_model.specs.declared.layout.TheConstants.{FIRST_SIMPLE};
 ghost use Rattle.wait_model.specs.declared.watches.Mode.TheVariants as mode;
 ghost use Rattle.wait_model.specs.declared.watches.Watch.TheVariants as watch;
-ghost use Rattle.wait_rule.specs.Queues.{IsIdle, index};
+ghost use Rattle.wait_rule.specs.{Queues.IsIdle, Queues.index, Says.IsUp, Says.added, Stays.Carries, Stays.unchanged};
 ghost use Rattle.wait_model.specs.declared.steps.Step.TheVariants as step;
 ghost use Rattle.wait_rule.specs.declared.journal.Item.TheVariants as item;
-ghost use Rattle.wait_rule.specs.Says.{IsUp, added};
-ghost use Rattle.wait_rule.specs.Stays.{Carries, unchanged};
 ghost use Rattle.wait_class.specs.Posts.{IsOut};
-ghost use Rattle.wait_event.specs.Conds.{set_change};
-ghost use Rattle.wait_event.specs.Ends.{wait_change};
+ghost use Rattle.wait_event.specs.{Conds.set_change, Ends.wait_change};
 ghost use Rattle.futex_table.specs.Holding.{HoldsMutex, OthersStayHeld, holds_mutex};
 ghost use Rattle.futex_table.specs.Mutexes.{HasFreedMutex, HasTriedMutex, LocksMutex, is_locked, worn_in};
 ghost use Rattle.futex_table.specs.TalliedTasks.{StartsTallies, StayTallied};

@@ -4,12 +4,9 @@ ghost use Rattle.std.specs.Prelude.{◌≡◌, ◌<◌, false};
 ghost use Rattle.wait_model.specs.declared.layout.TheConstants.{FIRST_SIMPLE};
 ghost use Rattle.wait_model.specs.declared.watches.Mode.TheVariants as mode;
 ghost use Rattle.wait_model.specs.declared.watches.Watch.TheVariants as watch;
-ghost use Rattle.wait_rule.specs.Queues.{IsIdle};
-ghost use Rattle.wait_rule.specs.Says.{IsUp};
-ghost use Rattle.wait_rule.specs.Stays.{Carries};
+ghost use Rattle.wait_rule.specs.{Queues.IsIdle, Says.IsUp, Stays.Carries};
 ghost use Rattle.wait_event.specs.Conds.{HasSet, set_change};
-ghost use Rattle.futex_table.specs.Holding.{OthersStayHeld, holds_mutex};
-ghost use Rattle.futex_table.specs.TallyUses.{StoresWord};
+ghost use Rattle.futex_table.specs.{Holding.OthersStayHeld, Holding.holds_mutex, TallyUses.StoresWord};
 
 use std::sync::Wait;
 use wait_model::queues::Walked;

@@ -6,10 +6,9 @@ ghost use Rattle.wait_model.specs.declared.layout.TheConstants.{FIRST_SIMPLE};
 ghost use Rattle.wait_model.specs.declared.watches.Watch.TheVariants as watch;
 ghost use Rattle.wait_model.specs.declared.steps.Step.TheVariants as step;
 ghost use Rattle.wait_rule.specs.declared.journal.Item.TheVariants as item;
-ghost use Rattle.wait_rule.specs.Journals.{joined_with, left_with};
-ghost use Rattle.wait_rule.specs.Queues.{IsIdle};
+ghost use Rattle.wait_rule.specs.{Journals.joined_with, Journals.left_with, Queues.IsIdle, Stays.Carries};
+ghost use Rattle.wait_rule.specs.Stays.{unchanged};
 ghost use Rattle.wait_rule.specs.Says.{IsClean, IsShown, IsUp, added, newcomer, seen_with};
-ghost use Rattle.wait_rule.specs.Stays.{Carries, unchanged};
 ghost use Rattle.futex_table.specs.Holding.{HoldsMutex, StayHeld};
 ghost use Rattle.futex_table.specs.TalliedTasks.{
   CutOffTallied,

@@ -2,8 +2,7 @@
 -- Tasks of the tests that wait for a condition variable by stretches: what they know between two turns.
 use Rattle.std.specs.Prelude.{false, Option, Some, None}
 use Rattle.wait_model.specs.declared.tasks.SleepState.TheVariants as states
-use Rattle.wait_rule.specs.Known.{Known}
-use Rattle.wait_rule.specs.Says.{IsClean}
+use Rattle.wait_rule.specs.{Known.Known, Says.IsClean}
 use Rattle.futex_table.specs.declared.cond_stretches.CondWait.{CondWait}
 use Rattle.futex_table.specs.CondStretches.{CondTurn, IsCondWaiting}
 

@@ -5,8 +5,7 @@ ghost use Rattle.std.specs.Prelude.{◌≡◌};
 ghost use Rattle.wait_rule.specs.Queues.{IsIdle};
 ghost use Rattle.wait_rule.specs.Says.{IsClean, IsUp, RestsIn};
 ghost use Rattle.wait_class.specs.declared.stages.Turn.TheVariants as turn;
-ghost use Rattle.futex_table.specs.CondStretches.{IsCondUnderWay};
-ghost use Rattle.futex_table.specs.Holding.{HoldsMutex};
+ghost use Rattle.futex_table.specs.{CondStretches.IsCondUnderWay, Holding.HoldsMutex};
 ghost use Rattle.futex_tests.specs.CondTasks.{IsInMonitor, IsTestedCond, tested_cond};
 
 use crate::calls::{open, signal, try_lock, unlock};

@@ -3,8 +3,7 @@
 
 ghost use Rattle.std.specs.Prelude.{◌≡◌};
 ghost use Rattle.wait_rule.specs.Says.{RestsIn};
-ghost use Rattle.futex_table.specs.Holding.{HoldsMutex};
-ghost use Rattle.futex_table.specs.LockLeaves.{is_held_until, is_locked_until};
+ghost use Rattle.futex_table.specs.{Holding.HoldsMutex, LockLeaves.is_held_until, LockLeaves.is_locked_until};
 
 use crate::calls::{broadcast, lock, open, unlock};
 use crate::tallies::add_plainly;

@@ -2,11 +2,9 @@
 //! and locks that are left by stretches, at each moment.
 
 ghost use Rattle.std.specs.Prelude.{◌≡◌};
-ghost use Rattle.wait_rule.specs.PassedLocks.{PassesNone};
-ghost use Rattle.wait_rule.specs.Says.{RestsIn};
+ghost use Rattle.wait_rule.specs.{PassedLocks.PassesNone, Says.RestsIn};
 ghost use Rattle.wait_class.specs.declared.stages.Turn.TheVariants as turn;
-ghost use Rattle.futex_table.specs.Holding.{HoldsMutex};
-ghost use Rattle.futex_table.specs.LockStretches.{IsLockUnderWay};
+ghost use Rattle.futex_table.specs.{Holding.HoldsMutex, LockStretches.IsLockUnderWay};
 
 use crate::calls::open;
 use crate::left_locks::has_locked;

@@ -1,45 +1,33 @@
 -- A task of tests that waits with its entry of slot 0, and leaves.
 use Rattle.std.proofs.Common.{◌∙◌, ap, sym, refl, subst, inl, arith}
 use Rattle.std.specs.Prelude.{ℕ, ◌≡◌, ◌&&◌, ◌||◌, Bool, true, false, Option, Some, None, ◌∷◌}
-use Rattle.wait_model.specs.declared.layout.TheConstants.{FIRST_PLAIN_HEAD, RUNNING}
-use Rattle.wait_model.specs.declared.watches.Entry.{Entry}
+use Rattle.wait_model.specs.{declared.layout.TheConstants.FIRST_PLAIN_HEAD, declared.layout.TheConstants.RUNNING}
+use Rattle.wait_model.specs.{declared.watches.Entry.Entry, declared.watches.Kind.Kind, declared.watches.Aim.Aim}
+use Rattle.wait_model.specs.{declared.steps.Step.Step, declared.tasks.Sleep.Sleep, Tasks.meets, Words.entry_of}
+use Rattle.wait_model.specs.{Fold.after, Fold.view_of}
+use Rattle.wait_model.specs.Watches.{head_of, mask_of, same}
+use Rattle.wait_model.specs.Views.{View as Told, Bits, blank}
 use Rattle.wait_model.specs.declared.watches.Watch.TheVariants as watch
-use Rattle.wait_model.specs.declared.watches.Kind.{Kind}
 use Rattle.wait_model.specs.declared.watches.Kind.TheVariants as kind
 use Rattle.wait_model.specs.declared.watches.Mode.TheVariants as mode
-use Rattle.wait_model.specs.declared.watches.Aim.{Aim}
-use Rattle.wait_model.specs.declared.steps.Step.{Step}
 use Rattle.wait_model.specs.declared.steps.Step.TheVariants as step
-use Rattle.wait_model.specs.declared.tasks.Sleep.{Sleep}
-use Rattle.wait_model.specs.Tasks.{meets}
-use Rattle.wait_model.specs.Watches.{head_of, mask_of, same}
-use Rattle.wait_model.specs.Words.{entry_of}
-use Rattle.wait_model.specs.Views.{View as Told, Bits, blank}
-use Rattle.wait_model.specs.Fold.{after, view_of}
-use Rattle.wait_model.proofs.HistoryLaws.HoldLooks.{after_snoc}
-use Rattle.wait_model.proofs.StepLaws.UnlockSteps.{unlock_bits}
+use Rattle.wait_model.proofs.{HistoryLaws.HoldLooks.after_snoc, StepLaws.UnlockSteps.unlock_bits}
 use Rattle.wait_rule.specs.declared.journal.Item.TheVariants as item
-use Rattle.wait_rule.specs.Known.{Known}
-use Rattle.wait_rule.specs.Says.{IsClean, IsFree, Excuse, OwesBut, HasSlept, no_excuse, added, history_of}
-use Rattle.wait_rule.specs.Says.{told_of}
+use Rattle.wait_rule.specs.{Known.Known, Items.Difference, Items.with_difference}
+use Rattle.wait_rule.specs.Says.{IsClean, IsFree, Excuse, OwesBut, HasSlept, no_excuse, added, history_of, told_of}
 use Rattle.wait_rule.specs.Queues.{IsIdle, IsTailPlace, KnewEntry, MayUnqueue, index, saw}
 use Rattle.wait_rule.specs.Stays.{Stays, StaysOwing, no_entries, with_entry, with_wakes}
-use Rattle.wait_rule.proofs.KnownLaws.AfterSteps.{told_added}
-use Rattle.wait_rule.proofs.KnownLaws.Turns.{told_unlocked}
-use Rattle.wait_rule.proofs.KnownLaws.TaskHistories.{history_slept}
+use Rattle.wait_rule.proofs.{KnownLaws.AfterSteps.told_added, KnownLaws.Turns.told_unlocked}
+use Rattle.wait_rule.proofs.{KnownLaws.TaskHistories.history_slept, KnownLaws.Debts.items_debts}
+use Rattle.wait_rule.proofs.{KnownLaws.Debts.looks_quiet, KnownLaws.CarriedTasks.owes_more}
+use Rattle.wait_rule.proofs.{KnownLaws.StayingParts.look_out, KnownLaws.StayingParts.owes_out}
 use Rattle.wait_rule.proofs.KnownLaws.SettledTasks.{stays_settled, owes_after, owes_told}
-use Rattle.wait_rule.proofs.KnownLaws.Debts.{items_debts, looks_quiet}
-use Rattle.wait_rule.proofs.KnownLaws.CarriedTasks.{owes_more}
-use Rattle.wait_rule.proofs.KnownLaws.StayingParts.{look_out, owes_out}
+use Rattle.wq_head.specs.{Looks.Looks, Walks.HasEnded}
 use Rattle.wq_head.specs.Holds.{HasLocked, HasUnlocked, IsHolding}
-use Rattle.wq_head.specs.Looks.{Looks}
 use Rattle.wq_head.specs.Adds.{HasAdded, HasRemoved, front_entry}
-use Rattle.wq_head.specs.Walks.{HasEnded}
 use Rattle.head_tests.specs.Leaving.{HasEntry, HasLeft, IsBack}
-use Rattle.wq_head.proofs.ReadyTasks.{first_head, may_take_off}
-use Rattle.wq_head.proofs.OneMoreLook.{saw_bits, saw_looks}
+use Rattle.wq_head.proofs.{ReadyTasks.first_head, ReadyTasks.may_take_off, OneMoreLook.saw_bits, OneMoreLook.saw_looks}
 use Rattle.wq_head.proofs.LockWaits.{locked_told}
-use Rattle.wait_rule.specs.Items.{Difference, with_difference}
 
 -- the entry stays where the number and the entries stay, and what is owed
 pub entry_on : (old new : Known) (kd : Kind) → new.view.number ≡ old.view.number

@@ -1,15 +1,11 @@
 -- For tests alone.
 -- A task that waits for condition 0 with its entry of slot 0.
 use Rattle.std.specs.Prelude.{ℕ, ◌≡◌, Some}
-use Rattle.wait_model.specs.declared.layout.TheConstants.{RUNNING}
-use Rattle.wait_model.specs.declared.watches.Kind.{Kind}
+use Rattle.wait_model.specs.{declared.layout.TheConstants.RUNNING, declared.watches.Kind.Kind}
 use Rattle.wait_model.specs.declared.watches.Watch.TheVariants as watch
-use Rattle.wait_rule.specs.Known.{Known}
+use Rattle.wait_rule.specs.{Known.Known, Queues.index, Stays.with_entry}
 use Rattle.wait_rule.specs.Says.{IsUp, IsFree, OwesBut, OwesNothing, no_excuse, told_of}
-use Rattle.wait_rule.specs.Queues.{index}
-use Rattle.wait_rule.specs.Stays.{with_entry}
-use Rattle.wq_head.specs.Adds.{front_entry}
-use Rattle.wq_head.specs.Readied.{StaysInHold}
+use Rattle.wq_head.specs.{Adds.front_entry, Readied.StaysInHold}
 
 -- its history has stored the entry, and it owes nothing but this entry
 pub record HasEntry (k : Known) (kd : Kind) : Type 0 where

@@ -1,51 +1,37 @@
 -- Waits for bits that are left make their words.
 use Rattle.std.proofs.Common.{refl, subst}
 use Rattle.std.specs.Prelude.{ℕ, ◌≡◌, ◌&&◌, Bool, true, false, not, is_some, if◌then◌else◌, Some, List, ◌∷◌}
-use Rattle.wait_model.specs.declared.calls.Answer.{Answer}
+use Rattle.wait_model.specs.{declared.calls.Answer.Answer, declared.calls.Event.Event, declared.points.Planned.Planned}
+use Rattle.wait_model.specs.{declared.points.Point.Point, declared.tasks.SleepState.SleepState, Phrases.ends}
+use Rattle.wait_model.specs.{PointFacts.holds, Programs.call_fails, Programs.program, SentenceSteps.finishes}
+use Rattle.wait_model.specs.{SentenceSteps.minus_4, Tasks.pending, Tasks.state_mask, Watches.misses, Watches.number_of}
 use Rattle.wait_model.specs.declared.calls.Call.TheVariants as calls
-use Rattle.wait_model.specs.declared.calls.Event.{Event}
 use Rattle.wait_model.specs.declared.calls.Event.TheVariants as event
 use Rattle.wait_model.specs.declared.points.BitPoint.TheVariants as biting
 use Rattle.wait_model.specs.declared.points.FinishPoint.TheVariants as finishing
-use Rattle.wait_model.specs.declared.points.Planned.{Planned}
-use Rattle.wait_model.specs.declared.points.Point.{Point}
 use Rattle.wait_model.specs.declared.points.Point.TheVariants as at
 use Rattle.wait_model.specs.declared.points.PreparePoint.TheVariants as preparing
-use Rattle.wait_model.specs.declared.tasks.SleepState.{SleepState}
 use Rattle.wait_model.specs.declared.watches.Watch.TheVariants as watch
-use Rattle.wait_model.specs.Phrases.{ends}
-use Rattle.wait_model.specs.PointFacts.{holds}
-use Rattle.wait_model.specs.Programs.{call_fails, program}
-use Rattle.wait_model.specs.SentenceSteps.{finishes, minus_4}
-use Rattle.wait_model.specs.Tasks.{pending, state_mask}
-use Rattle.wait_model.specs.Watches.{misses, number_of}
-use Rattle.wait_model.proofs.SentenceLaws.SentenceBits.{answered_by, wait_rest}
-use Rattle.wait_model.proofs.SentenceLaws.SentenceRests.{first_more}
-use Rattle.wait_model.proofs.WaitLaws.OutsideStages.{either}
-use Rattle.wait_rule.specs.Known.{Known}
-use Rattle.wait_rule.specs.Says.{MeetsLaw}
-use Rattle.wait_rule.specs.Transitions.{call_program}
-use Rattle.wait_class.specs.declared.frame_stages.Stage.{Stage}
+use Rattle.wait_model.proofs.{SentenceLaws.SentenceBits.answered_by, SentenceLaws.SentenceBits.wait_rest}
+use Rattle.wait_model.proofs.{SentenceLaws.SentenceRests.first_more, WaitLaws.OutsideStages.either}
+use Rattle.wait_rule.specs.{Known.Known, Says.MeetsLaw, Transitions.call_program}
+use Rattle.wait_class.specs.{declared.frame_stages.Stage.Stage, Posts.IsOut}
 use Rattle.wait_class.specs.declared.frame_stages.Stage.TheVariants as stage
 use Rattle.wait_class.specs.declared.stages.Turn.TheVariants as turn
-use Rattle.wait_class.specs.Posts.{IsOut}
 use Rattle.wait_leave.specs.declared.exits.Exit.{Exit}
 use Rattle.wait_leave.specs.declared.exits.Until.TheVariants as until
+use Rattle.bit_wait.specs.{LockTables.lock_table, declared.lock_runs.LockBit.LockBit}
+use Rattle.bit_wait.specs.{declared.lock_runs.LockOutcome.LockOutcome, declared.lock_runs.LockTest.LockTest}
+use Rattle.bit_wait.specs.{declared.waits.BitOutcome.BitOutcome, declared.waits.BitTest.BitTest}
+use Rattle.bit_wait.specs.declared.waits.WaitBit.{WaitBit}
 use Rattle.bit_wait.specs.BitLeaves.{EndsBitWaitUntil, bit_exit, bit_exits, bit_failed_in, bit_until_in}
 use Rattle.bit_wait.specs.BitTables.{answer_to_bit, bit_table, is_bit_worn}
 use Rattle.bit_wait.specs.LockLeaves.{EndsBitLockUntil, failed_in, lock_exit, lock_exits, until_in}
-use Rattle.bit_wait.specs.LockTables.{lock_table}
 use Rattle.bit_wait.specs.LockTables as locks
-use Rattle.bit_wait.specs.declared.lock_runs.LockBit.{LockBit}
-use Rattle.bit_wait.specs.declared.lock_runs.LockOutcome.{LockOutcome}
 use Rattle.bit_wait.specs.declared.lock_runs.LockOutcome.TheVariants as lock_outcome
-use Rattle.bit_wait.specs.declared.lock_runs.LockTest.{LockTest}
 use Rattle.bit_wait.specs.declared.lock_runs.LockTest.TheVariants as lock_test
-use Rattle.bit_wait.specs.declared.waits.BitOutcome.{BitOutcome}
 use Rattle.bit_wait.specs.declared.waits.BitOutcome.TheVariants as outcome
-use Rattle.bit_wait.specs.declared.waits.BitTest.{BitTest}
 use Rattle.bit_wait.specs.declared.waits.BitTest.TheVariants as test
-use Rattle.bit_wait.specs.declared.waits.WaitBit.{WaitBit}
 use Rattle.left_sentences.specs.LeftWords.{IsLeftWord, WaysOut, holds_lock}
 use Rattle.left_sentences.specs.BitWays.{LeftBitLocksFollow, LeftBitWaitsFollow, bit_says, finishes_and_tries}
 use Rattle.left_sentences.specs.BitWays.{loads_and_finishes, lock_says, out_of_holds}

@@ -3,61 +3,44 @@
 use Rattle.std.proofs.Common.{◌∙◌, ap, append_assoc, append-nil, arith, inl, inr, refl, subst, sym}
 use Rattle.std.proofs.lemmas.Bool.{eqb-true}
 use Rattle.std.specs.Prelude.{ℕ, ◌≡◌, ◌≤◌, ◌==◌, Bool, true, false, is_some, if◌then◌else◌, Some, None, List, [], ◌∷◌, ◌++◌}
-use Rattle.wait_model.specs.declared.layout.TheConstants.{ALL_DONE}
-use Rattle.wait_model.specs.declared.calls.Answer.{Answer}
-use Rattle.wait_model.specs.declared.calls.Call.{Call}
-use Rattle.wait_model.specs.declared.calls.Call.TheVariants as calls
-use Rattle.wait_model.specs.declared.calls.Event.{Event}
-use Rattle.wait_model.specs.declared.calls.Event.TheVariants as event
-use Rattle.wait_model.specs.declared.points.AwaitPoint.TheVariants as awaiting
-use Rattle.wait_model.specs.declared.points.Given.{Given}
-use Rattle.wait_model.specs.declared.points.Next.{Next}
-use Rattle.wait_model.specs.declared.points.Next.TheVariants as next
-use Rattle.wait_model.specs.declared.points.Planned.{Planned}
-use Rattle.wait_model.specs.declared.points.Point.{Point}
-use Rattle.wait_model.specs.declared.points.Point.TheVariants as at
-use Rattle.wait_model.specs.declared.points.PreparePoint.TheVariants as preparing
-use Rattle.wait_model.specs.declared.points.Seen.{Seen}
-use Rattle.wait_model.specs.declared.steps.Step.{Step}
-use Rattle.wait_model.specs.declared.steps.Step.TheVariants as step
-use Rattle.wait_model.specs.declared.tasks.SleepState.{SleepState}
-use Rattle.wait_model.specs.declared.watches.Watch.{Watch}
-use Rattle.wait_model.specs.declared.watches.Watch.TheVariants as watch
-use Rattle.wait_model.specs.Findings.{Noted, notes}
-use Rattle.wait_model.specs.Phrases.{Rest, ends, gives, leaves, repeat, repeats, when◌then◌otherwise◌}
-use Rattle.wait_model.specs.Points.{call_number}
+use Rattle.wait_model.specs.{declared.layout.TheConstants.ALL_DONE, declared.calls.Answer.Answer}
+use Rattle.wait_model.specs.{declared.calls.Call.Call, declared.calls.Event.Event, declared.points.Given.Given}
+use Rattle.wait_model.specs.{declared.points.Next.Next, declared.points.Planned.Planned, declared.points.Point.Point}
+use Rattle.wait_model.specs.{declared.points.Seen.Seen, declared.steps.Step.Step, declared.tasks.SleepState.SleepState}
+use Rattle.wait_model.specs.{declared.watches.Watch.Watch, Findings.Noted, Findings.notes, Points.call_number}
+use Rattle.wait_model.specs.{SentenceSteps.minus_512, Tables.Table}
 use Rattle.wait_model.specs.Programs.{is_at_end, program, zero_answer}
 use Rattle.wait_model.specs.SentenceCounts.{await_end, await_turn, by_count, counts}
-use Rattle.wait_model.specs.SentenceSteps.{minus_512}
-use Rattle.wait_model.specs.Tables.{Table}
 use Rattle.wait_model.specs.Tasks.{looks_in, pending, state_mask}
 use Rattle.wait_model.specs.Watches.{head_of, number_of, owner}
-use Rattle.wait_model.proofs.SentenceLaws.SentenceAwaits.{await_rest, loaded, over}
-use Rattle.wait_model.proofs.SentenceLaws.SentenceCalls.{rest_of}
-use Rattle.wait_model.proofs.SentenceLaws.SentenceEnds.{can_end}
-use Rattle.wait_model.proofs.SentenceLaws.SentenceRests.{CanEnd, first_more, left_at as left_of}
+use Rattle.wait_model.specs.declared.calls.Call.TheVariants as calls
+use Rattle.wait_model.specs.declared.calls.Event.TheVariants as event
+use Rattle.wait_model.specs.declared.points.AwaitPoint.TheVariants as awaiting
+use Rattle.wait_model.specs.declared.points.Next.TheVariants as next
+use Rattle.wait_model.specs.declared.points.Point.TheVariants as at
+use Rattle.wait_model.specs.declared.points.PreparePoint.TheVariants as preparing
+use Rattle.wait_model.specs.declared.steps.Step.TheVariants as step
+use Rattle.wait_model.specs.declared.watches.Watch.TheVariants as watch
+use Rattle.wait_model.specs.Phrases.{Rest, ends, gives, leaves, repeat, repeats, when◌then◌otherwise◌}
+use Rattle.wait_model.proofs.{SentenceLaws.SentenceCalls.rest_of, SentenceLaws.SentenceEnds.can_end}
 use Rattle.wait_model.proofs.WaitLaws.OutsideStages.{either}
-use Rattle.wait_rule.specs.Interleavings.{IsInterleaved}
-use Rattle.wait_rule.specs.Known.{Known}
-use Rattle.wait_rule.specs.Queues.{index}
-use Rattle.wait_rule.specs.SaidEvents.{said}
+use Rattle.wait_model.proofs.SentenceLaws.SentenceAwaits.{await_rest, loaded, over}
+use Rattle.wait_model.proofs.SentenceLaws.SentenceRests.{CanEnd, first_more, left_at as left_of}
+use Rattle.wait_rule.specs.{Interleavings.IsInterleaved, Known.Known, Queues.index, SaidEvents.said}
 use Rattle.wait_rule.specs.Says.{MeetsLaw, history_of, told_of}
 use Rattle.wait_rule.specs.Transitions.{Finds, FindsAt, Goes, IsMadeFor, IsSeenAs, Program, StepOrLook, Transition}
 use Rattle.wait_rule.specs.Transitions.{after_transition, by_look, by_step, call_program}
-use Rattle.wait_rule.proofs.KnownLaws.Moments.{moment_of}
+use Rattle.wait_rule.proofs.{KnownLaws.Moments.moment_of, SaidEvents.OwnFindings.own_off}
 use Rattle.wait_rule.proofs.SaidEvents.Fronts.{IsOff, off_on, off_still, queued_before, step_follows, steps_made}
-use Rattle.wait_rule.proofs.SaidEvents.OwnFindings.{own_off}
 use Rattle.wait_class.specs.declared.stages.Turn.TheVariants as turn
 use Rattle.wait_class.specs.Posts.{IsOut}
 use Rattle.wait_leave.specs.declared.exits.Exit.{Exit}
 use Rattle.wait_leave.specs.declared.exits.Until.TheVariants as until
+use Rattle.completion_cell.specs.{LoadedCounts.AreInRange, LoadedCounts.InRange, declared.awaits.AwaitCall.AwaitCall}
+use Rattle.completion_cell.specs.{declared.awaits.AwaitOutcome.AwaitOutcome, declared.awaits.AwaitStage.AwaitStage}
 use Rattle.completion_cell.specs.AwaitLeaves.{EndsAwaitUntil, await_exit, await_exits, await_stopped, await_until}
 use Rattle.completion_cell.specs.Awaits.{answer_to_await, await_table, await_point_at}
-use Rattle.completion_cell.specs.LoadedCounts.{AreInRange, InRange}
-use Rattle.completion_cell.specs.declared.awaits.AwaitCall.{AwaitCall}
-use Rattle.completion_cell.specs.declared.awaits.AwaitOutcome.{AwaitOutcome}
 use Rattle.completion_cell.specs.declared.awaits.AwaitOutcome.TheVariants as outcome
-use Rattle.completion_cell.specs.declared.awaits.AwaitStage.{AwaitStage}
 use Rattle.completion_cell.specs.declared.awaits.AwaitStage.TheVariants as stage
 use Rattle.completion_cell.proofs.CellPoints.{FindsThere, ShowsLoad, cell_spoken, is_cell_point, loads_at, loads_shown, reads_entry, uses_at}
 use Rattle.left_sentences.specs.CellWays.{CellFrom, HasLoadedZero, LeftAwaitsFollow, await_says, before_sleep, cell_ways, counts_once_more, in_hold}

@@ -1,56 +1,40 @@
 -- Waits for plain conditions and variables that are left make their words.
 use Rattle.std.proofs.Common.{◌∙◌, ap, inl, inr, refl, subst}
 use Rattle.std.specs.Prelude.{ℕ, ◌≡◌, Bool, true, false, not, is_some, if◌then◌else◌, Some, Result, List, ◌∷◌}
-use Rattle.wait_model.specs.declared.calls.Answer.{Answer}
-use Rattle.wait_model.specs.declared.calls.Call.{Call}
+use Rattle.wait_model.specs.{declared.calls.Answer.Answer, declared.calls.Call.Call, declared.calls.Event.Event}
+use Rattle.wait_model.specs.{declared.points.Planned.Planned, declared.points.Point.Point, declared.points.Seen.Seen}
+use Rattle.wait_model.specs.{declared.tasks.How.How, declared.tasks.SleepState.SleepState, declared.watches.Watch.Watch}
+use Rattle.wait_model.specs.{Findings.none_noted, Points.call_watch, Points.state_in, Sentences.Follows}
+use Rattle.wait_model.specs.SentenceSteps.{finishes, is_met, is_signalled, minus_512, number, takes_off, unlocks}
+use Rattle.wait_model.specs.Tasks.{looks_in, pending, state_mask}
+use Rattle.wait_model.specs.Watches.{head_of, misses, number_of}
 use Rattle.wait_model.specs.declared.calls.Call.TheVariants as calls
-use Rattle.wait_model.specs.declared.calls.Event.{Event}
 use Rattle.wait_model.specs.declared.calls.Event.TheVariants as event
 use Rattle.wait_model.specs.declared.points.FinishPoint.TheVariants as finishing
 use Rattle.wait_model.specs.declared.points.LeavePoint.TheVariants as leaving
-use Rattle.wait_model.specs.declared.points.Planned.{Planned}
-use Rattle.wait_model.specs.declared.points.Point.{Point}
 use Rattle.wait_model.specs.declared.points.Point.TheVariants as at
 use Rattle.wait_model.specs.declared.points.PreparePoint.TheVariants as preparing
-use Rattle.wait_model.specs.declared.points.Seen.{Seen}
-use Rattle.wait_model.specs.declared.tasks.How.{How}
-use Rattle.wait_model.specs.declared.tasks.SleepState.{SleepState}
-use Rattle.wait_model.specs.declared.watches.Watch.{Watch}
 use Rattle.wait_model.specs.declared.watches.Watch.TheVariants as watch
-use Rattle.wait_model.specs.Findings.{none_noted}
 use Rattle.wait_model.specs.Phrases.{ends, gives, when◌then◌otherwise◌}
 use Rattle.wait_model.specs.Phrases.{◌>>◌}
-use Rattle.wait_model.specs.Points.{call_watch, state_in}
-use Rattle.wait_model.specs.SentenceSteps.{finishes, is_met, is_signalled, minus_512, number, takes_off, unlocks}
-use Rattle.wait_model.specs.Sentences.{Follows}
-use Rattle.wait_model.specs.Tasks.{looks_in, pending, state_mask}
-use Rattle.wait_model.specs.Watches.{head_of, misses, number_of}
-use Rattle.wait_model.proofs.SentenceLaws.SentenceCalls.{rest_of}
-use Rattle.wait_model.proofs.SentenceLaws.SentenceRests.{first_more}
-use Rattle.wait_model.proofs.SentenceLaws.SentenceWaits.{loop_rest, prepared, tested}
+use Rattle.wait_model.proofs.{SentenceLaws.SentenceCalls.rest_of, SentenceLaws.SentenceRests.first_more}
 use Rattle.wait_model.proofs.WaitLaws.OutsideStages.{either}
-use Rattle.wait_rule.specs.Known.{Known}
-use Rattle.wait_rule.specs.Says.{MeetsLaw}
-use Rattle.wait_rule.specs.Transitions.{Program, call_program}
+use Rattle.wait_model.proofs.SentenceLaws.SentenceWaits.{loop_rest, prepared, tested}
+use Rattle.wait_rule.specs.{Known.Known, Says.MeetsLaw, Transitions.Program, Transitions.call_program}
 use Rattle.wait_class.specs.declared.stages.Turn.TheVariants as turn
-use Rattle.wait_class.specs.Posts.{IsOut}
-use Rattle.wait_class.specs.Tables.{plan_program}
+use Rattle.wait_class.specs.{Posts.IsOut, Tables.plan_program}
 use Rattle.wait_leave.specs.declared.exits.Exit.{Exit}
-use Rattle.wait_event.specs.declared.waits.WaitCall.{WaitCall}
-use Rattle.wait_event.specs.declared.waits.WaitOutcome.{WaitOutcome}
-use Rattle.wait_event.specs.declared.waits.WaitOutcome.TheVariants as outcome
-use Rattle.wait_event.specs.declared.waits.WaitStage.{WaitStage}
-use Rattle.wait_event.specs.declared.waits.WaitStage.TheVariants as stage
-use Rattle.wait_event.specs.declared.wait_events.WaitEnd.{WaitEnd}
-use Rattle.wait_event.specs.declared.wait_leaves.WaitUntil.{WaitUntil}
-use Rattle.wait_event.specs.declared.wait_leaves.WaitUntil.TheVariants as until
+use Rattle.wait_event.specs.{declared.waits.WaitCall.WaitCall, declared.waits.WaitOutcome.WaitOutcome}
+use Rattle.wait_event.specs.{declared.waits.WaitStage.WaitStage, declared.wait_events.WaitEnd.WaitEnd}
+use Rattle.wait_event.specs.{declared.wait_leaves.WaitUntil.WaitUntil, WaitPlans.plan, WaitPlans.wait_plan}
 use Rattle.wait_event.specs.WaitLeaves.{EndsWaitUntil, parted_in, wait_exit, wait_exits, wait_until_in}
-use Rattle.wait_event.specs.WaitPlans.{plan, wait_plan}
 use Rattle.wait_event.specs.Waits.{answer_to_wait, wait_point_at, wait_table}
+use Rattle.wait_event.specs.declared.waits.WaitOutcome.TheVariants as outcome
+use Rattle.wait_event.specs.declared.waits.WaitStage.TheVariants as stage
+use Rattle.wait_event.specs.declared.wait_leaves.WaitUntil.TheVariants as until
 use Rattle.wait_event.proofs.Plans.{plain_program, program_is}
 use Rattle.swait_queue.specs.SimpleWaits.{tail_in}
-use Rattle.var_wait.specs.VarLeaves.{until_loaded}
-use Rattle.var_wait.specs.VarWaits.{shared_in}
+use Rattle.var_wait.specs.{VarLeaves.until_loaded, VarWaits.shared_in}
 use Rattle.left_sentences.specs.LeftWords.{IsLeftWord, IsWordTo}
 use Rattle.left_sentences.specs.CondWays.{AskedWaitsFollow, CondFrom, HasMissed, HasPrepared, IsInPrepare}
 use Rattle.left_sentences.specs.CondWays.{LeftSimplesFollow, LeftVarsFollow, LeftWaitsFollow, behind_prepare, cond_says}

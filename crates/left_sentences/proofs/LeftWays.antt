@@ -1,36 +1,21 @@
 -- What a wait made that went out, from what each of its exits makes.
 use Rattle.std.proofs.Common.{◌∙◌, ap, inl, inr, refl, subst, sym, append-nil, append_assoc}
 use Rattle.std.specs.Prelude.{ℕ, ◌≡◌, Bool, true, false, Some, List, [], ◌∷◌, ◌++◌}
-use Rattle.wait_model.specs.declared.calls.Answer.{Answer}
-use Rattle.wait_model.specs.declared.calls.Call.{Call}
-use Rattle.wait_model.specs.declared.calls.Event.{Event}
-use Rattle.wait_model.specs.declared.points.Next.{Next}
+use Rattle.wait_model.specs.{declared.calls.Answer.Answer, declared.calls.Call.Call, declared.calls.Event.Event}
+use Rattle.wait_model.specs.{declared.points.Next.Next, declared.points.Point.Point, declared.steps.Step.Step}
+use Rattle.wait_model.specs.{Findings.Noted, Findings.none_noted, Phrases.ends, Points.call_watch, Sentences.Follows}
+use Rattle.wait_model.specs.{Tables.Table, Watches.is_done}
 use Rattle.wait_model.specs.declared.points.Next.TheVariants as next
-use Rattle.wait_model.specs.declared.points.Point.{Point}
-use Rattle.wait_model.specs.declared.steps.Step.{Step}
 use Rattle.wait_model.specs.declared.steps.Step.TheVariants as step
-use Rattle.wait_model.specs.Findings.{Noted, none_noted}
-use Rattle.wait_model.specs.Phrases.{ends}
-use Rattle.wait_model.specs.Points.{call_watch}
-use Rattle.wait_model.specs.Sentences.{Follows}
-use Rattle.wait_model.specs.Tables.{Table}
-use Rattle.wait_model.specs.Watches.{is_done}
-use Rattle.wait_model.proofs.SentenceLaws.SentenceCalls.{rest_of}
-use Rattle.wait_model.proofs.SentenceLaws.SentenceRests.{left_at as left_of}
-use Rattle.wait_rule.specs.Heeding.{trail_of}
-use Rattle.wait_rule.specs.Interleavings.{IsInterleaved}
-use Rattle.wait_rule.specs.Items.{steps_of}
-use Rattle.wait_rule.specs.Known.{Known}
-use Rattle.wait_rule.specs.SaidEvents.{is_walking, said}
-use Rattle.wait_rule.specs.Says.{MeetsLaw, history_of}
+use Rattle.wait_model.proofs.{SentenceLaws.SentenceCalls.rest_of, SentenceLaws.SentenceRests.left_at as left_of}
+use Rattle.wait_rule.specs.{Heeding.trail_of, Interleavings.IsInterleaved, Items.steps_of, Known.Known}
+use Rattle.wait_rule.specs.{SaidEvents.is_walking, SaidEvents.said, Says.MeetsLaw, Says.history_of}
 use Rattle.wait_rule.specs.Transitions.{Goes, Program, Transition, call_program}
 use Rattle.wait_rule.proofs.KnownLaws.TaskHistories.{history_after}
 use Rattle.wait_rule.proofs.SaidEvents.Fronts.{history_grows, number_stays}
-use Rattle.wait_class.specs.declared.stages.Run.{Run}
-use Rattle.wait_class.specs.declared.stages.Turn.{Turn}
-use Rattle.wait_class.specs.declared.stages.Turn.TheVariants as turn
+use Rattle.wait_class.specs.{declared.stages.Run.Run, declared.stages.Turn.Turn, Wholes.HasRested}
 use Rattle.wait_class.specs.Tables.{Advances, CallTable, Plan, next_in, plan_program}
-use Rattle.wait_class.specs.Wholes.{HasRested}
+use Rattle.wait_class.specs.declared.stages.Turn.TheVariants as turn
 use Rattle.wait_leave.specs.declared.exits.Exit.{Exit}
 use Rattle.wait_leave.specs.Leaves.{Exits, GoesOut, asked_run, with_asked}
 use Rattle.wait_leave.specs.OnTheWay.{OnTheWay, left_at, straight}

@@ -2,37 +2,28 @@
 use Rattle.std.proofs.lemmas.Option.{same_Some}
 use Rattle.std.proofs.Common.{ap, inl, inr, refl, subst}
 use Rattle.std.specs.Prelude.{ℕ, ◌≡◌, Bool, true, false, is_some, if◌then◌else◌, Some, List, [], ◌∷◌}
-use Rattle.wait_model.specs.declared.calls.Answer.{Answer}
-use Rattle.wait_model.specs.declared.calls.Call.{Call}
+use Rattle.wait_model.specs.{declared.calls.Answer.Answer, declared.calls.Call.Call, declared.calls.Event.Event}
+use Rattle.wait_model.specs.{declared.points.PagePoint.PagePoint, declared.points.Planned.Planned}
+use Rattle.wait_model.specs.{declared.points.Point.Point, declared.tasks.SleepState.SleepState, PointFacts.holds}
+use Rattle.wait_model.specs.{SentenceSteps.minus_4, Words.bit_at, Words.flag}
+use Rattle.wait_model.specs.Programs.{call_fails, ends_with, go, zero_answer}
+use Rattle.wait_model.specs.Tasks.{looks_in, pending, state_mask}
 use Rattle.wait_model.specs.declared.calls.Call.TheVariants as calls
-use Rattle.wait_model.specs.declared.calls.Event.{Event}
 use Rattle.wait_model.specs.declared.calls.Event.TheVariants as event
 use Rattle.wait_model.specs.declared.points.FinishPoint.TheVariants as finishing
-use Rattle.wait_model.specs.declared.points.PagePoint.{PagePoint}
 use Rattle.wait_model.specs.declared.points.PagePoint.TheVariants as paging
-use Rattle.wait_model.specs.declared.points.Planned.{Planned}
-use Rattle.wait_model.specs.declared.points.Point.{Point}
 use Rattle.wait_model.specs.declared.points.Point.TheVariants as at
-use Rattle.wait_model.specs.declared.tasks.SleepState.{SleepState}
-use Rattle.wait_model.specs.PointFacts.{holds}
-use Rattle.wait_model.specs.Programs.{call_fails, ends_with, go, zero_answer}
-use Rattle.wait_model.specs.SentenceSteps.{minus_4}
-use Rattle.wait_model.specs.Tasks.{looks_in, pending, state_mask}
-use Rattle.wait_model.specs.Words.{bit_at, flag}
 use Rattle.wait_model.proofs.WaitLaws.OutsideStages.{either}
-use Rattle.wait_rule.specs.Known.{Known}
-use Rattle.wait_rule.specs.Says.{MeetsLaw}
-use Rattle.wait_rule.specs.Transitions.{call_program}
+use Rattle.wait_rule.specs.{Known.Known, Says.MeetsLaw, Transitions.call_program}
 use Rattle.wait_class.specs.declared.stages.Turn.TheVariants as turn
 use Rattle.wait_class.specs.Posts.{IsOut}
 use Rattle.wait_leave.specs.declared.exits.Exit.{Exit}
 use Rattle.wait_leave.specs.declared.exits.Until.TheVariants as until
+use Rattle.page_lock.specs.{declared.waits.LockPage.LockPage, declared.waits.PageOutcome.PageOutcome}
+use Rattle.page_lock.specs.declared.waits.PageStage.{PageStage}
 use Rattle.page_lock.specs.PageLeaves.{EndsPageUntil, page_exit, page_exits, page_failed, page_until}
 use Rattle.page_lock.specs.PageTables.{answer_to_page, page_table, page_point_at}
-use Rattle.page_lock.specs.declared.waits.LockPage.{LockPage}
-use Rattle.page_lock.specs.declared.waits.PageOutcome.{PageOutcome}
 use Rattle.page_lock.specs.declared.waits.PageOutcome.TheVariants as outcome
-use Rattle.page_lock.specs.declared.waits.PageStage.{PageStage}
 use Rattle.page_lock.specs.declared.waits.PageStage.TheVariants as stage
 use Rattle.left_sentences.specs.LeftWords.{IsLeftWord, holds_lock}
 use Rattle.left_sentences.specs.PageWays.{LeftPagesFollow, PageFrom, at_once, by_finish, page_says, page_ways}

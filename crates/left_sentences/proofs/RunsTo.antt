@@ -1,28 +1,16 @@
 -- What a task makes of a call from a point on begins what is left of the sentence there, and is all of it at the end.
 use Rattle.std.proofs.Common.{◌∙◌, ap, arith, refl, subst, sym, append-nil, append_assoc}
 use Rattle.std.specs.Prelude.{ℕ, ◌≡◌, true, false, List, [], ◌∷◌, ◌++◌}
-use Rattle.wait_model.specs.declared.calls.Answer.{Answer}
-use Rattle.wait_model.specs.declared.calls.Call.{Call}
-use Rattle.wait_model.specs.declared.calls.Event.{Event}
-use Rattle.wait_model.specs.declared.points.Next.{Next}
-use Rattle.wait_model.specs.declared.points.Next.TheVariants as next
-use Rattle.wait_model.specs.declared.points.Point.{Point}
-use Rattle.wait_model.specs.declared.points.Seen.{Seen}
-use Rattle.wait_model.specs.declared.steps.Step.{Step}
-use Rattle.wait_model.specs.Findings.{Noted, is_waiting, notes}
-use Rattle.wait_model.specs.Points.{call_watch}
-use Rattle.wait_model.specs.Programs.{program}
-use Rattle.wait_model.specs.Tables.{Table}
+use Rattle.wait_model.specs.{declared.calls.Answer.Answer, declared.calls.Call.Call, declared.calls.Event.Event}
+use Rattle.wait_model.specs.{declared.points.Next.Next, declared.points.Point.Point, declared.points.Seen.Seen}
+use Rattle.wait_model.specs.{declared.steps.Step.Step, Points.call_watch, Programs.program, Tables.Table}
 use Rattle.wait_model.specs.Watches.{is_done}
-use Rattle.wait_model.proofs.SentenceLaws.SentenceCalls.{rest_of}
-use Rattle.wait_model.proofs.SentenceLaws.SentenceEnds.{can_end}
-use Rattle.wait_model.proofs.SentenceLaws.SentenceRests.{CanEnd, left_at}
-use Rattle.wait_rule.specs.Heeding.{trail_of}
-use Rattle.wait_rule.specs.Interleavings.{IsInterleaved}
-use Rattle.wait_rule.specs.Known.{Known}
-use Rattle.wait_rule.specs.Queues.{index}
-use Rattle.wait_rule.specs.SaidEvents.{is_walking, said}
-use Rattle.wait_rule.specs.Says.{history_of}
+use Rattle.wait_model.specs.Findings.{Noted, is_waiting, notes}
+use Rattle.wait_model.specs.declared.points.Next.TheVariants as next
+use Rattle.wait_model.proofs.{SentenceLaws.SentenceCalls.rest_of, SentenceLaws.SentenceEnds.can_end}
+use Rattle.wait_model.proofs.{SentenceLaws.SentenceRests.CanEnd, SentenceLaws.SentenceRests.left_at}
+use Rattle.wait_rule.specs.{Heeding.trail_of, Interleavings.IsInterleaved, Known.Known, Queues.index}
+use Rattle.wait_rule.specs.{SaidEvents.is_walking, SaidEvents.said, Says.history_of}
 use Rattle.wait_rule.specs.Transitions.{Goes, Program, Transition, after_transition, call_program}
 use Rattle.wait_rule.proofs.SaidEvents.FollowedRuns.{first_said, found_off}
 use Rattle.wait_rule.proofs.SaidEvents.Fronts.{IsOff, off_on, off_still, queued_before, step_follows, steps_made}

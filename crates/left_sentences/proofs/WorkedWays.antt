@@ -1,16 +1,13 @@
 -- Worked words of waits that were left.
 use Rattle.std.proofs.Common.{inl, inr, refl, subst, sym}
 use Rattle.std.specs.Prelude.{ℕ, zero, suc, ◌≡◌, ◌⊎◌, true, false, List, [], ◌∷◌, ◌++◌}
-use Rattle.wait_model.specs.declared.layout.TheConstants.{FIRST_PLAIN_HEAD, UNINTERRUPTIBLE}
-use Rattle.wait_model.specs.declared.calls.Answer.{Answer}
-use Rattle.wait_model.specs.declared.calls.Event.{Event}
+use Rattle.wait_model.specs.declared.layout.TheConstants.{FIRST_PLAIN_HEAD}
+use Rattle.wait_model.specs.{declared.layout.TheConstants.UNINTERRUPTIBLE, declared.calls.Answer.Answer}
+use Rattle.wait_model.specs.{declared.calls.Event.Event, Phrases.ends, SentenceSteps.minus_512, SentenceSteps.number}
+use Rattle.wait_model.specs.{Points.call_watch, Watches.head_of, Watches.number_of}
 use Rattle.wait_model.specs.declared.calls.Event.TheVariants as event
 use Rattle.wait_model.specs.declared.queues.Form.TheVariants as forms
 use Rattle.wait_model.specs.declared.tasks.Sleep.TheVariants as sleep
-use Rattle.wait_model.specs.Phrases.{ends}
-use Rattle.wait_model.specs.SentenceSteps.{minus_512, number}
-use Rattle.wait_model.specs.Points.{call_watch}
-use Rattle.wait_model.specs.Watches.{head_of, number_of}
 use Rattle.wait_rule.specs.Heeding.{trail_of}
 use Rattle.left_sentences.specs.CondWays.{CondFrom, CondWay, behind_prepare, cond_ways, in_hold}
 use Rattle.left_sentences.specs.LeftWords.{MakesFrom, asked_again, to_the_end}

@@ -1,28 +1,22 @@
 -- To be believed.
 -- Waits for bits that are left: the ways out.
 use Rattle.std.specs.Prelude.{ℕ, ◌≡◌, true, false, Result, if◌then◌else◌, List}
-use Rattle.wait_model.specs.declared.calls.Answer.{Answer}
+use Rattle.wait_model.specs.{declared.calls.Answer.Answer, declared.calls.Event.Event}
+use Rattle.wait_model.specs.{declared.tasks.SleepState.SleepState, declared.watches.Watch.Watch, SentenceBits.tries}
+use Rattle.wait_model.specs.SentenceSteps.{finishes, loads, minus_4, number}
 use Rattle.wait_model.specs.declared.calls.Call.TheVariants as calls
-use Rattle.wait_model.specs.declared.calls.Event.{Event}
-use Rattle.wait_model.specs.declared.tasks.SleepState.{SleepState}
-use Rattle.wait_model.specs.declared.watches.Watch.{Watch}
 use Rattle.wait_model.specs.declared.watches.Watch.TheVariants as watch
 use Rattle.wait_model.specs.Phrases.{Phrase, ◌>>=◌, ◌>>◌, gives}
-use Rattle.wait_model.specs.SentenceBits.{tries}
-use Rattle.wait_model.specs.SentenceSteps.{finishes, loads, minus_4, number}
-use Rattle.wait_rule.specs.Known.{Known}
-use Rattle.wait_rule.specs.Says.{MeetsLaw}
+use Rattle.wait_rule.specs.{Known.Known, Says.MeetsLaw}
 use Rattle.wait_class.specs.declared.frame_stages.Stage.TheVariants as stage
 use Rattle.wait_class.specs.declared.stages.Turn.TheVariants as turn
 use Rattle.wait_class.specs.Posts.{IsOut}
 use Rattle.wait_leave.specs.declared.exits.Until.{Until}
 use Rattle.wait_leave.specs.declared.exits.Until.TheVariants as until
-use Rattle.bit_wait.specs.BitLeaves.{EndsBitWaitUntil, bit_exits}
-use Rattle.bit_wait.specs.BitTables.{bit_table}
-use Rattle.bit_wait.specs.LockLeaves.{EndsBitLockUntil, lock_exits}
-use Rattle.bit_wait.specs.LockTables.{lock_table}
-use Rattle.bit_wait.specs.declared.lock_runs.LockTest.TheVariants as lock_test
+use Rattle.bit_wait.specs.{BitLeaves.EndsBitWaitUntil, BitLeaves.bit_exits, BitTables.bit_table}
+use Rattle.bit_wait.specs.{LockLeaves.EndsBitLockUntil, LockLeaves.lock_exits, LockTables.lock_table}
 use Rattle.bit_wait.specs.declared.wait_calls.BitEnd.{BitEnd}
+use Rattle.bit_wait.specs.declared.lock_runs.LockTest.TheVariants as lock_test
 use Rattle.bit_wait.specs.declared.waits.BitTest.TheVariants as test
 use Rattle.left_sentences.specs.LeftWords.{IsLeftWord, WaysOut, holds_lock}
 use Rattle.left_sentences.specs.WaySays.{way_says}

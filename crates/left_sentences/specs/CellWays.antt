@@ -1,30 +1,23 @@
 -- To be believed.
 -- Waits for completions that are left: the ways out.
 use Rattle.std.specs.Prelude.{ℕ, ◌≡◌, ◌⊎◌, ◌==◌, true, false, Result, List, ◌∷◌}
-use Rattle.wait_model.specs.declared.calls.Answer.{Answer}
+use Rattle.wait_model.specs.{declared.calls.Answer.Answer, declared.calls.Event.Event}
+use Rattle.wait_model.specs.{declared.tasks.SleepState.SleepState, declared.watches.Watch.Watch, SentenceSteps.locks}
+use Rattle.wait_model.specs.{SentenceSteps.minus_512, Watches.head_of, Watches.number_of}
+use Rattle.wait_model.specs.SentenceCounts.{await_end, await_turn, by_count, by_signal, counts}
 use Rattle.wait_model.specs.declared.calls.Call.TheVariants as calls
-use Rattle.wait_model.specs.declared.calls.Event.{Event}
 use Rattle.wait_model.specs.declared.calls.Event.TheVariants as event
-use Rattle.wait_model.specs.declared.tasks.SleepState.{SleepState}
-use Rattle.wait_model.specs.declared.watches.Watch.{Watch}
 use Rattle.wait_model.specs.declared.watches.Watch.TheVariants as watch
 use Rattle.wait_model.specs.Phrases.{Phrase, ◌>>=◌, ◌>>◌, gives, makes, repeat, when◌then◌otherwise◌}
-use Rattle.wait_model.specs.SentenceCounts.{await_end, await_turn, by_count, by_signal, counts}
-use Rattle.wait_model.specs.SentenceSteps.{locks, minus_512}
-use Rattle.wait_model.specs.Watches.{head_of, number_of}
-use Rattle.wait_rule.specs.Known.{Known}
-use Rattle.wait_rule.specs.Says.{MeetsLaw}
+use Rattle.wait_rule.specs.{Known.Known, Says.MeetsLaw}
 use Rattle.wait_class.specs.declared.stages.Turn.TheVariants as turn
 use Rattle.wait_class.specs.Posts.{IsOut}
 use Rattle.wait_event.specs.declared.wait_events.WaitEnd.{WaitEnd}
 use Rattle.wait_leave.specs.declared.exits.Until.{Until}
 use Rattle.wait_leave.specs.declared.exits.Until.TheVariants as until
-use Rattle.completion_cell.specs.AwaitLeaves.{EndsAwaitUntil, await_exits}
-use Rattle.completion_cell.specs.Awaits.{await_table}
+use Rattle.completion_cell.specs.{AwaitLeaves.EndsAwaitUntil, AwaitLeaves.await_exits, Awaits.await_table}
 use Rattle.completion_cell.specs.declared.awaits.AwaitStage.TheVariants as stage
-use Rattle.left_sentences.specs.CondWays.{HasPrepared}
-use Rattle.left_sentences.specs.LeftWords.{IsLeftWord, WaysOut}
-use Rattle.left_sentences.specs.WaySays.{way_says}
+use Rattle.left_sentences.specs.{CondWays.HasPrepared, LeftWords.IsLeftWord, LeftWords.WaysOut, WaySays.way_says}
 
 -- Before its sleep it stores RUNNING, and goes on to its next hold, which takes one of the count or begins a turn, with
 -- its entry queued.

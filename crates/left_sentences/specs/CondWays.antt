@@ -1,35 +1,25 @@
 -- To be believed.
 -- Waits for plain conditions, also in simple queues, and for variables, that are left: the ways out.
 use Rattle.std.specs.Prelude.{ℕ, ◌≡◌, ◌⊎◌, Bool, true, false, Result, List, ◌∷◌}
-use Rattle.wait_model.specs.declared.calls.Answer.{Answer}
-use Rattle.wait_model.specs.declared.calls.Call.{Call}
-use Rattle.wait_model.specs.declared.calls.Call.TheVariants as calls
-use Rattle.wait_model.specs.declared.calls.Event.{Event}
-use Rattle.wait_model.specs.declared.calls.Event.TheVariants as event
-use Rattle.wait_model.specs.declared.queues.Form.{Form}
-use Rattle.wait_model.specs.declared.tasks.How.{How}
-use Rattle.wait_model.specs.declared.tasks.SleepState.{SleepState}
-use Rattle.wait_model.specs.declared.watches.Watch.{Watch}
-use Rattle.wait_model.specs.declared.watches.Watch.TheVariants as watch
-use Rattle.wait_model.specs.Phrases.{Phrase, ◌>>=◌, ◌>>◌, gives, makes, repeat, when◌then◌otherwise◌}
+use Rattle.wait_model.specs.{declared.calls.Answer.Answer, declared.calls.Call.Call, declared.calls.Event.Event}
+use Rattle.wait_model.specs.{declared.queues.Form.Form, declared.tasks.How.How, declared.tasks.SleepState.SleepState}
+use Rattle.wait_model.specs.{declared.watches.Watch.Watch, SentenceWaits.turn, Tasks.state_mask}
 use Rattle.wait_model.specs.Points.{call_watch, form_of, state_in}
 use Rattle.wait_model.specs.SentenceSteps.{finishes, is_met, minus_512, number, takes_off, unlocks}
-use Rattle.wait_model.specs.SentenceWaits.{turn}
-use Rattle.wait_model.specs.Tasks.{state_mask}
 use Rattle.wait_model.specs.Watches.{head_of, misses, number_of}
-use Rattle.wait_rule.specs.Known.{Known}
-use Rattle.wait_rule.specs.Says.{MeetsLaw}
+use Rattle.wait_model.specs.declared.calls.Call.TheVariants as calls
+use Rattle.wait_model.specs.declared.calls.Event.TheVariants as event
+use Rattle.wait_model.specs.declared.watches.Watch.TheVariants as watch
+use Rattle.wait_model.specs.Phrases.{Phrase, ◌>>=◌, ◌>>◌, gives, makes, repeat, when◌then◌otherwise◌}
+use Rattle.wait_rule.specs.{Known.Known, Says.MeetsLaw}
 use Rattle.wait_class.specs.declared.stages.Turn.TheVariants as turns
 use Rattle.wait_class.specs.Posts.{IsOut}
-use Rattle.wait_event.specs.WaitLeaves.{EndsWaitUntil, wait_exits}
-use Rattle.wait_event.specs.Waits.{answer_to_wait, wait_table}
-use Rattle.wait_event.specs.declared.wait_events.WaitEnd.{WaitEnd}
-use Rattle.wait_event.specs.declared.wait_leaves.WaitUntil.{WaitUntil}
+use Rattle.wait_event.specs.{WaitLeaves.EndsWaitUntil, WaitLeaves.wait_exits, Waits.answer_to_wait, Waits.wait_table}
+use Rattle.wait_event.specs.{declared.wait_events.WaitEnd.WaitEnd, declared.wait_leaves.WaitUntil.WaitUntil}
 use Rattle.wait_event.specs.declared.wait_leaves.WaitUntil.TheVariants as until
 use Rattle.wait_event.specs.declared.waits.WaitStage.TheVariants as stage
 use Rattle.swait_queue.specs.SimpleWaits.{tail_in}
-use Rattle.var_wait.specs.VarLeaves.{EndsVarUntil}
-use Rattle.var_wait.specs.VarWaits.{shared_in}
+use Rattle.var_wait.specs.{VarLeaves.EndsVarUntil, VarWaits.shared_in}
 use Rattle.left_sentences.specs.LeftWords.{IsLeftWord, IsWordTo, WaysOut}
 use Rattle.left_sentences.specs.WaySays.{way_says}
 

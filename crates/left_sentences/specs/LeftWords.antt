@@ -1,12 +1,9 @@
 -- To be believed.
 -- What a wait makes that is left: first events that begin the sentence of its call, and behind them phrases of its own.
 use Rattle.std.specs.Prelude.{ℕ, ◌≡◌, ◌⊎◌, Bool, true, false, List, [], ◌∷◌, ◌++◌}
-use Rattle.wait_model.specs.declared.calls.Answer.{Answer}
-use Rattle.wait_model.specs.declared.calls.Call.{Call}
-use Rattle.wait_model.specs.declared.calls.Event.{Event}
+use Rattle.wait_model.specs.{declared.calls.Answer.Answer, declared.calls.Call.Call, declared.calls.Event.Event}
+use Rattle.wait_model.specs.{Phrases.Phrase, Phrases.ends, Sentences.Begins, Sentences.Follows}
 use Rattle.wait_model.specs.declared.calls.Event.TheVariants as event
-use Rattle.wait_model.specs.Phrases.{Phrase, ends}
-use Rattle.wait_model.specs.Sentences.{Begins, Follows}
 use Rattle.wait_rule.specs.Heeding.{trail_of}
 
 -- the events follow the phrase as far as they go: with some more events they come to its end

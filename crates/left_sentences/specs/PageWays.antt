@@ -1,23 +1,19 @@
 -- To be believed.
 -- Waits for pages that are left: the ways out.
 use Rattle.std.specs.Prelude.{ℕ, ◌≡◌, ◌⊎◌, true, false, Result, List, [], ◌∷◌}
-use Rattle.wait_model.specs.declared.calls.Answer.{Answer}
-use Rattle.wait_model.specs.declared.calls.Call.TheVariants as calls
-use Rattle.wait_model.specs.declared.calls.Event.{Event}
-use Rattle.wait_model.specs.declared.calls.Event.TheVariants as event
-use Rattle.wait_model.specs.declared.tasks.SleepState.{SleepState}
-use Rattle.wait_model.specs.Phrases.{Phrase, ◌>>=◌, ◌>>◌, finds, gives, makes, when◌then◌otherwise◌}
+use Rattle.wait_model.specs.{declared.calls.Answer.Answer, declared.calls.Event.Event}
+use Rattle.wait_model.specs.{declared.tasks.SleepState.SleepState, Watches.page}
 use Rattle.wait_model.specs.SentenceSteps.{finishes, minus_4, number}
-use Rattle.wait_model.specs.Watches.{page}
-use Rattle.wait_rule.specs.Known.{Known}
-use Rattle.wait_rule.specs.Says.{MeetsLaw}
+use Rattle.wait_model.specs.declared.calls.Call.TheVariants as calls
+use Rattle.wait_model.specs.declared.calls.Event.TheVariants as event
+use Rattle.wait_model.specs.Phrases.{Phrase, ◌>>=◌, ◌>>◌, finds, gives, makes, when◌then◌otherwise◌}
+use Rattle.wait_rule.specs.{Known.Known, Says.MeetsLaw}
 use Rattle.wait_class.specs.declared.stages.Turn.TheVariants as turn
 use Rattle.wait_class.specs.Posts.{IsOut}
 use Rattle.wait_leave.specs.declared.exits.Until.{Until}
 use Rattle.wait_leave.specs.declared.exits.Until.TheVariants as until
 use Rattle.bit_wait.specs.declared.wait_calls.BitEnd.{BitEnd}
-use Rattle.page_lock.specs.PageLeaves.{EndsPageUntil, page_exits}
-use Rattle.page_lock.specs.PageTables.{page_table}
+use Rattle.page_lock.specs.{PageLeaves.EndsPageUntil, PageLeaves.page_exits, PageTables.page_table}
 use Rattle.page_lock.specs.declared.waits.PageStage.TheVariants as stage
 use Rattle.left_sentences.specs.LeftWords.{IsLeftWord, WaysOut, holds_lock}
 use Rattle.left_sentences.specs.WaySays.{way_says}

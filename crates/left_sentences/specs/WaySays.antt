@@ -5,13 +5,9 @@ use Rattle.std.specs.Prelude.{ℕ, Bool, true, false, List, [], ◌∷◌, ◌++
 use Rattle.wait_model.specs.declared.calls.Event.{Event}
 use Rattle.wait_model.specs.declared.calls.Event.TheVariants as event
 use Rattle.wait_model.specs.declared.points.Next.TheVariants as next
-use Rattle.wait_rule.specs.Known.{Known}
-use Rattle.wait_rule.specs.SaidEvents.{said}
-use Rattle.wait_rule.specs.Transitions.{Transition}
-use Rattle.wait_class.specs.declared.stages.Run.{Run}
-use Rattle.wait_class.specs.declared.stages.Turn.{Turn}
+use Rattle.wait_rule.specs.{Known.Known, SaidEvents.said, Transitions.Transition}
+use Rattle.wait_class.specs.{declared.stages.Run.Run, declared.stages.Turn.Turn, Tables.CallTable, Tables.plan_program}
 use Rattle.wait_class.specs.declared.stages.Turn.TheVariants as turn
-use Rattle.wait_class.specs.Tables.{CallTable, plan_program}
 use Rattle.wait_leave.specs.Leaves.{Exits, GoesOut, asked_run}
 use Rattle.wait_leave.specs.OnTheWay.{OnTheWay, left_at, straight}
 

@@ -2,17 +2,14 @@
 -- Words of a task that left its wait for condition 0, asked once and twice, and two that are none: who is gone with the
 -- lock held, and who is gone with its entry queued.
 use Rattle.std.specs.Prelude.{false, List, [], ◌∷◌}
-use Rattle.wait_model.specs.declared.layout.TheConstants.{FIRST_PLAIN_HEAD, UNINTERRUPTIBLE}
-use Rattle.wait_model.specs.declared.calls.Answer.{Answer}
-use Rattle.wait_model.specs.declared.calls.Call.{Call}
+use Rattle.wait_model.specs.declared.layout.TheConstants.{FIRST_PLAIN_HEAD}
+use Rattle.wait_model.specs.{declared.layout.TheConstants.UNINTERRUPTIBLE, declared.calls.Answer.Answer}
+use Rattle.wait_model.specs.{declared.calls.Call.Call, declared.calls.Event.Event, SentenceSteps.minus_512}
 use Rattle.wait_model.specs.declared.calls.Call.TheVariants as calls
-use Rattle.wait_model.specs.declared.calls.Event.{Event}
 use Rattle.wait_model.specs.declared.calls.Event.TheVariants as event
 use Rattle.wait_model.specs.declared.queues.Form.TheVariants as forms
 use Rattle.wait_model.specs.declared.tasks.SleepState.TheVariants as states
-use Rattle.wait_model.specs.SentenceSteps.{minus_512}
-use Rattle.left_sentences.specs.CondWays.{cond_ways}
-use Rattle.left_sentences.specs.LeftWords.{IsLeftWord}
+use Rattle.left_sentences.specs.{CondWays.cond_ways, LeftWords.IsLeftWord}
 
 abbrev pub waits_plainly : Call
 waits_plainly = calls.Wait 0 (record { state = states.Uninterruptible; exclusive = false })

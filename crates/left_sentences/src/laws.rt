@@ -1,10 +1,8 @@
 //! What waits make that are left, as phrases of the model say it.
 
-ghost use Rattle.left_sentences.specs.BitWays.{LeftBitLocksFollow, LeftBitWaitsFollow};
-ghost use Rattle.left_sentences.specs.CellWays.{LeftAwaitsFollow};
+ghost use Rattle.left_sentences.specs.{BitWays.LeftBitLocksFollow, BitWays.LeftBitWaitsFollow};
+ghost use Rattle.left_sentences.specs.{CellWays.LeftAwaitsFollow, PageWays.LeftPagesFollow, WorkedWays.WorkedWays};
 ghost use Rattle.left_sentences.specs.CondWays.{AskedWaitsFollow, LeftSimplesFollow, LeftVarsFollow, LeftWaitsFollow};
-ghost use Rattle.left_sentences.specs.PageWays.{LeftPagesFollow};
-ghost use Rattle.left_sentences.specs.WorkedWays.{WorkedWays};
 ghost use Rattle.std.specs.Prelude.{true};
 
 /// A wait for a plain condition (`wait_event_until`, and `leave_wait` behind stretches), for one with a simple queue

@@ -4,9 +4,8 @@
 ghost use Rattle.std.specs.Prelude.{◌≡◌, true, false};
 ghost use Rattle.wait_rule.specs.Says.{RestsIn};
 ghost use Rattle.wait_class.specs.declared.stages.Turn.TheVariants as turn;
-ghost use Rattle.futex_table.specs.Holding.{HoldsMutex};
-ghost use Rattle.futex_table.specs.LockStretches.{IsLockUnderWay, IsMutexLocking};
-ghost use Rattle.futex_table.specs.TalliedTasks.{CountsAdd, StayTallied};
+ghost use Rattle.futex_table.specs.{Holding.HoldsMutex, LockStretches.IsLockUnderWay, LockStretches.IsMutexLocking};
+ghost use Rattle.futex_table.specs.{TalliedTasks.CountsAdd, TalliedTasks.StayTallied};
 
 use crate::mutexes::{LOCK, add_one, give_mutex};
 use futex_table::lock_stretches::{

@@ -3,8 +3,7 @@
 
 ghost use Rattle.std.specs.Prelude.{ℕ, ◌≡◌, ◌≤◌, ◌+◌, ◌-◌, ◌%◌, ◌^◌, IfSome};
 ghost use Rattle.wait_model.specs.declared.layout.TheConstants.{TASKS};
-ghost use Rattle.wait_rule.specs.Journals.{fresh};
-ghost use Rattle.wait_rule.specs.Says.{IsClean, RestsIn};
+ghost use Rattle.wait_rule.specs.{Journals.fresh, Says.IsClean, Says.RestsIn};
 ghost use Rattle.futex_table.specs.TalliedTasks.{HasTallied};
 
 use crate::mutexes::{LOCK, TALLY, add_under_mutex, give_mutex, open_mutex, take_mutex};

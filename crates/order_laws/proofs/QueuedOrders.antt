@@ -3,23 +3,17 @@ use Rattle.std.proofs.lemmas.Bool.Decides.{eqb_tells, nat_tests}
 use Rattle.std.proofs.Common.{refl, sym, ◌∙◌, ap, subst, arith, inl, inr}
 use Rattle.std.specs.Prelude.{ℕ, ◌≡◌, ◌≢◌, ◌⊎◌, ◌&&◌, ◌||◌, ◌==◌, not, Bool, true, false, eqb, if◌then◌else◌, Option}
 use Rattle.std.specs.Prelude.{Some, None, List, [], ◌∷◌, ◌++◌}
-use Rattle.wait_model.specs.declared.steps.Step.{Step}
-use Rattle.wait_model.specs.declared.steps.Step.TheVariants as step
-use Rattle.wait_model.specs.declared.tasks.TaskRecord.{TaskRecord}
-use Rattle.wait_model.specs.declared.watches.Entry.{Entry}
-use Rattle.wait_model.specs.Facts.{Agrees, Kept}
+use Rattle.wait_model.specs.{declared.steps.Step.Step, declared.tasks.TaskRecord.TaskRecord}
+use Rattle.wait_model.specs.{declared.watches.Entry.Entry, Facts.Agrees, Facts.Kept, Functions.put, Rows.Allowed}
+use Rattle.wait_model.specs.{Tables.Table, Tables.next, Watches.head_of, Watches.owner}
 use Rattle.wait_model.specs.Fold.{after, met_task, view_of}
-use Rattle.wait_model.specs.Functions.{put}
 use Rattle.wait_model.specs.Histories.{Lacks, Since, turns_lock}
-use Rattle.wait_model.specs.Rows.{Allowed}
-use Rattle.wait_model.specs.Tables.{Table, next}
 use Rattle.wait_model.specs.Tasks.{meets, pending, raised, slept, task_of, woken}
 use Rattle.wait_model.specs.Views.{Hold, Look, View, shown}
-use Rattle.wait_model.specs.Watches.{head_of, owner}
+use Rattle.wait_model.specs.declared.steps.Step.TheVariants as step
+use Rattle.wait_model.proofs.{HistoryLaws.Stretches.lacks_left, HistoryLaws.Stretches.lacks_right}
+use Rattle.wait_model.proofs.{StepLaws.UnlockSteps.unlock_hold, WaitLaws.OutsideStages.either}
 use Rattle.wait_model.proofs.Functions.{put_at, put_other, put_same}
-use Rattle.wait_model.proofs.HistoryLaws.Stretches.{lacks_left, lacks_right}
-use Rattle.wait_model.proofs.StepLaws.UnlockSteps.{unlock_hold}
-use Rattle.wait_model.proofs.WaitLaws.OutsideStages.{either}
 use Rattle.wait_rule.specs.Interleavings.{AreAllowed, TaskStep, table_of}
 use Rattle.wait_rule.proofs.KnownLaws.Moments.{kept_of, views_of}
 use Rattle.order_laws.specs.TakenOff.{AllTakeOffWoken, Grips, IsGripped, IsLeftQueued, LeftEntriesStand, TakesOffWoken}

@@ -2,16 +2,13 @@
 use Rattle.std.proofs.lemmas.Bool.Decides.{nat_tests}
 use Rattle.std.proofs.Common.{refl, sym, ◌∙◌, ap, arith, inl, inr}
 use Rattle.std.specs.Prelude.{ℕ, ◌≡◌, ◌⊎◌, ◌&&◌, ◌||◌, ◌==◌, not, Bool, true, false, List}
-use Rattle.wait_model.specs.declared.steps.Step.{Step}
-use Rattle.wait_model.specs.declared.steps.Step.TheVariants as step
-use Rattle.wait_model.specs.Fold.{met_task, view_of}
+use Rattle.wait_model.specs.{declared.steps.Step.Step, Fold.met_task, Fold.view_of, Tasks.task_of}
 use Rattle.wait_model.specs.Histories.{Lacks, Since, turns_lock}
-use Rattle.wait_model.specs.Tasks.{task_of}
 use Rattle.wait_model.specs.Views.{Hold, View, blank}
+use Rattle.wait_model.specs.declared.steps.Step.TheVariants as step
 use Rattle.wait_model.proofs.HistoryLaws.Stretches.{IsSetBy, Seen, kept_so, seen_in}
 use Rattle.wait_model.proofs.StepLaws.UnlockSteps.{unlock_hold}
-use Rattle.wait_rule.specs.Queues.{MayTakeOff}
-use Rattle.wait_rule.specs.Says.{history_of}
+use Rattle.wait_rule.specs.{Queues.MayTakeOff, Says.history_of}
 use Rattle.order_laws.specs.TakenOff.{StepsTakeOffWoken, leaves_running}
 
 roused : ℕ → View → Bool

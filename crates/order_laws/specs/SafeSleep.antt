@@ -1,9 +1,7 @@
 -- To be believed.
 -- What the law on lost wakes says of whoever sleeps on a watch.
 use Rattle.std.specs.Prelude.{ℕ, ◌≡◌, ◌⊎◌, true}
-use Rattle.wait_model.specs.declared.watches.Entry.{Entry}
-use Rattle.wait_model.specs.declared.watches.Watch.{Watch}
-use Rattle.wait_model.specs.Tables.{Table, met}
+use Rattle.wait_model.specs.{declared.watches.Entry.Entry, declared.watches.Watch.Watch, Tables.Table, Tables.met}
 use Rattle.wait_model.specs.Wakes.{IsCovered, IsTried, Sleeps, UsedUp}
 
 -- The owner of entry x sleeps on the watch, and where that is set it is covered by a task that owes the wake; or walks

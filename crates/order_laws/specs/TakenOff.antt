@@ -2,19 +2,13 @@
 -- Orders of steps in which entries of others are taken off only of who was woken, and entries that their tasks have left
 -- queued in them.
 use Rattle.std.specs.Prelude.{ℕ, ◌≡◌, ◌≢◌, ◌&&◌, ◌||◌, ◌==◌, not, Bool, true, false, Some, List, [], ◌∷◌, ◌++◌}
-use Rattle.wait_model.specs.declared.steps.Step.{Step}
-use Rattle.wait_model.specs.declared.steps.Step.TheVariants as step
-use Rattle.wait_model.specs.declared.watches.Entry.{Entry}
-use Rattle.wait_model.specs.Fold.{met_task, view_of}
+use Rattle.wait_model.specs.{declared.steps.Step.Step, declared.watches.Entry.Entry, Fold.met_task, Fold.view_of}
+use Rattle.wait_model.specs.{Tables.Table, Tasks.task_of, Views.View, Views.shown}
 use Rattle.wait_model.specs.Histories.{Lacks, Since, turns_lock}
-use Rattle.wait_model.specs.Tables.{Table}
-use Rattle.wait_model.specs.Tasks.{task_of}
-use Rattle.wait_model.specs.Views.{View, shown}
 use Rattle.wait_model.specs.Watches.{head_of, is_simple, owner}
+use Rattle.wait_model.specs.declared.steps.Step.TheVariants as step
+use Rattle.wait_rule.specs.{Known.Known, Queues.MayUnqueue, Says.history_of}
 use Rattle.wait_rule.specs.Interleavings.{AreAllowed, TaskStep, table_of}
-use Rattle.wait_rule.specs.Known.{Known}
-use Rattle.wait_rule.specs.Queues.{MayUnqueue}
-use Rattle.wait_rule.specs.Says.{history_of}
 
 -- the step is a wake of task t that leaves it RUNNING: it met the task's state, or found that it was RUNNING
 abbrev pub leaves_running : ℕ → Step → Bool

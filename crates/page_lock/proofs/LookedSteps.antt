@@ -1,18 +1,13 @@
 -- Whether a task has looked for a signal since it last slept or queued its entry, by its history.
 use Rattle.std.proofs.Common.{refl, ◌∙◌, ap}
 use Rattle.std.specs.Prelude.{ℕ, ◌≡◌, Bool, true, false, Option, List, [], ◌∷◌, ◌++◌}
-use Rattle.wait_model.specs.declared.calls.Event.{Event}
+use Rattle.wait_model.specs.{declared.calls.Event.Event, declared.points.Given.Given, declared.steps.Step.Step}
 use Rattle.wait_model.specs.declared.calls.Event.TheVariants as event
-use Rattle.wait_model.specs.declared.points.Given.{Given}
-use Rattle.wait_model.specs.declared.steps.Step.{Step}
 use Rattle.wait_model.specs.declared.steps.Step.TheVariants as step
-use Rattle.wait_rule.specs.declared.journal.Item.{Item}
-use Rattle.wait_rule.specs.declared.journal.Item.TheVariants as item
-use Rattle.wait_rule.specs.Items.{steps_of}
-use Rattle.wait_rule.specs.Known.{Known}
-use Rattle.wait_rule.specs.Says.{history_of}
+use Rattle.wait_rule.specs.{declared.journal.Item.Item, Items.steps_of, Known.Known, Says.history_of}
 use Rattle.wait_rule.specs.Transitions.{AreLooks, AreScansOf, IsMadeFor, IsStepFor, OnlyLooks, StepOrLook}
 use Rattle.wait_rule.specs.Transitions.{after_step_or_look, by_look, by_step}
+use Rattle.wait_rule.specs.declared.journal.Item.TheVariants as item
 use Rattle.wait_rule.proofs.SaidEvents.Fronts.{looks_history, step_history}
 use Rattle.wait_class.specs.Tables.{has_sleep}
 use Rattle.wait_event.proofs.LookedSteps.{looks_all}

@@ -2,39 +2,27 @@
 use Rattle.std.proofs.Common.{◌∙◌, ap, sym, refl, subst, inl, inr}
 use Rattle.std.proofs.lemmas.Bool.Decides.{eqb_tells}
 use Rattle.std.specs.Prelude.{ℕ, ◌≡◌, ◌≢◌, ◌<◌, ◌⊎◌, ◌==◌, Bool, true, false, MatchBool, None, Result, Some}
-use Rattle.wait_model.specs.declared.layout.TheConstants.{SLOTS}
+use Rattle.wait_model.specs.{declared.layout.TheConstants.SLOTS, declared.tasks.SleepState.SleepState}
+use Rattle.wait_model.specs.{declared.watches.Entry.Entry, declared.watches.Watch.Watch, Watches.page}
 use Rattle.wait_model.specs.declared.calls.Call.TheVariants as calls
-use Rattle.wait_model.specs.declared.tasks.SleepState.{SleepState}
-use Rattle.wait_model.specs.declared.watches.Entry.{Entry}
-use Rattle.wait_model.specs.declared.watches.Watch.{Watch}
 use Rattle.wait_model.specs.declared.watches.Watch.TheVariants as watch
-use Rattle.wait_model.specs.Watches.{page}
-use Rattle.wait_rule.specs.Asked.{nothing_asked}
-use Rattle.wait_rule.specs.Bits.{StaysBeside, taken_bits}
-use Rattle.wait_rule.specs.Known.{Known}
-use Rattle.wait_rule.specs.Members.{IsOwnKind}
+use Rattle.wait_rule.specs.{Asked.nothing_asked, Bits.StaysBeside, Bits.taken_bits, Known.Known, Members.IsOwnKind}
 use Rattle.wait_rule.specs.Queues.{IsIdle, IsTold, index}
 use Rattle.wait_rule.specs.Says.{AsksNoPage, IsClean, IsUp, asks_for, no_excuse, told_of}
 use Rattle.wait_rule.proofs.KnownLaws.AskedPages.{asks_no_page}
-use Rattle.wait_class.specs.Posts.{IsOut, own_of}
-use Rattle.wait_class.specs.declared.stages.Run.{Run}
-use Rattle.wait_class.specs.declared.stages.Turn.TheVariants as turn
+use Rattle.wait_class.specs.{Posts.IsOut, Posts.own_of, declared.stages.Run.Run, UnderWay.IsUnderWay}
 use Rattle.wait_class.specs.Tables.{Advances, IsAt, IsEnded, Plan, call_plan}
-use Rattle.wait_class.specs.UnderWay.{IsUnderWay}
+use Rattle.wait_class.specs.declared.stages.Turn.TheVariants as turn
 use Rattle.wait_class.proofs.Wholes.{begins, ended_runs, none_of}
-use Rattle.bit_wait.specs.BitEnds.{answer_of_bit_end}
-use Rattle.bit_wait.specs.Holders.{IsHolder}
-use Rattle.bit_wait.specs.declared.wait_calls.BitEnd.{BitEnd}
+use Rattle.bit_wait.specs.{BitEnds.answer_of_bit_end, Holders.IsHolder, declared.wait_calls.BitEnd.BitEnd}
 use Rattle.bit_wait.proofs.Holders.{none_taken}
-use Rattle.page_lock.specs.PageStays.{PageKeeps, TakesPage}
+use Rattle.page_lock.specs.{PageStays.PageKeeps, PageStays.TakesPage, declared.waits.LockPage.LockPage}
+use Rattle.page_lock.specs.{declared.waits.PageOutcome.PageOutcome, declared.waits.PageStage.PageStage}
 use Rattle.page_lock.specs.PageEnds.{EndsPageLock, IsPageCause, page_end_in, has_taken_page as given}
-use Rattle.wait_leave.specs.Leaves.{with_asked}
 use Rattle.page_lock.specs.PageTables.{IsFreshPageWait, IsRunningPageWait, PageCauseIn, WhyPageFailed, answer_to_page}
 use Rattle.page_lock.specs.PageTables.{is_page_over, page_in, page_table, page_took}
-use Rattle.page_lock.specs.declared.waits.LockPage.{LockPage}
-use Rattle.page_lock.specs.declared.waits.PageOutcome.{PageOutcome}
+use Rattle.wait_leave.specs.Leaves.{with_asked}
 use Rattle.page_lock.specs.declared.waits.PageOutcome.TheVariants as outcome
-use Rattle.page_lock.specs.declared.waits.PageStage.{PageStage}
 use Rattle.page_lock.specs.declared.waits.PageStage.TheVariants as stage
 use Rattle.page_lock.proofs.PageGround.{amid_from, amid_to, unasked_asks}
 

@@ -2,60 +2,40 @@
 use Rattle.std.proofs.Common.{◌∙◌, ap, sym, refl, subst, inl, inr, eq-eqb}
 use Rattle.std.specs.Prelude.{ℕ, ◌≡◌, ◌&&◌, ◌||◌, ◌==◌, Bool, true, false, if◌then◌else◌}
 use Rattle.std.specs.Prelude.{Some, None, [], ◌∷◌, ◌++◌}
-use Rattle.wait_model.specs.declared.layout.TheConstants.{HANDED}
-use Rattle.wait_model.specs.declared.calls.Event.{Event}
+use Rattle.wait_model.specs.{declared.layout.TheConstants.HANDED, declared.calls.Event.Event, declared.points.Next.Next}
+use Rattle.wait_model.specs.{declared.steps.Step.Step, declared.watches.Watch.Watch, Fold.is_off, PointFacts.IsHome}
+use Rattle.wait_model.specs.{PointFacts.absent, Points.given_at as given_for, Tasks.looks_in, Watches.page}
+use Rattle.wait_model.specs.Words.{flag_of}
+use Rattle.wait_model.specs.Programs.{ends_with, go, interrupted}
 use Rattle.wait_model.specs.declared.calls.Event.TheVariants as event
 use Rattle.wait_model.specs.declared.points.FinishPoint.TheVariants as finishing
-use Rattle.wait_model.specs.declared.points.Next.{Next}
 use Rattle.wait_model.specs.declared.points.Next.TheVariants as next
 use Rattle.wait_model.specs.declared.points.PagePoint.TheVariants as paging
 use Rattle.wait_model.specs.declared.points.Point.TheVariants as at
-use Rattle.wait_model.specs.declared.steps.Step.{Step}
 use Rattle.wait_model.specs.declared.steps.Step.TheVariants as step
-use Rattle.wait_model.specs.declared.watches.Watch.{Watch}
-use Rattle.wait_model.specs.Fold.{is_off}
-use Rattle.wait_model.specs.PointFacts.{IsHome, absent}
-use Rattle.wait_model.specs.Points.{given_at as given_for}
-use Rattle.wait_model.specs.Programs.{ends_with, go, interrupted}
-use Rattle.wait_model.specs.Tasks.{looks_in}
-use Rattle.wait_model.specs.Watches.{page}
-use Rattle.wait_model.specs.Words.{flag_of}
 use Rattle.wait_rule.specs.declared.journal.Item.TheVariants as item
+use Rattle.wait_rule.specs.{Bits.KeepsBitOf, Known.Known, Queues.MayClearFlag, Queues.index, Quiet.is_quiet_at}
+use Rattle.wait_rule.specs.{Quiet.is_told, Transitions.IsMadeFor, Transitions.by_step}
 use Rattle.wait_rule.specs.Asked.{ask_step, was_given_at, nothing_asked, was_given}
-use Rattle.wait_rule.specs.Bits.{KeepsBitOf}
-use Rattle.wait_rule.specs.Known.{Known}
 use Rattle.wait_rule.specs.PageCalls.{QueuesNoPage, ShowsGiven, ShowsNoFlag}
-use Rattle.wait_rule.specs.Queues.{MayClearFlag, index}
-use Rattle.wait_rule.specs.Quiet.{is_quiet_at, is_told}
 use Rattle.wait_rule.specs.Says.{added, asks_for, history_of, told_of}
 use Rattle.wait_rule.specs.Stays.{Carries, unchanged, with_entry}
-use Rattle.wait_rule.specs.Transitions.{IsMadeFor, by_step}
-use Rattle.wait_rule.proofs.KnownLaws.AskedPages.{asked_added}
-use Rattle.wait_rule.proofs.KnownLaws.QuietFlags.{quiet_more}
-use Rattle.wait_rule.proofs.KnownLaws.ToldFlags.{told_more}
-use Rattle.wait_rule.proofs.KnownLaws.TaskHistories.{history_after}
+use Rattle.wait_rule.proofs.{KnownLaws.AskedPages.asked_added, KnownLaws.QuietFlags.quiet_more}
+use Rattle.wait_rule.proofs.{KnownLaws.ToldFlags.told_more, KnownLaws.TaskHistories.history_after}
 use Rattle.wait_rule.proofs.KnownLaws.Transitions.{only_none}
-use Rattle.wait_class.specs.Posts.{own_of}
-use Rattle.wait_class.specs.Findings.{saw_nothing}
-use Rattle.wait_class.proofs.Ground.Keeping.{keeps_of}
-use Rattle.wait_class.proofs.Histories.{ends_more}
-use Rattle.wait_class.specs.declared.stages.Run.{Run}
-use Rattle.wait_class.specs.declared.stages.Turn.TheVariants as turn
+use Rattle.wait_class.specs.{Posts.own_of, Findings.saw_nothing, declared.stages.Run.Run, Laws.IsPlainTurn}
+use Rattle.wait_class.specs.Laws.{turn_post}
 use Rattle.wait_class.specs.Tables.{IsAt, Turned, falls, post_of}
-use Rattle.wait_class.specs.Laws.{IsPlainTurn, turn_post}
-use Rattle.wait_class.proofs.OwnSteps.{own_goes, stands_same}
-use Rattle.wait_class.proofs.Turns.{GoesOn, advance_by}
-use Rattle.wait_class.proofs.Wholes.{none_of}
-use Rattle.page_lock.specs.PageStays.{PageKeeps}
+use Rattle.wait_class.proofs.{Ground.Keeping.keeps_of, Histories.ends_more, OwnSteps.own_goes, OwnSteps.stands_same}
+use Rattle.wait_class.proofs.{Turns.GoesOn, Turns.advance_by, Wholes.none_of}
+use Rattle.wait_class.specs.declared.stages.Turn.TheVariants as turn
+use Rattle.page_lock.specs.{PageStays.PageKeeps, declared.waits.LockPage.LockPage, declared.waits.PageStage.PageStage}
 use Rattle.page_lock.specs.PageTables.{FlagsAt, FoundPageSignal, IsQuiet, IsUnasked, PageTurn, WhyOut, WhyPageFailed}
 use Rattle.page_lock.specs.PageTables.{flagged_to, page_call, page_in, page_table, tries_page, with_flag}
-use Rattle.page_lock.specs.declared.waits.LockPage.{LockPage}
 use Rattle.page_lock.specs.declared.waits.PageOutcome.TheVariants as outcome
-use Rattle.page_lock.specs.declared.waits.PageStage.{PageStage}
 use Rattle.page_lock.specs.declared.waits.PageStage.TheVariants as stage
-use Rattle.page_lock.proofs.PageGround.{page_keeps_noted, page_keeps_of}
+use Rattle.page_lock.proofs.{PageGround.page_keeps_noted, PageGround.page_keeps_of, PageTries.either_event}
 use Rattle.page_lock.proofs.PageTrails.{over_end, set_on, signal_on, waiting_on, why_out}
-use Rattle.page_lock.proofs.PageTries.{either_event}
 
 same_number : (n : ℕ) → (n == n) ≡ true
 same_number n = eq-eqb n n refl

@@ -1,17 +1,12 @@
 -- What stays of a task over the steps of a call that locks a page.
 use Rattle.std.proofs.Common.{◌∙◌, ap, sym, refl, subst}
 use Rattle.std.specs.Prelude.{ℕ, ◌≡◌, ◌==◌, ◌&&◌, ◌||◌, not, Bool, true, false, Option, Some, None}
-use Rattle.wait_model.specs.declared.watches.Watch.{Watch}
-use Rattle.wait_model.specs.declared.watches.Entry.{Entry}
+use Rattle.wait_model.specs.{declared.watches.Watch.Watch, declared.watches.Entry.Entry, Views.View as Told}
+use Rattle.wait_model.specs.{Views.is_trying_for, Fold.after, Watches.page, Watches.same}
 use Rattle.wait_model.specs.declared.steps.Step.TheVariants as step
-use Rattle.wait_model.specs.Views.{View as Told, is_trying_for}
-use Rattle.wait_model.specs.Fold.{after}
-use Rattle.wait_model.specs.Watches.{page, same}
 use Rattle.wait_rule.specs.declared.journal.Item.TheVariants as item
+use Rattle.wait_rule.specs.{Bits.SetsBit, Bits.taken_bits, Known.Known, Queues.index}
 use Rattle.wait_rule.specs.Asked.{Asked, nothing_asked, is_asking}
-use Rattle.wait_rule.specs.Bits.{SetsBit, taken_bits}
-use Rattle.wait_rule.specs.Known.{Known}
-use Rattle.wait_rule.specs.Queues.{index}
 use Rattle.wait_rule.specs.Says.{AsksNoPage, Debts, Obligation, Excuse, IsOutBut, OwesBut, added, asks_for}
 use Rattle.wait_rule.specs.Says.{end_unclosed, excuses, has_duty, has_end, is_excused, no_excuse, page_asked, told_of}
 use Rattle.wait_rule.specs.Says.{wake_of}
@@ -20,10 +15,8 @@ use Rattle.wait_rule.proofs.KnownLaws.AfterSteps.{told_added}
 use Rattle.wait_rule.proofs.KnownLaws.Debts.{LeavesNone, end_added, entries_debts, leaves_added, leaves_of}
 use Rattle.wait_rule.proofs.KnownLaws.StayingParts.{owes_also, owes_out}
 use Rattle.wq_head.specs.Adds.{page_change}
-use Rattle.wait_class.specs.Posts.{Keeps}
-use Rattle.wait_class.specs.Laws.{KeepsLaws}
-use Rattle.wait_class.proofs.Ground.Keeping.{keeps_none}
-use Rattle.wait_class.proofs.Stays.{wait_stays}
+use Rattle.wait_class.specs.{Posts.Keeps, Laws.KeepsLaws}
+use Rattle.wait_class.proofs.{Ground.Keeping.keeps_none, Stays.wait_stays}
 use Rattle.page_lock.specs.PageStays.{PageKeeps, amid}
 
 -- a part that takes no bit

@@ -6,17 +6,15 @@ use Rattle.wait_model.specs.declared.points.Next.TheVariants as next
 use Rattle.wait_model.specs.declared.points.PagePoint.TheVariants as paging
 use Rattle.wait_model.specs.declared.points.Point.TheVariants as at
 use Rattle.wait_model.specs.declared.steps.Step.TheVariants as step
-use Rattle.wait_model.specs.declared.watches.Entry.{Entry}
-use Rattle.wait_model.specs.Tasks.{state_mask}
+use Rattle.wait_model.specs.{declared.watches.Entry.Entry, Tasks.state_mask}
 use Rattle.wq_head.proofs.PermitHeads.{owes_low, page_low}
 use Rattle.wait_class.proofs.Histories.{unmoved_by}
 use Rattle.wait_class.proofs.Holds.{draw_by, give_by, lock_by, pare_by, peek_by, running_by, state_by, unlock_by}
 use Rattle.wait_class.proofs.Ways.{look_by, sleep_by, way}
 use Rattle.wait_class.specs.declared.stages.Turn.TheVariants as turn
 use Rattle.wait_class.specs.Laws.{IsLawfulCallTable, LawOf, LookLaw, PeekLaw, UnlockLaw}
+use Rattle.page_lock.specs.{declared.waits.LockPage.LockPage, declared.waits.PageStage.PageStage}
 use Rattle.page_lock.specs.PageTables.{page_depth, page_doing, page_head_in, page_in, page_table}
-use Rattle.page_lock.specs.declared.waits.LockPage.{LockPage}
-use Rattle.page_lock.specs.declared.waits.PageStage.{PageStage}
 use Rattle.page_lock.specs.declared.waits.PageStage.TheVariants as stage
 use Rattle.page_lock.proofs.PageGround.{page_stays}
 use Rattle.page_lock.proofs.PageTrails.{asks_calm, left_calm, off_calm, over_end, pared_none, pared_some, peeked_none}

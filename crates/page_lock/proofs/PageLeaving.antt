@@ -3,46 +3,34 @@ use Rattle.std.proofs.Common.{◌∙◌, ap, refl, subst, inl, inr}
 use Rattle.std.specs.Prelude.{ℕ, ◌≡◌, Bool, true, false, is_some, MatchBool, None, Result, [], ◌∷◌}
 use Rattle.wait_model.specs.declared.points.FinishPoint.TheVariants as finishing
 use Rattle.wait_model.specs.declared.points.PagePoint.TheVariants as paging
-use Rattle.wait_model.specs.declared.points.Point.{Point}
+use Rattle.wait_model.specs.{declared.points.Point.Point, declared.points.Seen.Seen}
+use Rattle.wait_model.specs.{declared.tasks.SleepState.SleepState, declared.watches.Watch.Watch, Watches.page}
 use Rattle.wait_model.specs.declared.points.Point.TheVariants as at
-use Rattle.wait_model.specs.declared.points.Seen.{Seen}
 use Rattle.wait_model.specs.declared.steps.Step.TheVariants as step
-use Rattle.wait_model.specs.declared.tasks.SleepState.{SleepState}
-use Rattle.wait_model.specs.declared.watches.Watch.{Watch}
 use Rattle.wait_model.specs.declared.watches.Watch.TheVariants as watch
-use Rattle.wait_model.specs.Watches.{page}
-use Rattle.wait_rule.specs.Known.{Known}
-use Rattle.wait_rule.specs.Queues.{IsIdle}
+use Rattle.wait_rule.specs.{Known.Known, Queues.IsIdle}
 use Rattle.wait_rule.specs.Says.{AsksNoPage, IsClean, IsUp, told_of}
-use Rattle.wait_class.specs.Posts.{IsOut, own_of}
+use Rattle.wait_class.specs.{Posts.IsOut, Posts.own_of, declared.stages.Run.Run, Laws.Calm, Laws.TurnTrail}
+use Rattle.wait_class.specs.{Tables.IsEnded, Tables.Plan}
 use Rattle.wait_class.specs.declared.stages.Doing.TheVariants as doing
-use Rattle.wait_class.specs.declared.stages.Run.{Run}
 use Rattle.wait_class.specs.declared.stages.Turn.TheVariants as turn
-use Rattle.wait_class.specs.Laws.{Calm, TurnTrail}
-use Rattle.wait_class.specs.Tables.{IsEnded, Plan}
 use Rattle.wait_class.proofs.Histories.{unmoved_by}
-use Rattle.wait_leave.specs.declared.exits.Until.{Until}
-use Rattle.wait_leave.specs.ExitLaws.{AreLawfulExits, AwakeOn}
-use Rattle.wait_leave.specs.Leaves.{with_asked}
-use Rattle.wait_leave.specs.OnTheWay.{IsOnWay, OnTheWay}
+use Rattle.wait_leave.specs.{declared.exits.Until.Until, ExitLaws.AreLawfulExits, ExitLaws.AwakeOn, Leaves.with_asked}
+use Rattle.wait_leave.specs.{OnTheWay.IsOnWay, OnTheWay.OnTheWay}
 use Rattle.wait_leave.proofs.ExitForms.{AskLaw, LawAt, awake_exits, either_awake, if_asked, lawful_exits, out_at_once}
 use Rattle.wait_leave.proofs.ExitForms.{stays_out}
 use Rattle.wait_leave.proofs.Ways.{awake_since, way_asked, way_keeps, way_lands, way_plan}
-use Rattle.bit_wait.specs.Holders.{IsHolder}
-use Rattle.bit_wait.specs.declared.wait_calls.BitEnd.{BitEnd}
+use Rattle.bit_wait.specs.{Holders.IsHolder, declared.wait_calls.BitEnd.BitEnd}
+use Rattle.page_lock.specs.{PageStays.PageKeeps, PageStays.TakesPage, declared.waits.LockPage.LockPage}
+use Rattle.page_lock.specs.{declared.waits.PageOutcome.PageOutcome, declared.waits.PageStage.PageStage}
 use Rattle.page_lock.specs.PageLeaves.{EndsPageUntil, IsLeftFor, IsPageUntil, LeavesPage, page_awake, page_exit}
 use Rattle.page_lock.specs.PageLeaves.{page_exits, page_failed, page_until, takes_page_until}
-use Rattle.page_lock.specs.PageStays.{PageKeeps, TakesPage}
-use Rattle.page_lock.specs.PageTables.{IsFreshPageWait, IsWaitingForPage, PageCauseIn, PageWaitTrail, WhyPageFailed, is_page_over, page_in, page_table, page_took}
-use Rattle.page_lock.specs.declared.waits.LockPage.{LockPage}
-use Rattle.page_lock.specs.declared.waits.PageOutcome.{PageOutcome}
+use Rattle.page_lock.specs.PageTables.{IsFreshPageWait, IsWaitingForPage, PageCauseIn, PageWaitTrail, WhyPageFailed}
+use Rattle.page_lock.specs.PageTables.{is_page_over, page_in, page_table, page_took}
 use Rattle.page_lock.specs.declared.waits.PageOutcome.TheVariants as outcome
-use Rattle.page_lock.specs.declared.waits.PageStage.{PageStage}
 use Rattle.page_lock.specs.declared.waits.PageStage.TheVariants as stage
+use Rattle.page_lock.proofs.{PageGround.unasked_asks, PageLaws.page_lawful, PageTrails.still_by}
 use Rattle.page_lock.proofs.PageEndings.{idle_by, locks_clean, out_by, takes_by}
-use Rattle.page_lock.proofs.PageGround.{unasked_asks}
-use Rattle.page_lock.proofs.PageLaws.{page_lawful}
-use Rattle.page_lock.proofs.PageTrails.{still_by}
 
 -- who waits waits on, asked or not
 waits_asked : (k : Known) (r : LockPage) → IsWaitingForPage k r → IsWaitingForPage k (page_exits.asks r)

@@ -4,56 +4,39 @@ use Rattle.std.specs.Prelude.{ℕ, ◌≡◌, ◌&&◌, ◌==◌, not, Bool, tru
 use Rattle.std.specs.Prelude.{List, [], ◌∷◌, ◌++◌}
 use Rattle.wait_model.specs.declared.queues.Form.TheVariants as forms
 use Rattle.wait_model.specs.declared.steps.Step.TheVariants as step
-use Rattle.wait_model.specs.declared.watches.Entry.{Entry}
-use Rattle.wait_model.specs.declared.watches.Kind.TheVariants as kind
+use Rattle.wait_model.specs.{declared.watches.Entry.Entry, Views.View as Told, Views.shown, Watches.is_woken}
+use Rattle.wait_model.specs.Watches.{page}
 use Rattle.wait_model.specs.PointFacts.{IsHome, absent, seated}
-use Rattle.wait_model.specs.Views.{View as Told, shown}
-use Rattle.wait_model.specs.Watches.{is_woken, page}
+use Rattle.wait_model.specs.declared.watches.Kind.TheVariants as kind
 use Rattle.wait_model.proofs.Functions.{put_same}
-use Rattle.wait_rule.specs.declared.journal.Item.{Item}
-use Rattle.wait_rule.specs.declared.journal.Item.TheVariants as item
+use Rattle.wait_rule.specs.{declared.journal.Item.Item, Ends.WasWorn, HandedPermits.OwesNoPermit, Items.steps_of}
+use Rattle.wait_rule.specs.{Known.Known, Queues.MayUnqueue, Queues.index, Quiet.is_quiet_at, Transitions.AreLooks}
+use Rattle.wait_rule.specs.Transitions.{OnlyLooks}
 use Rattle.wait_rule.specs.Asked.{ask_step, nothing_asked, waits_for}
-use Rattle.wait_rule.specs.Ends.{WasWorn}
-use Rattle.wait_rule.specs.HandedPermits.{OwesNoPermit}
-use Rattle.wait_rule.specs.Items.{steps_of}
-use Rattle.wait_rule.specs.Known.{Known}
-use Rattle.wait_rule.specs.Queues.{MayUnqueue, index}
-use Rattle.wait_rule.specs.Quiet.{is_quiet_at}
 use Rattle.wait_rule.specs.Says.{AsksNoPage, added, asks_for, history_of, stored_with, told_of, unlocked_with}
 use Rattle.wait_rule.specs.Stays.{Carries, only_looks, take_off_change}
-use Rattle.wait_rule.specs.Transitions.{AreLooks, OnlyLooks}
-use Rattle.wait_rule.proofs.TableSteps.ItemLists.{steps_append}
-use Rattle.wait_rule.proofs.KnownLaws.MemberBits.{told_stored}
-use Rattle.wait_rule.proofs.KnownLaws.QuietFlags.{quiet_more}
-use Rattle.wait_rule.proofs.KnownLaws.Transitions.{only_looked, only_none}
-use Rattle.wait_rule.proofs.WornHeads.WornNotes.{notes_stay}
-use Rattle.wq_head.specs.declared.adds.Worn.{Worn}
+use Rattle.wait_rule.specs.declared.journal.Item.TheVariants as item
+use Rattle.wait_rule.proofs.{TableSteps.ItemLists.steps_append, KnownLaws.MemberBits.told_stored}
+use Rattle.wait_rule.proofs.{KnownLaws.QuietFlags.quiet_more, KnownLaws.Transitions.only_looked}
+use Rattle.wait_rule.proofs.{KnownLaws.Transitions.only_none, WornHeads.WornNotes.notes_stay}
+use Rattle.wq_head.specs.{declared.adds.Worn.Worn, Holds.IsHolding, Looks.Looks}
 use Rattle.wq_head.specs.Adds.{HasAddedForPage, HasRemoved, IsTailWorn, page_change, tail_entry}
-use Rattle.wq_head.specs.Holds.{IsHolding}
-use Rattle.wq_head.specs.Looks.{Looks}
-use Rattle.wq_head.proofs.CarriedHolds.{looks_carried}
-use Rattle.wq_head.proofs.PermitHeads.{owes_low, page_low}
+use Rattle.wq_head.proofs.{CarriedHolds.looks_carried, PermitHeads.owes_low, PermitHeads.page_low}
+use Rattle.wait_class.specs.{Findings.saw_nothing, Findings.with_worn, declared.stages.Run.Run, Laws.turn_post}
 use Rattle.wait_class.specs.Posts.{Post, Stands, own_of}
-use Rattle.wait_class.specs.Findings.{saw_nothing, with_worn}
-use Rattle.wait_class.proofs.FormPlaces.{form_is, form_left, form_worn}
-use Rattle.wait_class.proofs.Ground.Standing.{carried_stands, owner_own}
-use Rattle.wait_class.proofs.Histories.{stored_history, unlocked_history}
-use Rattle.wait_class.proofs.Locks.{back_looks, back_stands, back_up}
-use Rattle.wait_class.proofs.OwnSteps.{own_goes}
-use Rattle.wait_class.proofs.Turns.{GoesOn, advance_by}
-use Rattle.wait_class.proofs.Wholes.{none_of}
-use Rattle.wait_class.specs.declared.stages.Run.{Run}
-use Rattle.wait_class.specs.declared.stages.Turn.TheVariants as turn
 use Rattle.wait_class.specs.Tables.{IsAt, Turned, post_of}
-use Rattle.wait_class.specs.Laws.{turn_post}
+use Rattle.wait_class.proofs.{Ground.Standing.carried_stands, Ground.Standing.owner_own, Histories.stored_history}
+use Rattle.wait_class.proofs.{Histories.unlocked_history, OwnSteps.own_goes, Turns.GoesOn, Turns.advance_by}
+use Rattle.wait_class.proofs.Wholes.{none_of}
+use Rattle.wait_class.proofs.FormPlaces.{form_is, form_left, form_worn}
+use Rattle.wait_class.proofs.Locks.{back_looks, back_stands, back_up}
+use Rattle.wait_class.specs.declared.stages.Turn.TheVariants as turn
 use Rattle.wait_event.proofs.LookedSteps.{looks_all}
-use Rattle.page_lock.specs.PageEnds.{are_calm}
+use Rattle.page_lock.specs.{PageEnds.are_calm, declared.waits.LockPage.LockPage}
 use Rattle.page_lock.specs.PageTables.{HasJoinedPage, IsQuiet, page_head_in, page_in, page_table}
-use Rattle.page_lock.specs.declared.waits.LockPage.{LockPage}
 use Rattle.page_lock.specs.declared.waits.PageStage.TheVariants as stage
+use Rattle.page_lock.proofs.{PageLaws.page_lawful, PageTrails.asks_more, PageTrails.quiet_on}
 use Rattle.page_lock.proofs.PageGround.{page_keeps_on, page_keeps_queued, page_stays, unasked_asks}
-use Rattle.page_lock.proofs.PageLaws.{page_lawful}
-use Rattle.page_lock.proofs.PageTrails.{asks_more, quiet_on}
 
 -- the steps of looks are calm
 looks_calm : (xs : List Item) → AreLooks xs → are_calm (steps_of xs) ≡ true

@@ -2,27 +2,18 @@
 use Rattle.std.proofs.Common.{◌∙◌, ap, sym, refl, inl, inr, append-nil, append_assoc, eq-eqb}
 use Rattle.std.specs.Prelude.{ℕ, ◌≡◌, ◌&&◌, ◌||◌, ◌==◌, Bool, true, false, if◌then◌else◌, is_some, Option, Some, None}
 use Rattle.std.specs.Prelude.{List, [], ◌∷◌, ◌++◌}
-use Rattle.wait_model.specs.declared.steps.Step.{Step}
-use Rattle.wait_model.specs.declared.steps.Step.TheVariants as step
-use Rattle.wait_model.specs.declared.watches.Entry.{Entry}
+use Rattle.wait_model.specs.{declared.steps.Step.Step, declared.watches.Entry.Entry, Views.View, Words.entry_of}
+use Rattle.wait_model.specs.Words.{flag_of}
 use Rattle.wait_model.specs.Fold.{after, is_off, view_of}
 use Rattle.wait_model.specs.Tasks.{pending, state_mask, task_of}
-use Rattle.wait_model.specs.Views.{View}
-use Rattle.wait_model.specs.Words.{entry_of, flag_of}
-use Rattle.wait_rule.specs.declared.journal.Item.{Item}
-use Rattle.wait_rule.specs.declared.journal.Item.TheVariants as item
+use Rattle.wait_model.specs.declared.steps.Step.TheVariants as step
+use Rattle.wait_rule.specs.{declared.journal.Item.Item, Bits.KeepsBitOf, Items.steps_of, Known.Known, Queues.index}
 use Rattle.wait_rule.specs.Asked.{Asked, ask_step, asked_from, given_if, nothing_asked, waits_for, was_given}
-use Rattle.wait_rule.specs.Bits.{KeepsBitOf}
-use Rattle.wait_rule.specs.Items.{steps_of}
-use Rattle.wait_rule.specs.Known.{Known}
-use Rattle.wait_rule.specs.Queues.{index}
 use Rattle.wait_rule.specs.Quiet.{is_quiet_at, is_told, quiet_after, quiet_from, told_from}
 use Rattle.wait_rule.specs.Says.{asks_for, history_of, told_of}
-use Rattle.wait_rule.proofs.KnownLaws.QuietFlags.{quiet_more}
-use Rattle.wait_rule.proofs.KnownLaws.ToldFlags.{told_more}
-use Rattle.wait_class.specs.Posts.{own_of}
-use Rattle.wait_class.specs.Tables.{has_sleep}
-use Rattle.wait_class.specs.Laws.{Calm, Unmoved}
+use Rattle.wait_rule.specs.declared.journal.Item.TheVariants as item
+use Rattle.wait_rule.proofs.{KnownLaws.QuietFlags.quiet_more, KnownLaws.ToldFlags.told_more}
+use Rattle.wait_class.specs.{Posts.own_of, Tables.has_sleep, Laws.Calm, Laws.Unmoved}
 use Rattle.wait_class.proofs.Histories.{awake_more, found_still}
 use Rattle.page_lock.specs.PageEnds.{are_calm, is_calm}
 use Rattle.page_lock.specs.PageTables.{PageEndTrail, FoundFirst, FoundSet, FoundPageSignal, HasLeftPage, IsPageOff, IsQuiet, IsUnasked, IsWaitingForPage, PageWaitTrail, WhyOut, page_head_in, page_in}

@@ -2,52 +2,34 @@
 use Rattle.std.proofs.Common.{◌∙◌, ap, sym, refl, subst, append_assoc}
 use Rattle.std.specs.Prelude.{ℕ, ◌≡◌, not, Bool, true, false, if◌then◌else◌, Option, Some, None, List, [], ◌∷◌, ◌++◌}
 use Rattle.wait_model.specs.declared.calls.Answer.TheVariants as answer
-use Rattle.wait_model.specs.declared.calls.Event.{Event}
+use Rattle.wait_model.specs.{declared.calls.Event.Event, declared.points.Planned.Planned, declared.points.Point.Point}
+use Rattle.wait_model.specs.{declared.steps.Step.Step, declared.watches.Entry.Entry, declared.watches.Watch.Watch}
+use Rattle.wait_model.specs.{Points.given_at, Views.View as Told, Watches.was_clear, Words.bit_at}
+use Rattle.wait_model.specs.PointFacts.{IsHome, pages, seated}
+use Rattle.wait_model.specs.Programs.{ends_with, exchange, go, zero_answer}
 use Rattle.wait_model.specs.declared.points.PagePoint.TheVariants as paging
 use Rattle.wait_model.specs.declared.points.Next.TheVariants as next
-use Rattle.wait_model.specs.declared.points.Planned.{Planned}
-use Rattle.wait_model.specs.declared.points.Point.{Point}
 use Rattle.wait_model.specs.declared.points.Point.TheVariants as at
-use Rattle.wait_model.specs.declared.steps.Step.{Step}
 use Rattle.wait_model.specs.declared.steps.Step.TheVariants as step
-use Rattle.wait_model.specs.declared.watches.Entry.{Entry}
-use Rattle.wait_model.specs.declared.watches.Watch.{Watch}
-use Rattle.wait_model.specs.PointFacts.{IsHome, pages, seated}
-use Rattle.wait_model.specs.Points.{given_at}
-use Rattle.wait_model.specs.Programs.{ends_with, exchange, go, zero_answer}
-use Rattle.wait_model.specs.Views.{View as Told}
-use Rattle.wait_model.specs.Watches.{was_clear}
-use Rattle.wait_model.specs.Words.{bit_at}
 use Rattle.wait_rule.specs.declared.journal.Item.TheVariants as item
-use Rattle.wait_rule.specs.Bits.{KeepsBitOf, SetsBit}
-use Rattle.wait_rule.specs.Known.{Known}
-use Rattle.wait_rule.specs.Queues.{IsAgreedHold, index}
-use Rattle.wait_rule.specs.Quiet.{is_quiet_at}
+use Rattle.wait_rule.specs.{Bits.KeepsBitOf, Bits.SetsBit, Known.Known, Queues.IsAgreedHold, Queues.index}
+use Rattle.wait_rule.specs.{Quiet.is_quiet_at, Transitions.IsMadeFor, Transitions.by_step}
 use Rattle.wait_rule.specs.Says.{added, asks_for, history_of, told_of}
-use Rattle.wait_rule.specs.Transitions.{IsMadeFor, by_step}
-use Rattle.wait_rule.proofs.KnownLaws.AfterSteps.{told_added}
-use Rattle.wait_rule.proofs.KnownLaws.AskedPages.{asked_added}
-use Rattle.wait_rule.proofs.KnownLaws.QuietFlags.{quiet_more}
-use Rattle.wait_rule.proofs.KnownLaws.TaskHistories.{history_after}
-use Rattle.wait_rule.proofs.KnownLaws.Transitions.{only_none}
-use Rattle.wait_rule.proofs.WornHeads.WornNotes.{notes_stay}
-use Rattle.wait_class.specs.Posts.{own_of}
-use Rattle.wait_class.specs.Findings.{with_value}
-use Rattle.wait_class.proofs.Histories.{ends_more}
-use Rattle.wait_class.specs.declared.stages.Run.{Run}
-use Rattle.wait_class.specs.declared.stages.Turn.TheVariants as turn
+use Rattle.wait_rule.proofs.{KnownLaws.AfterSteps.told_added, KnownLaws.AskedPages.asked_added}
+use Rattle.wait_rule.proofs.{KnownLaws.QuietFlags.quiet_more, KnownLaws.TaskHistories.history_after}
+use Rattle.wait_rule.proofs.{KnownLaws.Transitions.only_none, WornHeads.WornNotes.notes_stay}
+use Rattle.wait_class.specs.{Posts.own_of, Findings.with_value, declared.stages.Run.Run, Laws.IsPlainTurn}
+use Rattle.wait_class.specs.Laws.{turn_post}
 use Rattle.wait_class.specs.Tables.{IsAt, Turned, falls, post_of}
-use Rattle.wait_class.specs.Laws.{IsPlainTurn, turn_post}
-use Rattle.wait_class.proofs.OwnSteps.{own_goes, stands_same}
-use Rattle.wait_class.proofs.Turns.{GoesOn, advance_by}
-use Rattle.page_lock.specs.PageStays.{PageKeeps}
-use Rattle.page_lock.specs.PageTables.{PageTurn, TriesAt, page_head_in, page_call, page_in, page_table, page_tried_to, tries_page}
-use Rattle.page_lock.specs.declared.waits.LockPage.{LockPage}
+use Rattle.wait_class.proofs.{Histories.ends_more, OwnSteps.own_goes, OwnSteps.stands_same, Turns.GoesOn}
+use Rattle.wait_class.proofs.Turns.{advance_by}
+use Rattle.wait_class.specs.declared.stages.Turn.TheVariants as turn
+use Rattle.page_lock.specs.{PageStays.PageKeeps, declared.waits.LockPage.LockPage, declared.waits.PageStage.PageStage}
+use Rattle.page_lock.specs.PageTables.{PageTurn, TriesAt, page_head_in, page_call, page_in, page_table, page_tried_to}
+use Rattle.page_lock.specs.PageTables.{tries_page}
 use Rattle.page_lock.specs.declared.waits.PageOutcome.TheVariants as outcome
-use Rattle.page_lock.specs.declared.waits.PageStage.{PageStage}
 use Rattle.page_lock.specs.declared.waits.PageStage.TheVariants as stage
-use Rattle.page_lock.proofs.PageGround.{page_keeps_set}
-use Rattle.page_lock.proofs.PageTrails.{over_end}
+use Rattle.page_lock.proofs.{PageGround.page_keeps_set, PageTrails.over_end}
 
 -- the page may be tried, in a hold or outside of one
 pub may_try : (old : Known) (r : Run LockPage) (s : PageStage) → IsAt page_table old r s → IsAgreedHold old

@@ -6,8 +6,7 @@ use Rattle.wait_model.specs.declared.points.PagePoint.TheVariants as paging
 use Rattle.wait_model.specs.declared.points.Next.TheVariants as next
 use Rattle.wait_model.specs.declared.points.Point.TheVariants as at
 use Rattle.wait_rule.specs.Transitions.{call_program}
-use Rattle.wait_rule.proofs.SaidEvents.Fronts.{number_stays}
-use Rattle.wait_rule.proofs.SaidEvents.FollowedRuns.{runs_follow}
+use Rattle.wait_rule.proofs.{SaidEvents.Fronts.number_stays, SaidEvents.FollowedRuns.runs_follow}
 use Rattle.wait_event.proofs.Words.{list_of}
 use Rattle.bit_wait.specs.BitEnds.{answer_of_bit_end}
 use Rattle.page_lock.specs.PageWords.{PageLocksFollow}

@@ -3,10 +3,7 @@
 use Rattle.std.specs.Prelude.{ℕ}
 use Rattle.wait_model.specs.declared.watches.Mode.TheVariants as mode
 use Rattle.wait_model.specs.declared.watches.Watch.TheVariants as watch
-use Rattle.wait_rule.specs.Known.{Known}
-use Rattle.wait_rule.specs.LosesNone.{LeavesNoneAsleep, OwesBeside}
-use Rattle.wait_rule.specs.Says.{Excuse}
-use Rattle.wait_rule.specs.Stays.{with_bit}
+use Rattle.wait_rule.specs.{Known.Known, LosesNone.LeavesNoneAsleep, LosesNone.OwesBeside, Says.Excuse, Stays.with_bit}
 use Rattle.bit_wait.specs.Clears.{GivesBack}
 
 -- before the call the task owed no wake of the page, as its holder does not

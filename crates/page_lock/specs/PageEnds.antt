@@ -2,28 +2,20 @@
 -- What whole waits for a page say.
 use Rattle.std.specs.Prelude.{ℕ, ◌≡◌, ◌⊎◌, ◌&&◌, Bool, true, false, None, Result, Ok, Err, List, [], ◌∷◌, ◌++◌}
 use Rattle.wait_model.specs.declared.calls.Call.TheVariants as calls
-use Rattle.wait_model.specs.declared.tasks.SleepState.{SleepState}
+use Rattle.wait_model.specs.{declared.tasks.SleepState.SleepState, declared.steps.Step.Step}
+use Rattle.wait_model.specs.{declared.watches.Entry.Entry, Watches.head_of, Watches.page, Words.bit_at, Words.flag_of}
+use Rattle.wait_model.specs.Tasks.{pending, state_mask, task_of}
 use Rattle.wait_model.specs.declared.points.PagePoint.TheVariants as paging
 use Rattle.wait_model.specs.declared.points.Next.TheVariants as next
 use Rattle.wait_model.specs.declared.points.Point.TheVariants as at
-use Rattle.wait_model.specs.declared.steps.Step.{Step}
 use Rattle.wait_model.specs.declared.steps.Step.TheVariants as step
-use Rattle.wait_model.specs.declared.watches.Entry.{Entry}
-use Rattle.wait_model.specs.Tasks.{pending, state_mask, task_of}
-use Rattle.wait_model.specs.Watches.{head_of, page}
-use Rattle.wait_model.specs.Words.{bit_at, flag_of}
-use Rattle.wait_rule.specs.Ends.{WasWorn}
-use Rattle.wait_rule.specs.Known.{Known}
-use Rattle.wait_rule.specs.Says.{history_of}
-use Rattle.wait_rule.specs.Transitions.{call_program}
+use Rattle.wait_rule.specs.{Ends.WasWorn, Known.Known, Says.history_of, Transitions.call_program}
 use Rattle.wait_class.specs.Posts.{EndsWith, Runs, own_of as own_in}
 use Rattle.wait_class.specs.Tables.{has_sleep}
-use Rattle.bit_wait.specs.BitEnds.{answer_of_bit_end}
-use Rattle.bit_wait.specs.declared.wait_calls.BitEnd.{BitEnd}
+use Rattle.bit_wait.specs.{BitEnds.answer_of_bit_end, declared.wait_calls.BitEnd.BitEnd}
 use Rattle.bit_wait.specs.declared.wait_calls.BitEnd.TheVariants as bit_end
-use Rattle.page_lock.specs.declared.waits.PageOutcome.{PageOutcome}
+use Rattle.page_lock.specs.{declared.waits.PageOutcome.PageOutcome, declared.waits.LockPage.LockPage}
 use Rattle.page_lock.specs.declared.waits.PageOutcome.TheVariants as outcome
-use Rattle.page_lock.specs.declared.waits.LockPage.{LockPage}
 
 -- the answer of a wait that has ended
 abbrev pub page_end_in : LockPage → PageOutcome → Result (Unit {0}) BitEnd

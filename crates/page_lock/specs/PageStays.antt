@@ -1,14 +1,10 @@
 -- To be believed.
 -- What stays of a task while it waits to lock a page, and what it owes in the meantime and afterwards.
 use Rattle.std.specs.Prelude.{ℕ, ◌≡◌, ◌<◌, ◌==◌, Bool, true, false, Some, None}
-use Rattle.wait_model.specs.declared.layout.TheConstants.{SLOTS}
-use Rattle.wait_model.specs.declared.watches.Watch.{Watch}
-use Rattle.wait_model.specs.declared.watches.Entry.{Entry}
-use Rattle.wait_model.specs.Watches.{page}
+use Rattle.wait_model.specs.{declared.layout.TheConstants.SLOTS, declared.watches.Watch.Watch}
+use Rattle.wait_model.specs.{declared.watches.Entry.Entry, Watches.page}
+use Rattle.wait_rule.specs.{Known.Known, Members.IsOwnKind, Queues.index}
 use Rattle.wait_rule.specs.Bits.{KeepsBitOf, StaysBeside, taken_bits}
-use Rattle.wait_rule.specs.Known.{Known}
-use Rattle.wait_rule.specs.Members.{IsOwnKind}
-use Rattle.wait_rule.specs.Queues.{index}
 use Rattle.wait_rule.specs.Says.{AsksNoPage, Excuse, OwesBut, told_of}
 use Rattle.wait_rule.specs.Stays.{with_bits, with_entry, with_page}
 

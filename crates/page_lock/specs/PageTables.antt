@@ -2,47 +2,32 @@
 -- A wait for a page: its stages, where it goes on behind each, and what its places say of what the task asks for and of
 -- its last steps.
 use Rattle.std.specs.Prelude.{ℕ, ◌≡◌, ◌<◌, ◌⊎◌, Bool, true, false, if◌then◌else◌, None, List, [], ◌∷◌, ◌++◌}
-use Rattle.wait_model.specs.declared.layout.TheConstants.{BIT_WORDS}
-use Rattle.wait_model.specs.declared.calls.Answer.{Answer}
+use Rattle.wait_model.specs.{declared.layout.TheConstants.BIT_WORDS, declared.calls.Answer.Answer}
+use Rattle.wait_model.specs.{declared.calls.Call.Call, declared.points.Point.Point, declared.points.Seen.Seen}
+use Rattle.wait_model.specs.{declared.steps.Step.Step, declared.tasks.SleepState.SleepState}
+use Rattle.wait_model.specs.{declared.watches.Entry.Entry, declared.watches.Watch.Watch, Programs.interrupted}
+use Rattle.wait_model.specs.{Programs.zero_answer, PointFacts.absent, Views.shown, Watches.head_of, Watches.page}
+use Rattle.wait_model.specs.Words.{bit_at}
+use Rattle.wait_model.specs.Tasks.{looks_in, pending, state_mask, task_of}
 use Rattle.wait_model.specs.declared.calls.Answer.TheVariants as answer
-use Rattle.wait_model.specs.declared.calls.Call.{Call}
 use Rattle.wait_model.specs.declared.calls.Call.TheVariants as calls
 use Rattle.wait_model.specs.declared.points.FinishPoint.TheVariants as finishing
 use Rattle.wait_model.specs.declared.points.PagePoint.TheVariants as paging
-use Rattle.wait_model.specs.declared.points.Point.{Point}
 use Rattle.wait_model.specs.declared.points.Point.TheVariants as at
-use Rattle.wait_model.specs.declared.points.Seen.{Seen}
-use Rattle.wait_model.specs.declared.steps.Step.{Step}
 use Rattle.wait_model.specs.declared.steps.Step.TheVariants as step
-use Rattle.wait_model.specs.declared.tasks.SleepState.{SleepState}
-use Rattle.wait_model.specs.declared.watches.Entry.{Entry}
-use Rattle.wait_model.specs.declared.watches.Watch.{Watch}
-use Rattle.wait_model.specs.Programs.{interrupted, zero_answer}
-use Rattle.wait_model.specs.PointFacts.{absent}
-use Rattle.wait_model.specs.Tasks.{looks_in, pending, state_mask, task_of}
-use Rattle.wait_model.specs.Views.{shown}
-use Rattle.wait_model.specs.Watches.{head_of, page}
-use Rattle.wait_model.specs.Words.{bit_at}
+use Rattle.wait_rule.specs.{Bits.KeepsBitOf, Known.Known, Quiet.is_quiet_at, Quiet.is_told, Tickets.no_ticket}
 use Rattle.wait_rule.specs.Asked.{nothing_asked, waits_for, was_given}
-use Rattle.wait_rule.specs.Bits.{KeepsBitOf}
-use Rattle.wait_rule.specs.Known.{Known}
-use Rattle.wait_rule.specs.Quiet.{is_quiet_at, is_told}
 use Rattle.wait_rule.specs.Says.{asks_for, history_of, told_of}
-use Rattle.wait_rule.specs.Tickets.{no_ticket}
+use Rattle.wait_class.specs.{Findings.saw_nothing, declared.stages.Doing.Doing, declared.stages.Turn.Turn}
 use Rattle.wait_class.specs.Posts.{EndsWith, FoundWorn, Post, own_of}
-use Rattle.wait_class.specs.Findings.{saw_nothing}
 use Rattle.wait_class.specs.Tables.{CallTable, call_plan, has_sleep}
-use Rattle.wait_class.specs.declared.stages.Doing.{Doing}
 use Rattle.wait_class.specs.declared.stages.Doing.TheVariants as doing
-use Rattle.wait_class.specs.declared.stages.Turn.{Turn}
 use Rattle.wait_class.specs.declared.stages.Turn.TheVariants as turn
 use Rattle.wait_leave.specs.Leaves.{with_asked}
+use Rattle.page_lock.specs.{PageStays.PageKeeps, declared.waits.LockPage.LockPage}
+use Rattle.page_lock.specs.{declared.waits.PageOutcome.PageOutcome, declared.waits.PageStage.PageStage}
 use Rattle.page_lock.specs.PageEnds.{FoundNoPlaceForPage, WasPageInterrupted, WasPageLeft, are_calm}
-use Rattle.page_lock.specs.PageStays.{PageKeeps}
-use Rattle.page_lock.specs.declared.waits.LockPage.{LockPage}
-use Rattle.page_lock.specs.declared.waits.PageOutcome.{PageOutcome}
 use Rattle.page_lock.specs.declared.waits.PageOutcome.TheVariants as outcome
-use Rattle.page_lock.specs.declared.waits.PageStage.{PageStage}
 use Rattle.page_lock.specs.declared.waits.PageStage.TheVariants as stage
 
 -- The stages: the point of the program, what is done there, and whether the ticket of its lock is drawn.

@@ -3,19 +3,13 @@
 -- has found one in its last turn.
 use Rattle.std.specs.Prelude.{ℕ, ◌≡◌, false, Result, Err, List, [], ◌∷◌}
 use Rattle.wait_model.specs.declared.calls.Call.TheVariants as calls
-use Rattle.wait_model.specs.declared.calls.Event.{Event}
+use Rattle.wait_model.specs.{declared.calls.Event.Event, declared.tasks.SleepState.SleepState, Selections.IsPageBroken}
+use Rattle.wait_model.specs.{Sentences.Follows, Watches.head_of, Watches.page}
 use Rattle.wait_model.specs.declared.calls.Event.TheVariants as event
-use Rattle.wait_model.specs.declared.tasks.SleepState.{SleepState}
-use Rattle.wait_model.specs.Selections.{IsPageBroken}
-use Rattle.wait_model.specs.Sentences.{Follows}
-use Rattle.wait_model.specs.Watches.{head_of, page}
-use Rattle.wait_rule.specs.Heeding.{trail_of}
-use Rattle.wait_rule.specs.Known.{Known}
-use Rattle.wait_rule.specs.Says.{MeetsLaw}
+use Rattle.wait_rule.specs.{Heeding.trail_of, Known.Known, Says.MeetsLaw}
 use Rattle.wait_class.specs.Posts.{IsOut}
 use Rattle.wait_event.specs.Words.{call_says}
-use Rattle.bit_wait.specs.BitEnds.{answer_of_bit_end}
-use Rattle.bit_wait.specs.declared.wait_calls.BitEnd.{BitEnd}
+use Rattle.bit_wait.specs.{BitEnds.answer_of_bit_end, declared.wait_calls.BitEnd.BitEnd}
 use Rattle.bit_wait.specs.declared.wait_calls.BitEnd.TheVariants as bit_end
 use Rattle.page_lock.specs.PageEnds.{EndsPageLock}
 

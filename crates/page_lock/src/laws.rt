@@ -1,7 +1,6 @@
 //! What whole calls on pages make, as the sentences of the model say it.
 
-ghost use Rattle.page_lock.specs.LosesNone.{UnlocksLoseNone};
-ghost use Rattle.page_lock.specs.PageWords.{PageLocksFollow, PageLocksHeed};
+ghost use Rattle.page_lock.specs.{LosesNone.UnlocksLoseNone, PageWords.PageLocksFollow, PageWords.PageLocksHeed};
 
 /// What a `lock_page` has made follows the sentence of `lockpage`, and the answer is the one that the sentence gives:
 /// by the table that a load of the base word shows after the call (`Task::witness`). Of what a `try_lock_page` and an

@@ -4,10 +4,8 @@ ghost use Rattle.std.specs.Prelude.{◌≡◌, ◌<◌};
 ghost use Rattle.wait_model.specs.declared.layout.TheConstants.{BIT_WORDS};
 ghost use Rattle.wait_model.specs.declared.watches.Watch.TheVariants as watch;
 ghost use Rattle.wait_rule.specs.declared.journal.Item.TheVariants as item;
-ghost use Rattle.wait_rule.specs.Bits.{KeepsBitOf};
-ghost use Rattle.wait_rule.specs.LookCounts.{Looked};
+ghost use Rattle.wait_rule.specs.{Bits.KeepsBitOf, LookCounts.Looked, Stays.Carries, Stays.unchanged};
 ghost use Rattle.wait_rule.specs.Says.{FindsTally, IsUp, added, told_of};
-ghost use Rattle.wait_rule.specs.Stays.{Carries, unchanged};
 ghost use Rattle.bit_wait.specs.Holders.{IsHolder};
 
 use wait_rule::tallies::tally_add;

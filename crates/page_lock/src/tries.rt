@@ -3,11 +3,8 @@
 ghost use Rattle.std.specs.Prelude.{◌≡◌, ◌<◌, MatchBool};
 ghost use Rattle.wait_model.specs.declared.layout.TheConstants.{BIT_WORDS};
 ghost use Rattle.wait_model.specs.declared.watches.Watch.TheVariants as watch;
-ghost use Rattle.wait_rule.specs.Bits.{SetsBit};
-ghost use Rattle.wait_rule.specs.Says.{IsClean, IsUp};
-ghost use Rattle.wait_rule.specs.Queues.{IsAgreedHold};
-ghost use Rattle.bit_wait.specs.Holders.{IsHolder};
-ghost use Rattle.bit_wait.specs.Tries.{HasTriedBit};
+ghost use Rattle.wait_rule.specs.{Bits.SetsBit, Says.IsClean, Says.IsUp, Queues.IsAgreedHold};
+ghost use Rattle.bit_wait.specs.{Holders.IsHolder, Tries.HasTriedBit};
 
 use bit_wait::test_and_set;
 use wait_rule::{Domain, Task};

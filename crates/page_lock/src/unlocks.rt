@@ -3,11 +3,9 @@
 ghost use Rattle.std.specs.Prelude.{◌≡◌, ◌<◌};
 ghost use Rattle.wait_model.specs.declared.layout.TheConstants.{BIT_WORDS};
 ghost use Rattle.wait_model.specs.declared.watches.Watch.TheVariants as watch;
-ghost use Rattle.wait_rule.specs.Bits.{KeepsBitOf};
+ghost use Rattle.wait_rule.specs.{Bits.KeepsBitOf, Queues.IsIdle};
 ghost use Rattle.wait_rule.specs.Says.{IsClean, IsUp, told_of, TriesNone};
-ghost use Rattle.wait_rule.specs.Queues.{IsIdle};
-ghost use Rattle.bit_wait.specs.Holders.{IsHolder};
-ghost use Rattle.bit_wait.specs.Clears.{GivesBack, HasClearedBit};
+ghost use Rattle.bit_wait.specs.{Holders.IsHolder, Clears.GivesBack, Clears.HasClearedBit};
 
 use bit_wait::clear_and_wake_bit;
 use std::sync::Wait;

@@ -5,14 +5,11 @@ ghost use Rattle.wait_model.specs.declared.layout.TheConstants.{BIT_WORDS};
 ghost use Rattle.wait_model.specs.Watches as model;
 ghost use Rattle.wait_rule.specs.Queues.{IsIdle, IsTold};
 ghost use Rattle.wait_rule.specs.Says.{AsksNoPage, IsClean, IsUp};
-ghost use Rattle.wait_class.specs.Posts.{IsOut};
+ghost use Rattle.wait_class.specs.{Posts.IsOut, Tables.Advances, Tables.IsAt, UnderWay.IsUnderWay};
 ghost use Rattle.wait_class.specs.declared.stages.Turn.TheVariants as turn;
-ghost use Rattle.wait_class.specs.Tables.{Advances, IsAt};
-ghost use Rattle.wait_class.specs.UnderWay.{IsUnderWay};
 ghost use Rattle.page_lock.specs.declared.waits.PageStage.TheVariants as stage;
-ghost use Rattle.page_lock.specs.PageTables.{IsFreshPageWait, page_table};
+ghost use Rattle.page_lock.specs.{PageTables.IsFreshPageWait, PageTables.page_table, PageStays.TakesPage};
 ghost use Rattle.page_lock.specs.PageEnds.{EndsPageLock, page_end_in, has_taken_page};
-ghost use Rattle.page_lock.specs.PageStays.{TakesPage};
 ghost use Rattle.bit_wait.specs.Holders.{IsHolder};
 
 use crate::waits::{LockPage, PageOutcome, PageRun, PageStage};

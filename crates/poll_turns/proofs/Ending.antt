@@ -1,31 +1,22 @@
 -- The two entries are taken off, each in a hold that is taken by looks at its ticket.
 use Rattle.std.proofs.Common.{◌∙◌, sym, refl, subst, inl, inr}
 use Rattle.std.specs.Prelude.{ℕ, ◌≡◌, ◌<◌, Bool, Option, Some, None, Result}
-use Rattle.wait_model.specs.declared.layout.TheConstants.{FIRST_DONE_HEAD, HEADS}
+use Rattle.wait_model.specs.{declared.layout.TheConstants.FIRST_DONE_HEAD, declared.layout.TheConstants.HEADS}
+use Rattle.wait_model.specs.{declared.watches.Entry.Entry, Watches.head_of}
 use Rattle.wait_model.specs.declared.steps.Step.TheVariants as step
-use Rattle.wait_model.specs.declared.watches.Entry.{Entry}
-use Rattle.wait_model.specs.Watches.{head_of}
 use Rattle.wait_rule.specs.declared.journal.Item.TheVariants as item
-use Rattle.wait_rule.specs.HandedPermits.{OwesNoPermit}
-use Rattle.wait_rule.specs.Known.{Known}
-use Rattle.wait_rule.specs.Queues.{IsTold}
+use Rattle.wait_rule.specs.{HandedPermits.OwesNoPermit, Known.Known, Queues.IsTold, Stays.Carries, Stays.state_change}
 use Rattle.wait_rule.specs.Says.{IsFree, IsUp, added}
-use Rattle.wait_rule.specs.Stays.{Carries, state_change}
 use Rattle.wq_head.specs.LockTurns.{AwaitsLock, TookLock}
 use Rattle.wait_class.specs.Posts.{HasSeenOwn}
 use Rattle.wait_event.specs.PartSteps.{IsAtHead, ParesPart}
 use Rattle.wait_event.specs.Prepares.{HasFinished, MayFinish, leave_change}
-use Rattle.wait_event.proofs.Conditions.{low_fits}
+use Rattle.wait_event.proofs.{Conditions.low_fits, PartSteps.pares_at, Preparing.left_carried}
 use Rattle.wait_event.proofs.Finishing.{finish_free, finish_home, finish_low, finish_off, finish_on, finish_owes}
-use Rattle.wait_event.proofs.PartSteps.{pares_at}
-use Rattle.wait_event.proofs.Preparing.{left_carried}
-use Rattle.poll_wait.specs.declared.turns.Poll.{Poll}
-use Rattle.poll_wait.specs.declared.turns.PollEnd.{PollEnd}
-use Rattle.poll_wait.specs.declared.turns.Ready.{Ready}
-use Rattle.poll_wait.specs.Polls.{EndsPoll, IsPoll}
+use Rattle.poll_wait.specs.{declared.turns.Poll.Poll, declared.turns.PollEnd.PollEnd, declared.turns.Ready.Ready}
+use Rattle.poll_wait.specs.{Polls.EndsPoll, Polls.IsPoll, TurnSteps.HasDone}
 use Rattle.poll_wait.specs.Seconds.{HasLeftSecond, MayLeave, second_of}
 use Rattle.poll_wait.specs.SecondSteps.{HasSeenSecond, IsSecondAtHead, ParesSecond}
-use Rattle.poll_wait.specs.TurnSteps.{HasDone}
 use Rattle.poll_wait.proofs.Leaving.{leave_free, leave_home, leave_low, leave_off, leave_on, leave_owes, leave_up}
 use Rattle.poll_wait.proofs.Leaving.{off_carried, on_carried, pares_second}
 use Rattle.poll_wait.proofs.Pairing.{done_then, leave_pair, out_stays}
@@ -35,8 +26,7 @@ use Rattle.poll_turns.specs.declared.stages.PollUntil.{PollUntil}
 use Rattle.poll_turns.specs.declared.stages.PollUntil.TheVariants as until
 use Rattle.poll_turns.specs.PollSteps.{GivesHoldBack}
 use Rattle.poll_turns.specs.PollTurns.{AwaitsTakeFirst, AwaitsTakeSecond, EndsPollUntil, HasPolled, HasTakenFirst, IsEnding}
-use Rattle.poll_turns.proofs.Holding.{took_as}
-use Rattle.poll_turns.proofs.Parting.{until_stays}
+use Rattle.poll_turns.proofs.{Holding.took_as, Parting.until_stays}
 
 -- a ticket of this head may be drawn
 pub record MayDraw (k : Known) (h : ℕ) : Type 0 where

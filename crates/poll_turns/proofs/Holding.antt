@@ -1,28 +1,19 @@
 -- The two entries are queued, each in a hold that is taken by looks at its ticket.
 use Rattle.std.proofs.Common.{sym, refl, subst, inl}
 use Rattle.std.specs.Prelude.{ℕ, ◌≡◌, ◌<◌, Bool, false, Some, Result, Ok, Err}
-use Rattle.wait_model.specs.declared.layout.TheConstants.{FIRST_DONE_HEAD, HEADS}
-use Rattle.wait_model.specs.declared.watches.Watch.{Watch}
-use Rattle.wait_model.specs.Tasks.{state_mask}
-use Rattle.wait_model.specs.Watches.{head_of, kind_for}
-use Rattle.wait_rule.specs.HandedPermits.{OwesNoPermit}
-use Rattle.wait_rule.specs.Known.{Known}
-use Rattle.wait_rule.specs.Queues.{IsTold}
-use Rattle.wait_rule.specs.Says.{MayStore, told_of}
-use Rattle.wq_head.specs.declared.adds.Worn.{Worn}
-use Rattle.wq_head.specs.LockTurns.{AwaitsLock, TookLock}
+use Rattle.wait_model.specs.{declared.layout.TheConstants.FIRST_DONE_HEAD, declared.layout.TheConstants.HEADS}
+use Rattle.wait_model.specs.{declared.watches.Watch.Watch, Tasks.state_mask, Watches.head_of, Watches.kind_for}
+use Rattle.wait_rule.specs.{HandedPermits.OwesNoPermit, Known.Known, Queues.IsTold, Says.MayStore, Says.told_of}
+use Rattle.wq_head.specs.{declared.adds.Worn.Worn, LockTurns.AwaitsLock, LockTurns.TookLock}
 use Rattle.wait_class.specs.Posts.{own_of}
 use Rattle.wait_event.specs.PartSteps.{Heeds}
 use Rattle.wait_event.specs.Prepares.{EndsPrepare, IsPart, MayPrepare, SuitsWait, with_signal}
-use Rattle.wait_event.proofs.Conditions.{low_fits}
-use Rattle.wait_event.proofs.PartSteps.{heeds_none, joins_at}
+use Rattle.wait_event.proofs.{Conditions.low_fits, PartSteps.heeds_none, PartSteps.joins_at}
 use Rattle.wait_event.proofs.Preparing.{ends_carried, join_ends as prepared_ends, prepare_home, prepare_low}
 use Rattle.wait_event.proofs.Preparing.{prepare_may}
-use Rattle.poll_wait.specs.declared.turns.Poll.{Poll}
-use Rattle.poll_wait.specs.Polls.{IsPoll, front_in}
-use Rattle.poll_wait.specs.Seconds.{IsPolled, MayJoinSecond, second_of}
-use Rattle.poll_wait.specs.SecondSteps.{JoinsHeld}
+use Rattle.poll_wait.specs.{declared.turns.Poll.Poll, Polls.IsPoll, Polls.front_in, SecondSteps.JoinsHeld}
 use Rattle.poll_wait.specs.TurnSteps.{TurnCarries}
+use Rattle.poll_wait.specs.Seconds.{IsPolled, MayJoinSecond, second_of}
 use Rattle.poll_wait.proofs.Joining.{held_at, join_carries, join_ends, join_may, joins_home, joins_low}
 use Rattle.poll_wait.proofs.Pairing.{join_pair, prepare_pair, queue_pair}
 use Rattle.poll_wait.proofs.Polled.{join_has, polled_low, prepare_has, suits_by}

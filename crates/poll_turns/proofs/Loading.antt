@@ -4,17 +4,13 @@ use Rattle.std.specs.Prelude.{ℕ, ◌≡◌, Bool, true, false, Some, None, Res
 use Rattle.wait_model.specs.declared.steps.Step.TheVariants as step
 use Rattle.wait_model.specs.Tasks.{looks_in, pending, state_mask, task_of}
 use Rattle.wait_rule.specs.declared.journal.Item.TheVariants as item
-use Rattle.wait_rule.specs.Known.{Known}
-use Rattle.wait_rule.specs.Says.{added}
-use Rattle.wait_rule.specs.Stays.{Carries, unchanged}
+use Rattle.wait_rule.specs.{Known.Known, Says.added, Stays.Carries, Stays.unchanged}
 use Rattle.wq_head.specs.declared.adds.Worn.{Worn}
-use Rattle.poll_wait.specs.declared.turns.Loads.{Loads}
-use Rattle.poll_wait.specs.declared.turns.Poll.{Poll}
-use Rattle.poll_wait.specs.declared.turns.PollEnd.{PollEnd}
+use Rattle.poll_wait.specs.{declared.turns.Loads.Loads, declared.turns.Poll.Poll, declared.turns.PollEnd.PollEnd}
+use Rattle.poll_wait.specs.{declared.turns.Ready.Ready, TurnSteps.TurnCarries}
+use Rattle.poll_wait.specs.Polls.{AsksIf, AsksSignal, EndsLast, EndsPoll, EndsQueueing, IsPoll, LeavesBoth, QueuesBoth}
+use Rattle.poll_wait.specs.Polls.{loaded, ready_of, with_both}
 use Rattle.poll_wait.specs.declared.turns.PollEnd.TheVariants as poll_end
-use Rattle.poll_wait.specs.declared.turns.Ready.{Ready}
-use Rattle.poll_wait.specs.Polls.{AsksIf, AsksSignal, EndsLast, EndsPoll, EndsQueueing, IsPoll, LeavesBoth, QueuesBoth, loaded, ready_of, with_both}
-use Rattle.poll_wait.specs.TurnSteps.{TurnCarries}
 use Rattle.poll_wait.proofs.Pairing.{pairs_on, state_as, still_pair}
 use Rattle.poll_wait.proofs.Polled.{still_has}
 use Rattle.poll_wait.proofs.Turning.{ends_poll, first_turn, loads_carried, loads_idle, loads_out, loads_second}

@@ -1,14 +1,10 @@
 -- What a poll that may be left leaves alone, part by part.
 use Rattle.std.proofs.Common.{inl, inr}
 use Rattle.std.specs.Prelude.{◌≡◌, false, Option, Some, None, Result, Ok, Err}
-use Rattle.wait_model.specs.Programs.{zero_answer}
-use Rattle.wait_model.specs.Watches.{kind_for}
-use Rattle.wait_rule.specs.Known.{Known}
-use Rattle.wait_rule.specs.Says.{told_of}
+use Rattle.wait_model.specs.{Programs.zero_answer, Watches.kind_for}
+use Rattle.wait_rule.specs.{Known.Known, Says.told_of}
 use Rattle.wait_rule.proofs.KnownLaws.CalledPermits.{left_on}
-use Rattle.poll_wait.specs.declared.turns.Loads.{Loads}
-use Rattle.poll_wait.specs.declared.turns.Poll.{Poll}
-use Rattle.poll_wait.specs.declared.turns.PollEnd.{PollEnd}
+use Rattle.poll_wait.specs.{declared.turns.Loads.Loads, declared.turns.Poll.Poll, declared.turns.PollEnd.PollEnd}
 use Rattle.poll_wait.specs.declared.turns.Ready.{Ready}
 use Rattle.poll_wait.specs.Polls.{IsPoll, StaysBesidePoll, front_in, loaded}
 use Rattle.poll_wait.proofs.Beside.{Beside, beside_join}

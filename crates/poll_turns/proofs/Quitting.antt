@@ -1,21 +1,17 @@
 -- A wait that is asked to leave: where it stands on a turn, and what its last loads make of it.
 use Rattle.std.proofs.Common.{refl, sym, subst, inr}
 use Rattle.std.specs.Prelude.{◌≡◌, true, Option, Some, None, Ok, Err}
-use Rattle.wait_rule.specs.Known.{Known}
-use Rattle.wait_rule.specs.Stays.{Carries, unchanged}
-use Rattle.poll_wait.specs.declared.turns.Loads.{Loads}
-use Rattle.poll_wait.specs.declared.turns.Poll.{Poll}
-use Rattle.poll_wait.specs.declared.turns.Ready.{Ready}
+use Rattle.wait_rule.specs.{Known.Known, Stays.Carries, Stays.unchanged}
+use Rattle.poll_wait.specs.{declared.turns.Loads.Loads, declared.turns.Poll.Poll, declared.turns.Ready.Ready}
 use Rattle.poll_wait.specs.Polls.{IsPoll, LeavesBoth, loaded, ready_of, with_both}
 use Rattle.poll_wait.proofs.Pairing.{pairs_on, state_as, still_pair}
 use Rattle.poll_wait.proofs.Turning.{same_carries}
-use Rattle.poll_turns.specs.declared.stages.PollStage.{PollStage}
-use Rattle.poll_turns.specs.declared.stages.PollStage.TheVariants as stage
-use Rattle.poll_turns.specs.declared.stages.PollUntil.{PollUntil}
-use Rattle.poll_turns.specs.declared.stages.PollUntil.TheVariants as until
+use Rattle.poll_turns.specs.{declared.stages.PollStage.PollStage, declared.stages.PollUntil.PollUntil}
 use Rattle.poll_turns.specs.PollTurns.{EndsPollUntil, HasBegunTurn, HasFirst, HasLoadedBoth, HasTriedQueueing}
 use Rattle.poll_turns.specs.PollTurns.{HasMadeTurns, IsEnding, IsOnTurn, IsPollAt, IsToSleep, LeavesPart}
 use Rattle.poll_turns.specs.PollTurns.{found_no_signal, found_unset, leaves_at, made_nothing, queued_both, queued_first}
+use Rattle.poll_turns.specs.declared.stages.PollStage.TheVariants as stage
+use Rattle.poll_turns.specs.declared.stages.PollUntil.TheVariants as until
 use Rattle.poll_turns.proofs.Loading.{turn_within}
 
 -- where it stands

@@ -1,29 +1,21 @@
 -- A look at the ticket of a hold, and what is done there, by the stage.
 use Rattle.std.proofs.Common.{sym, refl, subst, inl}
 use Rattle.std.specs.Prelude.{ℕ, ◌≡◌, ◌<◌, Bool, Some, Result, Ok, Err}
-use Rattle.wait_model.specs.declared.layout.TheConstants.{HEADS}
-use Rattle.wait_model.specs.Tasks.{state_mask}
-use Rattle.wait_model.specs.Watches.{head_of, kind_for}
-use Rattle.wait_rule.specs.Known.{Known}
-use Rattle.wait_rule.specs.Queues.{IsTold}
-use Rattle.wait_rule.specs.Says.{MayStore, told_of}
+use Rattle.wait_model.specs.{declared.layout.TheConstants.HEADS, Tasks.state_mask, Watches.head_of, Watches.kind_for}
+use Rattle.wait_rule.specs.{Known.Known, Queues.IsTold, Says.MayStore, Says.told_of}
 use Rattle.wq_head.specs.declared.adds.Worn.{Worn}
 use Rattle.wq_head.specs.LockTurns.{AwaitsLock, FindsOther, TookLock}
 use Rattle.wait_class.specs.Posts.{own_of}
 use Rattle.wait_class.specs.declared.stages.Turn.TheVariants as turn
-use Rattle.wait_event.specs.PartSteps.{IsAtHead, ParesPart}
-use Rattle.wait_event.specs.Prepares.{IsPart}
-use Rattle.poll_wait.specs.declared.turns.Poll.{Poll}
-use Rattle.poll_wait.specs.Polls.{IsPoll}
-use Rattle.poll_wait.specs.Seconds.{second_of}
+use Rattle.wait_event.specs.{PartSteps.IsAtHead, PartSteps.ParesPart, Prepares.IsPart}
+use Rattle.poll_wait.specs.{declared.turns.Poll.Poll, Polls.IsPoll, Seconds.second_of}
 use Rattle.poll_wait.specs.SecondSteps.{IsSecondAtHead, JoinsHeld, ParesSecond}
-use Rattle.poll_turns.specs.declared.stages.PollStage.{PollStage}
-use Rattle.poll_turns.specs.declared.stages.PollStage.TheVariants as stage
-use Rattle.poll_turns.specs.declared.stages.PollUntil.{PollUntil}
-use Rattle.poll_turns.specs.PollShows.{FindsOtherServed, LooksLast}
+use Rattle.poll_turns.specs.{declared.stages.PollStage.PollStage, declared.stages.PollUntil.PollUntil}
+use Rattle.poll_turns.specs.{PollShows.FindsOtherServed, PollShows.LooksLast}
 use Rattle.poll_turns.specs.PollSteps.{Awaits, GivesHoldBack, GoesFrom, TookAwaited, IsAtHold, JoinsFirst, WorksHeld}
-use Rattle.poll_turns.specs.PollTurns.{AwaitsFirst, AwaitsSecond, AwaitsTakeFirst, AwaitsTakeSecond, IsPollAt, IsPollUnderWay}
-use Rattle.poll_turns.specs.PollTurns.{PollAskedIf, PollTurn}
+use Rattle.poll_turns.specs.PollTurns.{AwaitsFirst, AwaitsSecond, AwaitsTakeFirst, AwaitsTakeSecond, IsPollAt}
+use Rattle.poll_turns.specs.PollTurns.{IsPollUnderWay, PollAskedIf, PollTurn}
+use Rattle.poll_turns.specs.declared.stages.PollStage.TheVariants as stage
 use Rattle.poll_turns.proofs.Ending.{second_draws, second_home, second_on, second_owes, take_fits, take_home, take_on}
 use Rattle.poll_turns.proofs.Ending.{take_owes}
 use Rattle.poll_turns.proofs.Holding.{awaits_as, first_drawn, first_head, first_home, first_low, first_may, first_queued, first_worn}

@@ -1,27 +1,19 @@
 -- What the stretches show: events, looks, no sleep but at its stage, and the lock that was given back.
 use Rattle.std.proofs.Common.{◌∙◌, ap, sym, refl, subst, inl, inr, append-nil, append_assoc}
 use Rattle.std.specs.Prelude.{ℕ, ◌≡◌, Bool, true, false, Option, Some, None, Result, Ok, Err, List, [], ◌∷◌, ◌++◌}
-use Rattle.wait_model.specs.declared.layout.TheConstants.{HEADS}
+use Rattle.wait_model.specs.{declared.layout.TheConstants.HEADS, declared.steps.Step.Step, declared.watches.Entry.Entry}
+use Rattle.wait_model.specs.{declared.watches.Watch.Watch, Watches.kind_for}
 use Rattle.wait_model.specs.declared.points.Next.TheVariants as next
 use Rattle.wait_model.specs.declared.points.Point.TheVariants as at
 use Rattle.wait_model.specs.declared.points.PreparePoint.TheVariants as preparing
-use Rattle.wait_model.specs.declared.steps.Step.{Step}
 use Rattle.wait_model.specs.declared.steps.Step.TheVariants as step
-use Rattle.wait_model.specs.declared.watches.Entry.{Entry}
-use Rattle.wait_model.specs.declared.watches.Watch.{Watch}
-use Rattle.wait_model.specs.Watches.{kind_for}
 use Rattle.wait_rule.specs.declared.journal.Item.TheVariants as item
-use Rattle.wait_rule.specs.Items.{steps_of}
-use Rattle.wait_rule.specs.Known.{Known}
+use Rattle.wait_rule.specs.{Items.steps_of, Known.Known, Says.added, Says.history_of}
+use Rattle.wait_rule.specs.{declared.tries.FailedTries.FailedTries, Tried.IsOneMore}
 use Rattle.wait_rule.specs.Queues.{index, saw, walk_of_hold}
-use Rattle.wait_rule.specs.Says.{added, history_of}
 use Rattle.wait_rule.specs.Transitions.{after_step_or_look, by_step, with_lock}
-use Rattle.wait_rule.proofs.KnownLaws.TaskHistories.{history_after}
-use Rattle.wait_rule.proofs.TableSteps.ItemLists.{steps_append}
-use Rattle.wq_head.specs.declared.adds.Worn.{Worn}
-use Rattle.wait_rule.specs.declared.tries.FailedTries.{FailedTries}
-use Rattle.wait_rule.specs.Tried.{IsOneMore}
-use Rattle.wq_head.specs.Holds.{HasWaited}
+use Rattle.wait_rule.proofs.{KnownLaws.TaskHistories.history_after, TableSteps.ItemLists.steps_append}
+use Rattle.wq_head.specs.{declared.adds.Worn.Worn, Holds.HasWaited}
 use Rattle.wq_head.specs.LockTurns.{AwaitsLock, FindsOther, TookLock}
 use Rattle.wait_class.specs.Handing.{LastGiven, given_back_by, last_given_back}
 use Rattle.wait_class.specs.Posts.{HasSeenOwn}
@@ -31,20 +23,15 @@ use Rattle.wait_class.proofs.AwakeSteps.{awake_seen, awake_step, awake_still, aw
 use Rattle.wait_class.proofs.Handed.{given_on, given_seen, given_step, given_still}
 use Rattle.wait_class.proofs.Histories.{awake_more, unlocked_history}
 use Rattle.wait_event.specs.PartSteps.{ParesPart}
-use Rattle.poll_wait.specs.declared.turns.Loads.{Loads}
-use Rattle.poll_wait.specs.declared.turns.Poll.{Poll}
+use Rattle.poll_wait.specs.{declared.turns.Loads.Loads, declared.turns.Poll.Poll, Seconds.IsPolled}
 use Rattle.poll_wait.specs.Polls.{IsPoll, front_in, loaded}
-use Rattle.poll_wait.specs.Seconds.{IsPolled}
 use Rattle.poll_wait.specs.SecondSteps.{HasSeenSecond, JoinsHeld, ParesSecond, joined_at}
-use Rattle.poll_wait.proofs.Near.{IsNearStep, goes_near}
-use Rattle.poll_wait.proofs.Polled.{polled_low}
+use Rattle.poll_wait.proofs.{Near.IsNearStep, Near.goes_near, Polled.polled_low}
 use Rattle.poll_wait.proofs.Programs.{OnPrepare, join_near, prepare_near}
-use Rattle.poll_turns.specs.declared.stages.PollStage.{PollStage}
-use Rattle.poll_turns.specs.declared.stages.PollStage.TheVariants as stage
-use Rattle.poll_turns.specs.declared.stages.PollUntil.{PollUntil}
+use Rattle.poll_turns.specs.{declared.stages.PollStage.PollStage, declared.stages.PollUntil.PollUntil}
+use Rattle.poll_turns.specs.{PollSteps.GivesHoldBack, PollSteps.JoinsFirst, PollTurns.PollTurn, PollTurns.leaves_at}
 use Rattle.poll_turns.specs.PollShows.{DidStretch, HasFailedSleep, FindsOtherServed, PollShows, SleepsAt}
-use Rattle.poll_turns.specs.PollSteps.{GivesHoldBack, JoinsFirst}
-use Rattle.poll_turns.specs.PollTurns.{PollTurn, leaves_at}
+use Rattle.poll_turns.specs.declared.stages.PollStage.TheVariants as stage
 
 -- steps one after another
 last_on : (es fs : List Step) (h : ℕ) → last_given_back (es ++ fs) h ≡ last_given_back fs (last_given_back es h)

@@ -4,15 +4,11 @@ use Rattle.std.specs.Prelude.{[], ◌∷◌}
 use Rattle.wait_model.specs.declared.steps.Step.TheVariants as step
 use Rattle.wait_model.specs.declared.tasks.Sleep.TheVariants as sleep
 use Rattle.wait_rule.specs.declared.journal.Item.TheVariants as item
-use Rattle.wait_rule.specs.Items.{risen}
-use Rattle.wait_rule.specs.Known.{Known}
-use Rattle.wait_rule.specs.Says.{grown}
-use Rattle.poll_wait.specs.declared.turns.Poll.{Poll}
-use Rattle.poll_wait.specs.Waiting.{IsInTurn}
+use Rattle.wait_rule.specs.{Items.risen, Known.Known, Says.grown}
+use Rattle.poll_wait.specs.{declared.turns.Poll.Poll, Waiting.IsInTurn}
 use Rattle.poll_wait.proofs.Waiting.{pollers_are_kept}
 use Rattle.poll_turns.specs.declared.stages.PollStage.TheVariants as stage
-use Rattle.poll_turns.specs.PollSleepers.{StretchedPollersAreKept}
-use Rattle.poll_turns.specs.PollTurns.{IsPollAsleep}
+use Rattle.poll_turns.specs.{PollSleepers.StretchedPollersAreKept, PollTurns.IsPollAsleep}
 
 -- the turn that it is in, as that would end where it were woken now
 in_turn : (p : Poll) (start k : Known) → IsPollAsleep p start k → IsInTurn p k

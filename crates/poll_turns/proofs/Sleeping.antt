@@ -5,21 +5,17 @@ use Rattle.wait_model.specs.declared.steps.Step.TheVariants as step
 use Rattle.wait_model.specs.declared.tasks.Sleep.{Sleep}
 use Rattle.wait_model.specs.declared.tasks.Sleep.TheVariants as sleep
 use Rattle.wait_model.specs.Tasks.{IsLawfulWord, sleep_of, task_of}
-use Rattle.wait_rule.specs.declared.journal.Item.{Item}
-use Rattle.wait_rule.specs.declared.journal.Item.TheVariants as item
-use Rattle.wait_rule.specs.Items.{Book, after_sleep, risen}
-use Rattle.wait_rule.specs.Known.{Known}
-use Rattle.wait_rule.specs.Says.{HasLooked, HasSlept, IsUp, added, grown}
-use Rattle.wait_rule.specs.Stays.{Carries, state_change}
+use Rattle.wait_rule.specs.{declared.journal.Item.Item, Known.Known, Stays.Carries, Stays.state_change}
 use Rattle.wait_rule.specs.Transitions.{OnlyLooks}
-use Rattle.wait_rule.proofs.KnownLaws.CarriedTasks.{risen_carried}
+use Rattle.wait_rule.specs.Items.{Book, after_sleep, risen}
+use Rattle.wait_rule.specs.Says.{HasLooked, HasSlept, IsUp, added, grown}
+use Rattle.wait_rule.specs.declared.journal.Item.TheVariants as item
+use Rattle.wait_rule.proofs.{KnownLaws.CarriedTasks.risen_carried, TableSteps.ItemLists.adds_append}
 use Rattle.wait_rule.proofs.KnownLaws.SleepLooks.{listed, looked_on, none_counted, none_more}
 use Rattle.wait_rule.proofs.KnownLaws.Transitions.{grown_more, only_none, only_on}
-use Rattle.wait_rule.proofs.TableSteps.ItemLists.{adds_append}
 use Rattle.poll_wait.specs.declared.turns.Poll.{Poll}
 use Rattle.poll_wait.specs.Polls.{IsPoll, SleepsTurn, SleepsTurns}
-use Rattle.poll_wait.proofs.Pairing.{pairs_on, still_pair}
-use Rattle.poll_wait.proofs.Polled.{still_has}
+use Rattle.poll_wait.proofs.{Pairing.pairs_on, Pairing.still_pair, Polled.still_has}
 use Rattle.wait_class.specs.declared.stages.Turn.TheVariants as turn
 use Rattle.poll_turns.specs.declared.stages.PollStage.{PollStage}
 use Rattle.poll_turns.specs.declared.stages.PollStage.TheVariants as stage

@@ -2,17 +2,14 @@
 -- What a stretch of a wait for two conditions has to show for its answer.
 use Rattle.std.specs.Prelude.{ℕ, ◌≡◌, ◌⊎◌}
 use Rattle.wait_model.specs.Watches.{head_of}
-use Rattle.wait_rule.specs.Known.{Known}
-use Rattle.wait_rule.specs.Says.{history_of}
-use Rattle.wait_rule.specs.Tried.{IsOneMore}
+use Rattle.wait_rule.specs.{Known.Known, Says.history_of, Tried.IsOneMore}
 use Rattle.wq_head.specs.LockTurns.{FindsOther}
 use Rattle.wait_class.specs.Handing.{LastGiven}
 use Rattle.wait_class.specs.Tables.{MadeEvent, SleepsNot, SleptLast}
 use Rattle.wait_class.specs.declared.stages.Turn.TheVariants as turn
 use Rattle.poll_wait.specs.declared.turns.Poll.{Poll}
-use Rattle.poll_turns.specs.declared.stages.PollStage.{PollStage}
+use Rattle.poll_turns.specs.{declared.stages.PollStage.PollStage, PollTurns.PollTurn}
 use Rattle.poll_turns.specs.declared.stages.PollStage.TheVariants as stage
-use Rattle.poll_turns.specs.PollTurns.{PollTurn}
 
 -- it made no event, and one more of its tries to sleep failed
 abbrev pub HasFailedSleep : Known → Known → PollStage → PollStage → Type 0

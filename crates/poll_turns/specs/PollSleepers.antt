@@ -3,11 +3,8 @@
 use Rattle.std.specs.Prelude.{Bool}
 use Rattle.wait_rule.specs.Known.{Known}
 use Rattle.wait_class.specs.declared.stages.Turn.TheVariants as turn
-use Rattle.poll_wait.specs.declared.turns.Poll.{Poll}
-use Rattle.poll_wait.specs.Polls.{IsPoll}
-use Rattle.poll_wait.specs.Waiting.{IsKeptByBoth}
-use Rattle.poll_turns.specs.declared.stages.PollStage.{PollStage}
-use Rattle.poll_turns.specs.PollTurns.{IsPolling}
+use Rattle.poll_wait.specs.{declared.turns.Poll.Poll, Polls.IsPoll, Waiting.IsKeptByBoth}
+use Rattle.poll_turns.specs.{declared.stages.PollStage.PollStage, PollTurns.IsPolling}
 
 abbrev pub StretchedPollersAreKept : Type 0
 StretchedPollersAreKept = (p : Poll) → IsPoll p → (b : Bool) (start k : Known) (s : PollStage)

@@ -3,22 +3,15 @@
 use Rattle.std.specs.Prelude.{ℕ, ◌≡◌, Bool, false, Result}
 use Rattle.wait_model.specs.Watches.{head_of, kind_for}
 use Rattle.wait_event.specs.PartSteps.{JoinsPart}
-use Rattle.wait_rule.specs.HandedPermits.{OwesNoPermit}
-use Rattle.wait_rule.specs.Known.{Known}
-use Rattle.wait_rule.specs.Queues.{IsTold}
-use Rattle.wait_rule.specs.Says.{unlocked_with}
-use Rattle.wait_rule.specs.Stays.{Carries, unlock_change}
-use Rattle.wq_head.specs.declared.adds.Worn.{Worn}
-use Rattle.wq_head.specs.Holds.{HasUnlocked}
-use Rattle.wq_head.specs.LockTurns.{AwaitsLock, TookLock}
+use Rattle.wait_rule.specs.{HandedPermits.OwesNoPermit, Known.Known, Queues.IsTold, Says.unlocked_with, Stays.Carries}
+use Rattle.wait_rule.specs.Stays.{unlock_change}
+use Rattle.wq_head.specs.{declared.adds.Worn.Worn, Holds.HasUnlocked, LockTurns.AwaitsLock, LockTurns.TookLock}
 use Rattle.wait_class.specs.Tables.{MadeEvent, SleepsNot}
 use Rattle.wait_class.specs.declared.stages.Turn.TheVariants as turn
-use Rattle.poll_wait.specs.declared.turns.Poll.{Poll}
-use Rattle.poll_wait.specs.Polls.{front_in}
-use Rattle.poll_turns.specs.declared.stages.PollStage.{PollStage}
+use Rattle.poll_wait.specs.{declared.turns.Poll.Poll, Polls.front_in}
+use Rattle.poll_turns.specs.{declared.stages.PollStage.PollStage, PollTurns.IsPolling, PollTurns.PollTurn}
+use Rattle.poll_turns.specs.{PollShows.DidStretch, PollShows.PollShows}
 use Rattle.poll_turns.specs.declared.stages.PollStage.TheVariants as stage
-use Rattle.poll_turns.specs.PollTurns.{IsPolling, PollTurn}
-use Rattle.poll_turns.specs.PollShows.{DidStretch, PollShows}
 
 -- it came from this stage to what the stretch answers, and has shown what that asks for
 pub record GoesFrom (p : Poll) (old new : Known) (head : ℕ) (s : PollStage) (u : PollTurn) : Type 0 where

@@ -3,34 +3,25 @@
 use Rattle.std.specs.Prelude.{ℕ, ◌≡◌, ◌⊎◌, Bool, true, false, Option, Some, None, Result, Ok, Err, List}
 use Rattle.wait_model.specs.declared.steps.Step.TheVariants as step
 use Rattle.wait_model.specs.declared.tasks.Sleep.TheVariants as sleep
-use Rattle.wait_model.specs.declared.watches.Entry.{Entry}
+use Rattle.wait_model.specs.{declared.watches.Entry.Entry, Watches.head_of, Watches.kind_for}
 use Rattle.wait_model.specs.Tasks.{IsLawfulWord, looks_in, sleep_of, task_of}
-use Rattle.wait_model.specs.Watches.{head_of, kind_for}
 use Rattle.wait_rule.specs.declared.journal.Item.TheVariants as item
-use Rattle.wait_rule.specs.Known.{Known}
-use Rattle.wait_rule.specs.Queues.{IsIdle, IsTold}
-use Rattle.wait_rule.specs.Says.{HasLooked, IsUp, added}
-use Rattle.wait_rule.specs.Stays.{Carries, state_change}
+use Rattle.wait_rule.specs.{Known.Known, Queues.IsIdle, Queues.IsTold, Stays.Carries, Stays.state_change}
 use Rattle.wait_rule.specs.Transitions.{OnlyLooks}
-use Rattle.wq_head.specs.declared.adds.Worn.{Worn}
-use Rattle.wq_head.specs.LockTurns.{AwaitsLock}
+use Rattle.wait_rule.specs.Says.{HasLooked, IsUp, added}
+use Rattle.wq_head.specs.{declared.adds.Worn.Worn, LockTurns.AwaitsLock}
 use Rattle.wait_class.specs.Posts.{HasSeenOwn, IsOut, own_of}
 use Rattle.wait_class.specs.declared.stages.Turn.{Turn}
 use Rattle.wait_class.specs.declared.stages.Turn.TheVariants as turn
 use Rattle.wait_event.specs.declared.prepares.Prepared.TheVariants as prepared
 use Rattle.wait_event.specs.Prepares.{EndsPrepare, HasFinished, finish_change}
-use Rattle.poll_wait.specs.declared.turns.Loads.{Loads}
-use Rattle.poll_wait.specs.declared.turns.Poll.{Poll}
-use Rattle.poll_wait.specs.declared.turns.PollEnd.{PollEnd}
-use Rattle.poll_wait.specs.declared.turns.Ready.{Ready}
+use Rattle.poll_wait.specs.{declared.turns.Loads.Loads, declared.turns.Poll.Poll, declared.turns.PollEnd.PollEnd}
+use Rattle.poll_wait.specs.{declared.turns.Ready.Ready, Seconds.IsSecondOut, SecondSteps.HasSeenSecond}
+use Rattle.poll_wait.specs.{TurnSteps.PairCarries, TurnSteps.TurnCarries}
 use Rattle.poll_wait.specs.Polls.{AsksSignal, EndsPoll, EndsQueueing, HasBoth, LeavesBoth, MayTurn, QueuesBoth}
 use Rattle.poll_wait.specs.Polls.{SleepsTurns, StaysBesidePoll, front_in, loaded, poll_change, ready_of}
-use Rattle.poll_wait.specs.Seconds.{IsSecondOut}
-use Rattle.poll_wait.specs.SecondSteps.{HasSeenSecond}
-use Rattle.poll_wait.specs.TurnSteps.{PairCarries, TurnCarries}
-use Rattle.poll_turns.specs.declared.stages.PollStage.{PollStage}
+use Rattle.poll_turns.specs.{declared.stages.PollStage.PollStage, declared.stages.PollUntil.PollUntil}
 use Rattle.poll_turns.specs.declared.stages.PollStage.TheVariants as stage
-use Rattle.poll_turns.specs.declared.stages.PollUntil.{PollUntil}
 use Rattle.poll_turns.specs.declared.stages.PollUntil.TheVariants as until
 
 abbrev pub PollTurn : Type 0

@@ -4,9 +4,8 @@ ghost use Rattle.std.specs.Prelude.{◌≡◌, true};
 ghost use Rattle.wait_class.specs.declared.stages.Turn.TheVariants as turn;
 ghost use Rattle.poll_wait.specs.Polls.{IsPoll};
 ghost use Rattle.poll_turns.specs.declared.stages.PollStage.TheVariants as stage;
+ghost use Rattle.poll_turns.specs.{PollShows.DidStretch, PollSteps.GoesFrom};
 ghost use Rattle.poll_turns.specs.PollTurns.{IsOnTurn, IsPollUnderWay, IsPolling, leaves_at};
-ghost use Rattle.poll_turns.specs.PollShows.{DidStretch};
-ghost use Rattle.poll_turns.specs.PollSteps.{GoesFrom};
 ghost use Rattle.wait_model.specs.declared.layout.TheConstants.{HEADS};
 
 use crate::stages::{PollStage, PollTurn, PollUntil};

@@ -2,14 +2,11 @@
 //! with the second.
 
 ghost use Rattle.std.specs.Prelude.{◌≡◌};
-ghost use Rattle.wait_model.specs.Tasks.{state_mask};
-ghost use Rattle.wait_model.specs.Watches.{head_of, kind_for};
-ghost use Rattle.wait_rule.specs.HandedPermits.{OwesNoPermit};
-ghost use Rattle.wait_rule.specs.PassedLocks.{PassesNone};
+ghost use Rattle.wait_model.specs.{Tasks.state_mask, Watches.head_of, Watches.kind_for};
+ghost use Rattle.wait_rule.specs.{HandedPermits.OwesNoPermit, PassedLocks.PassesNone};
 ghost use Rattle.wait_rule.specs.Says.{IsUp, MayStore, told_of};
 ghost use Rattle.wait_class.specs.Posts.{own_of};
-ghost use Rattle.wait_event.specs.PartSteps.{IsAtHead, ParesPart};
-ghost use Rattle.wait_event.specs.Prepares.{IsPart};
+ghost use Rattle.wait_event.specs.{PartSteps.IsAtHead, PartSteps.ParesPart, Prepares.IsPart};
 ghost use Rattle.wq_head.specs.Holds.{IsHolding};
 ghost use Rattle.poll_wait.specs.Polls.{IsPoll};
 ghost use Rattle.poll_turns.specs.PollSteps.{GivesHoldBack, JoinsFirst};

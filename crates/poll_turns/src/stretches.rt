@@ -1,19 +1,14 @@
 //! Waits for two conditions, by stretches, for who may not wait.
 
 ghost use Rattle.std.specs.Prelude.{◌≡◌, MatchBool, false, true};
-ghost use Rattle.wait_rule.specs.PassedLocks.{PassesNone};
-ghost use Rattle.wait_rule.specs.Queues.{IsIdle};
-ghost use Rattle.wait_rule.specs.Says.{IsClean, IsUp};
-ghost use Rattle.wait_rule.specs.Stays.{Carries};
-ghost use Rattle.wait_class.specs.Posts.{IsOut};
-ghost use Rattle.wait_class.specs.Tables.{LooksAwake, SleepsNot};
+ghost use Rattle.wait_rule.specs.{PassedLocks.PassesNone, Queues.IsIdle, Says.IsClean, Says.IsUp, Stays.Carries};
+ghost use Rattle.wait_class.specs.{Posts.IsOut, Tables.LooksAwake, Tables.SleepsNot};
 ghost use Rattle.wait_class.specs.declared.stages.Turn.TheVariants as turn;
 ghost use Rattle.poll_wait.specs.Polls.{EndsPoll, IsPoll, StaysBesidePoll, poll_change};
 ghost use Rattle.poll_wait.specs.Seconds.{IsSecondOut};
 ghost use Rattle.poll_turns.specs.declared.stages.PollUntil.TheVariants as until;
+ghost use Rattle.poll_turns.specs.{PollShows.DidStretch, PollSteps.GoesFrom};
 ghost use Rattle.poll_turns.specs.PollTurns.{EndsPollUntil, IsPollUnderWay, IsPolling};
-ghost use Rattle.poll_turns.specs.PollShows.{DidStretch};
-ghost use Rattle.poll_turns.specs.PollSteps.{GoesFrom};
 
 use crate::asking::{ask, leaves_at, load_first, load_last, load_queued, sleep};
 use crate::stages::{PollStage, PollTurn, PollUntil};

@@ -4,8 +4,7 @@ ghost use Rattle.std.specs.Prelude.{◌≡◌};
 ghost use Rattle.wait_class.specs.declared.stages.Turn.TheVariants as turn;
 ghost use Rattle.poll_wait.specs.Polls.{IsPoll};
 ghost use Rattle.poll_turns.specs.declared.stages.PollStage.TheVariants as stage;
-ghost use Rattle.poll_turns.specs.PollTurns.{IsPollUnderWay};
-ghost use Rattle.poll_turns.specs.PollSteps.{GoesFrom};
+ghost use Rattle.poll_turns.specs.{PollTurns.IsPollUnderWay, PollSteps.GoesFrom};
 ghost use Rattle.wait_model.specs.declared.layout.TheConstants.{HEADS};
 
 use crate::stages::{PollStage, PollTurn, PollUntil};

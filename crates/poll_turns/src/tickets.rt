@@ -1,8 +1,7 @@
 //! The stretches that wait for the lock of a head by looks at a ticket, and what is done in the hold of each.
 
 ghost use Rattle.std.specs.Prelude.{◌≡◌};
-ghost use Rattle.wait_rule.specs.PassedLocks.{PassesNone};
-ghost use Rattle.wait_rule.specs.Says.{IsUp};
+ghost use Rattle.wait_rule.specs.{PassedLocks.PassesNone, Says.IsUp};
 ghost use Rattle.wq_head.specs.Holds.{IsHolding};
 ghost use Rattle.wait_class.specs.declared.stages.Turn.TheVariants as turn;
 ghost use Rattle.poll_wait.specs.Polls.{IsPoll};

@@ -2,32 +2,22 @@
 use Rattle.std.proofs.Common.{refl, sym, ◌∙◌, ap, subst, append_assoc}
 use Rattle.std.specs.Prelude.{ℕ, ◌≡◌, ◌<◌, ◌&&◌, ◌==◌, not, if◌then◌else◌, Bool, true, false, Option}
 use Rattle.std.specs.Prelude.{List, [], ◌∷◌, ◌++◌}
-use Rattle.wait_model.specs.declared.layout.TheConstants.{FIRST_DONE_HEAD}
+use Rattle.wait_model.specs.{declared.layout.TheConstants.FIRST_DONE_HEAD, declared.points.Next.Next}
+use Rattle.wait_model.specs.{declared.steps.Step.Step, Programs.zero_answer, Watches.head_of}
 use Rattle.wait_model.specs.declared.calls.Call.TheVariants as calls
-use Rattle.wait_model.specs.declared.points.Next.{Next}
 use Rattle.wait_model.specs.declared.points.Next.TheVariants as next
-use Rattle.wait_model.specs.declared.steps.Step.{Step}
 use Rattle.wait_model.specs.declared.steps.Step.TheVariants as step
 use Rattle.wait_model.specs.declared.watches.Watch.TheVariants as watch
-use Rattle.wait_model.specs.Programs.{zero_answer}
-use Rattle.wait_model.specs.Watches.{head_of}
-use Rattle.wait_rule.specs.declared.journal.Item.{Item}
-use Rattle.wait_rule.specs.declared.journal.Item.TheVariants as item
-use Rattle.wait_rule.specs.Aside.{GrowsAside, raised_by}
-use Rattle.wait_rule.specs.Items.{steps_of}
-use Rattle.wait_rule.specs.Known.{Known}
+use Rattle.wait_rule.specs.{declared.journal.Item.Item, Aside.GrowsAside, Aside.raised_by, Items.steps_of, Known.Known}
+use Rattle.wait_rule.specs.{PipeSays.KeepsEnd, PipeSays.end_at, Says.added, Says.history_of}
 use Rattle.wait_rule.specs.Pipes.{End, after_end_look, end_step, if_unclosed, no_end, other_end}
-use Rattle.wait_rule.specs.PipeSays.{KeepsEnd, end_at}
-use Rattle.wait_rule.specs.Says.{added, history_of}
 use Rattle.wait_rule.specs.Transitions.{AreLooks, OnlyLooks, after_step_or_look, by_step, with_lock}
+use Rattle.wait_rule.specs.declared.journal.Item.TheVariants as item
+use Rattle.wait_rule.proofs.{KnownLaws.CalledPermits.adds_join, KnownLaws.CarriedEnds.looks_ends}
+use Rattle.wait_rule.proofs.{KnownLaws.HandedSteps.AddsLow, KnownLaws.HandedSteps.AllAddLow}
+use Rattle.wait_rule.proofs.{KnownLaws.PipeItems.end_append, TableSteps.ItemLists.steps_append}
 use Rattle.wait_rule.proofs.KnownLaws.AsideCalls.{aside_join, calls_grow_aside, more_aside, step_mine}
-use Rattle.wait_rule.proofs.KnownLaws.CalledPermits.{adds_join}
-use Rattle.wait_rule.proofs.KnownLaws.CarriedEnds.{looks_ends}
-use Rattle.wait_rule.proofs.KnownLaws.HandedSteps.{AddsLow, AllAddLow}
-use Rattle.wait_rule.proofs.KnownLaws.PipeItems.{end_append}
-use Rattle.wait_rule.proofs.TableSteps.ItemLists.{steps_append}
-use Rattle.wait_event.proofs.Changes.{keeps_join, keeps_same}
-use Rattle.wait_event.proofs.LookedSteps.{looks_all}
+use Rattle.wait_event.proofs.{Changes.keeps_join, Changes.keeps_same, LookedSteps.looks_all}
 use Rattle.poll_wait.proofs.Near.{IsNearStep}
 
 -- Such a part: what it adds to the journal, what it tells of ends, and its steps, of which none queues at a completion.

@@ -1,50 +1,36 @@
 -- The second entry is queued, in its hold and as a whole.
 use Rattle.std.proofs.Common.{◌∙◌, ap, sym, refl, subst}
 use Rattle.std.specs.Prelude.{ℕ, ◌≡◌, ◌<◌, Bool, true, false, is_some, Option, Some, None, Result, Ok, Err, [], ◌∷◌}
-use Rattle.wait_model.specs.declared.layout.TheConstants.{FIRST_DONE_HEAD}
+use Rattle.wait_model.specs.{declared.layout.TheConstants.FIRST_DONE_HEAD, declared.points.Next.Next}
+use Rattle.wait_model.specs.{declared.watches.Entry.Entry, declared.watches.Kind.Kind, declared.watches.Watch.Watch}
+use Rattle.wait_model.specs.{Programs.zero_answer, Views.Look}
+use Rattle.wait_model.specs.Watches.{bare, head_of, kind_for}
 use Rattle.wait_model.specs.declared.calls.Answer.TheVariants as answer
-use Rattle.wait_model.specs.declared.points.Next.{Next}
 use Rattle.wait_model.specs.declared.points.Next.TheVariants as next
 use Rattle.wait_model.specs.declared.points.Point.TheVariants as at
 use Rattle.wait_model.specs.declared.points.PreparePoint.TheVariants as preparing
 use Rattle.wait_model.specs.declared.queues.Form.TheVariants as forms
 use Rattle.wait_model.specs.declared.steps.Step.TheVariants as step
-use Rattle.wait_model.specs.declared.watches.Entry.{Entry}
-use Rattle.wait_model.specs.declared.watches.Kind.{Kind}
-use Rattle.wait_model.specs.declared.watches.Watch.{Watch}
-use Rattle.wait_model.specs.Programs.{zero_answer}
-use Rattle.wait_model.specs.Views.{Look}
-use Rattle.wait_model.specs.Watches.{bare, head_of, kind_for}
-use Rattle.wait_rule.specs.declared.journal.Item.{Item}
-use Rattle.wait_rule.specs.declared.journal.Item.TheVariants as item
-use Rattle.wait_rule.specs.Ends.{WasWorn}
-use Rattle.wait_rule.specs.HandedPermits.{OwesNoPermit}
-use Rattle.wait_rule.specs.Known.{Known}
+use Rattle.wait_rule.specs.{declared.journal.Item.Item, Ends.WasWorn, HandedPermits.OwesNoPermit, Known.Known}
 use Rattle.wait_rule.specs.Queues.{IsFrontPlace, IsTold, at_head, index, saw, walk_of_hold}
 use Rattle.wait_rule.specs.Says.{added, stored_with, told_of}
-use Rattle.wait_rule.specs.Stays.{Carries, lock_change, no_entries, only, queue_change, unlock_change}
-use Rattle.wait_rule.specs.Stays.{with_entry}
+use Rattle.wait_rule.specs.Stays.{Carries, lock_change, no_entries, only, queue_change, unlock_change, with_entry}
 use Rattle.wait_rule.specs.Transitions.{Goes, IsSeenAs, OnlyLooks, Program, by_step, is_worn}
-use Rattle.wait_rule.proofs.KnownLaws.MemberBits.{bit_looks}
+use Rattle.wait_rule.specs.declared.journal.Item.TheVariants as item
+use Rattle.wait_rule.proofs.{KnownLaws.MemberBits.bit_looks, WornHeads.WornNotes.notes_stay}
 use Rattle.wait_rule.proofs.KnownLaws.Transitions.{only_looked, only_none, only_on}
-use Rattle.wait_rule.proofs.WornHeads.WornNotes.{notes_stay}
-use Rattle.wq_head.specs.declared.adds.Worn.{Worn}
+use Rattle.wq_head.specs.{declared.adds.Worn.Worn, Looks.Looks}
 use Rattle.wq_head.specs.Adds.{HasAdded, IsFrontWorn, front_entry}
 use Rattle.wq_head.specs.Holds.{HasLocked, HasUnlocked, IsHolding}
-use Rattle.wq_head.specs.Looks.{Looks}
-use Rattle.wq_head.proofs.CarriedHolds.{looks_carried}
-use Rattle.wq_head.proofs.LockWaits.{turn_looks, turn_of}
-use Rattle.wq_head.proofs.OneMoreLook.{whole_of}
+use Rattle.wq_head.proofs.{CarriedHolds.looks_carried, LockWaits.turn_looks, LockWaits.turn_of, OneMoreLook.whole_of}
 use Rattle.wq_head.proofs.PermitHeads.{owes_low}
 use Rattle.wait_class.specs.Findings.{saw_nothing, with_worn, saw_entry as finds}
 use Rattle.wait_class.specs.Posts.{Runs}
+use Rattle.wait_class.proofs.{Ground.Keeping.once, Ground.Standing.bare_head, WornPlaces.queue_same}
+use Rattle.wait_class.proofs.WornPlaces.{whole_seen}
 use Rattle.wait_class.proofs.FormPlaces.{form_is, form_left, form_worn}
 use Rattle.wait_class.proofs.Ground.Going.{runs_looks, runs_on, runs_one}
-use Rattle.wait_class.proofs.Ground.Keeping.{once}
-use Rattle.wait_class.proofs.Ground.Standing.{bare_head}
-use Rattle.wait_class.proofs.WornPlaces.{queue_same, whole_seen}
-use Rattle.wait_event.specs.PartSteps.{part_change}
-use Rattle.wait_event.specs.Prepares.{IsPart}
+use Rattle.wait_event.specs.{PartSteps.part_change, Prepares.IsPart}
 use Rattle.wait_event.proofs.Entering.{hold_carried, note_unlocked, runs_lock, unlock_looks}
 use Rattle.wait_event.proofs.PartSteps.{part_of}
 use Rattle.poll_wait.specs.Seconds.{EndsJoin, MayJoinSecond, join_change, join_program, second_of}

@@ -1,37 +1,28 @@
 -- The second entry is taken off where it is queued.
 use Rattle.std.proofs.Common.{◌∙◌, ap, sym, refl, subst, inl}
 use Rattle.std.specs.Prelude.{ℕ, ◌≡◌, ◌<◌, Bool, true, false, is_some, Option, Some, None}
-use Rattle.wait_model.specs.declared.layout.TheConstants.{FIRST_DONE_HEAD}
+use Rattle.wait_model.specs.{declared.layout.TheConstants.FIRST_DONE_HEAD, declared.watches.Entry.Entry}
+use Rattle.wait_model.specs.{declared.watches.Watch.Watch, Programs.zero_answer, Watches.head_of}
 use Rattle.wait_model.specs.declared.points.FinishPoint.TheVariants as finishing
 use Rattle.wait_model.specs.declared.points.Next.TheVariants as next
 use Rattle.wait_model.specs.declared.points.Point.TheVariants as at
 use Rattle.wait_model.specs.declared.steps.Step.TheVariants as step
-use Rattle.wait_model.specs.declared.watches.Entry.{Entry}
-use Rattle.wait_model.specs.declared.watches.Watch.{Watch}
-use Rattle.wait_model.specs.Programs.{zero_answer}
-use Rattle.wait_model.specs.Watches.{head_of}
 use Rattle.wait_rule.specs.declared.journal.Item.TheVariants as item
-use Rattle.wait_rule.specs.HandedPermits.{OwesNoPermit}
-use Rattle.wait_rule.specs.Known.{Known}
+use Rattle.wait_rule.specs.{HandedPermits.OwesNoPermit, Known.Known}
 use Rattle.wait_rule.specs.Queues.{IsTold, MayUnqueue, at_head, index, saw, walk_of_hold}
 use Rattle.wait_rule.specs.Says.{IsFree, added, stored_with, told_of, unlocked_with}
 use Rattle.wait_rule.specs.Stays.{Carries, lock_change, only, take_off_change, unlock_change, with_entry}
 use Rattle.wait_rule.specs.Transitions.{IsSeenAs, OnlyLooks, Program, by_step}
-use Rattle.wait_rule.proofs.KnownLaws.MemberBits.{bit_looks}
-use Rattle.wait_rule.proofs.KnownLaws.StayingParts.{owes_also, owes_out}
-use Rattle.wait_rule.proofs.KnownLaws.Transitions.{only_none}
+use Rattle.wait_rule.proofs.{KnownLaws.MemberBits.bit_looks, KnownLaws.StayingParts.owes_also}
+use Rattle.wait_rule.proofs.{KnownLaws.StayingParts.owes_out, KnownLaws.Transitions.only_none}
 use Rattle.wq_head.specs.Adds.{HasRemoved}
 use Rattle.wq_head.specs.Holds.{HasLocked, HasUnlocked, IsHolding}
-use Rattle.wq_head.proofs.LockWaits.{turn_looks, turn_of}
-use Rattle.wq_head.proofs.PermitHeads.{owes_low}
-use Rattle.wait_class.specs.Findings.{saw_nothing, saw_entry as finds}
-use Rattle.wait_class.specs.Posts.{Runs}
+use Rattle.wq_head.proofs.{LockWaits.turn_looks, LockWaits.turn_of, PermitHeads.owes_low}
+use Rattle.wait_class.specs.{Findings.saw_nothing, Findings.saw_entry as finds, Posts.Runs}
 use Rattle.wait_class.proofs.Ground.Going.{runs_on, runs_one}
-use Rattle.wait_event.specs.PartSteps.{part_change}
-use Rattle.wait_event.specs.Prepares.{IsNoWaiter, leave_change}
+use Rattle.wait_event.specs.{PartSteps.part_change, Prepares.IsNoWaiter, Prepares.leave_change}
+use Rattle.wait_event.proofs.{Finishing.watch_stored, PartSteps.part_of}
 use Rattle.wait_event.proofs.Entering.{hold_carried, runs_lock, unlock_looks}
-use Rattle.wait_event.proofs.Finishing.{watch_stored}
-use Rattle.wait_event.proofs.PartSteps.{part_of}
 use Rattle.poll_wait.specs.Seconds.{HasLeftSecond, MayLeave, leave_program, second_of}
 use Rattle.poll_wait.specs.SecondSteps.{HasSeenSecond, IsSecondAtHead, ParesSecond, SecondCarries}
 use Rattle.poll_wait.proofs.Carrying.{carries_more, carries_on}

@@ -2,34 +2,22 @@
 use Rattle.std.proofs.Common.{refl, sym, ◌∙◌, ap, subst, append-nil, append_assoc}
 use Rattle.std.specs.Prelude.{ℕ, ◌≡◌, ◌≢◌, ◌<◌, if◌then◌else◌, Bool, true, false, Option, Some, None}
 use Rattle.std.specs.Prelude.{List, [], ◌∷◌, ◌++◌}
-use Rattle.wait_model.specs.declared.layout.TheConstants.{FIRST_DONE_HEAD}
-use Rattle.wait_model.specs.declared.calls.Event.{Event}
-use Rattle.wait_model.specs.declared.calls.Event.TheVariants as event
-use Rattle.wait_model.specs.declared.points.Given.{Given}
-use Rattle.wait_model.specs.declared.points.Next.{Next}
-use Rattle.wait_model.specs.declared.points.Next.TheVariants as next
-use Rattle.wait_model.specs.declared.points.Point.{Point}
-use Rattle.wait_model.specs.declared.points.Seen.{Seen}
-use Rattle.wait_model.specs.declared.steps.Step.{Step}
-use Rattle.wait_model.specs.declared.steps.Step.TheVariants as step
-use Rattle.wait_model.specs.declared.watches.Entry.{Entry}
-use Rattle.wait_model.specs.declared.watches.Watch.{Watch}
-use Rattle.wait_model.specs.declared.watches.Watch.TheVariants as watch
+use Rattle.wait_model.specs.{declared.layout.TheConstants.FIRST_DONE_HEAD, declared.calls.Event.Event}
+use Rattle.wait_model.specs.{declared.points.Given.Given, declared.points.Next.Next, declared.points.Point.Point}
+use Rattle.wait_model.specs.{declared.points.Seen.Seen, declared.steps.Step.Step, declared.watches.Entry.Entry}
+use Rattle.wait_model.specs.{declared.watches.Watch.Watch, Functions.put, Views.View, Views.Bits, Watches.bare}
+use Rattle.wait_model.specs.{Watches.head_of, Words.entry_of}
 use Rattle.wait_model.specs.Fold.{after, forgotten, is_off, view_of}
-use Rattle.wait_model.specs.Functions.{put}
-use Rattle.wait_model.specs.Views.{View, Bits}
-use Rattle.wait_model.specs.Watches.{bare, head_of}
-use Rattle.wait_model.specs.Words.{entry_of}
-use Rattle.wait_model.proofs.Functions.{put_at}
-use Rattle.wait_model.proofs.StepLaws.UnlockSteps.{unlock_bits}
-use Rattle.wait_rule.specs.declared.journal.Item.{Item}
-use Rattle.wait_rule.specs.declared.journal.Item.TheVariants as item
-use Rattle.wait_rule.specs.Items.{steps_of}
-use Rattle.wait_rule.specs.Known.{Known}
-use Rattle.wait_rule.specs.Notes.{tell}
-use Rattle.wait_rule.specs.Says.{added, told_of}
+use Rattle.wait_model.specs.declared.calls.Event.TheVariants as event
+use Rattle.wait_model.specs.declared.points.Next.TheVariants as next
+use Rattle.wait_model.specs.declared.steps.Step.TheVariants as step
+use Rattle.wait_model.specs.declared.watches.Watch.TheVariants as watch
+use Rattle.wait_model.proofs.{Functions.put_at, StepLaws.UnlockSteps.unlock_bits}
+use Rattle.wait_rule.specs.{declared.journal.Item.Item, Items.steps_of, Known.Known, Notes.tell, Says.added}
+use Rattle.wait_rule.specs.Says.{told_of}
 use Rattle.wait_rule.specs.Transitions.{AreLooks, Goes, IsLook, IsMadeFor, IsStepFor, OnlyLooks, Program, StepOrLook}
 use Rattle.wait_rule.specs.Transitions.{Transition, after_step_or_look, after_transition, by_look, by_step, with_lock}
+use Rattle.wait_rule.specs.declared.journal.Item.TheVariants as item
 use Rattle.wait_rule.proofs.KnownLaws.AfterSteps.{told_after}
 
 -- the events of such a program, where each is given this; it queues at no completion

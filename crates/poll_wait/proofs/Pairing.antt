@@ -2,21 +2,16 @@
 use Rattle.std.proofs.Common.{◌∙◌, ap, sym, refl, subst, arith}
 use Rattle.std.proofs.lemmas.Bool.Decides.{nat_tests}
 use Rattle.std.specs.Prelude.{ℕ, ◌≡◌, ◌==◌, ◌||◌, Bool, true, false, Option, Some, None, Result, Ok, Err}
-use Rattle.wait_model.specs.declared.tasks.SleepState.{SleepState}
-use Rattle.wait_model.specs.Tasks.{state_mask}
-use Rattle.wait_rule.specs.Known.{Known}
-use Rattle.wait_rule.specs.Queues.{index}
-use Rattle.wait_rule.specs.Says.{Excuse, told_of}
+use Rattle.wait_model.specs.{declared.tasks.SleepState.SleepState, Tasks.state_mask}
+use Rattle.wait_rule.specs.{Known.Known, Queues.index, Says.Excuse, Says.told_of}
 use Rattle.wait_rule.specs.Stays.{Carries, no_entries, only, unchanged, with_entry}
 use Rattle.wait_rule.proofs.KnownLaws.StayingParts.{owes_also}
 use Rattle.wait_class.specs.Posts.{IsOut, own_of}
 use Rattle.wait_event.specs.Prepares.{CarriesPrepare, finish_change, leave_change, with_signal}
 use Rattle.wq_head.specs.declared.adds.Worn.{Worn}
-use Rattle.poll_wait.specs.declared.turns.Poll.{Poll}
-use Rattle.poll_wait.specs.declared.turns.PollEnd.{PollEnd}
-use Rattle.poll_wait.specs.declared.turns.Ready.{Ready}
+use Rattle.poll_wait.specs.{declared.turns.Poll.Poll, declared.turns.PollEnd.PollEnd, declared.turns.Ready.Ready}
+use Rattle.poll_wait.specs.{Seconds.join_change, Seconds.second_of}
 use Rattle.poll_wait.specs.Polls.{is_either, pair_change, with_both}
-use Rattle.poll_wait.specs.Seconds.{join_change, second_of}
 use Rattle.poll_wait.specs.TurnSteps.{EndsSo, HasDone, PairCarries, TurnCarries}
 use Rattle.poll_wait.proofs.Carrying.{carries_more, carries_on, owes_swap}
 

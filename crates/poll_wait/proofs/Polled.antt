@@ -2,24 +2,17 @@
 use Rattle.std.proofs.Common.{◌∙◌, ap, sym, refl, subst, arith}
 use Rattle.std.proofs.lemmas.Bool.Decides.{nat_tests}
 use Rattle.std.specs.Prelude.{ℕ, ◌≡◌, ◌<◌, nat_lt, Bool, true, false, if◌then◌else◌, Option, Some, None, Result, Ok, Err}
-use Rattle.wait_model.specs.declared.layout.TheConstants.{FIRST_DONE_HEAD, FIRST_SIMPLE}
-use Rattle.wait_model.specs.declared.calls.Answer.{Answer}
+use Rattle.wait_model.specs.{declared.layout.TheConstants.FIRST_DONE_HEAD, declared.layout.TheConstants.FIRST_SIMPLE}
+use Rattle.wait_model.specs.{declared.calls.Answer.Answer, declared.tasks.How.How, declared.watches.Entry.Entry}
+use Rattle.wait_model.specs.{declared.watches.Kind.Kind, declared.watches.Watch.Watch, Programs.zero_answer}
+use Rattle.wait_model.specs.{Watches.head_of, Watches.kind_for}
 use Rattle.wait_model.specs.declared.points.FinishPoint.TheVariants as finishing
 use Rattle.wait_model.specs.declared.points.Next.TheVariants as next
 use Rattle.wait_model.specs.declared.points.Point.TheVariants as at
 use Rattle.wait_model.specs.declared.points.PreparePoint.TheVariants as preparing
-use Rattle.wait_model.specs.declared.tasks.How.{How}
-use Rattle.wait_model.specs.declared.watches.Entry.{Entry}
-use Rattle.wait_model.specs.declared.watches.Kind.{Kind}
 use Rattle.wait_model.specs.declared.watches.Kind.TheVariants as kind
-use Rattle.wait_model.specs.declared.watches.Watch.{Watch}
 use Rattle.wait_model.specs.declared.watches.Watch.TheVariants as watch
-use Rattle.wait_model.specs.Programs.{zero_answer}
-use Rattle.wait_model.specs.Watches.{head_of, kind_for}
-use Rattle.wait_rule.specs.Known.{Known}
-use Rattle.wait_rule.specs.Queues.{index}
-use Rattle.wait_rule.specs.Says.{told_of}
-use Rattle.wait_rule.specs.Stays.{Carries, unchanged}
+use Rattle.wait_rule.specs.{Known.Known, Queues.index, Says.told_of, Stays.Carries, Stays.unchanged}
 use Rattle.wait_class.specs.Posts.{own_of}
 use Rattle.wait_class.proofs.Ground.Standing.{bare_head}
 use Rattle.wait_event.specs.Prepares.{EndsPrepare, HasFinished, IsNoWaiter, IsPart, Prepares, SuitsWait, any_how, with_signal}

@@ -1,13 +1,9 @@
 -- Both entries are queued, and taken off.
 use Rattle.std.proofs.Common.{◌∙◌, ap, sym, subst, inr}
 use Rattle.std.specs.Prelude.{ℕ, ◌≡◌, false, Result, Ok, Err}
-use Rattle.wait_model.specs.declared.tasks.How.{How}
-use Rattle.wait_model.specs.declared.watches.Kind.{Kind}
-use Rattle.wait_model.specs.declared.watches.Watch.{Watch}
+use Rattle.wait_model.specs.{declared.tasks.How.How, declared.watches.Kind.Kind, declared.watches.Watch.Watch}
 use Rattle.wait_model.specs.Watches.{kind_for}
-use Rattle.wait_rule.specs.Known.{Known}
-use Rattle.wait_rule.specs.Queues.{index}
-use Rattle.wait_rule.specs.Says.{told_of}
+use Rattle.wait_rule.specs.{Known.Known, Queues.index, Says.told_of}
 use Rattle.wait_event.specs.Prepares.{EndsPrepare, HasFinished, MayFinish}
 use Rattle.wait_event.specs.declared.prepares.Prepared.{Prepared}
 use Rattle.wait_event.specs.declared.prepares.Prepared.TheVariants as prepared

@@ -2,25 +2,17 @@
 use Rattle.std.proofs.Common.{◌∙◌, ap, sym, refl, subst, arith, eq-eqb}
 use Rattle.std.specs.Prelude.{ℕ, ◌≡◌, Bool, if◌then◌else◌, Option, Some, None, [], ◌∷◌}
 use Rattle.wait_model.specs.declared.steps.Step.TheVariants as step
-use Rattle.wait_model.specs.declared.watches.Entry.{Entry}
-use Rattle.wait_model.specs.Fold.{forgotten}
-use Rattle.wait_model.specs.Views.{View as Told, Look, look_at, elsewhere, shown}
-use Rattle.wait_model.specs.Watches.{head_of, owner}
+use Rattle.wait_model.specs.{declared.watches.Entry.Entry, Fold.forgotten, Watches.head_of, Watches.owner}
 use Rattle.wait_model.specs.Words.{entry_of}
+use Rattle.wait_model.specs.Views.{View as Told, Look, look_at, elsewhere, shown}
 use Rattle.wait_model.proofs.Functions.{put_same}
 use Rattle.wait_rule.specs.declared.journal.Item.TheVariants as item
-use Rattle.wait_rule.specs.Items.{book_from}
-use Rattle.wait_rule.specs.Known.{Known}
-use Rattle.wait_rule.specs.Queues.{index, saw}
-use Rattle.wait_rule.specs.Says.{added, told_of}
+use Rattle.wait_rule.specs.{Items.book_from, Known.Known, Queues.index, Queues.saw, Says.added, Says.told_of}
 use Rattle.wait_rule.specs.Transitions.{AreLooks, IsSeenAs, OnlyLooks}
-use Rattle.wait_rule.proofs.KnownLaws.AfterSteps.{told_added}
-use Rattle.wait_rule.proofs.KnownLaws.Transitions.{only_looked}
-use Rattle.wq_head.specs.Holds.{IsHolding}
-use Rattle.wq_head.specs.Looks.{Looks}
+use Rattle.wait_rule.proofs.{KnownLaws.AfterSteps.told_added, KnownLaws.Transitions.only_looked}
+use Rattle.wq_head.specs.{Holds.IsHolding, Looks.Looks}
 use Rattle.wq_head.proofs.OneMoreLook.{saw_looks}
-use Rattle.poll_wait.specs.Seconds.{second_of}
-use Rattle.poll_wait.specs.SecondSteps.{HasSeenSecond}
+use Rattle.poll_wait.specs.{Seconds.second_of, SecondSteps.HasSeenSecond}
 
 pub owner_second : (n : ℕ) → owner (index n 1) ≡ n
 unfolding owner

@@ -1,44 +1,31 @@
 -- What a poll leaves alone, part by part.
 use Rattle.std.proofs.Common.{◌∙◌, ap, sym, refl, subst, inl, inr}
 use Rattle.std.specs.Prelude.{◌≡◌, ◌<◌, Bool, true, false, Option, Some, None, Result, Ok, Err, List, [], ◌∷◌}
-use Rattle.wait_model.specs.declared.layout.TheConstants.{FIRST_DONE_HEAD}
-use Rattle.wait_model.specs.declared.calls.Answer.{Answer}
+use Rattle.wait_model.specs.{declared.layout.TheConstants.FIRST_DONE_HEAD, declared.calls.Answer.Answer}
+use Rattle.wait_model.specs.{declared.tasks.How.How, declared.tasks.Sleep.Sleep, declared.tasks.SleepState.SleepState}
+use Rattle.wait_model.specs.{declared.watches.Kind.Kind, declared.watches.Watch.Watch, Programs.zero_answer}
+use Rattle.wait_model.specs.{Tasks.looks_in, Watches.head_of, Watches.kind_for}
 use Rattle.wait_model.specs.declared.points.FinishPoint.TheVariants as finishing
 use Rattle.wait_model.specs.declared.points.Next.TheVariants as next
 use Rattle.wait_model.specs.declared.points.Point.TheVariants as at
 use Rattle.wait_model.specs.declared.points.PreparePoint.TheVariants as preparing
 use Rattle.wait_model.specs.declared.steps.Step.TheVariants as step
-use Rattle.wait_model.specs.declared.tasks.How.{How}
-use Rattle.wait_model.specs.declared.tasks.Sleep.{Sleep}
-use Rattle.wait_model.specs.declared.tasks.SleepState.{SleepState}
-use Rattle.wait_model.specs.declared.watches.Kind.{Kind}
-use Rattle.wait_model.specs.declared.watches.Watch.{Watch}
-use Rattle.wait_model.specs.Programs.{zero_answer}
-use Rattle.wait_model.specs.Tasks.{looks_in}
-use Rattle.wait_model.specs.Watches.{head_of, kind_for}
 use Rattle.wait_rule.specs.declared.journal.Item.TheVariants as item
-use Rattle.wait_rule.specs.declared.journal.Journal.{Journal}
-use Rattle.wait_rule.specs.Aside.{signals_of}
-use Rattle.wait_rule.specs.Items.{book_from, steps_of}
-use Rattle.wait_rule.specs.Known.{Known}
-use Rattle.wait_rule.specs.Pipes.{end_of}
-use Rattle.wait_rule.specs.PipeSays.{KeepsEnd}
+use Rattle.wait_rule.specs.{declared.journal.Journal.Journal, Aside.signals_of, Items.book_from, Items.steps_of}
+use Rattle.wait_rule.specs.{Known.Known, Pipes.end_of, PipeSays.KeepsEnd, Tallies.amounts_of}
 use Rattle.wait_rule.specs.Says.{HasSlept, added, grown, told_of}
-use Rattle.wait_rule.specs.Tallies.{amounts_of}
 use Rattle.wait_rule.proofs.KnownLaws.CalledPermits.{left_on}
 use Rattle.wait_rule.proofs.KnownLaws.Transitions.{grown_more, looks_of, only_none}
 use Rattle.wait_event.specs.Prepares.{HasFinished, Prepares}
 use Rattle.wq_head.specs.declared.adds.Worn.{Worn}
-use Rattle.poll_wait.specs.declared.turns.Loads.{Loads}
-use Rattle.poll_wait.specs.declared.turns.Poll.{Poll}
-use Rattle.poll_wait.specs.declared.turns.PollEnd.{PollEnd}
+use Rattle.poll_wait.specs.{declared.turns.Loads.Loads, declared.turns.Poll.Poll, declared.turns.PollEnd.PollEnd}
+use Rattle.poll_wait.specs.{declared.turns.Ready.Ready, Seconds.HasLeftSecond, Seconds.JoinsSecond}
+use Rattle.poll_wait.specs.Polls.{AsksIf, AsksSignal, EndsLast, EndsPoll, EndsQueueing, FindsNoPlace, PollGoesOn}
+use Rattle.poll_wait.specs.Polls.{IsPoll, LeavesBoth, QueuesBoth, SleepsTurn, SleepsTurns, StaysBesidePoll, front_in}
+use Rattle.poll_wait.specs.Polls.{loaded, ready_of}
 use Rattle.poll_wait.specs.declared.turns.PollEnd.TheVariants as poll_end
-use Rattle.poll_wait.specs.declared.turns.Ready.{Ready}
-use Rattle.poll_wait.specs.Polls.{AsksIf, AsksSignal, EndsLast, EndsPoll, EndsQueueing, FindsNoPlace, PollGoesOn, IsPoll, LeavesBoth, QueuesBoth, SleepsTurn, SleepsTurns, StaysBesidePoll, front_in, loaded, ready_of}
-use Rattle.poll_wait.specs.Seconds.{HasLeftSecond, JoinsSecond}
+use Rattle.poll_wait.proofs.{Near.goes_near, Polled.polled_low}
 use Rattle.poll_wait.proofs.Beside.{Beside, beside_join, looks_beside, near_steps, step_beside}
-use Rattle.poll_wait.proofs.Near.{goes_near}
-use Rattle.poll_wait.proofs.Polled.{polled_low}
 use Rattle.poll_wait.proofs.Programs.{OnFinish, OnPrepare, finish_near, join_near, leave_near, prepare_near}
 
 -- the parts

@@ -1,17 +1,13 @@
 -- What a turn did, by its answer.
 use Rattle.std.proofs.Common.{subst}
 use Rattle.std.specs.Prelude.{◌≡◌, Option, Some, None, Ok, Err}
-use Rattle.wait_rule.specs.Known.{Known}
-use Rattle.wait_rule.specs.Says.{IsUp}
-use Rattle.wait_rule.specs.Stays.{Carries, unchanged}
+use Rattle.wait_rule.specs.{Known.Known, Says.IsUp, Stays.Carries, Stays.unchanged}
 use Rattle.wait_class.specs.Posts.{IsOut}
 use Rattle.wq_head.specs.declared.adds.Worn.{Worn}
-use Rattle.poll_wait.specs.declared.turns.Loads.{Loads}
-use Rattle.poll_wait.specs.declared.turns.Poll.{Poll}
-use Rattle.poll_wait.specs.declared.turns.Ready.{Ready}
-use Rattle.poll_wait.specs.Polls.{EndsLast, FindsNoPlace, LeavesBoth, QueuesBoth, loaded, pair_change, ready_of, with_both}
-use Rattle.poll_wait.specs.Seconds.{IsSecondOut}
-use Rattle.poll_wait.specs.TurnSteps.{HasDone, worn_from}
+use Rattle.poll_wait.specs.{declared.turns.Loads.Loads, declared.turns.Poll.Poll, declared.turns.Ready.Ready}
+use Rattle.poll_wait.specs.{Seconds.IsSecondOut, TurnSteps.HasDone, TurnSteps.worn_from}
+use Rattle.poll_wait.specs.Polls.{EndsLast, FindsNoPlace, LeavesBoth, QueuesBoth, loaded, pair_change, ready_of}
+use Rattle.poll_wait.specs.Polls.{with_both}
 use Rattle.poll_wait.proofs.Pairing.{done_then, still_pair}
 
 -- the answers behind the loads

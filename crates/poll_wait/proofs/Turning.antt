@@ -1,26 +1,20 @@
 -- Turns one after the other, and the whole call.
 use Rattle.std.proofs.Common.{◌∙◌, ap, sym, refl, subst}
 use Rattle.std.specs.Prelude.{ℕ, ◌≡◌, true, false, Option, Result, List, [], ◌∷◌, ◌++◌}
-use Rattle.wait_rule.specs.Known.{Known}
-use Rattle.wait_rule.specs.Queues.{IsIdle, index}
-use Rattle.wait_rule.specs.Says.{IsUp, told_of}
+use Rattle.wait_rule.specs.{Known.Known, Queues.IsIdle, Queues.index, Says.IsUp, Says.told_of}
 use Rattle.wait_rule.specs.Stays.{Carries, no_entries, unchanged, with_entry}
-use Rattle.wait_rule.proofs.KnownLaws.CarriedTasks.{unchanged_none}
-use Rattle.wait_rule.proofs.KnownLaws.StayingParts.{owes_also}
+use Rattle.wait_rule.proofs.{KnownLaws.CarriedTasks.unchanged_none, KnownLaws.StayingParts.owes_also}
 use Rattle.wait_class.specs.Posts.{IsOut, own_of}
 use Rattle.wait_event.specs.Prepares.{IsPart}
 use Rattle.wait_event.proofs.Changes.{idle_on, out_on}
 use Rattle.wait_model.specs.Watches.{kind_for}
-use Rattle.poll_wait.specs.declared.turns.Loads.{Loads}
-use Rattle.poll_wait.specs.declared.turns.Poll.{Poll}
-use Rattle.poll_wait.specs.declared.turns.PollEnd.{PollEnd}
-use Rattle.poll_wait.specs.declared.turns.Ready.{Ready}
-use Rattle.poll_wait.specs.Polls.{EndsLast, EndsPoll, EndsTurns, PollGoesOn, IsPoll, MayTurn, SleepsTurn, SleepsTurns, is_either, loaded, poll_change, ready_of, with_both}
-use Rattle.poll_wait.specs.Seconds.{IsSecondOut, second_of}
+use Rattle.poll_wait.specs.{declared.turns.Loads.Loads, declared.turns.Poll.Poll, declared.turns.PollEnd.PollEnd}
+use Rattle.poll_wait.specs.{declared.turns.Ready.Ready, Seconds.IsSecondOut, Seconds.second_of}
+use Rattle.poll_wait.specs.Polls.{EndsLast, EndsPoll, EndsTurns, PollGoesOn, IsPoll, MayTurn, SleepsTurn, SleepsTurns}
+use Rattle.poll_wait.specs.Polls.{is_either, loaded, poll_change, ready_of, with_both}
 use Rattle.poll_wait.specs.TurnSteps.{GoesAgain, HasDone, PairCarries}
-use Rattle.poll_wait.proofs.Carrying.{carries_more}
+use Rattle.poll_wait.proofs.{Carrying.carries_more, Polled.still_has}
 use Rattle.poll_wait.proofs.Pairing.{done_then, pairs_on, state_as, still_pair}
-use Rattle.poll_wait.proofs.Polled.{still_has}
 
 -- turns in which the task slept, so far
 pub record Polling (p : Poll) (start now : Known) : Type 0 where

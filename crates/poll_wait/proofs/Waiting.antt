@@ -3,46 +3,29 @@ use Rattle.std.proofs.lemmas.Bool.Decides.{nat_tests}
 use Rattle.std.proofs.Common.{refl, sym, ◌∙◌, ap, subst, append-nil, append_assoc, arith}
 use Rattle.std.specs.Prelude.{ℕ, ◌≡◌, ◌≢◌, ◌<◌, ◌==◌, nat_lt, Bool, true, false, if◌then◌else◌, Some, None}
 use Rattle.std.specs.Prelude.{List, [], ◌∷◌, ◌++◌}
-use Rattle.wait_model.specs.declared.layout.TheConstants.{FIRST_SIMPLE}
-use Rattle.wait_model.specs.declared.steps.Step.{Step}
-use Rattle.wait_model.specs.declared.steps.Step.TheVariants as step
-use Rattle.wait_model.specs.declared.tasks.SleepState.{SleepState}
-use Rattle.wait_model.specs.declared.watches.Entry.{Entry}
-use Rattle.wait_model.specs.declared.watches.Kind.{Kind}
-use Rattle.wait_model.specs.declared.watches.Kind.TheVariants as kind
-use Rattle.wait_model.specs.declared.watches.Watch.{Watch}
-use Rattle.wait_model.specs.declared.watches.Watch.TheVariants as watch
-use Rattle.wait_model.specs.Facts.{Kept}
-use Rattle.wait_model.specs.Fold.{view_of}
-use Rattle.wait_model.specs.Programs.{zero_answer}
+use Rattle.wait_model.specs.{declared.layout.TheConstants.FIRST_SIMPLE, declared.steps.Step.Step}
+use Rattle.wait_model.specs.{declared.tasks.SleepState.SleepState, declared.watches.Entry.Entry}
+use Rattle.wait_model.specs.{declared.watches.Kind.Kind, declared.watches.Watch.Watch, Facts.Kept, Fold.view_of}
+use Rattle.wait_model.specs.{Programs.zero_answer, Tables.Table, Tasks.looks_in, Views.View, Wakes.NoWakeIsLost}
+use Rattle.wait_model.specs.Wakes.{Sleeps}
 use Rattle.wait_model.specs.Readings.{FailedBy, FailedLoad, Quiet}
-use Rattle.wait_model.specs.Tables.{Table}
-use Rattle.wait_model.specs.Tasks.{looks_in}
-use Rattle.wait_model.specs.Views.{View}
-use Rattle.wait_model.specs.Wakes.{NoWakeIsLost, Sleeps}
 use Rattle.wait_model.specs.Watches.{bare, failing, is_done, is_page, is_woken, kind_for, misses, owner, same}
-use Rattle.wait_model.proofs.HistoryLaws.HoldLooks.{IsLookTold}
-use Rattle.wait_model.proofs.HistoryLaws.NoLostWake.{no_wake_is_lost}
+use Rattle.wait_model.specs.declared.steps.Step.TheVariants as step
+use Rattle.wait_model.specs.declared.watches.Kind.TheVariants as kind
+use Rattle.wait_model.specs.declared.watches.Watch.TheVariants as watch
+use Rattle.wait_model.proofs.{HistoryLaws.HoldLooks.IsLookTold, HistoryLaws.NoLostWake.no_wake_is_lost}
 use Rattle.wait_model.proofs.RunLaws.PagesHanded.{kind_plain}
-use Rattle.wait_rule.specs.declared.journal.Item.{Item}
-use Rattle.wait_rule.specs.declared.journal.Item.TheVariants as item
-use Rattle.wait_rule.specs.declared.journal.Journal.{Journal}
-use Rattle.wait_rule.specs.Interleavings.{table_of}
-use Rattle.wait_rule.specs.Items.{steps_of}
-use Rattle.wait_rule.specs.Known.{Known}
-use Rattle.wait_rule.specs.Queues.{index}
+use Rattle.wait_rule.specs.{declared.journal.Item.Item, declared.journal.Journal.Journal, Interleavings.table_of}
+use Rattle.wait_rule.specs.{Items.steps_of, Known.Known, Queues.index, Transitions.AreLooks}
 use Rattle.wait_rule.specs.Says.{added, history_of, told_of}
-use Rattle.wait_rule.specs.Transitions.{AreLooks}
-use Rattle.wait_rule.proofs.KnownLaws.Moments.{kept_of, views_of}
-use Rattle.wait_rule.proofs.TableSteps.ItemLists.{steps_append}
+use Rattle.wait_rule.specs.declared.journal.Item.TheVariants as item
+use Rattle.wait_rule.proofs.{KnownLaws.Moments.kept_of, KnownLaws.Moments.views_of, TableSteps.ItemLists.steps_append}
 use Rattle.wait_rule.proofs.TableSteps.MemberMoves.{own_index}
 use Rattle.wait_event.specs.Prepares.{IsPart}
 use Rattle.wait_event.proofs.LookedSteps.{looks_all}
 use Rattle.order_laws.specs.SafeSleep.{SleepsSafely}
-use Rattle.poll_wait.specs.declared.turns.Poll.{Poll}
-use Rattle.poll_wait.specs.declared.turns.Ready.{Ready}
+use Rattle.poll_wait.specs.{declared.turns.Poll.Poll, declared.turns.Ready.Ready, Seconds.IsPolled}
 use Rattle.poll_wait.specs.Polls.{AsksIf, IsPoll, SleepsTurn, loaded}
-use Rattle.poll_wait.specs.Seconds.{IsPolled}
 use Rattle.poll_wait.specs.Waiting.{IsInTurn, IsKeptBy, IsKeptByBoth, PollersAreKept}
 use Rattle.poll_wait.proofs.Near.{Keeps, added_keep, looks_keep}
 use Rattle.poll_wait.proofs.Polled.{join_keeps, part_kept, polled_low}

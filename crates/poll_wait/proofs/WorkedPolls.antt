@@ -1,12 +1,9 @@
 -- The worked lists of polls.
 use Rattle.std.proofs.Common.{refl, subst}
 use Rattle.std.specs.Prelude.{ℕ, ◌≡◌, Some, None, List, [], ◌∷◌, ◌++◌}
-use Rattle.wait_model.specs.declared.steps.Step.{Step}
-use Rattle.wait_model.specs.declared.steps.Step.TheVariants as step
-use Rattle.wait_model.specs.declared.watches.Watch.{Watch}
-use Rattle.wait_model.specs.Fold.{view_of}
-use Rattle.wait_model.specs.Readings.{FailedLoad}
+use Rattle.wait_model.specs.{declared.steps.Step.Step, declared.watches.Watch.Watch, Fold.view_of, Readings.FailedLoad}
 use Rattle.wait_model.specs.Watches.{head_of}
+use Rattle.wait_model.specs.declared.steps.Step.TheVariants as step
 use Rattle.wait_model.proofs.HistoryLaws.PlainReadings.{failed_told}
 use Rattle.wait_rule.specs.Queues.{index}
 use Rattle.poll_wait.specs.WorkedPolls.{WorkedPolls, loaded_early, queue_first, queue_second, the_sleep, the_first, the_second}

@@ -3,30 +3,23 @@
 use Rattle.std.specs.Prelude.{ℕ, ◌≡◌, ◌⊎◌, ◌||◌, Bool, true, false, if◌then◌else◌, Option, Some, None, Result, Ok, Err}
 use Rattle.std.specs.Prelude.{List, [], ◌∷◌}
 use Rattle.wait_model.specs.declared.steps.Step.TheVariants as step
-use Rattle.wait_model.specs.declared.tasks.How.{How}
-use Rattle.wait_model.specs.declared.tasks.Sleep.{Sleep}
-use Rattle.wait_model.specs.declared.tasks.SleepState.{SleepState}
+use Rattle.wait_model.specs.{declared.tasks.How.How, declared.tasks.Sleep.Sleep, declared.tasks.SleepState.SleepState}
+use Rattle.wait_model.specs.{Watches.kind_for, Watches.misses}
 use Rattle.wait_model.specs.Tasks.{looks_in, pending, state_mask, task_of}
-use Rattle.wait_model.specs.Watches.{kind_for, misses}
 use Rattle.wait_rule.specs.declared.journal.Item.TheVariants as item
-use Rattle.wait_rule.specs.Aside.{GrowsAside}
-use Rattle.wait_rule.specs.HandedPermits.{StaysOff}
-use Rattle.wait_rule.specs.Known.{Known}
-use Rattle.wait_rule.specs.PipeSays.{KeepsEnd, end_at}
-use Rattle.wait_rule.specs.Says.{Excuse, HasSlept, IsFree, IsUp, added, told_of}
+use Rattle.wait_rule.specs.{Aside.GrowsAside, HandedPermits.StaysOff, Known.Known, PipeSays.KeepsEnd, PipeSays.end_at}
 use Rattle.wait_rule.specs.Queues.{index}
+use Rattle.wait_rule.specs.Says.{Excuse, HasSlept, IsFree, IsUp, added, told_of}
 use Rattle.wait_rule.specs.Stays.{Change, only, unchanged, with_entry}
 use Rattle.wait_class.specs.Posts.{own_of}
 use Rattle.wait_event.specs.declared.prepares.Prepared.TheVariants as prepared
 use Rattle.wait_event.specs.Prepares.{EndsPrepare, HasFinished, IsPart}
 use Rattle.wq_head.specs.declared.adds.Worn.{Worn}
-use Rattle.poll_wait.specs.declared.turns.Loads.{Loads}
-use Rattle.poll_wait.specs.declared.turns.Poll.{Poll}
-use Rattle.poll_wait.specs.declared.turns.PollEnd.{PollEnd}
-use Rattle.poll_wait.specs.declared.turns.PollEnd.TheVariants as poll_end
+use Rattle.poll_wait.specs.{declared.turns.Loads.Loads, declared.turns.Poll.Poll, declared.turns.PollEnd.PollEnd}
 use Rattle.poll_wait.specs.declared.turns.Ready.{Ready}
-use Rattle.poll_wait.specs.declared.turns.Ready.TheVariants as ready
 use Rattle.poll_wait.specs.Seconds.{EndsJoin, HasLeftSecond, IsPolled, second_of}
+use Rattle.poll_wait.specs.declared.turns.PollEnd.TheVariants as poll_end
+use Rattle.poll_wait.specs.declared.turns.Ready.TheVariants as ready
 
 -- what the task waits for are two conditions that a poll may have
 pub record IsPoll (p : Poll) : Type 0 where

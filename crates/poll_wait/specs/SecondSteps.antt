@@ -1,29 +1,20 @@
 -- For proofs alone.
 -- The steps of the second entry in a hold of its head: the look at it, the add and the removal.
 use Rattle.std.specs.Prelude.{ℕ, ◌≡◌, Bool, true, false, is_some, Option, Some, None, Result, Ok, Err}
-use Rattle.wait_model.specs.declared.points.Point.{Point}
+use Rattle.wait_model.specs.{declared.points.Point.Point, declared.watches.Entry.Entry, declared.watches.Watch.Watch}
+use Rattle.wait_model.specs.{Watches.head_of, Watches.kind_for, Words.entry_of}
 use Rattle.wait_model.specs.declared.points.Point.TheVariants as at
 use Rattle.wait_model.specs.declared.points.PreparePoint.TheVariants as preparing
 use Rattle.wait_model.specs.declared.points.Next.TheVariants as next
 use Rattle.wait_model.specs.declared.queues.Form.TheVariants as forms
-use Rattle.wait_model.specs.declared.watches.Entry.{Entry}
-use Rattle.wait_model.specs.declared.watches.Watch.{Watch}
-use Rattle.wait_model.specs.Watches.{head_of, kind_for}
-use Rattle.wait_model.specs.Words.{entry_of}
 use Rattle.wait_rule.specs.declared.journal.Item.TheVariants as item
-use Rattle.wait_rule.specs.Ends.{WasWorn}
-use Rattle.wait_rule.specs.Known.{Known}
-use Rattle.wait_rule.specs.Members.{IsEntryWord}
+use Rattle.wait_rule.specs.{Ends.WasWorn, Known.Known, Members.IsEntryWord, Says.added, Says.told_of, Shown.shown_queue}
+use Rattle.wait_rule.specs.{Stays.Carries, Stays.only_looks}
 use Rattle.wait_rule.specs.Queues.{IsWholeBook, KnewEntry, saw}
-use Rattle.wait_rule.specs.Says.{added, told_of}
-use Rattle.wait_rule.specs.Shown.{shown_queue}
-use Rattle.wait_rule.specs.Stays.{Carries, only_looks}
 use Rattle.wait_rule.specs.Transitions.{IsSeenAs, OnlyLooks, is_worn}
-use Rattle.wq_head.specs.declared.adds.Worn.{Worn}
-use Rattle.wq_head.specs.Adds.{HasRemoved}
+use Rattle.wq_head.specs.{declared.adds.Worn.Worn, Adds.HasRemoved}
 use Rattle.wait_class.specs.Posts.{Runs}
-use Rattle.wait_event.specs.PartSteps.{part_change}
-use Rattle.wait_event.specs.Prepares.{IsPart}
+use Rattle.wait_event.specs.{PartSteps.part_change, Prepares.IsPart}
 use Rattle.poll_wait.specs.Seconds.{join_program, second_of}
 
 -- the task loaded the own entry word of slot 1, and it shows this

@@ -1,31 +1,22 @@
 -- To be believed.
 -- The second entry of a task, of slot 1: what queueing it says, and taking it off.
 use Rattle.std.specs.Prelude.{ℕ, ◌≡◌, ◌<◌, true, false, if◌then◌else◌, is_some, Some, None, Result, Ok, Err}
-use Rattle.wait_model.specs.declared.layout.TheConstants.{FIRST_SIMPLE, VARIABLES}
-use Rattle.wait_model.specs.declared.calls.Answer.{Answer}
+use Rattle.wait_model.specs.{declared.layout.TheConstants.FIRST_SIMPLE, declared.layout.TheConstants.VARIABLES}
+use Rattle.wait_model.specs.{declared.calls.Answer.Answer, declared.points.Planned.Planned, declared.points.Point.Point}
+use Rattle.wait_model.specs.{declared.points.Seen.Seen, declared.watches.Entry.Entry, declared.watches.Watch.Watch}
+use Rattle.wait_model.specs.{Programs.go, Programs.zero_answer, Watches.head_of, Watches.kind_for}
 use Rattle.wait_model.specs.declared.calls.Answer.TheVariants as answer
 use Rattle.wait_model.specs.declared.calls.Event.TheVariants as event
 use Rattle.wait_model.specs.declared.points.FinishPoint.TheVariants as finishing
 use Rattle.wait_model.specs.declared.points.Next.TheVariants as next
-use Rattle.wait_model.specs.declared.points.Planned.{Planned}
-use Rattle.wait_model.specs.declared.points.Point.{Point}
 use Rattle.wait_model.specs.declared.points.Point.TheVariants as at
 use Rattle.wait_model.specs.declared.points.PreparePoint.TheVariants as preparing
-use Rattle.wait_model.specs.declared.points.Seen.{Seen}
 use Rattle.wait_model.specs.declared.queues.Form.TheVariants as forms
-use Rattle.wait_model.specs.declared.watches.Entry.{Entry}
-use Rattle.wait_model.specs.declared.watches.Watch.{Watch}
 use Rattle.wait_model.specs.declared.watches.Watch.TheVariants as watch
-use Rattle.wait_model.specs.Programs.{go, zero_answer}
-use Rattle.wait_model.specs.Watches.{head_of, kind_for}
-use Rattle.wait_rule.specs.Ends.{WasWorn}
-use Rattle.wait_rule.specs.Known.{Known}
-use Rattle.wait_rule.specs.Queues.{index}
+use Rattle.wait_rule.specs.{Ends.WasWorn, Known.Known, Queues.index, Transitions.Program}
 use Rattle.wait_rule.specs.Says.{IsFree, IsUp, told_of}
 use Rattle.wait_rule.specs.Stays.{Change, only, unchanged, with_entry}
-use Rattle.wait_rule.specs.Transitions.{Program}
-use Rattle.wait_class.specs.Posts.{Runs}
-use Rattle.wait_class.specs.Tables.{Plan, plan_program}
+use Rattle.wait_class.specs.{Posts.Runs, Tables.Plan, Tables.plan_program}
 use Rattle.wait_event.specs.Prepares.{IsNoWaiter, IsPart, any_how}
 use Rattle.wait_event.specs.WaitPlans.{gives_lock_back, part_plan}
 use Rattle.wq_head.specs.declared.adds.Worn.{Worn}

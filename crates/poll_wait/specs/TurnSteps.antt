@@ -1,18 +1,13 @@
 -- For proofs alone.
 -- What turns of a poll leave a task with.
 use Rattle.std.specs.Prelude.{ℕ, Option, Some, None, Result, Ok, Err}
-use Rattle.wait_rule.specs.Known.{Known}
-use Rattle.wait_rule.specs.Says.{IsUp}
-use Rattle.wait_rule.specs.Stays.{Carries}
+use Rattle.wait_rule.specs.{Known.Known, Says.IsUp, Stays.Carries}
 use Rattle.wait_class.specs.Posts.{IsOut}
 use Rattle.wq_head.specs.declared.adds.Worn.{Worn}
-use Rattle.poll_wait.specs.declared.turns.Loads.{Loads}
-use Rattle.poll_wait.specs.declared.turns.Poll.{Poll}
-use Rattle.poll_wait.specs.declared.turns.PollEnd.{PollEnd}
-use Rattle.poll_wait.specs.declared.turns.PollEnd.TheVariants as poll_end
-use Rattle.poll_wait.specs.declared.turns.Ready.{Ready}
+use Rattle.poll_wait.specs.{declared.turns.Loads.Loads, declared.turns.Poll.Poll, declared.turns.PollEnd.PollEnd}
+use Rattle.poll_wait.specs.{declared.turns.Ready.Ready, Seconds.IsSecondOut}
 use Rattle.poll_wait.specs.Polls.{MayTurn, pair_change, ready_of, with_both}
-use Rattle.poll_wait.specs.Seconds.{IsSecondOut}
+use Rattle.poll_wait.specs.declared.turns.PollEnd.TheVariants as poll_end
 
 -- both entries are owed still
 abbrev pub PairCarries : (ℕ → ℕ) → Known → Known → Type 0

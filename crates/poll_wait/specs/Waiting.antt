@@ -2,20 +2,13 @@
 -- Whoever a poll put asleep is a waiter of the law on lost wakes by each of its two entries.
 use Rattle.std.specs.Prelude.{ℕ, ◌≡◌, ◌≢◌, false, Some, List}
 use Rattle.wait_model.specs.declared.steps.Step.TheVariants as step
-use Rattle.wait_model.specs.declared.watches.Entry.{Entry}
-use Rattle.wait_model.specs.declared.watches.Watch.{Watch}
-use Rattle.wait_model.specs.Tables.{Table}
-use Rattle.wait_rule.specs.declared.journal.Item.{Item}
-use Rattle.wait_rule.specs.declared.journal.Item.TheVariants as item
+use Rattle.wait_model.specs.{declared.watches.Entry.Entry, declared.watches.Watch.Watch, Tables.Table}
+use Rattle.wait_rule.specs.{declared.journal.Item.Item, Known.Known, Queues.index, Rule.IsRuled, Says.added}
+use Rattle.wait_rule.specs.{Says.history_of, Transitions.OnlyLooks}
 use Rattle.wait_rule.specs.Interleavings.{AreAllowed, TaskStep, table_of}
-use Rattle.wait_rule.specs.Known.{Known}
-use Rattle.wait_rule.specs.Queues.{index}
-use Rattle.wait_rule.specs.Rule.{IsRuled}
-use Rattle.wait_rule.specs.Says.{added, history_of}
-use Rattle.wait_rule.specs.Transitions.{OnlyLooks}
+use Rattle.wait_rule.specs.declared.journal.Item.TheVariants as item
 use Rattle.order_laws.specs.SafeSleep.{SleepsSafely}
-use Rattle.poll_wait.specs.declared.turns.Poll.{Poll}
-use Rattle.poll_wait.specs.Polls.{IsPoll, SleepsTurn}
+use Rattle.poll_wait.specs.{declared.turns.Poll.Poll, Polls.IsPoll, Polls.SleepsTurn}
 
 -- The task made the sleep of a turn of this poll, whose steps before were those of the turn, and has looked at words alone
 -- since.

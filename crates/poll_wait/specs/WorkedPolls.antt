@@ -2,21 +2,15 @@
 -- Worked lists of one task that sleeps in a poll for condition 0 and variable 20: one that queued both of its entries and
 -- then loaded both, one that loaded before it queued the second, and one that queued one entry alone.
 use Rattle.std.specs.Prelude.{◌≡◌, ◌+◌, false, None, List, [], ◌∷◌, ◌++◌}
+use Rattle.wait_model.specs.{declared.steps.Step.Step, declared.watches.Watch.Watch, Fold.view_of, Readings.FailedLoad}
+use Rattle.wait_model.specs.Watches.{head_of}
 use Rattle.wait_model.specs.declared.layout.TheConstants.{FIRST_PLAIN_HEAD, MIDDLE, RUNNABLE, UNINTERRUPTIBLE}
-use Rattle.wait_model.specs.declared.steps.Step.{Step}
 use Rattle.wait_model.specs.declared.steps.Step.TheVariants as step
 use Rattle.wait_model.specs.declared.watches.Kind.TheVariants as kind
-use Rattle.wait_model.specs.declared.watches.Watch.{Watch}
 use Rattle.wait_model.specs.declared.watches.Watch.TheVariants as watch
-use Rattle.wait_model.specs.Fold.{view_of}
-use Rattle.wait_model.specs.Readings.{FailedLoad}
-use Rattle.wait_model.specs.Watches.{head_of}
-use Rattle.wait_rule.specs.Known.{Known}
-use Rattle.wait_rule.specs.Says.{history_of}
+use Rattle.wait_rule.specs.{Known.Known, Says.history_of}
 use Rattle.wq_head.specs.Adds.{front_entry}
-use Rattle.poll_wait.specs.declared.turns.Poll.{Poll}
-use Rattle.poll_wait.specs.Polls.{IsPoll}
-use Rattle.poll_wait.specs.Waiting.{IsInTurn}
+use Rattle.poll_wait.specs.{declared.turns.Poll.Poll, Polls.IsPoll, Waiting.IsInTurn}
 
 abbrev pub the_first : Watch
 the_first = watch.Plain 0

@@ -1,7 +1,6 @@
 //! What the rule of a Domain says of tasks that a wait for two conditions has put asleep.
 
-ghost use Rattle.poll_wait.specs.Waiting.{PollersAreKept};
-ghost use Rattle.poll_wait.specs.WorkedPolls.{WorkedPolls};
+ghost use Rattle.poll_wait.specs.{Waiting.PollersAreKept, WorkedPolls.WorkedPolls};
 
 /// No poll is lost on a Domain. A task that made the sleep of a turn of a `poll_two` (`ends`, whose turns these are),
 /// and has only looked since, sleeps on both of its watches, if it was not woken: on the first by its entry of slot 0,

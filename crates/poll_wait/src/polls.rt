@@ -1,13 +1,10 @@
 //! The wait for two conditions as a whole call.
 
 ghost use Rattle.std.specs.Prelude.{◌≡◌};
-ghost use Rattle.wait_rule.specs.Queues.{IsIdle};
-ghost use Rattle.wait_rule.specs.Says.{IsUp};
-ghost use Rattle.wait_rule.specs.Stays.{Carries};
+ghost use Rattle.wait_rule.specs.{Queues.IsIdle, Says.IsUp, Stays.Carries};
 ghost use Rattle.wait_class.specs.Posts.{IsOut};
+ghost use Rattle.poll_wait.specs.{Seconds.IsPolled, Seconds.IsSecondOut, TurnSteps.EndsSo};
 ghost use Rattle.poll_wait.specs.Polls.{EndsPoll, EndsTurns, IsPoll, MayTurn, StaysBesidePoll, poll_change};
-ghost use Rattle.poll_wait.specs.Seconds.{IsPolled, IsSecondOut};
-ghost use Rattle.poll_wait.specs.TurnSteps.{EndsSo};
 
 use crate::turns::{Poll, PollEnd, Ready, load_both, turn};
 use std::sync::Wait;

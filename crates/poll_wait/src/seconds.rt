@@ -3,8 +3,7 @@
 
 ghost use Rattle.std.specs.Prelude.{◌≡◌};
 ghost use Rattle.wait_model.specs.Watches.{head_of, kind_for};
-ghost use Rattle.wait_rule.specs.Says.{IsUp, told_of};
-ghost use Rattle.wait_rule.specs.Stays.{Carries};
+ghost use Rattle.wait_rule.specs.{Says.IsUp, Says.told_of, Stays.Carries};
 ghost use Rattle.wq_head.specs.Holds.{IsHolding};
 ghost use Rattle.wait_event.specs.Prepares.{IsPart, leave_change};
 ghost use Rattle.poll_wait.specs.Seconds.{

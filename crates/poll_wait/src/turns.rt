@@ -2,8 +2,7 @@
 //! sleeps, or has an answer.
 
 ghost use Rattle.std.specs.Prelude.{◌≡◌, Err, Some};
-ghost use Rattle.wait_rule.specs.Says.{IsFree, IsUp};
-ghost use Rattle.wait_rule.specs.Stays.{Carries, unchanged};
+ghost use Rattle.wait_rule.specs.{Says.IsFree, Says.IsUp, Stays.Carries, Stays.unchanged};
 ghost use Rattle.wait_class.specs.Posts.{IsOut};
 ghost use Rattle.poll_wait.specs.Polls.{
   AsksSignal,

@@ -1,13 +1,11 @@
 -- A call that goes on at once and has named nobody is advanced by one stretch more.
 use Rattle.std.proofs.Common.{◌≡◌, ℕ, List, [], subst}
-use Rattle.wq_head.specs.Roused.{tasks_in}
-use Rattle.wq_head.specs.declared.rousing.Rousing.{Rousing}
+use Rattle.wq_head.specs.{Roused.tasks_in, declared.rousing.Rousing.Rousing}
 use Rattle.wq_checked.specs.Checked.{Checked}
 use Rattle.wq_checked.specs.declared.calls.Progress.TheVariants as progress
 use Rattle.std.specs.Prelude.{Option, Some}
+use Rattle.sugwelan_c.specs.{declared.calls.Wanted.Wanted, declared.replies.Reply.Reply}
 use Rattle.sugwelan_c.specs.Served.{Further, GivesLock, goes, Names, Replies}
-use Rattle.sugwelan_c.specs.declared.calls.Wanted.{Wanted}
-use Rattle.sugwelan_c.specs.declared.replies.Reply.{Reply}
 use Rattle.sugwelan_c.specs.declared.replies.Reply.TheVariants as reply
 
 pub one_more : (w : Wanted) (k : Checked) (r : Reply) (ws : List ℕ) (o : Option ℕ) (between : Checked) (p : Reply)

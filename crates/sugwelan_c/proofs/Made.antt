@@ -16,15 +16,12 @@ use denote.Struct.Field.{i32-field}
 use denote.Struct.Laws.{i32-laws, i32-copy}
 use Rattle.std.specs.contracts.result.Result as RS
 use Rattle.std.proofs.result.Result.TheLaws.{the_row_laws as result_laws}
-use Rattle.std_heap.specs.contracts.Global.{the_row as heap_row}
-use Rattle.std_heap.specs.contracts.GlobalAllocator.TheImpl.{ghosts}
+use Rattle.std_heap.specs.{contracts.Global.the_row as heap_row, contracts.GlobalAllocator.TheImpl.ghosts}
 use Rattle.std_heap.proofs.Global.TheLaws.{the_row_laws as heap_laws}
 use Rattle.sugwelan_c.specs.Blocks.{code_in, gives_block, owned, puts}
-use Rattle.wq_checked.specs.Checked.{Checked}
-use Rattle.wq_checked.specs.contracts.tasks.CheckedTask.{the_row as R}
+use Rattle.wq_checked.specs.{Checked.Checked, contracts.tasks.CheckedTask.the_row as R}
 use Rattle.wq_checked.proofs.tasks.CheckedTask.TheLaws.{the_row_laws as handle_laws}
-use Rattle.sugwelan_c.proofs.blocks.Block.TheLaws.{the_row_laws as block_laws}
-use Rattle.sugwelan_c.proofs.BlockValues.{Row}
+use Rattle.sugwelan_c.proofs.{blocks.Block.TheLaws.the_row_laws as block_laws, BlockValues.Row}
 
 abbrev pub Held : RattleType
 Held = Row R heap_row heap_laws ghosts

@@ -1,11 +1,8 @@
 -- A fork that was refused answers an errno.
 use Rattle.std.proofs.Common.{ℕ, ℤ, sym, subst}
-use Rattle.wq_checked.specs.Checked.{Checked}
-use Rattle.wq_checked.specs.declared.reasons.Refused.{Refused}
+use Rattle.wq_checked.specs.{Checked.Checked, declared.reasons.Refused.Refused}
 use Rattle.wq_checked.specs.declared.reasons.Refused.TheVariants as reason
-use Rattle.sugwelan_c.specs.Handles.{HasNoFork, unmade_code}
-use Rattle.sugwelan_c.specs.Told.{refusal_code}
-use Rattle.sugwelan_c.specs.declared.handles.Unmade.{Unmade}
+use Rattle.sugwelan_c.specs.{Handles.HasNoFork, Handles.unmade_code, Told.refusal_code, declared.handles.Unmade.Unmade}
 use Rattle.sugwelan_c.specs.declared.handles.Unmade.TheVariants as unmade
 use Rattle.sugwelan_c.proofs.Made.{IsErrno}
 

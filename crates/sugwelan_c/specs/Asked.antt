@@ -3,15 +3,12 @@
 use Rattle.std.specs.Prelude.{◌==◌, ℕ, Bool, true, false, nat_lt, Option, Some, None, if◌then◌else◌}
 use Prim.Native.Nat.{zero, suc}
 use Rattle.completion_cell.specs.declared.cell_turns.CellCall.TheVariants as cell_call
-use Rattle.wait_model.specs.declared.tasks.SleepState.{SleepState}
+use Rattle.wait_model.specs.{declared.tasks.SleepState.SleepState, declared.watches.Mode.Mode}
 use Rattle.wait_model.specs.declared.tasks.SleepState.TheVariants as sleep
-use Rattle.wait_model.specs.declared.watches.Mode.{Mode}
 use Rattle.wait_model.specs.declared.watches.Mode.TheVariants as mode
 use Rattle.wq_checked.specs.declared.calls.Call.{Call as TaskCall}
 use Rattle.wq_checked.specs.declared.calls.Call.TheVariants as call
-use Rattle.sugwelan_c.specs.declared.calls.Call.{Call}
-use Rattle.sugwelan_c.specs.declared.calls.Wanted.{Wanted}
-use Rattle.sugwelan_c.specs.declared.calls.Wanted.TheVariants as wanted
+use Rattle.sugwelan_c.specs.{declared.calls.Call.Call, declared.calls.Wanted.Wanted}
 use Rattle.sugwelan_c.specs.declared.kinds.TheConstants.{ADVANCE, WAIT_EVENT, SWAIT_EVENT, WAIT_VAR_EVENT, WAIT_ON_BIT}
 use Rattle.sugwelan_c.specs.declared.kinds.TheConstants.{WAIT_ON_BIT_LOCK, LOCK_PAGE, WAIT_FOR_COMPLETION, WAKE_UP}
 use Rattle.sugwelan_c.specs.declared.kinds.TheConstants.{SET_AND_WAKE, PUBLISH_VAR_AND_WAKE, CLEAR_AND_WAKE_UP_BIT}
@@ -20,6 +17,7 @@ use Rattle.sugwelan_c.specs.declared.kinds.TheConstants.{COMPLETE, COMPLETE_ALL,
 use Rattle.sugwelan_c.specs.declared.kinds.TheConstants.{TRY_WAIT_FOR_COMPLETION, COMPLETION_DONE, TRYLOCK_BIT}
 use Rattle.sugwelan_c.specs.declared.kinds.TheConstants.{TRYLOCK_PAGE, ADD_TALLY, TAKE_CONDITION, NUMBER, RAISE_SIGNAL}
 use Rattle.sugwelan_c.specs.declared.kinds.TheConstants.{LEAVE, TAKE_SIGNAL, WAKE_UP_PROCESS}
+use Rattle.sugwelan_c.specs.declared.calls.Wanted.TheVariants as wanted
 
 -- numbers that stand for something else
 abbrev pub byte_in : ℕ → Option ℕ

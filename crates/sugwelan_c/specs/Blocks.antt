@@ -6,10 +6,8 @@ use base.Fml.{Fml, ftrue, feq, fex, fsep}
 use denote.RawPtr.{Ptr}
 use mir.Syntax.{Ty}
 use Rattle.std_alloc.specs.Box.Ownership.{box_owns}
-use Rattle.std_heap.specs.contracts.GlobalAllocator.TheImpl.{ghosts}
-use Rattle.std_heap.specs.declared.Global.{Global}
-use Rattle.wq_checked.specs.Checked.{Checked}
-use Rattle.wq_checked.specs.contracts.tasks.CheckedTask.{the_row}
+use Rattle.std_heap.specs.{contracts.GlobalAllocator.TheImpl.ghosts, declared.Global.Global}
+use Rattle.wq_checked.specs.{Checked.Checked, contracts.tasks.CheckedTask.the_row}
 use Rattle.sugwelan_c.specs.declared.blocks.Block.{Block}
 
 -- the right to free a block of the heap, which the allocator gives out with it

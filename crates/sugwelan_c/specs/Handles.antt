@@ -5,17 +5,13 @@ use Rattle.wait_model.specs.declared.layout.TheConstants.{BIT_WORDS, TASKS, WORD
 use Rattle.wait_model.specs.declared.watches.Watch.{Watch}
 use Rattle.wait_model.specs.declared.watches.Watch.TheVariants as watch
 use Rattle.wait_rule.specs.Says.{newcomer}
-use Rattle.wq_checked.specs.Checked.{Checked, shared_by}
-use Rattle.wq_checked.specs.Kept.{IsReadyWith, keeps_in}
-use Rattle.wq_checked.specs.Reasons.{busy_reason}
+use Rattle.wq_checked.specs.{Checked.Checked, Checked.shared_by, Kept.IsReadyWith, Kept.keeps_in, Reasons.busy_reason}
+use Rattle.wq_checked.specs.{declared.kept_bits.KeptBits.KeptBits, declared.reasons.Refused.Refused}
 use Rattle.wq_checked.specs.declared.calls.Running.TheVariants as running
-use Rattle.wq_checked.specs.declared.kept_bits.KeptBits.{KeptBits}
-use Rattle.wq_checked.specs.declared.reasons.Refused.{Refused}
 use Rattle.wq_checked.specs.declared.reasons.Refused.TheVariants as reason
-use Rattle.sugwelan_c.specs.Told.{refusal_code}
-use Rattle.sugwelan_c.specs.declared.handles.Unmade.{Unmade}
-use Rattle.sugwelan_c.specs.declared.handles.Unmade.TheVariants as unmade
+use Rattle.sugwelan_c.specs.{Told.refusal_code, declared.handles.Unmade.Unmade}
 use Rattle.sugwelan_c.specs.declared.replies.TheConstants.{DONE, EAGAIN, EBUSY, EINVAL, ENOMEM, ENOTEMPTY}
+use Rattle.sugwelan_c.specs.declared.handles.Unmade.TheVariants as unmade
 
 -- a task that has made no call yet
 pub record IsFreshTask (t : Checked) : Type 0 where

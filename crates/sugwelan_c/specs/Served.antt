@@ -2,26 +2,18 @@
 -- What is done with a call, by the task's own call that it is.
 use Rattle.std.specs.Prelude.{◌≡◌, ℕ, ℤ, Bool, true, false, List, Option, Some, None, []}
 use Rattle.wait_rule.specs.Known.{Known}
-use Rattle.wq_head.specs.Roused.{tasks_in}
-use Rattle.wq_head.specs.declared.rousing.Rousing.{Rousing}
-use Rattle.wq_checked.specs.Begins.{BeginsCall, refusal_to}
+use Rattle.wq_head.specs.{Roused.tasks_in, declared.rousing.Rousing.Rousing}
+use Rattle.wq_checked.specs.{Begins.BeginsCall, Begins.refusal_to, Checked.Checked, Outs.WentOut}
+use Rattle.wq_checked.specs.{Reasons.stopped_reason, declared.calls.Progress.Progress, declared.calls.Running.Running}
 use Rattle.wq_checked.specs.Calls.{CameFrom, Rouses, WentOn}
-use Rattle.wq_checked.specs.Checked.{Checked}
 use Rattle.wq_checked.specs.Locks.{IsDrawn, Passes, awaited_in}
-use Rattle.wq_checked.specs.Outs.{WentOut}
-use Rattle.wq_checked.specs.Reasons.{stopped_reason}
-use Rattle.wq_checked.specs.declared.calls.Progress.{Progress}
 use Rattle.wq_checked.specs.declared.calls.Progress.TheVariants as progress
-use Rattle.wq_checked.specs.declared.calls.Running.{Running}
 use Rattle.wq_checked.specs.declared.reasons.Refused.TheVariants as reason
-use Rattle.sugwelan_c.specs.Asked.{asks}
+use Rattle.sugwelan_c.specs.{Asked.asks, declared.calls.Call.Call, declared.calls.Wanted.Wanted}
+use Rattle.sugwelan_c.specs.{declared.replies.Reply.Reply, declared.replies.Told.Told}
 use Rattle.sugwelan_c.specs.Told.{TellsReply, code_of, roused_in_reply}
-use Rattle.sugwelan_c.specs.declared.calls.Call.{Call}
-use Rattle.sugwelan_c.specs.declared.calls.Wanted.{Wanted}
 use Rattle.sugwelan_c.specs.declared.calls.Wanted.TheVariants as wanted
-use Rattle.sugwelan_c.specs.declared.replies.Reply.{Reply}
 use Rattle.sugwelan_c.specs.declared.replies.Reply.TheVariants as reply
-use Rattle.sugwelan_c.specs.declared.replies.Told.{Told}
 
 -- The call that is under way has come on by its own turns, from wherever it came, or is over with its answer.
 abbrev pub GoesOn : Checked → Checked → Progress → Type 0

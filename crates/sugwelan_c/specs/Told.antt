@@ -5,26 +5,20 @@ use Rattle.bit_wait.specs.declared.wait_calls.BitEnd.{BitEnd}
 use Rattle.bit_wait.specs.declared.wait_calls.BitEnd.TheVariants as bit_end
 use Rattle.wait_event.specs.declared.wait_events.WaitEnd.{WaitEnd}
 use Rattle.wait_event.specs.declared.wait_events.WaitEnd.TheVariants as wait_end
-use Rattle.wait_model.specs.declared.queues.End.{End}
-use Rattle.wait_model.specs.declared.queues.End.TheVariants as end
-use Rattle.wait_model.specs.declared.queues.Walked.{Walked}
-use Rattle.wait_model.specs.Sentences.{taken_number}
+use Rattle.wait_model.specs.{declared.queues.End.End, declared.queues.Walked.Walked, Sentences.taken_number}
 use Rattle.wait_model.specs.declared.layout.TheConstants.{HEADS}
+use Rattle.wait_model.specs.declared.queues.End.TheVariants as end
 use Rattle.wq_head.specs.Scanned.{unmade}
-use Rattle.wq_checked.specs.declared.calls.Answer.{Answer}
+use Rattle.wq_checked.specs.{declared.calls.Answer.Answer, declared.calls.Awaited.Awaited}
+use Rattle.wq_checked.specs.{declared.calls.Progress.Progress, declared.reasons.Refused.Refused}
 use Rattle.wq_checked.specs.declared.calls.Answer.TheVariants as answer
-use Rattle.wq_checked.specs.declared.calls.Awaited.{Awaited}
-use Rattle.wq_checked.specs.declared.calls.Progress.{Progress}
 use Rattle.wq_checked.specs.declared.calls.Progress.TheVariants as progress
-use Rattle.wq_checked.specs.declared.reasons.Refused.{Refused}
 use Rattle.wq_checked.specs.declared.reasons.Refused.TheVariants as reason
-use Rattle.sugwelan_c.specs.declared.replies.Reply.{Reply}
+use Rattle.sugwelan_c.specs.{declared.replies.Reply.Reply, declared.replies.Told.Told}
+use Rattle.sugwelan_c.specs.declared.replies.TheConstants.{AGAIN, DONE, EBUSY, ECANCELED, EDEADLK, EINTR, EINVAL}
+use Rattle.sugwelan_c.specs.declared.replies.TheConstants.{ENOENT, ENOSPC, ENOTRECOVERABLE, EOPNOTSUPP, EPERM, LOCKED}
+use Rattle.sugwelan_c.specs.declared.replies.TheConstants.{PARK, ROOM}
 use Rattle.sugwelan_c.specs.declared.replies.Reply.TheVariants as reply
-use Rattle.sugwelan_c.specs.declared.replies.Told.{Told}
-use Rattle.sugwelan_c.specs.declared.replies.TheConstants.{AGAIN, DONE, EBUSY, ECANCELED, EDEADLK, EINTR}
-use Rattle.sugwelan_c.specs.declared.replies.TheConstants.{EINVAL, ENOENT, ENOSPC}
-use Rattle.sugwelan_c.specs.declared.replies.TheConstants.{ENOTRECOVERABLE, EOPNOTSUPP, EPERM}
-use Rattle.sugwelan_c.specs.declared.replies.TheConstants.{LOCKED, PARK, ROOM}
 
 -- the codes
 abbrev pub refusal_code : Refused → ℤ

@@ -9,18 +9,15 @@ use Rattle.wait_model.specs.declared.points.CountPoint.TheVariants as counting
 use Rattle.wait_model.specs.declared.points.FinishPoint.TheVariants as finishing
 use Rattle.wait_model.specs.declared.points.LeavePoint.TheVariants as leaving
 use Rattle.wait_model.specs.declared.points.PagePoint.TheVariants as paging
-use Rattle.wait_model.specs.declared.points.Point.{Point}
+use Rattle.wait_model.specs.{declared.points.Point.Point, declared.points.Seen.Seen}
+use Rattle.wait_model.specs.{declared.tasks.SleepState.SleepState, Points.given_at, Programs.active_event}
+use Rattle.wait_model.specs.Programs.{program}
 use Rattle.wait_model.specs.declared.points.Point.TheVariants as at
 use Rattle.wait_model.specs.declared.points.PreparePoint.TheVariants as preparing
-use Rattle.wait_model.specs.declared.points.Seen.{Seen}
 use Rattle.wait_model.specs.declared.points.SelectPoint.TheVariants as selecting
 use Rattle.wait_model.specs.declared.points.WokenPoint.TheVariants as hearing
 use Rattle.wait_model.specs.declared.queues.Form.TheVariants as forms
-use Rattle.wait_model.specs.declared.tasks.SleepState.{SleepState}
-use Rattle.wait_model.specs.Points.{given_at}
-use Rattle.wait_model.specs.Programs.{active_event, program}
-use Rattle.wait_rule.specs.Queues.{index}
-use Rattle.wait_rule.specs.Transitions.{call_program}
+use Rattle.wait_rule.specs.{Queues.index, Transitions.call_program}
 use Rattle.swait_queue.specs.SimpleWaits.{tail_in}
 
 module _ (me c : ℕ) (st : SleepState) where

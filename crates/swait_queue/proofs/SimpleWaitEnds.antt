@@ -4,10 +4,8 @@ use Rattle.std.specs.Prelude.{ℕ, Result}
 use Rattle.wait_model.specs.declared.points.Point.TheVariants as at
 use Rattle.wait_model.specs.declared.points.Next.TheVariants as next
 use Rattle.wait_model.specs.declared.tasks.SleepState.{SleepState}
-use Rattle.wait_rule.specs.Known.{Known}
-use Rattle.wait_rule.specs.Transitions.{Goes, Program}
-use Rattle.wait_event.specs.declared.wait_events.WaitEnd.{WaitEnd}
-use Rattle.wait_event.specs.Ends.{EndsWait, answer_of_end}
+use Rattle.wait_rule.specs.{Known.Known, Transitions.Goes, Transitions.Program}
+use Rattle.wait_event.specs.{declared.wait_events.WaitEnd.WaitEnd, Ends.EndsWait, Ends.answer_of_end}
 use Rattle.swait_queue.specs.SimpleWaits.{EndsSimpleWait, tail_in}
 use Rattle.swait_queue.proofs.SimplePrograms.{same_program}
 

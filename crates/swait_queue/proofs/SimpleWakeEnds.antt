@@ -2,28 +2,21 @@
 use Rattle.std.proofs.Common.{◌∙◌, ap, sym, refl, subst, inl, inr, eqb-true, arith}
 use Rattle.std.proofs.lemmas.Bool.Decides.{nat_tests}
 use Rattle.std.specs.Prelude.{ℕ, ◌≡◌, ◌≢◌, ◌<◌, ◌≤◌, ◌⊎◌, ◌==◌, ◌&&◌, not, Bool, true, false, None, [], ◌∷◌, pos}
-use Rattle.wait_model.specs.declared.layout.TheConstants.{FIRST_DONE_HEAD, FIRST_SIMPLE_HEAD}
+use Rattle.wait_model.specs.declared.layout.TheConstants.{FIRST_DONE_HEAD}
+use Rattle.wait_model.specs.{declared.layout.TheConstants.FIRST_SIMPLE_HEAD, declared.calls.Call.Call}
+use Rattle.wait_model.specs.{declared.watches.Watch.Watch, Points.count_of, Watches.head_of, Words.flag}
+use Rattle.wait_model.specs.Views.{View as Told}
 use Rattle.wait_model.specs.declared.calls.Answer.TheVariants as answer
-use Rattle.wait_model.specs.declared.calls.Call.{Call}
 use Rattle.wait_model.specs.declared.calls.Call.TheVariants as calls
 use Rattle.wait_model.specs.declared.points.Point.TheVariants as at
 use Rattle.wait_model.specs.declared.points.SelectPoint.TheVariants as selecting
 use Rattle.wait_model.specs.declared.points.Next.TheVariants as next
 use Rattle.wait_model.specs.declared.watches.Mode.TheVariants as mode
-use Rattle.wait_model.specs.declared.watches.Watch.{Watch}
 use Rattle.wait_model.specs.declared.watches.Watch.TheVariants as watch
-use Rattle.wait_model.specs.Points.{count_of}
-use Rattle.wait_model.specs.Watches.{head_of}
-use Rattle.wait_model.specs.Words.{flag}
-use Rattle.wait_rule.specs.Known.{Known}
+use Rattle.wait_rule.specs.{Known.Known, Says.told_of, Says.unlocked_with, Transitions.call_program}
 use Rattle.wait_rule.specs.Queues.{IsIdle, IsWholeBook, MayRise, simple_watch, walk_of_hold}
-use Rattle.wait_rule.specs.Says.{told_of, unlocked_with}
-use Rattle.wait_rule.specs.Stays.{Carries, Stays, wake_all_change}
-use Rattle.wait_rule.specs.Transitions.{call_program}
-use Rattle.wait_rule.proofs.KnownLaws.StayingParts.{stays_on}
-use Rattle.wait_rule.specs.Stays.{no_entries}
-use Rattle.wait_model.specs.Views.{View as Told}
-use Rattle.wait_rule.proofs.KnownLaws.Transitions.{goes_on}
+use Rattle.wait_rule.specs.Stays.{Carries, Stays, wake_all_change, no_entries}
+use Rattle.wait_rule.proofs.{KnownLaws.StayingParts.stays_on, KnownLaws.Transitions.goes_on}
 use Rattle.wq_head.specs.Holds.{HasLocked}
 use Rattle.wq_head.specs.Selects.{EndsSelection, HasSelected, IsSimpleHold, KeepsHold, ShowsNoEntry}
 use Rattle.wq_head.proofs.LockWaits.{locked_at, locked_stays, locked_told}

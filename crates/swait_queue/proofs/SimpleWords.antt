@@ -7,8 +7,7 @@ use Rattle.wait_model.specs.declared.points.Point.TheVariants as at
 use Rattle.wait_model.specs.declared.points.SelectPoint.TheVariants as selecting
 use Rattle.wait_model.specs.declared.points.Next.TheVariants as next
 use Rattle.wait_rule.specs.Transitions.{call_program}
-use Rattle.wait_rule.proofs.SaidEvents.Fronts.{number_stays}
-use Rattle.wait_rule.proofs.SaidEvents.FollowedRuns.{runs_follow}
+use Rattle.wait_rule.proofs.{SaidEvents.Fronts.number_stays, SaidEvents.FollowedRuns.runs_follow}
 use Rattle.wait_rule.proofs.SaidEvents.SignalledRuns.{runs_heed}
 use Rattle.wait_event.specs.declared.wait_events.WaitEnd.TheVariants as wait_end
 use Rattle.wait_event.specs.Ends.{answer_of_end}

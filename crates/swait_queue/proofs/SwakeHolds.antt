@@ -5,20 +5,17 @@ use Rattle.wait_model.specs.declared.layout.TheConstants.{FIRST_SIMPLE_HEAD, HEA
 use Rattle.wait_model.specs.declared.watches.Mode.TheVariants as mode
 use Rattle.wait_model.specs.declared.watches.Watch.TheVariants as watch
 use Rattle.wait_model.specs.Watches.{head_of}
-use Rattle.wait_rule.specs.Known.{Known}
+use Rattle.wait_rule.specs.{Known.Known, Stays.Carries, Stays.wake_all_change}
 use Rattle.wait_rule.specs.Says.{IsFree, IsUp, unlocked_with}
-use Rattle.wait_rule.specs.Stays.{Carries, wake_all_change}
 use Rattle.wait_rule.proofs.KnownLaws.CarriedCounts.{excused_more}
 use Rattle.wait_class.proofs.WatchHeads.{head_fits}
 use Rattle.wq_head.specs.LockTurns.{AwaitsLock, TookLock}
 use Rattle.wq_head.specs.Selects.{HasSelected, IsSimpleHold, KeepsHold}
-use Rattle.swait_queue.specs.declared.swake_turns.SwakeRun.{SwakeRun}
-use Rattle.swait_queue.specs.declared.swake_turns.SwakeStage.TheVariants as stage
-use Rattle.swait_queue.specs.declared.swake_turns.SwakeTurn.{SwakeTurn}
-use Rattle.swait_queue.specs.declared.swake_turns.SwakeTurn.TheVariants as turn
-use Rattle.swait_queue.specs.SimpleWaits.{IsSimpleCond}
-use Rattle.swait_queue.specs.SimpleWakes.{is_swake_spent, most_of}
+use Rattle.swait_queue.specs.{declared.swake_turns.SwakeRun.SwakeRun, declared.swake_turns.SwakeTurn.SwakeTurn}
+use Rattle.swait_queue.specs.{SimpleWaits.IsSimpleCond, SimpleWakes.is_swake_spent, SimpleWakes.most_of}
 use Rattle.swait_queue.specs.SwakeTurns.{HasSwakeTurned, HoldsForSwake, IsAtSwake, IsSwakeOver, SwakeRests, swake_head}
+use Rattle.swait_queue.specs.declared.swake_turns.SwakeStage.TheVariants as stage
+use Rattle.swait_queue.specs.declared.swake_turns.SwakeTurn.TheVariants as turn
 use Rattle.swait_queue.proofs.SimpleWakeEnds.{ends_wake, head_simple, wake_carries, wake_idle}
 
 -- before the draw the task is as the wake began

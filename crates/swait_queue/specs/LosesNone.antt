@@ -3,9 +3,7 @@
 use Rattle.std.specs.Prelude.{ℕ}
 use Rattle.wait_model.specs.declared.watches.Mode.TheVariants as mode
 use Rattle.wait_model.specs.declared.watches.Watch.TheVariants as watch
-use Rattle.wait_rule.specs.Known.{Known}
-use Rattle.wait_rule.specs.LosesNone.{HasNoWakeOf, LeavesNoneAsleep}
-use Rattle.wait_rule.specs.Says.{Excuse, OwesBut}
+use Rattle.wait_rule.specs.{Known.Known, LosesNone.HasNoWakeOf, LosesNone.LeavesNoneAsleep, Says.Excuse, Says.OwesBut}
 use Rattle.wait_rule.specs.Stays.{Carries, wake_all_change, with_wakes}
 
 -- Before the call the task owed wakes of the condition, as one that has set it does, and at most this beside them.

@@ -1,18 +1,15 @@
 -- To be believed.
 -- Waits in simple queues.
 use Rattle.std.specs.Prelude.{ℕ, ◌≡◌, ◌<◌, ◌≤◌, Bool, true, Result}
-use Rattle.wait_model.specs.declared.layout.TheConstants.{FIRST_SIMPLE, PLAIN_CONDITIONS}
+use Rattle.wait_model.specs.{declared.layout.TheConstants.FIRST_SIMPLE, declared.layout.TheConstants.PLAIN_CONDITIONS}
+use Rattle.wait_model.specs.{declared.tasks.How.How, declared.tasks.SleepState.SleepState}
 use Rattle.wait_model.specs.declared.calls.Call.TheVariants as calls
 use Rattle.wait_model.specs.declared.points.Point.TheVariants as at
 use Rattle.wait_model.specs.declared.points.Next.TheVariants as next
-use Rattle.wait_model.specs.declared.tasks.How.{How}
-use Rattle.wait_model.specs.declared.tasks.SleepState.{SleepState}
-use Rattle.wait_rule.specs.Known.{Known}
-use Rattle.wait_rule.specs.Transitions.{call_program}
-use Rattle.wait_event.specs.Ends.{IsCondWaitCause, answer_of_end}
-use Rattle.wait_class.specs.Posts.{Runs}
-use Rattle.wait_event.specs.Waits.{has_queued_in}
+use Rattle.wait_rule.specs.{Known.Known, Transitions.call_program}
+use Rattle.wait_event.specs.{Ends.IsCondWaitCause, Ends.answer_of_end, Waits.has_queued_in}
 use Rattle.wait_event.specs.declared.wait_events.WaitEnd.{WaitEnd}
+use Rattle.wait_class.specs.Posts.{Runs}
 
 -- a plain condition whose head is a simple one
 pub record IsSimpleCond (c : ℕ) : Type 0 where

@@ -8,13 +8,10 @@ use Rattle.wait_model.specs.declared.points.SelectPoint.TheVariants as selecting
 use Rattle.wait_model.specs.declared.points.Next.TheVariants as next
 use Rattle.wait_model.specs.declared.watches.Watch.TheVariants as watch
 use Rattle.wait_model.specs.Watches.{head_of}
-use Rattle.wait_rule.specs.Known.{Known}
-use Rattle.wait_rule.specs.Queues.{walk_of_hold}
+use Rattle.wait_rule.specs.{Known.Known, Queues.walk_of_hold, Transitions.call_program}
 use Rattle.wait_rule.specs.Says.{Excuse, unlocked_with, OwesBut}
-use Rattle.wait_rule.specs.Transitions.{call_program}
 use Rattle.wait_class.specs.Posts.{Runs}
-use Rattle.wq_head.specs.Holds.{HasLocked}
-use Rattle.wq_head.specs.Selects.{HasSelected}
+use Rattle.wq_head.specs.{Holds.HasLocked, Selects.HasSelected}
 
 -- how many entries a wake is to select: one, or all, which is 0
 abbrev pub most_of : Bool → ℕ

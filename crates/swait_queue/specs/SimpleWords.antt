@@ -4,18 +4,11 @@
 use Rattle.std.specs.Prelude.{ℕ, ◌≡◌, Bool, Result, Err, [], pos}
 use Rattle.wait_model.specs.declared.calls.Answer.TheVariants as answer
 use Rattle.wait_model.specs.declared.calls.Call.TheVariants as calls
-use Rattle.wait_model.specs.declared.tasks.SleepState.{SleepState}
-use Rattle.wait_model.specs.Programs.{signalled}
-use Rattle.wait_model.specs.Sentences.{Follows}
-use Rattle.wait_rule.specs.Known.{Known}
-use Rattle.wait_rule.specs.Heeding.{EndsSignalled, trail_of}
-use Rattle.wait_rule.specs.Says.{MeetsLaw}
-use Rattle.wait_event.specs.declared.wait_events.WaitEnd.{WaitEnd}
+use Rattle.wait_model.specs.{declared.tasks.SleepState.SleepState, Programs.signalled, Sentences.Follows}
+use Rattle.wait_rule.specs.{Known.Known, Heeding.EndsSignalled, Heeding.trail_of, Says.MeetsLaw}
+use Rattle.wait_event.specs.{declared.wait_events.WaitEnd.WaitEnd, Ends.answer_of_end, Words.call_says}
 use Rattle.wait_class.specs.Posts.{IsOut}
-use Rattle.wait_event.specs.Ends.{answer_of_end}
-use Rattle.wait_event.specs.Words.{call_says}
-use Rattle.swait_queue.specs.SimpleWaits.{EndsSimpleWait}
-use Rattle.swait_queue.specs.SimpleWakes.{EndsSimpleWake}
+use Rattle.swait_queue.specs.{SimpleWaits.EndsSimpleWait, SimpleWakes.EndsSimpleWake}
 
 -- A simple wait, whatever it answers; a load of the base word after it (`Task::witness`) shows the table that is asked
 -- for.

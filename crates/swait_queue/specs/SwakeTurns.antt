@@ -1,24 +1,17 @@
 -- To be believed.
 -- A wake of a simple queue that is made by stretches: where it stands between two of them, and what each did.
 use Rattle.std.specs.Prelude.{ℕ, ◌≡◌, Bool, Some}
-use Rattle.wait_model.specs.declared.layout.TheConstants.{HEADS}
+use Rattle.wait_model.specs.{declared.layout.TheConstants.HEADS, Watches.head_of}
 use Rattle.wait_model.specs.declared.watches.Mode.TheVariants as mode
 use Rattle.wait_model.specs.declared.watches.Watch.TheVariants as watch
-use Rattle.wait_model.specs.Watches.{head_of}
-use Rattle.wait_rule.specs.declared.tries.FailedTries.{FailedTries}
-use Rattle.wait_rule.specs.Known.{Known}
-use Rattle.wait_rule.specs.Queues.{IsIdle}
-use Rattle.wait_rule.specs.Says.{IsUp}
-use Rattle.wait_rule.specs.Stays.{Carries, wake_all_change}
-use Rattle.wait_rule.specs.Tried.{IsStarved}
+use Rattle.wait_rule.specs.{declared.tries.FailedTries.FailedTries, Known.Known, Queues.IsIdle, Says.IsUp}
+use Rattle.wait_rule.specs.{Stays.Carries, Stays.wake_all_change, Tried.IsStarved}
 use Rattle.wq_head.specs.LockTurns.{AwaitsLock, FindsOther, TookLock}
-use Rattle.swait_queue.specs.declared.swake_turns.SwakeRun.{SwakeRun}
-use Rattle.swait_queue.specs.declared.swake_turns.SwakeStage.{SwakeStage}
+use Rattle.swait_queue.specs.{declared.swake_turns.SwakeRun.SwakeRun, declared.swake_turns.SwakeStage.SwakeStage}
+use Rattle.swait_queue.specs.{declared.swake_turns.SwakeTurn.SwakeTurn, SimpleWaits.IsSimpleCond}
+use Rattle.swait_queue.specs.{SimpleWakes.EndsSimpleWake, SimpleWakes.OwesAtMost}
 use Rattle.swait_queue.specs.declared.swake_turns.SwakeStage.TheVariants as stage
-use Rattle.swait_queue.specs.declared.swake_turns.SwakeTurn.{SwakeTurn}
 use Rattle.swait_queue.specs.declared.swake_turns.SwakeTurn.TheVariants as turn
-use Rattle.swait_queue.specs.SimpleWaits.{IsSimpleCond}
-use Rattle.swait_queue.specs.SimpleWakes.{EndsSimpleWake, OwesAtMost}
 
 -- a wake of this condition, of one or of all
 pub record IsFreshSwake (r : SwakeRun) (c : ℕ) (all : Bool) : Type 0 where

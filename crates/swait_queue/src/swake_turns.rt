@@ -1,8 +1,7 @@
 //! Wakes of simple queues by stretches, for who may not wait.
 
 ghost use Rattle.std.specs.Prelude.{◌≡◌, [], MatchResult};
-ghost use Rattle.wait_rule.specs.Known.{Known};
-ghost use Rattle.wait_rule.specs.PassedLocks.{PassesNone};
+ghost use Rattle.wait_rule.specs.{Known.Known, PassedLocks.PassesNone};
 ghost use Rattle.wq_head.specs.Roused.{IsRousing, RousesNone, tasks_in};
 ghost use Rattle.swait_queue.specs.declared.swake_turns.SwakeStage.TheVariants as stages;
 ghost use Rattle.swait_queue.specs.SwakeTurns.{HasSwakeStarved, HasSwakeTurned, HoldsForSwake, IsAtSwake, IsFreshSwake, IsSwakeOver, SwakeRests};

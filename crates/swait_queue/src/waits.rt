@@ -3,17 +3,12 @@
 ghost use Rattle.std.specs.Prelude.{◌≡◌, false, true};
 ghost use Rattle.wait_model.specs.declared.watches.Watch.TheVariants as watch;
 ghost use Rattle.wait_model.specs.Tasks.{is_killable};
+ghost use Rattle.wait_rule.specs.{Says.IsClean, Says.IsUp, Stays.Carries};
 ghost use Rattle.wait_rule.specs.Queues.{IsIdle, IsTold, index};
-ghost use Rattle.wait_rule.specs.Says.{IsClean, IsUp};
-ghost use Rattle.wait_rule.specs.Stays.{Carries};
 ghost use Rattle.wait_event.specs.declared.waits.WaitStage.TheVariants as stage;
-ghost use Rattle.wait_class.specs.Posts.{IsOut};
-ghost use Rattle.wait_event.specs.Ends.{wait_change};
+ghost use Rattle.wait_class.specs.{Posts.IsOut, Tables.Advances, Tables.IsAt, UnderWay.IsUnderWay};
+ghost use Rattle.wait_event.specs.{Ends.wait_change, WaitLeaves.EndsWaitUntil, Waits.IsFreshWait, Waits.wait_table};
 ghost use Rattle.wait_class.specs.declared.stages.Turn.TheVariants as turn;
-ghost use Rattle.wait_class.specs.Tables.{Advances, IsAt};
-ghost use Rattle.wait_class.specs.UnderWay.{IsUnderWay};
-ghost use Rattle.wait_event.specs.WaitLeaves.{EndsWaitUntil};
-ghost use Rattle.wait_event.specs.Waits.{IsFreshWait, wait_table};
 ghost use Rattle.swait_queue.specs.SimpleWaits.{EndsSimpleWait, IsSimpleCond, tail_in};
 
 use std::sync::Wait;

@@ -1,17 +1,13 @@
 //! Wakes of simple queues: each selects the first entry, or all, in one hold.
 
 ghost use Rattle.std.specs.Prelude.{◌≡◌, ◌<◌, ◌≤◌, ◌==◌, true, false};
-ghost use Rattle.wait_model.specs.declared.layout.TheConstants.{FIRST_SIMPLE_HEAD};
+ghost use Rattle.wait_model.specs.{declared.layout.TheConstants.FIRST_SIMPLE_HEAD, Words.flag};
 ghost use Rattle.wait_model.specs.declared.watches.Mode.TheVariants as mode;
 ghost use Rattle.wait_model.specs.declared.watches.Watch.TheVariants as watch;
-ghost use Rattle.wait_model.specs.Words.{flag};
-ghost use Rattle.wait_rule.specs.Queues.{IsIdle, MayRise};
-ghost use Rattle.wait_rule.specs.Says.{IsUp};
+ghost use Rattle.wait_rule.specs.{Queues.IsIdle, Queues.MayRise, Says.IsUp};
 ghost use Rattle.wait_rule.specs.Stays.{Carries, only_looks, wake_all_change};
-ghost use Rattle.wq_head.specs.Holds.{IsHolding};
-ghost use Rattle.wq_head.specs.Selects.{HasSelected, IsSimpleHold};
-ghost use Rattle.swait_queue.specs.SimpleWaits.{IsSimpleCond};
-ghost use Rattle.swait_queue.specs.SimpleWakes.{EndsSimpleWake, OwesAtMost};
+ghost use Rattle.wq_head.specs.{Holds.IsHolding, Selects.HasSelected, Selects.IsSimpleHold};
+ghost use Rattle.swait_queue.specs.{SimpleWaits.IsSimpleCond, SimpleWakes.EndsSimpleWake, SimpleWakes.OwesAtMost};
 ghost use Rattle.swait_queue.specs.SwakeTurns.{IsSwakeOver};
 
 use crate::swake_turns::{SwakeRun, SwakeStage, SwakeTurn, swake_stretch};

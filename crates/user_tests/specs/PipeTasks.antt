@@ -2,17 +2,13 @@
 -- Tasks of tests, between two calls.
 use Rattle.std.specs.Prelude.{◌≡◌, ℕ, ◌≤◌, Bool, IfOk, MatchBool, Result}
 use Rattle.atomic_table.specs.Seated.{TableId}
-use Rattle.wait_rule.specs.Known.{Known}
-use Rattle.wait_rule.specs.Pipes.{read_end, write_end}
-use Rattle.wait_rule.specs.PipeSays.{end_at}
-use Rattle.wait_rule.specs.Queues.{IsIdle}
-use Rattle.wait_rule.specs.Says.{IsUp, OwesBut, RestsIn, no_excuse}
+use Rattle.wait_rule.specs.{Known.Known, Pipes.read_end, Pipes.write_end, PipeSays.end_at, Queues.IsIdle}
 use Rattle.wait_rule.specs.Stays.{with_end}
+use Rattle.wait_rule.specs.Says.{IsUp, OwesBut, RestsIn, no_excuse}
 use Rattle.wait_class.specs.Posts.{IsOut}
 use Rattle.wait_leave.specs.declared.exits.Until.{Until}
 use Rattle.wait_leave.specs.declared.exits.Until.TheVariants as until
-use Rattle.wait_pipe.specs.Pieces.{IsSettled}
-use Rattle.wait_pipe.specs.declared.pieces.PipeEnd.{PipeEnd}
+use Rattle.wait_pipe.specs.{Pieces.IsSettled, declared.pieces.PipeEnd.PipeEnd}
 
 -- a task of this domain has end k, and passed on every cell there; but for that end it owes nothing
 pub record HasEnd (domain : TableId) (k : ℕ) (x : Known) : Type 0 where

@@ -5,12 +5,9 @@ use Rattle.std.specs.Prelude.{ℕ, ◌≡◌, ◌≢◌, ◌⊎◌, true, false,
 use Rattle.wait_model.specs.declared.queues.Walked.{Walked}
 use Rattle.wait_model.specs.declared.watches.Mode.TheVariants as mode
 use Rattle.wait_model.specs.declared.watches.Watch.TheVariants as watch
-use Rattle.wait_rule.specs.Known.{Known}
-use Rattle.wait_rule.specs.LosesNone.{OwesNoneOf}
-use Rattle.wait_rule.specs.Says.{told_of}
+use Rattle.wait_rule.specs.{Known.Known, LosesNone.OwesNoneOf, Says.told_of}
 use Rattle.wait_rule.proofs.KnownLaws.LosesNone.{settled_leave_none}
-use Rattle.var_wait.specs.LosesNone.{PublishesLoseNone}
-use Rattle.var_wait.specs.VarPublishes.{HasPublished}
+use Rattle.var_wait.specs.{LosesNone.PublishesLoseNone, VarPublishes.HasPublished}
 
 published_owes_none : (old new : Known) (v value : ℕ) (walked : Walked) → HasPublished old new v value walked
     → OwesNoneOf (watch.Var v 0) mode.Normal new

@@ -5,34 +5,26 @@ use Rattle.wait_model.specs.declared.calls.Answer.TheVariants as answer
 use Rattle.wait_model.specs.declared.calls.Call.TheVariants as calls
 use Rattle.wait_model.specs.declared.points.Point.TheVariants as at
 use Rattle.wait_model.specs.declared.points.Next.TheVariants as next
-use Rattle.wait_model.specs.declared.points.Seen.{Seen}
+use Rattle.wait_model.specs.{declared.points.Seen.Seen, declared.queues.Walked.Walked, declared.watches.Watch.Watch}
+use Rattle.wait_model.specs.{Programs.active_event, Tasks.meets, Watches.head_of, Watches.mask_of}
 use Rattle.wait_model.specs.declared.points.WalkPoint.TheVariants as walking
-use Rattle.wait_model.specs.declared.queues.Walked.{Walked}
 use Rattle.wait_model.specs.declared.steps.Step.TheVariants as step
 use Rattle.wait_model.specs.declared.watches.Mode.TheVariants as mode
-use Rattle.wait_model.specs.declared.watches.Watch.{Watch}
 use Rattle.wait_model.specs.declared.watches.Watch.TheVariants as watch
-use Rattle.wait_model.specs.Programs.{active_event}
-use Rattle.wait_model.specs.Tasks.{meets}
-use Rattle.wait_model.specs.Watches.{head_of, mask_of}
-use Rattle.wait_rule.specs.declared.journal.Item.{Item}
-use Rattle.wait_rule.specs.declared.journal.Item.TheVariants as item
-use Rattle.wait_rule.specs.Items.{Book, book_from}
-use Rattle.wait_rule.specs.Known.{Known}
-use Rattle.wait_rule.specs.Queues.{IsIdle, index}
+use Rattle.wait_rule.specs.{declared.journal.Item.Item, Items.Book, Items.book_from, Known.Known, Queues.IsIdle}
+use Rattle.wait_rule.specs.Queues.{index}
 use Rattle.wait_rule.specs.Says.{added, grown, told_of}
 use Rattle.wait_rule.specs.Stays.{Carries, publish_change, unchanged, wake_all_change, with_wakes}
 use Rattle.wait_rule.specs.Transitions.{AreScansOf, Program, by_look, by_step, call_program}
+use Rattle.wait_rule.specs.declared.journal.Item.TheVariants as item
 use Rattle.wait_rule.proofs.KnownLaws.Transitions.{only_none}
 use Rattle.wq_head.proofs.HeadLooks.{found_none_over}
 use Rattle.wq_head.specs.Scanned.{HasEndedAt, HasScanned, unmade}
 use Rattle.wq_head.specs.Walks.{HasEnded, HasWoken, most}
 use Rattle.wait_event.specs.Conds.{set_change}
-use Rattle.wait_class.specs.Posts.{Runs}
-use Rattle.wait_class.specs.Findings.{saw_nothing, with_value}
-use Rattle.wait_class.proofs.Ground.Standing.{bare_head}
-use Rattle.wait_class.proofs.Ground.Going.{runs_on, runs_one}
-use Rattle.wait_class.proofs.Ground.WalkedCalls.{walk_ends_held, walk_goes}
+use Rattle.wait_class.specs.{Posts.Runs, Findings.saw_nothing, Findings.with_value}
+use Rattle.wait_class.proofs.{Ground.Standing.bare_head, Ground.Going.runs_on, Ground.Going.runs_one}
+use Rattle.wait_class.proofs.{Ground.WalkedCalls.walk_ends_held, Ground.WalkedCalls.walk_goes}
 use Rattle.wait_event.proofs.Setting.{set_carries, set_idle}
 use Rattle.var_wait.specs.VarPublishes.{HasPublished, aim_of}
 

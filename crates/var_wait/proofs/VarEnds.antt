@@ -3,19 +3,15 @@ use Rattle.std.proofs.Common.{◌∙◌, sym, refl, subst, arith}
 use Rattle.std.proofs.lemmas.Bool.Decides.{nat_tests}
 use Rattle.std.specs.Prelude.{ℕ, ◌≡◌, ◌≢◌, ◌==◌, ◌&&◌, not, false, None, Some, List, [], ◌∷◌}
 use Rattle.wait_model.specs.declared.steps.Step.TheVariants as step
-use Rattle.wait_model.specs.declared.tasks.SleepState.{SleepState}
-use Rattle.wait_model.specs.declared.watches.Watch.{Watch}
+use Rattle.wait_model.specs.{declared.tasks.SleepState.SleepState, declared.watches.Watch.Watch, Watches.head_of}
+use Rattle.wait_model.specs.Watches.{misses}
 use Rattle.wait_model.specs.declared.watches.Watch.TheVariants as watch
-use Rattle.wait_model.specs.Watches.{head_of, misses}
 use Rattle.wait_rule.specs.Known.{Known}
 use Rattle.wait_rule.specs.Transitions.{StepOrLook, Transition, by_step}
-use Rattle.wait_event.specs.Ends.{wait_end_in}
-use Rattle.wait_class.specs.declared.stages.Run.{Run}
-use Rattle.wait_class.specs.Tables.{Advances}
+use Rattle.wait_event.specs.{Ends.wait_end_in, declared.waits.WaitOutcome.WaitOutcome, declared.waits.WaitCall.WaitCall}
 use Rattle.wait_event.specs.Waits.{IsFreshWait, IsRunningWait, last_loaded, loaded_by, wait_table}
-use Rattle.wait_event.specs.declared.waits.WaitOutcome.{WaitOutcome}
+use Rattle.wait_class.specs.{declared.stages.Run.Run, Tables.Advances}
 use Rattle.wait_event.specs.declared.waits.WaitOutcome.TheVariants as outcome
-use Rattle.wait_event.specs.declared.waits.WaitCall.{WaitCall}
 use Rattle.wait_event.specs.declared.waits.WaitStage.TheVariants as stage
 use Rattle.wait_class.specs.declared.stages.Turn.TheVariants as turn
 use Rattle.wait_event.proofs.Endings.{begun, found_worn, was_signalled}

@@ -5,8 +5,7 @@ use Rattle.std.specs.Prelude.{ℕ}
 use Rattle.wait_model.specs.declared.queues.Walked.{Walked}
 use Rattle.wait_model.specs.declared.watches.Mode.TheVariants as mode
 use Rattle.wait_model.specs.declared.watches.Watch.TheVariants as watch
-use Rattle.wait_rule.specs.Known.{Known}
-use Rattle.wait_rule.specs.LosesNone.{LeavesNoneAsleep}
+use Rattle.wait_rule.specs.{Known.Known, LosesNone.LeavesNoneAsleep}
 use Rattle.var_wait.specs.VarPublishes.{HasPublished}
 
 abbrev pub PublishesLoseNone : Type 0

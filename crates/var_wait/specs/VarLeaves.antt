@@ -4,8 +4,7 @@ use Rattle.std.specs.Prelude.{ℕ, ◌≡◌, Result}
 use Rattle.wait_model.specs.declared.tasks.SleepState.{SleepState}
 use Rattle.wait_model.specs.declared.watches.Watch.TheVariants as watch
 use Rattle.wait_rule.specs.Known.{Known}
-use Rattle.wait_event.specs.WaitLeaves.{EndsWaitUntil}
-use Rattle.wait_event.specs.declared.wait_events.WaitEnd.{WaitEnd}
+use Rattle.wait_event.specs.{WaitLeaves.EndsWaitUntil, declared.wait_events.WaitEnd.WaitEnd}
 use Rattle.wait_event.specs.declared.wait_leaves.WaitUntil.{WaitUntil}
 use Rattle.wait_event.specs.declared.wait_leaves.WaitUntil.TheVariants as until
 use Rattle.var_wait.specs.VarWaits.{shared_in, with_loaded}

@@ -5,17 +5,13 @@ use Rattle.wait_model.specs.declared.calls.Answer.TheVariants as answer
 use Rattle.wait_model.specs.declared.calls.Call.TheVariants as calls
 use Rattle.wait_model.specs.declared.points.Point.TheVariants as at
 use Rattle.wait_model.specs.declared.points.Next.TheVariants as next
-use Rattle.wait_model.specs.declared.queues.Walked.{Walked}
+use Rattle.wait_model.specs.{declared.queues.Walked.Walked, declared.watches.Aim.Aim, Tasks.meets, Watches.head_of}
+use Rattle.wait_model.specs.Watches.{mask_of}
 use Rattle.wait_model.specs.declared.steps.Step.TheVariants as step
-use Rattle.wait_model.specs.declared.watches.Aim.{Aim}
 use Rattle.wait_model.specs.declared.watches.Mode.TheVariants as mode
 use Rattle.wait_model.specs.declared.watches.Watch.TheVariants as watch
-use Rattle.wait_model.specs.Tasks.{meets}
-use Rattle.wait_model.specs.Watches.{head_of, mask_of}
 use Rattle.wait_rule.specs.declared.journal.Item.TheVariants as item
-use Rattle.wait_rule.specs.Known.{Known}
-use Rattle.wait_rule.specs.Says.{added, told_of}
-use Rattle.wait_rule.specs.Transitions.{call_program}
+use Rattle.wait_rule.specs.{Known.Known, Says.added, Says.told_of, Transitions.call_program}
 use Rattle.wq_head.specs.Scanned.{HasScanned, unmade}
 use Rattle.wq_head.specs.Walks.{HasEnded, HasWoken, capped}
 use Rattle.wait_class.specs.Posts.{Runs}

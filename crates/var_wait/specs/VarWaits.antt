@@ -1,21 +1,17 @@
 -- To be believed.
 -- Waits for variables.
 use Rattle.std.specs.Prelude.{ℕ, ◌≡◌, ◌≢◌, false, None, Some, Result, Ok, Err, List}
-use Rattle.wait_model.specs.declared.calls.Answer.{Answer}
+use Rattle.wait_model.specs.{declared.calls.Answer.Answer, declared.tasks.How.How, declared.tasks.SleepState.SleepState}
+use Rattle.wait_model.specs.{Programs.signalled, Programs.zero_answer}
 use Rattle.wait_model.specs.declared.calls.Answer.TheVariants as answer
 use Rattle.wait_model.specs.declared.calls.Call.TheVariants as calls
 use Rattle.wait_model.specs.declared.points.Point.TheVariants as at
 use Rattle.wait_model.specs.declared.points.Next.TheVariants as next
-use Rattle.wait_model.specs.declared.tasks.How.{How}
-use Rattle.wait_model.specs.declared.tasks.SleepState.{SleepState}
 use Rattle.wait_model.specs.declared.watches.Watch.TheVariants as watch
-use Rattle.wait_model.specs.Programs.{signalled, zero_answer}
-use Rattle.wait_rule.specs.Known.{Known}
-use Rattle.wait_rule.specs.Transitions.{Transition, call_program}
-use Rattle.wait_event.specs.Ends.{IsEndCause}
-use Rattle.wait_class.specs.Posts.{Runs}
-use Rattle.wait_event.specs.Waits.{last_loaded, has_queued_in}
+use Rattle.wait_rule.specs.{Known.Known, Transitions.Transition, Transitions.call_program}
+use Rattle.wait_event.specs.{Ends.IsEndCause, Waits.last_loaded, Waits.has_queued_in}
 use Rattle.wait_event.specs.declared.wait_events.WaitEnd.{WaitEnd}
+use Rattle.wait_class.specs.Posts.{Runs}
 use Rattle.wait_event.specs.declared.wait_events.WaitEnd.TheVariants as wait_end
 
 -- how a wait for a variable is made that sleeps in this state: it is not exclusive

@@ -4,18 +4,12 @@
 use Rattle.std.specs.Prelude.{ℕ, ◌≡◌, Result, Err, []}
 use Rattle.wait_model.specs.declared.calls.Answer.TheVariants as answer
 use Rattle.wait_model.specs.declared.calls.Call.TheVariants as calls
-use Rattle.wait_model.specs.declared.queues.Walked.{Walked}
-use Rattle.wait_model.specs.declared.tasks.SleepState.{SleepState}
-use Rattle.wait_model.specs.Programs.{signalled}
+use Rattle.wait_model.specs.{declared.queues.Walked.Walked, declared.tasks.SleepState.SleepState, Programs.signalled}
 use Rattle.wait_model.specs.Sentences.{Follows}
-use Rattle.wait_rule.specs.Known.{Known}
-use Rattle.wait_rule.specs.Heeding.{EndsSignalled, trail_of}
-use Rattle.wait_rule.specs.Says.{MeetsLaw}
-use Rattle.wait_event.specs.declared.wait_events.WaitEnd.{WaitEnd}
+use Rattle.wait_rule.specs.{Known.Known, Heeding.EndsSignalled, Heeding.trail_of, Says.MeetsLaw}
+use Rattle.wait_event.specs.{declared.wait_events.WaitEnd.WaitEnd, Words.call_says}
 use Rattle.wait_class.specs.Posts.{IsOut}
-use Rattle.wait_event.specs.Words.{call_says}
-use Rattle.var_wait.specs.VarPublishes.{HasPublished}
-use Rattle.var_wait.specs.VarWaits.{EndsVarWait, answer_of_var_end}
+use Rattle.var_wait.specs.{VarPublishes.HasPublished, VarWaits.EndsVarWait, VarWaits.answer_of_var_end}
 
 -- A wait for a variable, whatever it answers; a load of the base word after it (`Task::witness`) shows the table that
 -- is asked for.

@@ -4,9 +4,7 @@ ghost use Rattle.std.specs.Prelude.{◌≡◌, ◌<◌, ◌≤◌};
 ghost use Rattle.wait_model.specs.declared.layout.TheConstants.{CLAIMS, VARIABLES};
 ghost use Rattle.wait_model.specs.declared.watches.Mode.TheVariants as mode;
 ghost use Rattle.wait_model.specs.declared.watches.Watch.TheVariants as watch;
-ghost use Rattle.wait_rule.specs.Queues.{IsIdle};
-ghost use Rattle.wait_rule.specs.Says.{IsUp};
-ghost use Rattle.wait_rule.specs.Stays.{Carries};
+ghost use Rattle.wait_rule.specs.{Queues.IsIdle, Says.IsUp, Stays.Carries};
 ghost use Rattle.wait_event.specs.Conds.{set_change};
 ghost use Rattle.var_wait.specs.VarPublishes.{HasPublished};
 

@@ -3,17 +3,13 @@
 ghost use Rattle.std.specs.Prelude.{◌≡◌, ◌<◌, true};
 ghost use Rattle.wait_model.specs.declared.layout.TheConstants.{VARIABLES};
 ghost use Rattle.wait_model.specs.declared.watches.Watch.TheVariants as watch;
+ghost use Rattle.wait_rule.specs.{Says.IsClean, Says.IsUp, Stays.Carries};
 ghost use Rattle.wait_rule.specs.Queues.{IsIdle, IsTold, index};
-ghost use Rattle.wait_rule.specs.Says.{IsClean, IsUp};
-ghost use Rattle.wait_rule.specs.Stays.{Carries};
 ghost use Rattle.wait_event.specs.declared.waits.WaitStage.TheVariants as stage;
-ghost use Rattle.wait_class.specs.Posts.{IsOut};
-ghost use Rattle.wait_event.specs.Ends.{wait_end_in, wait_change};
+ghost use Rattle.wait_class.specs.{Posts.IsOut, Tables.Advances, Tables.IsAt, UnderWay.IsUnderWay};
+ghost use Rattle.wait_event.specs.{Ends.wait_end_in, Ends.wait_change, WaitLeaves.wait_until_in, Waits.IsFreshWait};
+ghost use Rattle.wait_event.specs.Waits.{wait_table};
 ghost use Rattle.wait_class.specs.declared.stages.Turn.TheVariants as turn;
-ghost use Rattle.wait_class.specs.Tables.{Advances, IsAt};
-ghost use Rattle.wait_class.specs.UnderWay.{IsUnderWay};
-ghost use Rattle.wait_event.specs.WaitLeaves.{wait_until_in};
-ghost use Rattle.wait_event.specs.Waits.{IsFreshWait, wait_table};
 ghost use Rattle.var_wait.specs.VarLeaves.{EndsVarUntil, until_loaded};
 ghost use Rattle.var_wait.specs.VarWaits.{EndsVarWait, shared_in, with_loaded};
 

@@ -1,23 +1,17 @@
 -- Steps that are no sleep.
 use Rattle.std.proofs.Common.{◌∙◌, ap, append_assoc, append-nil, refl, sym}
 use Rattle.std.specs.Prelude.{ℕ, ◌≡◌, ◌||◌, Bool, false, Option, Some, None, List, [], ◌∷◌, ◌++◌}
-use Rattle.wait_model.specs.declared.steps.Step.{Step}
+use Rattle.wait_model.specs.{declared.steps.Step.Step, declared.watches.Aim.Aim, declared.watches.Entry.Entry}
 use Rattle.wait_model.specs.declared.steps.Step.TheVariants as step
-use Rattle.wait_model.specs.declared.watches.Aim.{Aim}
-use Rattle.wait_model.specs.declared.watches.Entry.{Entry}
-use Rattle.wait_rule.specs.declared.journal.Item.{Item}
-use Rattle.wait_rule.specs.declared.journal.Item.TheVariants as item
-use Rattle.wait_rule.specs.Items.{steps_of}
-use Rattle.wait_rule.specs.Known.{Known}
+use Rattle.wait_rule.specs.{declared.journal.Item.Item, Items.steps_of, Known.Known, Transitions.AreLooks}
+use Rattle.wait_rule.specs.Transitions.{OnlyLooks}
 use Rattle.wait_rule.specs.Queues.{at_head, index, saw}
 use Rattle.wait_rule.specs.Says.{added, history_of, stored_with, unlocked_with}
-use Rattle.wait_rule.specs.Transitions.{AreLooks, OnlyLooks}
-use Rattle.wait_rule.proofs.KnownLaws.TaskHistories.{history_after}
-use Rattle.wait_rule.proofs.KnownLaws.Transitions.{only_looked}
+use Rattle.wait_rule.specs.declared.journal.Item.TheVariants as item
+use Rattle.wait_rule.proofs.{KnownLaws.TaskHistories.history_after, KnownLaws.Transitions.only_looked}
 use Rattle.wait_rule.proofs.TableSteps.ItemLists.{steps_append}
 use Rattle.wq_head.specs.Looks.{Looks}
-use Rattle.wait_class.specs.Laws.{Calm, HasJoined}
-use Rattle.wait_class.specs.Posts.{HasSeenOwn}
+use Rattle.wait_class.specs.{Laws.Calm, Laws.HasJoined, Posts.HasSeenOwn}
 use Rattle.wait_class.specs.Tables.{CallTable, SleepsNot, has_sleep, is_sleep}
 use Rattle.wait_class.proofs.Histories.{awake_more, stored_history, unlocked_history}
 use Rattle.wait_class.proofs.Turns.{looks_history}

@@ -1,26 +1,20 @@
 -- Calls of scripts that prepare and finish as all waits do.
 use Rattle.std.proofs.Common.{ap, refl}
 use Rattle.std.specs.Prelude.{ℕ, ◌≡◌, Bool, true, false, is_some, if◌then◌else◌}
-use Rattle.wait_model.specs.declared.calls.Call.{Call}
-use Rattle.wait_model.specs.declared.calls.Event.{Event}
-use Rattle.wait_model.specs.declared.calls.Event.TheVariants as event
-use Rattle.wait_model.specs.declared.points.FinishPoint.{FinishPoint}
-use Rattle.wait_model.specs.declared.points.FinishPoint.TheVariants as finishing
-use Rattle.wait_model.specs.declared.points.Next.{Next}
-use Rattle.wait_model.specs.declared.points.Next.TheVariants as next
-use Rattle.wait_model.specs.declared.points.Planned.{Planned}
-use Rattle.wait_model.specs.declared.points.Point.{Point}
-use Rattle.wait_model.specs.declared.points.Point.TheVariants as at
-use Rattle.wait_model.specs.declared.points.PreparePoint.{PreparePoint}
-use Rattle.wait_model.specs.declared.points.PreparePoint.TheVariants as preparing
-use Rattle.wait_model.specs.declared.points.Seen.{Seen}
+use Rattle.wait_model.specs.{declared.calls.Call.Call, declared.calls.Event.Event}
+use Rattle.wait_model.specs.{declared.points.FinishPoint.FinishPoint, declared.points.Next.Next}
+use Rattle.wait_model.specs.{declared.points.Planned.Planned, declared.points.Point.Point}
+use Rattle.wait_model.specs.{declared.points.PreparePoint.PreparePoint, declared.points.Seen.Seen, PointFacts.stirs}
+use Rattle.wait_model.specs.Tasks.{state_mask}
 use Rattle.wait_model.specs.Points.{call_head, form_of, given_at, head_at, state_in}
 use Rattle.wait_model.specs.Programs.{finished, go, prepared_at, prepares_from, program, worn_next}
-use Rattle.wait_model.specs.PointFacts.{stirs}
-use Rattle.wait_model.specs.Tasks.{state_mask}
+use Rattle.wait_model.specs.declared.calls.Event.TheVariants as event
+use Rattle.wait_model.specs.declared.points.FinishPoint.TheVariants as finishing
+use Rattle.wait_model.specs.declared.points.Next.TheVariants as next
+use Rattle.wait_model.specs.declared.points.Point.TheVariants as at
+use Rattle.wait_model.specs.declared.points.PreparePoint.TheVariants as preparing
+use Rattle.wait_class.specs.{Frames.FrameTable, Tables.call_plan}
 use Rattle.wait_class.specs.FrameLaws.{frame_given, frame_head, frame_makes, frame_stirs, framed_plan}
-use Rattle.wait_class.specs.Frames.{FrameTable}
-use Rattle.wait_class.specs.Tables.{call_plan}
 
 module _ {W T O : Type 0} (f : FrameTable W T O) (ends : Bool → Next) (c : Call)
     (from : prepares_from c ≡ at.Prepare preparing.Queue) (to : prepared_at c ≡ f.test_point f.prepared)

@@ -1,29 +1,20 @@
 -- Steps that take and give back no bit.
 use Rattle.std.proofs.Common.{◌∙◌, ap, sym, refl, append_assoc}
 use Rattle.std.specs.Prelude.{ℕ, ◌≡◌, ◌&&◌, ◌||◌, not, Bool, true, false, Option, Some, None, List, [], ◌∷◌, ◌++◌}
-use Rattle.wait_model.specs.declared.steps.Step.{Step}
+use Rattle.wait_model.specs.{declared.steps.Step.Step, declared.watches.Entry.Entry, declared.watches.Watch.Watch}
+use Rattle.wait_model.specs.{Fold.after, Fold.after_look, Views.View as Told, Views.Bits, Words.entry_of}
 use Rattle.wait_model.specs.declared.steps.Step.TheVariants as step
-use Rattle.wait_model.specs.declared.watches.Entry.{Entry}
-use Rattle.wait_model.specs.declared.watches.Watch.{Watch}
-use Rattle.wait_model.specs.Fold.{after, after_look}
-use Rattle.wait_model.specs.Views.{View as Told, Bits}
-use Rattle.wait_model.specs.Words.{entry_of}
 use Rattle.wait_model.proofs.StepLaws.UnlockSteps.{unlock_bits}
-use Rattle.wait_rule.specs.declared.journal.Item.{Item}
-use Rattle.wait_rule.specs.declared.journal.Item.TheVariants as item
+use Rattle.wait_rule.specs.{declared.journal.Item.Item, Known.Known, Queues.index, Queues.saw}
 use Rattle.wait_rule.specs.Items.{Book, learn_step, steps_of}
-use Rattle.wait_rule.specs.Known.{Known}
-use Rattle.wait_rule.specs.Queues.{index, saw}
 use Rattle.wait_rule.specs.Says.{added, history_of, stored_with, told_of, unlocked_with}
-use Rattle.wait_rule.proofs.KnownLaws.AfterSteps.{told_added}
-use Rattle.wait_rule.proofs.KnownLaws.TaskHistories.{history_after}
-use Rattle.wait_rule.proofs.KnownLaws.Turns.{told_unlocked}
-use Rattle.wait_rule.proofs.TableSteps.ItemLists.{steps_append}
-use Rattle.wait_class.specs.Posts.{HasSeenOwn, own_of}
+use Rattle.wait_rule.specs.declared.journal.Item.TheVariants as item
+use Rattle.wait_rule.proofs.{KnownLaws.AfterSteps.told_added, KnownLaws.TaskHistories.history_after}
+use Rattle.wait_rule.proofs.{KnownLaws.Turns.told_unlocked, TableSteps.ItemLists.steps_append}
+use Rattle.wait_class.specs.{Posts.HasSeenOwn, Posts.own_of, Tables.has_sleep}
+use Rattle.wait_class.specs.Laws.{Calm, moves_entries, state_behind}
 use Rattle.wait_class.proofs.Histories.{behind_more, moves_more, or_left, or_right, sleeps_more, stored_history}
 use Rattle.wait_class.proofs.Histories.{unlocked_history}
-use Rattle.wait_class.specs.Tables.{has_sleep}
-use Rattle.wait_class.specs.Laws.{Calm, moves_entries, state_behind}
 
 -- one part after another
 pub calm_on : (es fs : List Step) (old mid new : Known) → Calm es old mid → Calm fs mid new → Calm (es ++ fs) old new

@@ -2,40 +2,28 @@
 use Rattle.std.proofs.Common.{◌∙◌, ap, sym, refl, subst, inl}
 use Rattle.std.specs.Prelude.{ℕ, ◌≡◌, Bool, true, false, is_some, Option, Some, None, [], ◌∷◌}
 use Rattle.wait_model.specs.declared.steps.Step.TheVariants as step
-use Rattle.wait_model.specs.declared.watches.Entry.{Entry}
-use Rattle.wait_model.specs.declared.watches.Watch.{Watch}
+use Rattle.wait_model.specs.{declared.watches.Entry.Entry, declared.watches.Watch.Watch, Watches.bare, Watches.head_of}
+use Rattle.wait_model.specs.{Tasks.pending, Tasks.task_of, Words.entry_of}
 use Rattle.wait_model.specs.PointFacts.{Zone, IsHome, absent, free, pages, parts, seated, stands, waits}
-use Rattle.wait_model.specs.Watches.{bare, head_of}
-use Rattle.wait_model.specs.Tasks.{pending, task_of}
-use Rattle.wait_model.specs.Words.{entry_of}
-use Rattle.wait_rule.specs.Tickets.{taken}
-use Rattle.wait_rule.specs.declared.journal.Item.TheVariants as item
-use Rattle.wait_rule.specs.HandedPermits.{OwesNoPermit}
-use Rattle.wait_rule.specs.Items.{Book}
-use Rattle.wait_rule.specs.Known.{Known}
+use Rattle.wait_rule.specs.{Tickets.taken, HandedPermits.OwesNoPermit, Items.Book, Known.Known, Transitions.OnlyLooks}
 use Rattle.wait_rule.specs.Says.{added, told_of, unlocked_with}
 use Rattle.wait_rule.specs.Queues.{MayUnqueue, index, saw}
 use Rattle.wait_rule.specs.Stays.{Carries, take_off_change, unchanged}
-use Rattle.wait_rule.specs.Transitions.{OnlyLooks}
+use Rattle.wait_rule.specs.declared.journal.Item.TheVariants as item
 use Rattle.wait_rule.proofs.KnownLaws.Transitions.{only_none}
-use Rattle.wq_head.specs.Adds.{HasRemoved}
-use Rattle.wq_head.specs.Holds.{IsHolding}
+use Rattle.wq_head.specs.{Adds.HasRemoved, Holds.IsHolding}
+use Rattle.wait_class.specs.{Findings.saw_entry, Findings.with_own, declared.stages.Run.Run, declared.stages.Turn.Turn}
 use Rattle.wait_class.specs.Posts.{HasSeenOwn, Stands, zone_at}
-use Rattle.wait_class.specs.Findings.{saw_entry, with_own}
-use Rattle.wait_class.proofs.Ground.Standing.{bare_head}
-use Rattle.wait_class.proofs.Ground.Standing.{carried_stands, finds_own, seen_book, seen_home, seen_is, seen_looks}
-use Rattle.wait_class.proofs.Ground.Standing.{seen_shows, seen_stands, stands_with, still_stands}
-use Rattle.wait_class.specs.declared.stages.Doing.TheVariants as doing
-use Rattle.wait_class.specs.declared.stages.Run.{Run}
-use Rattle.wait_class.specs.declared.stages.Turn.{Turn}
-use Rattle.wait_class.specs.Laws.{GiveLaw, HasShown, HeedLaw, IsHeldStage, IsLawfulCallTable, MayBeQueued, LawOf, PareLaw, PeekLaw, may_be_queued, mask_in}
-use Rattle.wait_class.specs.Tables.{head_in}
-use Rattle.wait_class.specs.Tables.{IsAt, IsStop, CallTable, Turned, falls, post_of, stage_watch, watch_in}
-use Rattle.wait_class.specs.Laws.{Calm, turn_post}
+use Rattle.wait_class.specs.Laws.{GiveLaw, HasShown, HeedLaw, IsHeldStage, IsLawfulCallTable, MayBeQueued, LawOf}
+use Rattle.wait_class.specs.Laws.{PareLaw, PeekLaw, may_be_queued, mask_in, Calm, turn_post}
+use Rattle.wait_class.specs.Tables.{head_in, IsAt, IsStop, CallTable, Turned, falls, post_of, stage_watch, watch_in}
+use Rattle.wait_class.proofs.Ground.Standing.{bare_head, carried_stands, finds_own, seen_book, seen_home, seen_is}
+use Rattle.wait_class.proofs.Ground.Standing.{seen_looks, seen_shows, seen_stands, stands_with, still_stands}
 use Rattle.wait_class.proofs.CalmSteps.{calm_on, calm_peek, calm_removed, calm_saw, calm_step, calm_unlock}
 use Rattle.wait_class.proofs.Locks.{back_looks, back_stands, back_up}
 use Rattle.wait_class.proofs.Turns.{GoesOn, advance_by, free_head, free_ticket, held_head, held_ticket, moves_quiet}
 use Rattle.wait_class.proofs.Turns.{stands_plain, stops_by}
+use Rattle.wait_class.specs.declared.stages.Doing.TheVariants as doing
 
 -- what a stage says of the own entry
 none_open : (z : Zone) → may_be_queued z ≡ true → (c : Watch) → IsHome z c None

@@ -1,11 +1,9 @@
 -- The kinds of entries that may be added by each form.
 use Rattle.std.proofs.Common.{ap, sym, inl, inr}
 use Rattle.std.specs.Prelude.{◌≡◌, not, true}
-use Rattle.wait_model.specs.declared.queues.Form.{Form}
-use Rattle.wait_model.specs.declared.queues.Form.TheVariants as forms
-use Rattle.wait_model.specs.declared.watches.Kind.{Kind}
-use Rattle.wait_model.specs.declared.watches.Watch.{Watch}
+use Rattle.wait_model.specs.{declared.queues.Form.Form, declared.watches.Kind.Kind, declared.watches.Watch.Watch}
 use Rattle.wait_model.specs.Watches.{is_simple}
+use Rattle.wait_model.specs.declared.queues.Form.TheVariants as forms
 use Rattle.wq_head.specs.Adds.{IsForPlain, IsFullKind}
 use Rattle.wait_class.specs.Queueing.{IsForBy}
 

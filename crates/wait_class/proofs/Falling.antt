@@ -2,19 +2,12 @@
 use Rattle.std.proofs.Common.{◌∙◌, ap, append_assoc, append-nil, arith, inl, inr, refl, subst, sym}
 use Rattle.std.proofs.lemmas.Bool.Decides.{nat_tests}
 use Rattle.std.specs.Prelude.{ℕ, ◌≡◌, ◌<◌, ◌≤◌, ◌+◌, ◌⊎◌, ◌||◌, not, nat_lt, Bool, true, false, List, [], ◌∷◌, ◌++◌}
-use Rattle.wait_model.specs.declared.layout.TheConstants.{HEADS}
-use Rattle.wait_model.specs.declared.steps.Step.{Step}
+use Rattle.wait_model.specs.{declared.layout.TheConstants.HEADS, declared.steps.Step.Step, PointFacts.holds}
 use Rattle.wait_model.specs.declared.steps.Step.TheVariants as step
-use Rattle.wait_model.specs.PointFacts.{holds}
-use Rattle.wait_rule.specs.Known.{Known}
-use Rattle.wait_rule.specs.Says.{history_of}
-use Rattle.wait_class.specs.declared.stages.Run.{Run}
-use Rattle.wait_rule.specs.declared.tries.FailedTries.{FailedTries}
-use Rattle.wait_rule.specs.Tried.{IsOneMore}
-use Rattle.wait_class.specs.declared.stages.Turn.{Turn}
-use Rattle.wait_class.specs.declared.stages.Turn.TheVariants as turn
-use Rattle.wait_class.specs.Handing.{LastGiven}
+use Rattle.wait_rule.specs.{Known.Known, Says.history_of, declared.tries.FailedTries.FailedTries, Tried.IsOneMore}
+use Rattle.wait_class.specs.{declared.stages.Run.Run, declared.stages.Turn.Turn, Handing.LastGiven}
 use Rattle.wait_class.specs.Tables.{Advances, IsStop, MadeEvent, ShowsTurn, SleptLast, CallTable, falls}
+use Rattle.wait_class.specs.declared.stages.Turn.TheVariants as turn
 
 -- it has made nothing yet, or an event
 abbrev pub IsBegun : {C : Type 0} → Known → Known → Run C → Run C → Type 0

@@ -3,24 +3,20 @@ use Rattle.std.proofs.Common.{◌∙◌, ap, sym, refl, inl, arith}
 use Rattle.std.proofs.lemmas.Bool.Decides.{nat_tests}
 use Rattle.std.specs.Prelude.{ℕ, ◌≡◌, ◌<◌, ◌≤◌, ◌&&◌, ◌||◌, not, Bool, true, false, Option, Some}
 use Rattle.std.specs.Prelude.{None, List, [], ◌∷◌, MatchBool}
+use Rattle.wait_model.specs.{declared.queues.Form.Form, declared.queues.Member.Member, Places.tail_for}
+use Rattle.wait_model.specs.Places.{priority_for}
 use Rattle.wait_model.specs.declared.layout.TheConstants.{ENTRIES, MEMBERS, PLACES, MIDDLE, FIRST_PLACE, FIRST_PRIORITY}
-use Rattle.wait_model.specs.declared.queues.Form.{Form}
-use Rattle.wait_model.specs.declared.queues.Form.TheVariants as forms
-use Rattle.wait_model.specs.declared.queues.Member.{Member}
-use Rattle.wait_model.specs.Places.{tail_for, priority_for}
 use Rattle.wait_model.specs.Queues.{even_above, entries_of, is_entry, is_within, last_within, place_behind, place_for}
 use Rattle.wait_model.specs.Queues.{IsIn}
+use Rattle.wait_model.specs.declared.queues.Form.TheVariants as forms
 use Rattle.wait_model.proofs.QueueLaws.QueueEnds.{IsLastWithin, entry_in, in_entries, last_of, order_entries}
-use Rattle.wait_rule.specs.Known.{Known}
+use Rattle.wait_rule.specs.{Known.Known, Shown.shown_queue, Transitions.is_worn}
 use Rattle.wait_rule.specs.Queues.{IsHighest, IsPriorityPlace, IsTailPlace, IsWholeBook, place_by}
-use Rattle.wait_rule.specs.Shown.{shown_queue}
-use Rattle.wait_rule.specs.Transitions.{is_worn}
-use Rattle.wq_head.specs.declared.adds.Worn.{Worn}
+use Rattle.wq_head.specs.{declared.adds.Worn.Worn, Adds.IsFormPlace, Adds.IsFormWorn}
 use Rattle.wq_head.specs.Looks.{AreLow, HasMember, IsEmpty, Looks}
 use Rattle.wq_head.proofs.AddedEntries.{priority_below, tail_after}
 use Rattle.wq_head.proofs.ShownPlaces.{tail_place_is, within_is}
 use Rattle.wq_head.proofs.ShownQueue.{queue_in_order, queue_has, queue_of}
-use Rattle.wq_head.specs.Adds.{IsFormPlace, IsFormWorn}
 use Rattle.wait_class.specs.Queueing.{TellsFirst, is_none}
 use Rattle.wait_class.proofs.WornPlaces.{front_is, front_left, front_worn, left_within, queue_same, whole_seen, worn_within}
 

@@ -3,31 +3,21 @@ use Rattle.std.proofs.Common.{ap, sym, refl, subst, arith}
 use Rattle.std.specs.Prelude.{◌≡◌, ◌≤◌, ◌||◌, not, Bool, true, false}
 use Rattle.std.specs.Prelude.{Option, Some, None, [], ◌∷◌}
 use Rattle.wait_model.specs.declared.calls.Event.TheVariants as event
-use Rattle.wait_model.specs.declared.points.Next.{Next}
-use Rattle.wait_model.specs.declared.steps.Step.TheVariants as step
-use Rattle.wait_model.specs.declared.watches.Entry.{Entry}
+use Rattle.wait_model.specs.{declared.points.Next.Next, declared.watches.Entry.Entry, Tasks.state_mask, Watches.head_of}
 use Rattle.wait_model.specs.PointFacts.{Zone, IsHome, holds}
-use Rattle.wait_model.specs.Tasks.{state_mask}
-use Rattle.wait_model.specs.Watches.{head_of}
-use Rattle.wait_rule.specs.Known.{Known}
-use Rattle.wait_rule.specs.Says.{history_of}
-use Rattle.wait_rule.specs.Queues.{index}
-use Rattle.wait_class.specs.Posts.{IsStateFor}
-use Rattle.wait_class.specs.declared.frame_stages.Framed.{Framed}
-use Rattle.wait_class.specs.declared.frame_stages.Stage.{Stage}
-use Rattle.wait_class.specs.declared.frame_stages.Stage.TheVariants as stage
+use Rattle.wait_model.specs.declared.steps.Step.TheVariants as step
+use Rattle.wait_rule.specs.{Known.Known, Says.history_of, Queues.index, HandedPermits.OwesNoPermit}
+use Rattle.wait_class.specs.{Posts.IsStateFor, declared.frame_stages.Framed.Framed, declared.frame_stages.Stage.Stage}
 use Rattle.wait_class.specs.FrameLaws.{FinishLaw, IsLawfulFrame, framed_plan}
 use Rattle.wait_class.specs.Frames.{FrameTable, depth_at, frame_doing, framed, is_outside}
-use Rattle.wait_class.proofs.Histories.{unmoved_by}
-use Rattle.wait_class.specs.Laws.{IsLawfulCallTable, LawOf, PeekLaw, QueueLaw, UnlockLaw}
+use Rattle.wait_class.specs.Laws.{IsLawfulCallTable, LawOf, PeekLaw, QueueLaw, UnlockLaw, Calm, Unmoved}
 use Rattle.wait_class.specs.Tables.{Plan, CallTable, next_in}
-use Rattle.wait_class.specs.Laws.{Calm, Unmoved}
-use Rattle.wait_rule.specs.HandedPermits.{OwesNoPermit}
-use Rattle.wq_head.proofs.PermitHeads.{owes_low}
-use Rattle.wait_class.proofs.Entries.{none_in}
+use Rattle.wait_class.specs.declared.frame_stages.Stage.TheVariants as stage
+use Rattle.wait_class.proofs.{Histories.unmoved_by, Entries.none_in}
 use Rattle.wait_class.proofs.Holds.{draw_by, give_by, lock_by, pare_by, peek_by, queue_by, running_by, state_by}
 use Rattle.wait_class.proofs.Holds.{unlock_by}
 use Rattle.wait_class.proofs.Turns.{free_head, free_ticket, zero_for}
+use Rattle.wq_head.proofs.PermitHeads.{owes_low}
 
 free_falls : (b : Bool) → b ≡ false → (not b || false) ≡ true
 free_falls b is = ap (λ (x : Bool). not x || false) is

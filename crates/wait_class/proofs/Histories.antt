@@ -2,18 +2,13 @@
 use Rattle.std.proofs.Common.{◌∙◌, ap, sym, subst, append-nil, append_assoc, refl}
 use Rattle.std.specs.Prelude.{ℕ, ◌≡◌, ◌||◌, ◌&&◌, Bool, true, false, List, [], ◌∷◌, ◌++◌}
 use Rattle.wait_model.specs.declared.steps.Step.{Step}
-use Rattle.wait_rule.specs.declared.journal.Item.{Item}
+use Rattle.wait_rule.specs.{declared.journal.Item.Item, Items.steps_of, Ends.WasWorn, Known.Known}
+use Rattle.wait_rule.specs.Says.{added, history_of, stored_with, unlocked_with}
 use Rattle.wait_model.specs.declared.steps.Step.TheVariants as step
 use Rattle.wait_rule.specs.declared.journal.Item.TheVariants as item
-use Rattle.wait_rule.specs.Items.{steps_of}
-use Rattle.wait_rule.specs.Says.{added, history_of, stored_with, unlocked_with}
-use Rattle.wait_rule.proofs.KnownLaws.TaskHistories.{history_after}
-use Rattle.wait_rule.proofs.TableSteps.ItemLists.{steps_append}
-use Rattle.wait_rule.specs.Ends.{WasWorn}
-use Rattle.wait_rule.specs.Known.{Known}
+use Rattle.wait_rule.proofs.{KnownLaws.TaskHistories.history_after, TableSteps.ItemLists.steps_append}
 use Rattle.wait_rule.proofs.WornHeads.WornNotes.{notes_stay}
-use Rattle.wait_class.specs.Posts.{EndsWith, FoundWorn}
-use Rattle.wait_class.specs.Tables.{has_sleep, is_sleep}
+use Rattle.wait_class.specs.{Posts.EndsWith, Posts.FoundWorn, Tables.has_sleep, Tables.is_sleep}
 use Rattle.wait_class.specs.Laws.{Calm, Unmoved, moves_entries, moves_entry, state_behind}
 
 pub ends_more : (old new : Known) (es more : List Step) → EndsWith old es → history_of new ≡ history_of old ++ more

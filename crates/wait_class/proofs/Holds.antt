@@ -2,27 +2,20 @@
 -- in which tables differ. What a table computes comes as one equation, and what its program plans as another.
 use Rattle.std.proofs.Common.{◌∙◌, ap, sym, refl, subst, inl, inr}
 use Rattle.std.specs.Prelude.{ℕ, ◌≡◌, ◌⊎◌, Bool, true, false, is_some, Option, Some, None, [], ◌∷◌, ◌++◌}
-use Rattle.wait_model.specs.declared.calls.Event.{Event}
+use Rattle.wait_model.specs.{declared.calls.Event.Event, declared.points.Next.Next, declared.points.Planned.Planned}
+use Rattle.wait_model.specs.{declared.points.Point.Point, declared.points.Seen.Seen, declared.steps.Step.Step}
+use Rattle.wait_model.specs.{declared.watches.Aim.Aim, declared.watches.Entry.Entry, Words.entry_of}
+use Rattle.wait_model.specs.PointFacts.{IsHome, holds, waits}
 use Rattle.wait_model.specs.declared.calls.Event.TheVariants as event
-use Rattle.wait_model.specs.declared.points.Next.{Next}
-use Rattle.wait_model.specs.declared.points.Planned.{Planned}
-use Rattle.wait_model.specs.declared.points.Point.{Point}
 use Rattle.wait_model.specs.declared.points.Point.TheVariants as at
 use Rattle.wait_model.specs.declared.points.PreparePoint.TheVariants as preparing
-use Rattle.wait_model.specs.declared.points.Seen.{Seen}
-use Rattle.wait_model.specs.declared.steps.Step.{Step}
 use Rattle.wait_model.specs.declared.steps.Step.TheVariants as step
-use Rattle.wait_model.specs.declared.watches.Aim.{Aim}
-use Rattle.wait_model.specs.declared.watches.Entry.{Entry}
-use Rattle.wait_model.specs.PointFacts.{IsHome, holds, waits}
-use Rattle.wait_model.specs.Words.{entry_of}
-use Rattle.wait_rule.specs.Ends.{WasWorn}
-use Rattle.wait_rule.specs.HandedPermits.{OwesNoPermit}
-use Rattle.wait_rule.specs.Known.{Known}
+use Rattle.wait_rule.specs.{Ends.WasWorn, HandedPermits.OwesNoPermit, Known.Known}
 use Rattle.wait_rule.specs.Queues.{IsWalkOfCall, index, walk_of_hold}
 use Rattle.wait_rule.specs.Says.{MayStore, history_of, told_of}
 use Rattle.wait_rule.specs.Tickets.{Ticket, no_ticket, taken}
 use Rattle.wait_rule.specs.Transitions.{Finds, IsMadeFor, OnlyLooks, Transition, by_step}
+use Rattle.wait_class.specs.{declared.stages.Doing.Doing, declared.stages.Turn.Turn}
 use Rattle.wait_class.specs.Findings.{saw_entry, saw_nothing, with_worn}
 use Rattle.wait_class.specs.Posts.{IsStateFor, own_of, zone_at}
 use Rattle.wait_class.specs.Laws.{Calm, DrawLaw, GiveLaw, HasJoined, HasShown, HomeStays, IsPlainTurn, IsWornOut}
@@ -31,11 +24,8 @@ use Rattle.wait_class.specs.Laws.{TurnTrail, UnlockLaw, mask_in, may_be_queued, 
 use Rattle.wait_class.specs.Tables.{CallTable, Plan, falls, head_in, next_in, plan_program, post_of, stage_watch}
 use Rattle.wait_class.specs.Tables.{took_in}
 use Rattle.wait_class.specs.declared.stages.Added.TheVariants as adds
-use Rattle.wait_class.specs.declared.stages.Doing.{Doing}
 use Rattle.wait_class.specs.declared.stages.Doing.TheVariants as doing
-use Rattle.wait_class.specs.declared.stages.Turn.{Turn}
-use Rattle.wait_class.proofs.Ground.Standing.{owner_own}
-use Rattle.wait_class.proofs.Turns.{may_by, zero_for}
+use Rattle.wait_class.proofs.{Ground.Standing.owner_own, Turns.may_by, Turns.zero_for}
 
 module _ {C S O : Type 0} (t : CallTable C S O) (r : C) (s : S) where
   abbrev plan : Plan

@@ -1,43 +1,29 @@
 -- A ticket is drawn, the lock taken by it, and given back.
 use Rattle.std.proofs.Common.{◌∙◌, ap, append-nil, sym, refl, subst}
 use Rattle.std.specs.Prelude.{ℕ, ◌≡◌, ◌≢◌, ◌<◌, not, Bool, true, false, Option, Some, None, List, [], ◌∷◌}
-use Rattle.wait_model.specs.declared.layout.TheConstants.{HEADS}
+use Rattle.wait_model.specs.{declared.layout.TheConstants.HEADS, declared.points.Point.Point, declared.steps.Step.Step}
+use Rattle.wait_model.specs.{declared.watches.Entry.Entry, PointFacts.IsHome, Watches.head_of, Fold.view_of}
 use Rattle.wait_model.specs.declared.points.Next.TheVariants as next
-use Rattle.wait_model.specs.declared.points.Point.{Point}
-use Rattle.wait_model.specs.declared.steps.Step.{Step}
 use Rattle.wait_model.specs.declared.steps.Step.TheVariants as step
-use Rattle.wait_model.specs.declared.watches.Entry.{Entry}
-use Rattle.wait_model.specs.PointFacts.{IsHome}
-use Rattle.wait_model.specs.Watches.{head_of}
-use Rattle.wait_rule.specs.declared.journal.Journal.{Journal}
-use Rattle.wait_rule.specs.Items.{steps_of}
-use Rattle.wait_model.specs.Fold.{view_of}
-use Rattle.wait_rule.specs.declared.journal.Item.TheVariants as item
-use Rattle.wait_rule.specs.HandedPermits.{OwesNoPermit}
-use Rattle.wait_rule.specs.Known.{Known}
+use Rattle.wait_rule.specs.{declared.journal.Journal.Journal, Items.steps_of, HandedPermits.OwesNoPermit, Known.Known}
+use Rattle.wait_rule.specs.{Stays.Carries, Stays.unlock_change, Transitions.OnlyLooks, Transitions.Program}
 use Rattle.wait_rule.specs.Tickets.{no_ticket, drawn, taken, after_serving}
 use Rattle.wait_rule.specs.Says.{IsFree as IsFreeTask, IsUp, added, history_of, unlocked_with}
-use Rattle.wait_rule.proofs.TableSteps.ItemLists.{steps_append}
 use Rattle.wait_rule.specs.Queues.{IsAgreed, IsLocked, IsTurn, at_head, index, walk_of_hold}
-use Rattle.wait_rule.specs.Stays.{Carries, unlock_change}
-use Rattle.wait_rule.specs.Transitions.{OnlyLooks, Program}
-use Rattle.wait_rule.proofs.KnownLaws.Debts.{added_debts}
-use Rattle.wait_rule.proofs.KnownLaws.AfterSteps.{told_added}
-use Rattle.wait_rule.proofs.KnownLaws.Transitions.{only_none}
+use Rattle.wait_rule.specs.declared.journal.Item.TheVariants as item
+use Rattle.wait_rule.proofs.{TableSteps.ItemLists.steps_append, KnownLaws.Debts.added_debts}
+use Rattle.wait_rule.proofs.{KnownLaws.AfterSteps.told_added, KnownLaws.Transitions.only_none}
 use Rattle.wait_rule.proofs.KnownLaws.Turns.{finds_turn, other_number, serve_looks}
 use Rattle.wq_head.proofs.CarriedHolds.{unlock_carried}
+use Rattle.wait_class.specs.{Findings.saw_nothing, declared.stages.Run.Run, declared.stages.Turn.Turn}
 use Rattle.wait_class.specs.Posts.{IsStateFor, Post, Stands}
-use Rattle.wait_class.specs.Findings.{saw_nothing}
+use Rattle.wait_class.specs.Laws.{DrawLaw, IsLawfulCallTable, LawOf, LockLaw, UnlockLaw, Calm, turn_post}
+use Rattle.wait_class.specs.Tables.{head_in, Advances, IsAt, IsStop, CallTable, Turned, falls, plan_post, plan_program}
+use Rattle.wait_class.specs.Tables.{post_of, run_post, watch_in}
 use Rattle.wait_class.proofs.Ground.Going.{runs_looks}
 use Rattle.wait_class.proofs.Ground.Standing.{draw_stands, lock_stands, serving_stands, stands_as, still_stands}
 use Rattle.wait_class.specs.declared.stages.Doing.TheVariants as doing
-use Rattle.wait_class.specs.declared.stages.Run.{Run}
-use Rattle.wait_class.specs.declared.stages.Turn.{Turn}
 use Rattle.wait_class.specs.declared.stages.Turn.TheVariants as turn
-use Rattle.wait_class.specs.Laws.{DrawLaw, IsLawfulCallTable, LawOf, LockLaw, UnlockLaw}
-use Rattle.wait_class.specs.Tables.{head_in}
-use Rattle.wait_class.specs.Tables.{Advances, IsAt, IsStop, CallTable, Turned, falls, plan_post, plan_program, post_of, run_post, watch_in}
-use Rattle.wait_class.specs.Laws.{Calm, turn_post}
 use Rattle.wait_class.proofs.CalmSteps.{calm_on, calm_quiet, calm_step, calm_unlock}
 use Rattle.wait_class.proofs.Turns.{GoesOn, advance_by, drawn_post, free_task, free_ticket, held_head, moves_quiet, stands_plain, stops_by}
 

@@ -1,25 +1,18 @@
 -- An event of a call's own, by the way that it goes.
 use Rattle.std.proofs.Common.{◌∙◌, ap, refl, subst, sym}
 use Rattle.std.specs.Prelude.{Some, [], ◌≡◌, ◌∷◌}
-use Rattle.wait_model.specs.declared.points.Next.{Next}
+use Rattle.wait_model.specs.{declared.points.Next.Next, declared.points.Seen.Seen, declared.steps.Step.Step, Fold.after}
+use Rattle.wait_model.specs.{PointFacts.IsHome, Views.View as Told}
 use Rattle.wait_model.specs.declared.points.Next.TheVariants as next
-use Rattle.wait_model.specs.declared.points.Seen.{Seen}
-use Rattle.wait_model.specs.declared.steps.Step.{Step}
-use Rattle.wait_model.specs.Fold.{after}
-use Rattle.wait_model.specs.PointFacts.{IsHome}
-use Rattle.wait_model.specs.Views.{View as Told}
 use Rattle.wait_rule.specs.declared.journal.Item.TheVariants as item
-use Rattle.wait_rule.specs.Items.{Book, learn_step}
-use Rattle.wait_rule.specs.Known.{Known}
-use Rattle.wait_rule.specs.Queues.{index}
+use Rattle.wait_rule.specs.{Items.Book, Items.learn_step, Known.Known, Queues.index}
 use Rattle.wait_rule.specs.Says.{IsUp, added, told_of}
 use Rattle.wait_rule.specs.Transitions.{Finds, Goes, IsMadeFor, OnlyLooks, Program, Transition, after_step_or_look}
 use Rattle.wait_rule.specs.Transitions.{by_step}
 use Rattle.wait_rule.proofs.KnownLaws.AfterSteps.{told_added}
+use Rattle.wait_class.specs.{declared.stages.Turn.Turn, Laws.TurnTrail, Laws.turn_post}
 use Rattle.wait_class.specs.Posts.{IsStateFor, Post, Stands}
-use Rattle.wait_class.specs.declared.stages.Turn.{Turn}
 use Rattle.wait_class.specs.Tables.{CallTable, next_in, plan_program, took_in, watch_in}
-use Rattle.wait_class.specs.Laws.{TurnTrail, turn_post}
 use Rattle.wait_class.proofs.Turns.{GoesOn, made_between}
 
 -- a step that leaves the book and the hold as they were, in a hold or outside of one

@@ -1,49 +1,35 @@
 -- The own entry is queued where it is off, and else the state stored. Where no place is left the head is given back.
 use Rattle.std.proofs.Common.{◌∙◌, ap, sym, refl, subst}
 use Rattle.std.specs.Prelude.{ℕ, ◌≡◌, Bool, true, false, is_some, Option, Some, None, [], ◌∷◌, ◌++◌}
-use Rattle.wait_model.specs.declared.queues.Form.{Form}
+use Rattle.wait_model.specs.{declared.queues.Form.Form, declared.watches.Entry.Entry, PointFacts.IsHome}
+use Rattle.wait_model.specs.{PointFacts.absent, Views.View as Told}
 use Rattle.wait_model.specs.declared.steps.Step.TheVariants as step
-use Rattle.wait_model.specs.declared.watches.Entry.{Entry}
-use Rattle.wait_model.specs.PointFacts.{IsHome, absent}
-use Rattle.wait_model.specs.Views.{View as Told}
-use Rattle.wait_rule.specs.declared.journal.Item.{Item}
-use Rattle.wait_rule.specs.declared.journal.Item.TheVariants as item
-use Rattle.wait_rule.specs.Ends.{WasWorn}
-use Rattle.wait_rule.specs.HandedPermits.{OwesNoPermit}
-use Rattle.wait_rule.specs.Known.{Known}
+use Rattle.wait_rule.specs.{declared.journal.Item.Item, Ends.WasWorn, HandedPermits.OwesNoPermit, Known.Known}
+use Rattle.wait_rule.specs.{Shown.shown_queue, Tickets.taken}
 use Rattle.wait_rule.specs.Says.{MayStore, added, history_of, stored_with, told_of, unlocked_with}
 use Rattle.wait_rule.specs.Queues.{IsWholeBook, index, saw}
-use Rattle.wait_rule.specs.Shown.{shown_queue}
-use Rattle.wait_rule.specs.Tickets.{taken}
 use Rattle.wait_rule.specs.Stays.{Carries, only_looks, state_change}
 use Rattle.wait_rule.specs.Transitions.{OnlyLooks, IsSeenAs, is_worn}
-use Rattle.wait_rule.proofs.KnownLaws.Transitions.{only_on, only_looked}
-use Rattle.wait_rule.proofs.WornHeads.WornNotes.{notes_stay}
-use Rattle.wq_head.specs.declared.adds.Worn.{Worn}
-use Rattle.wq_head.specs.Holds.{IsHolding}
-use Rattle.wq_head.specs.Looks.{Looks}
-use Rattle.wq_head.proofs.CarriedHolds.{looks_carried}
-use Rattle.wq_head.proofs.OneMoreLook.{saw_looks, whole_of}
+use Rattle.wait_rule.specs.declared.journal.Item.TheVariants as item
+use Rattle.wait_rule.proofs.{KnownLaws.Transitions.only_on, KnownLaws.Transitions.only_looked}
+use Rattle.wait_rule.proofs.{WornHeads.WornNotes.notes_stay, KnownLaws.AfterSteps.told_added}
+use Rattle.wq_head.specs.{declared.adds.Worn.Worn, Holds.IsHolding, Looks.Looks}
+use Rattle.wq_head.proofs.{CarriedHolds.looks_carried, OneMoreLook.saw_looks, OneMoreLook.whole_of}
+use Rattle.wait_class.specs.{Findings.saw_entry, Findings.with_worn, declared.stages.Run.Run, declared.stages.Turn.Turn}
 use Rattle.wait_class.specs.Posts.{HasSeenOwn, IsStateFor, Post, Stands, own_of}
-use Rattle.wait_rule.proofs.KnownLaws.AfterSteps.{told_added}
-use Rattle.wait_class.specs.Findings.{saw_entry, with_worn}
-use Rattle.wait_class.proofs.Ground.Standing.{state_looks, state_stands, state_up}
-use Rattle.wait_class.proofs.Histories.{unlocked_history}
-use Rattle.wait_class.proofs.WornPlaces.{whole_seen, queue_same}
-use Rattle.wait_class.proofs.Ground.Standing.{carried_stands, finds_own, seen_is, seen_looks, seen_stands, seen_stored}
-use Rattle.wait_class.specs.declared.stages.Added.TheVariants as adds
-use Rattle.wait_class.specs.declared.stages.Doing.TheVariants as doing
-use Rattle.wait_class.specs.declared.stages.Run.{Run}
-use Rattle.wait_class.specs.declared.stages.Turn.{Turn}
-use Rattle.wait_class.specs.Laws.{HasJoined, HasShown, IsLawfulCallTable, IsWornFor, IsWornOut, LawOf, MayJoin, QueueLaw, is_quiet_event, mask_in}
-use Rattle.wait_class.specs.Tables.{head_in}
-use Rattle.wait_class.specs.Tables.{IsAt, IsStop, CallTable, Turned, falls, post_of, watch_in}
-use Rattle.wait_class.specs.Laws.{turn_post}
+use Rattle.wait_class.specs.Laws.{HasJoined, HasShown, IsLawfulCallTable, IsWornFor, IsWornOut, LawOf, MayJoin}
+use Rattle.wait_class.specs.Laws.{QueueLaw, is_quiet_event, mask_in, turn_post}
+use Rattle.wait_class.specs.Tables.{head_in, IsAt, IsStop, CallTable, Turned, falls, post_of, watch_in}
+use Rattle.wait_class.proofs.{Histories.unlocked_history, WornPlaces.whole_seen, WornPlaces.queue_same}
+use Rattle.wait_class.proofs.Ground.Standing.{state_looks, state_stands, state_up, carried_stands, finds_own, seen_is}
+use Rattle.wait_class.proofs.Ground.Standing.{seen_looks, seen_stands, seen_stored}
 use Rattle.wait_class.proofs.CalmSteps.{calm_on, calm_saw, calm_step, told_stored}
 use Rattle.wait_class.proofs.Entries.{at_is, head_is, holds_mid, none_in, post_head, post_ticket, shown_stands, shows}
 use Rattle.wait_class.proofs.Entries.{stands_held}
 use Rattle.wait_class.proofs.Locks.{back_looks, back_stands, back_up}
 use Rattle.wait_class.proofs.Turns.{GoesOn, advance_by, moves_going, moves_quiet, stops_by}
+use Rattle.wait_class.specs.declared.stages.Added.TheVariants as adds
+use Rattle.wait_class.specs.declared.stages.Doing.TheVariants as doing
 
 no_entry : (o : Option Entry) → ((e : Entry) → o ≡ Some e → None ≡ Some e) → o ≡ None
 no_entry None never = refl

@@ -3,42 +3,28 @@ use Rattle.std.proofs.Common.{◌∙◌, ap, sym, refl, subst, inl, inr, append-
 use Rattle.std.specs.Prelude.{ℕ, ◌≡◌, ◌⊎◌, ◌||◌, nat_lt, not, Bool, true, false, MatchBool}
 use Rattle.std.specs.Prelude.{None, List, [], ◌∷◌, ◌++◌}
 use Rattle.wait_model.specs.declared.points.Next.TheVariants as next
-use Rattle.wait_model.specs.declared.steps.Step.{Step}
+use Rattle.wait_model.specs.{declared.steps.Step.Step, declared.tasks.Sleep.Sleep, Fold.view_of, PointFacts.IsHome}
+use Rattle.wait_model.specs.{Tasks.task_of, Tasks.sleep_of, Views.View as Told}
 use Rattle.wait_model.specs.declared.steps.Step.TheVariants as step
-use Rattle.wait_model.specs.declared.tasks.Sleep.{Sleep}
 use Rattle.wait_model.specs.declared.tasks.Sleep.TheVariants as sleeping
-use Rattle.wait_model.specs.Fold.{view_of}
-use Rattle.wait_model.specs.PointFacts.{IsHome}
-use Rattle.wait_model.specs.Tasks.{task_of, sleep_of}
-use Rattle.wait_model.specs.Views.{View as Told}
-use Rattle.wait_rule.specs.declared.journal.Item.{Item}
-use Rattle.wait_rule.specs.declared.journal.Item.TheVariants as item
+use Rattle.wait_rule.specs.{declared.journal.Item.Item, Known.Known, declared.tries.FailedTries.FailedTries}
+use Rattle.wait_rule.specs.{Tried.IsOneMore, Queues.IsTold, Queues.index, Transitions.OnlyLooks}
 use Rattle.wait_rule.specs.Items.{Book, after_awake, after_sleep, risen, steps_of, with_state}
-use Rattle.wait_rule.specs.Known.{Known}
-use Rattle.wait_rule.specs.declared.tries.FailedTries.{FailedTries}
-use Rattle.wait_rule.specs.Tried.{IsOneMore}
-use Rattle.wait_rule.specs.Says.{IsFree as IsFreeTask}
-use Rattle.wait_rule.specs.Queues.{IsTold, index}
-use Rattle.wait_rule.specs.Says.{IsAwakeAgain, added, grown, history_of, told_of}
-use Rattle.wait_rule.specs.Transitions.{OnlyLooks}
-use Rattle.wait_rule.proofs.KnownLaws.AfterSteps.{told_added}
-use Rattle.wait_rule.proofs.KnownLaws.Debts.{added_debts, looked_debts}
-use Rattle.wait_rule.proofs.KnownLaws.TaskHistories.{history_after}
+use Rattle.wait_rule.specs.Says.{IsFree as IsFreeTask, IsAwakeAgain, added, grown, history_of, told_of}
+use Rattle.wait_rule.specs.declared.journal.Item.TheVariants as item
+use Rattle.wait_rule.proofs.{KnownLaws.AfterSteps.told_added, KnownLaws.Debts.added_debts, KnownLaws.Debts.looked_debts}
+use Rattle.wait_rule.proofs.{KnownLaws.TaskHistories.history_after, TableSteps.ItemLists.steps_append}
 use Rattle.wait_rule.proofs.KnownLaws.Transitions.{book_told, looks_of, only_none}
-use Rattle.wait_rule.proofs.TableSteps.ItemLists.{steps_append}
+use Rattle.wait_class.specs.{Findings.with_own, declared.stages.Run.Run}
 use Rattle.wait_class.specs.Posts.{IsStateFor, Post, Stands}
-use Rattle.wait_class.specs.Findings.{with_own}
-use Rattle.wait_class.proofs.Ground.Going.{runs_looks}
-use Rattle.wait_class.proofs.Ground.Standing.{stands_on}
+use Rattle.wait_class.specs.Laws.{IsLawfulCallTable, LawOf, SleepLaw, Unmoved}
+use Rattle.wait_class.specs.Tables.{Advances, IsAsleepAt, IsAt, CallTable, SleptLast, Turned, Went, falls, plan_program}
+use Rattle.wait_class.specs.Tables.{post_of, run_post, watch_in}
+use Rattle.wait_class.proofs.{Ground.Going.runs_looks, Ground.Standing.stands_on, CalmSteps.calm_step}
+use Rattle.wait_class.proofs.Turns.{advances_none, any_for, free_head, free_task, free_ticket, Passage, moves_quiet}
+use Rattle.wait_class.proofs.Turns.{plain_post, stands_plain, zero_for}
 use Rattle.wait_class.specs.declared.stages.Doing.TheVariants as doing
-use Rattle.wait_class.specs.declared.stages.Run.{Run}
 use Rattle.wait_class.specs.declared.stages.Turn.TheVariants as turn
-use Rattle.wait_class.specs.Laws.{IsLawfulCallTable, LawOf, SleepLaw}
-use Rattle.wait_class.specs.Tables.{Advances, IsAsleepAt, IsAt, CallTable, SleptLast, Turned, Went, falls, plan_program, post_of, run_post, watch_in}
-use Rattle.wait_class.specs.Laws.{Unmoved}
-use Rattle.wait_class.proofs.CalmSteps.{calm_step}
-use Rattle.wait_class.proofs.Turns.{advances_none, any_for, free_head, free_task, free_ticket, Passage, moves_quiet, plain_post}
-use Rattle.wait_class.proofs.Turns.{stands_plain, zero_for}
 
 module _ {C S O : Type 0} (t : CallTable C S O) (law : IsLawfulCallTable t) where
   sleep_law : (r : C) (s : S) → t.doing s ≡ doing.Sleep → SleepLaw t r s (t.slept_to r s)

@@ -2,27 +2,20 @@
 use Rattle.std.proofs.Common.{◌∙◌, ap, sym, refl, subst}
 use Rattle.std.specs.Prelude.{ℕ, ◌≡◌, Bool, true}
 use Rattle.wait_model.specs.declared.steps.Step.TheVariants as step
-use Rattle.wait_model.specs.declared.steps.Step.{Step}
-use Rattle.wait_model.specs.declared.watches.Watch.{Watch}
-use Rattle.wait_model.specs.Tasks.{pending, task_of}
+use Rattle.wait_model.specs.{declared.steps.Step.Step, declared.watches.Watch.Watch, Tasks.pending, Tasks.task_of}
 use Rattle.wait_rule.specs.declared.journal.Item.TheVariants as item
-use Rattle.wait_rule.specs.Known.{Known}
-use Rattle.wait_rule.specs.Says.{MayStore, added}
-use Rattle.wait_rule.specs.Queues.{IsAgreedHold, index}
-use Rattle.wait_rule.specs.Stays.{Carries, unchanged, state_change}
+use Rattle.wait_rule.specs.{Known.Known, Says.MayStore, Says.added, Queues.IsAgreedHold, Queues.index}
 use Rattle.wait_rule.specs.Transitions.{OnlyLooks}
+use Rattle.wait_rule.specs.Stays.{Carries, unchanged, state_change}
 use Rattle.wait_rule.proofs.KnownLaws.Transitions.{only_none}
+use Rattle.wait_class.specs.{declared.stages.Run.Run, declared.stages.Turn.Turn}
 use Rattle.wait_class.specs.Findings.{saw_nothing, with_own, with_value}
-use Rattle.wait_class.proofs.Ground.Standing.{state_looks, state_stands, state_up}
-use Rattle.wait_class.proofs.Ground.Standing.{still_stands}
-use Rattle.wait_class.specs.declared.stages.Doing.TheVariants as doing
-use Rattle.wait_class.specs.declared.stages.Run.{Run}
-use Rattle.wait_class.specs.declared.stages.Turn.{Turn}
-use Rattle.wait_class.specs.Laws.{IsLawfulCallTable, LawOf, LoadLaw, LookLaw, StateLaw, mask_in}
+use Rattle.wait_class.specs.Laws.{IsLawfulCallTable, LawOf, LoadLaw, LookLaw, StateLaw, mask_in, turn_post}
 use Rattle.wait_class.specs.Tables.{IsAt, CallTable, Turned, falls, post_of, stage_watch, watch_in}
-use Rattle.wait_class.specs.Laws.{turn_post}
+use Rattle.wait_class.proofs.Ground.Standing.{state_looks, state_stands, state_up, still_stands}
 use Rattle.wait_class.proofs.CalmSteps.{calm_step, gone}
 use Rattle.wait_class.proofs.Turns.{GoesOn, advance_by, moves_going, moves_quiet, stands_plain}
+use Rattle.wait_class.specs.declared.stages.Doing.TheVariants as doing
 
 module _ {C S O : Type 0} (t : CallTable C S O) (law : IsLawfulCallTable t) where
   state_law : (r : C) (s : S) → t.doing s ≡ doing.State → StateLaw t r s

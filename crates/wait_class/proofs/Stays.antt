@@ -1,37 +1,23 @@
 -- What stays of a task over a call that takes nothing; and its add at the front.
 use Rattle.std.proofs.Common.{◌∙◌, ap, sym, refl}
 use Rattle.std.specs.Prelude.{Err, IfErr, IfOk, None, Ok, Result, Some, false, ℕ, ◌≡◌}
-use Rattle.wait_model.specs.declared.queues.Form.{Form}
+use Rattle.wait_model.specs.{declared.queues.Form.Form, declared.steps.Step.Step, declared.watches.Kind.Kind}
+use Rattle.wait_model.specs.{declared.watches.Watch.Watch, Queues.place_for, PointFacts.IsHome, PointFacts.waits}
+use Rattle.wait_model.specs.{Runs.entry_for, Views.View as Told}
 use Rattle.wait_model.specs.declared.queues.Form.TheVariants as forms
-use Rattle.wait_model.specs.declared.steps.Step.{Step}
 use Rattle.wait_model.specs.declared.steps.Step.TheVariants as step
-use Rattle.wait_model.specs.declared.watches.Kind.{Kind}
-use Rattle.wait_model.specs.declared.watches.Watch.{Watch}
-use Rattle.wait_model.specs.Queues.{place_for}
-use Rattle.wait_model.specs.PointFacts.{IsHome, waits}
-use Rattle.wait_model.specs.Runs.{entry_for}
-use Rattle.wait_model.specs.Views.{View as Told}
 use Rattle.wait_rule.specs.declared.journal.Item.TheVariants as item
-use Rattle.wait_rule.specs.Ends.{WasWorn}
-use Rattle.wait_rule.specs.Known.{Known}
-use Rattle.wait_rule.specs.Queues.{at_head, index, walk_of_hold}
-use Rattle.wait_rule.specs.Says.{Excuse, added}
-use Rattle.wait_rule.specs.Shown.{shown_queue}
-use Rattle.wait_rule.specs.Transitions.{is_worn}
+use Rattle.wait_rule.specs.{Ends.WasWorn, Known.Known, Says.Excuse, Says.added, Shown.shown_queue, Transitions.is_worn}
+use Rattle.wait_rule.specs.Queues.{at_head, index, walk_of_hold, IsFrontPlace}
 use Rattle.wait_rule.specs.Stays.{only_looks, state_change, unchanged, unlock_change, with_entry}
-use Rattle.wait_rule.proofs.KnownLaws.AfterSteps.{told_added}
-use Rattle.wait_rule.proofs.KnownLaws.SettledTasks.{owes_after}
+use Rattle.wait_rule.proofs.{KnownLaws.AfterSteps.told_added, KnownLaws.SettledTasks.owes_after}
+use Rattle.wq_head.specs.{Holds.IsHolding, declared.adds.Worn.Worn}
 use Rattle.wq_head.specs.Adds.{HasAdded, IsFrontWorn, front_entry}
-use Rattle.wait_rule.specs.Queues.{IsFrontPlace}
-use Rattle.wq_head.specs.Holds.{IsHolding}
-use Rattle.wq_head.specs.declared.adds.Worn.{Worn}
 use Rattle.wq_head.proofs.CarriedHolds.{looks_carried, unlock_carried}
 use Rattle.wait_class.proofs.FormPlaces.{form_is, form_left, form_worn}
-use Rattle.wait_class.proofs.Ground.Keeping.{own_keeps}
-use Rattle.wait_class.proofs.Ground.Keeping.{keeps_none, keeps_of, keeps_on, keeps_queued, keeps_same, keeps_taken}
-use Rattle.wait_class.proofs.Ground.Keeping.{keeps_told, placed_owing}
-use Rattle.wait_class.specs.Frames.{KeepsAll}
-use Rattle.wait_class.specs.Posts.{KeepsBut}
+use Rattle.wait_class.proofs.Ground.Keeping.{own_keeps, keeps_none, keeps_of, keeps_on, keeps_queued, keeps_same}
+use Rattle.wait_class.proofs.Ground.Keeping.{keeps_taken, keeps_told, placed_owing}
+use Rattle.wait_class.specs.{Frames.KeepsAll, Posts.KeepsBut}
 use Rattle.wait_class.specs.Laws.{AddsOwn, HasJoined, IsWornFor, KeepsLaws}
 use Rattle.wait_class.specs.Tables.{CallTable, stage_watch, watch_in}
 

@@ -1,30 +1,22 @@
 -- One turn of a call: by where its program goes, and how the task stands there; and parts one after another.
 use Rattle.std.proofs.Common.{◌∙◌, ap, append_assoc, sym, refl, subst, inl, inr}
 use Rattle.std.specs.Prelude.{ℕ, ◌≡◌, ◌||◌, not, nat_lt, Bool, true, false, if◌then◌else◌, Option, Some, None, List, [], ◌∷◌, ◌++◌}
-use Rattle.wait_model.specs.declared.points.Point.{Point}
-use Rattle.wait_model.specs.declared.points.Next.{Next}
+use Rattle.wait_model.specs.{declared.points.Point.Point, declared.points.Next.Next, declared.points.Seen.Seen}
+use Rattle.wait_model.specs.{declared.steps.Step.Step, PointFacts.holds}
 use Rattle.wait_model.specs.declared.points.Next.TheVariants as next
-use Rattle.wait_model.specs.declared.points.Seen.{Seen}
-use Rattle.wait_model.specs.declared.steps.Step.{Step}
 use Rattle.wait_model.specs.declared.steps.Step.TheVariants as step
-use Rattle.wait_model.specs.PointFacts.{holds}
 use Rattle.wait_rule.specs.declared.journal.Item.TheVariants as item
-use Rattle.wait_rule.specs.Items.{steps_of}
-use Rattle.wait_rule.specs.Known.{Known}
-use Rattle.wait_rule.specs.Queues.{index}
+use Rattle.wait_rule.specs.{Items.steps_of, Known.Known, Queues.index, Tickets.taken}
 use Rattle.wait_rule.specs.Says.{IsFree as IsFreeTask, IsUp, MayStore, added, history_of}
-use Rattle.wait_rule.proofs.KnownLaws.TaskHistories.{history_after}
-use Rattle.wait_rule.proofs.TableSteps.ItemLists.{steps_append}
-use Rattle.wait_rule.specs.Tickets.{taken}
 use Rattle.wait_rule.specs.Transitions.{Goes, OnlyLooks, Program, Transition, after_step_or_look, by_step, with_lock}
+use Rattle.wait_rule.proofs.{KnownLaws.TaskHistories.history_after, TableSteps.ItemLists.steps_append}
+use Rattle.wait_class.specs.{declared.stages.Run.Run, declared.stages.Turn.Turn}
 use Rattle.wait_class.specs.Posts.{IsStateFor, Runs, Stands, ticket_out}
+use Rattle.wait_class.specs.Laws.{IsLawfulCallTable, Moves, is_quiet_event, IsPlainTurn, TurnTrail, turn_post}
+use Rattle.wait_class.specs.Tables.{Advances, MadeEvent, ShowsTurn, Turned, IsAt, IsStop, Lands, Plan, CallTable, Went}
+use Rattle.wait_class.specs.Tables.{falls, next_in, plan_post, plan_program, post_of, run_post, took_in, watch_in}
 use Rattle.wait_class.proofs.Ground.Going.{runs_none, runs_on}
-use Rattle.wait_class.specs.declared.stages.Run.{Run}
-use Rattle.wait_class.specs.declared.stages.Turn.{Turn}
 use Rattle.wait_class.specs.declared.stages.Turn.TheVariants as turn
-use Rattle.wait_class.specs.Laws.{IsLawfulCallTable, Moves, is_quiet_event}
-use Rattle.wait_class.specs.Tables.{Advances, MadeEvent, ShowsTurn, Turned, IsAt, IsStop, Lands, Plan, CallTable, Went, falls, next_in, plan_post, plan_program, post_of, run_post, took_in, watch_in}
-use Rattle.wait_class.specs.Laws.{IsPlainTurn, TurnTrail, turn_post}
 
 -- what a point says of the head and of the ticket
 pub free_head : (o : Option ℕ) (plan : Plan) (p : Point) → holds p ≡ false → (plan_post o plan p).head ≡ None

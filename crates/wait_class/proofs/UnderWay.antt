@@ -1,14 +1,10 @@
 -- A call that goes on by stretches: one stretch more.
 use Rattle.std.specs.Prelude.{◌≡◌, Bool, true, false, MatchBool}
-use Rattle.wait_rule.specs.Known.{Known}
-use Rattle.wait_rule.specs.Queues.{IsTold}
-use Rattle.wait_rule.specs.Says.{IsClean}
-use Rattle.wait_class.specs.declared.stages.Run.{Run}
-use Rattle.wait_class.specs.declared.stages.Turn.{Turn}
-use Rattle.wait_class.specs.declared.stages.Turn.TheVariants as turn
-use Rattle.wait_class.specs.Laws.{IsLawfulCallTable}
+use Rattle.wait_rule.specs.{Known.Known, Queues.IsTold, Says.IsClean}
+use Rattle.wait_class.specs.{declared.stages.Run.Run, declared.stages.Turn.Turn, Laws.IsLawfulCallTable}
 use Rattle.wait_class.specs.Tables.{Advances, CallTable, IsAt, Plan, Went}
 use Rattle.wait_class.specs.UnderWay.{Came, HasCome, IsUnderWay}
+use Rattle.wait_class.specs.declared.stages.Turn.TheVariants as turn
 use Rattle.wait_class.proofs.Turns.{advances_none, advances_on, again}
 
 -- a call that began somewhere began there as well behind a further part of its way

@@ -1,26 +1,17 @@
 -- Laws of a table by the way from one stage to the next.
 use Rattle.std.proofs.Common.{◌∙◌, ap, refl, subst, sym}
 use Rattle.std.specs.Prelude.{if◌then◌else◌, ℕ, ◌≡◌, Bool, true, false, Some, None, [], ◌∷◌}
-use Rattle.wait_model.specs.declared.calls.Event.{Event}
-use Rattle.wait_model.specs.declared.points.Planned.{Planned}
-use Rattle.wait_model.specs.declared.points.Point.{Point}
+use Rattle.wait_model.specs.{declared.calls.Event.Event, declared.points.Planned.Planned, declared.points.Point.Point}
+use Rattle.wait_model.specs.{Programs.go, PointFacts.IsHome, Tasks.pending, Tasks.task_of}
 use Rattle.wait_model.specs.declared.steps.Step.TheVariants as step
-use Rattle.wait_model.specs.Programs.{go}
-use Rattle.wait_model.specs.PointFacts.{IsHome}
-use Rattle.wait_model.specs.Tasks.{pending, task_of}
-use Rattle.wait_rule.specs.Known.{Known}
-use Rattle.wait_rule.specs.Queues.{index}
-use Rattle.wait_rule.specs.Tickets.{no_ticket}
+use Rattle.wait_rule.specs.{Known.Known, Queues.index, Tickets.no_ticket}
 use Rattle.wait_rule.specs.Transitions.{Finds, IsMadeFor, Transition, by_step}
-use Rattle.wait_class.specs.Findings.{with_own, with_value}
-use Rattle.wait_class.specs.declared.frame_stages.Stage.{Stage}
-use Rattle.wait_class.specs.declared.stages.Turn.{Turn}
-use Rattle.wait_class.specs.declared.stages.Turn.TheVariants as turn
-use Rattle.wait_class.specs.FrameLaws.{FinishLaw}
-use Rattle.wait_class.specs.Frames.{FrameTable, framed}
-use Rattle.wait_class.specs.Laws.{HomeGoes, IsFreeStage, LoadLaw, LookLaw, SleepLaw, StateGoes, mask_in}
+use Rattle.wait_class.specs.{Findings.with_own, Findings.with_value, declared.frame_stages.Stage.Stage}
+use Rattle.wait_class.specs.{declared.stages.Turn.Turn, FrameLaws.FinishLaw, Frames.FrameTable, Frames.framed}
+use Rattle.wait_class.specs.Laws.{HomeGoes, IsFreeStage, LoadLaw, LookLaw, SleepLaw, StateGoes, mask_in, Calm}
+use Rattle.wait_class.specs.Laws.{IsPlainTurn, TurnTrail, turn_post}
 use Rattle.wait_class.specs.Tables.{CallTable, falls, next_in, plan_program, post_of, took_in, stage_watch}
-use Rattle.wait_class.specs.Laws.{Calm, IsPlainTurn, TurnTrail, turn_post}
+use Rattle.wait_class.specs.declared.stages.Turn.TheVariants as turn
 
 -- a way with no event of the lock
 pub record Way {C S O : Type 0} (t : CallTable C S O) (r : C) (s : S) (q : C) (u : Turn S O) : Type 0 where

@@ -1,28 +1,20 @@
 -- Whole calls: how they begin, and how the task stands behind them.
 use Rattle.std.proofs.Common.{◌∙◌, ap, sym, refl, subst}
 use Rattle.std.specs.Prelude.{ℕ, ◌≡◌, Bool, true, false, Option, Some, None}
-use Rattle.wait_model.specs.declared.calls.Answer.{Answer}
+use Rattle.wait_model.specs.{declared.calls.Answer.Answer, declared.watches.Entry.Entry, declared.watches.Watch.Watch}
+use Rattle.wait_model.specs.{Fold.after, Views.View as Told}
+use Rattle.wait_model.specs.PointFacts.{Zone, IsHome, absent, holds}
 use Rattle.wait_model.specs.declared.points.Next.TheVariants as next
 use Rattle.wait_model.specs.declared.steps.Step.TheVariants as step
-use Rattle.wait_model.specs.declared.watches.Entry.{Entry}
-use Rattle.wait_model.specs.declared.watches.Watch.{Watch}
-use Rattle.wait_model.specs.Fold.{after}
-use Rattle.wait_model.specs.PointFacts.{Zone, IsHome, absent, holds}
-use Rattle.wait_model.specs.Views.{View as Told}
 use Rattle.wait_rule.specs.declared.journal.Item.TheVariants as item
-use Rattle.wait_rule.specs.Known.{Known}
+use Rattle.wait_rule.specs.{Known.Known, Tickets.no_ticket, Transitions.Goes}
 use Rattle.wait_rule.specs.Queues.{IsIdle, IsTold, index}
 use Rattle.wait_rule.specs.Says.{Debts, Excuse, IsUp, told_of}
-use Rattle.wait_rule.specs.Tickets.{no_ticket}
-use Rattle.wait_rule.specs.Transitions.{Goes}
-use Rattle.wait_rule.proofs.KnownLaws.AfterSteps.{told_added}
-use Rattle.wait_rule.proofs.KnownLaws.Debts.{added_debts}
-use Rattle.wait_class.specs.Posts.{IsOut}
-use Rattle.wait_class.specs.Posts.{IsStateFor, Post, Runs, Stands, zone_at}
-use Rattle.wait_class.specs.declared.stages.Run.{Run}
-use Rattle.wait_class.specs.declared.stages.Turn.TheVariants as turn
+use Rattle.wait_rule.proofs.{KnownLaws.AfterSteps.told_added, KnownLaws.Debts.added_debts}
+use Rattle.wait_class.specs.{declared.stages.Run.Run, Wholes.HasRested}
+use Rattle.wait_class.specs.Posts.{IsOut, IsStateFor, Post, Runs, Stands, zone_at}
 use Rattle.wait_class.specs.Tables.{Advances, IsAt, Plan, CallTable, plan_program, post_of, stage_watch}
-use Rattle.wait_class.specs.Wholes.{HasRested}
+use Rattle.wait_class.specs.declared.stages.Turn.TheVariants as turn
 use Rattle.wait_class.proofs.Turns.{free_head, free_ticket, plain_post}
 
 -- a task that is idle, with its entry off, may begin

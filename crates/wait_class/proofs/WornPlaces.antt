@@ -3,21 +3,18 @@ use Rattle.std.proofs.Common.{◌∙◌, ap, refl, arith}
 use Rattle.std.proofs.lemmas.Bool.Decides.{nat_tests}
 use Rattle.std.specs.Prelude.{ℕ, zero, suc, ◌≡◌, ◌<◌, ◌≤◌, not, Bool, true, false, nat_lt, if◌then◌else◌}
 use Rattle.std.specs.Prelude.{Option, Some, None}
+use Rattle.wait_model.specs.{declared.queues.Member.Member, Places.front_for, Places.within}
 use Rattle.wait_model.specs.declared.layout.TheConstants.{MEMBERS, PLACES, MIDDLE}
-use Rattle.wait_model.specs.declared.queues.Member.{Member}
-use Rattle.wait_model.specs.declared.queues.Form.TheVariants as forms
 use Rattle.wait_model.specs.Queues.{even_below, rank_at, member_from, place_before, place_for, is_within}
-use Rattle.wait_model.specs.Places.{front_for, within}
+use Rattle.wait_model.specs.declared.queues.Form.TheVariants as forms
 use Rattle.wait_model.proofs.QueueLaws.QueueOrder.{IsFirstFrom, first_is}
-use Rattle.wait_rule.specs.Known.{Known}
+use Rattle.wait_rule.specs.{Known.Known, Transitions.is_worn}
 use Rattle.wait_rule.specs.Queues.{IsLowest, IsFrontPlace, place_by}
 use Rattle.wait_rule.specs.Shown.{queue_with, queue_below, shown_queue}
-use Rattle.wait_rule.specs.Transitions.{is_worn}
 use Rattle.wq_head.specs.Looks.{AreLow}
 pub use Rattle.wq_head.proofs.LookingHold.{seen_whole as whole_seen}
+use Rattle.wq_head.proofs.{ShownPlaces.front_place_is, AddedEntries.front_after}
 use Rattle.wq_head.proofs.ShownQueue.{queue_in_order, queue_has, queue_of}
-use Rattle.wq_head.proofs.ShownPlaces.{front_place_is}
-use Rattle.wq_head.proofs.AddedEntries.{front_after}
 
 pub left_within : (low high p : ℕ) → low ≤ p → p < high → not (is_within low high p) ≡ false
 left_within low high p up down = let yes : is_within low high p ≡ true = grind (arith, nat_tests) in ap not yes

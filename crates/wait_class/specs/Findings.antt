@@ -1,10 +1,8 @@
 -- To be believed.
 -- What the events of a call that waits find.
 use Rattle.std.specs.Prelude.{ℕ, Bool, false, Option, None}
-use Rattle.wait_model.specs.declared.points.Seen.{Seen}
-use Rattle.wait_model.specs.declared.tasks.TaskRecord.{TaskRecord}
-use Rattle.wait_model.specs.declared.watches.Entry.{Entry}
-use Rattle.wait_model.specs.Tasks.{task_of}
+use Rattle.wait_model.specs.{declared.points.Seen.Seen, declared.tasks.TaskRecord.TaskRecord}
+use Rattle.wait_model.specs.{declared.watches.Entry.Entry, Tasks.task_of}
 
 -- what a program finds where it asks for nothing, for a value, for an entry, and for the own record
 abbrev pub saw_nothing : Seen

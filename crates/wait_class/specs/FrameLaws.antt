@@ -1,38 +1,25 @@
 -- For proofs alone.
 -- What a table has to keep of a call that prepares and finishes as the waits for bits do.
 use Rattle.std.specs.Prelude.{ℕ, ◌≡◌, ◌<◌, Bool, true, false, if◌then◌else◌, is_some, None, List, [], ◌∷◌}
-use Rattle.wait_model.specs.declared.layout.TheConstants.{FIRST_DONE_HEAD}
+use Rattle.wait_model.specs.{declared.layout.TheConstants.FIRST_DONE_HEAD, declared.points.FinishPoint.FinishPoint}
+use Rattle.wait_model.specs.{declared.points.Given.Given, declared.points.Next.Next, declared.points.Planned.Planned}
+use Rattle.wait_model.specs.{declared.points.Point.Point, declared.points.PreparePoint.PreparePoint}
+use Rattle.wait_model.specs.{declared.points.Seen.Seen, declared.tasks.SleepState.SleepState}
+use Rattle.wait_model.specs.{declared.watches.Watch.Watch, declared.queues.Form.Form, declared.steps.Step.Step}
+use Rattle.wait_model.specs.{Programs.go, Tasks.state_mask, Watches.IsThere, Watches.head_of}
+use Rattle.wait_model.specs.PointFacts.{IsHome, absent, holds, waits}
 use Rattle.wait_model.specs.declared.calls.Event.TheVariants as event
-use Rattle.wait_model.specs.declared.points.FinishPoint.{FinishPoint}
 use Rattle.wait_model.specs.declared.points.FinishPoint.TheVariants as finishing
-use Rattle.wait_model.specs.declared.points.Given.{Given}
-use Rattle.wait_model.specs.declared.points.Next.{Next}
-use Rattle.wait_model.specs.declared.points.Planned.{Planned}
-use Rattle.wait_model.specs.declared.points.Point.{Point}
-use Rattle.wait_model.specs.declared.points.PreparePoint.{PreparePoint}
-use Rattle.wait_model.specs.declared.points.Seen.{Seen}
-use Rattle.wait_model.specs.declared.tasks.SleepState.{SleepState}
-use Rattle.wait_model.specs.declared.watches.Watch.{Watch}
 use Rattle.wait_model.specs.declared.points.Point.TheVariants as at
 use Rattle.wait_model.specs.declared.points.PreparePoint.TheVariants as preparing
-use Rattle.wait_model.specs.declared.queues.Form.{Form}
-use Rattle.wait_model.specs.declared.steps.Step.{Step}
 use Rattle.wait_model.specs.declared.steps.Step.TheVariants as step
-use Rattle.wait_model.specs.Programs.{go}
-use Rattle.wait_model.specs.Tasks.{state_mask}
-use Rattle.wait_model.specs.PointFacts.{IsHome, absent, holds, waits}
-use Rattle.wait_model.specs.Watches.{IsThere, head_of}
-use Rattle.wait_rule.specs.Ends.{WasWorn}
-use Rattle.wait_rule.specs.Known.{Known}
-use Rattle.wait_rule.specs.Tickets.{no_ticket}
-use Rattle.wait_class.specs.Posts.{zone_at}
-use Rattle.wait_class.specs.Posts.{EndsWith}
-use Rattle.wait_class.specs.declared.frame_stages.Stage.{Stage}
-use Rattle.wait_class.specs.declared.frame_stages.Stage.TheVariants as stage
-use Rattle.wait_class.specs.Frames.{FrameTable, framed}
-use Rattle.wait_class.specs.Laws.{KeepsLaws, LoadLaw, LookLaw, SleepLaw}
+use Rattle.wait_rule.specs.{Ends.WasWorn, Known.Known, Tickets.no_ticket}
+use Rattle.wait_class.specs.{Posts.zone_at, Posts.EndsWith, declared.frame_stages.Stage.Stage, Frames.FrameTable}
+use Rattle.wait_class.specs.Frames.{framed}
+use Rattle.wait_class.specs.Laws.{KeepsLaws, LoadLaw, LookLaw, SleepLaw, Calm, IsPlainTurn, TurnTrail, Unmoved}
+use Rattle.wait_class.specs.Laws.{turn_post}
 use Rattle.wait_class.specs.Tables.{Plan, falls, has_sleep, next_in, took_in}
-use Rattle.wait_class.specs.Laws.{Calm, IsPlainTurn, TurnTrail, Unmoved, turn_post}
+use Rattle.wait_class.specs.declared.frame_stages.Stage.TheVariants as stage
 
 -- a program that prepares and finishes as the waits for bits do, and goes on so behind its finish
 abbrev pub prepare_made : Point → Point → Watch → SleepState → Form → PreparePoint → Seen → Planned

@@ -1,25 +1,19 @@
 -- To be believed.
 -- Calls that prepare and finish as the waits for bits do: what differs, and the table that it gives.
 use Rattle.std.specs.Prelude.{ℕ, Bool, true, false, if◌then◌else◌}
-use Rattle.wait_model.specs.declared.calls.Answer.{Answer}
-use Rattle.wait_model.specs.declared.points.Point.{Point}
+use Rattle.wait_model.specs.{declared.calls.Answer.Answer, declared.points.Point.Point, declared.watches.Watch.Watch}
+use Rattle.wait_model.specs.Tasks.{state_mask}
 use Rattle.wait_model.specs.declared.points.Point.TheVariants as at
 use Rattle.wait_model.specs.declared.points.FinishPoint.TheVariants as finishing
 use Rattle.wait_model.specs.declared.points.PreparePoint.TheVariants as preparing
-use Rattle.wait_model.specs.declared.watches.Watch.{Watch}
-use Rattle.wait_model.specs.Tasks.{state_mask}
 use Rattle.wait_rule.specs.Known.{Known}
-use Rattle.wait_class.specs.Posts.{Keeps, Post}
-use Rattle.wait_class.specs.declared.frame_stages.Framed.{Framed}
-use Rattle.wait_class.specs.declared.frame_stages.Stage.{Stage}
+use Rattle.wait_class.specs.{Posts.Keeps, Posts.Post, declared.frame_stages.Framed.Framed}
+use Rattle.wait_class.specs.{declared.frame_stages.Stage.Stage, declared.stages.Added.Added}
+use Rattle.wait_class.specs.{declared.stages.Doing.Doing, declared.stages.Turn.Turn, Tables.Plan, Tables.CallTable}
 use Rattle.wait_class.specs.declared.frame_stages.Stage.TheVariants as stage
-use Rattle.wait_class.specs.declared.stages.Added.{Added}
 use Rattle.wait_class.specs.declared.stages.Added.TheVariants as adds
-use Rattle.wait_class.specs.declared.stages.Doing.{Doing}
 use Rattle.wait_class.specs.declared.stages.Doing.TheVariants as doing
-use Rattle.wait_class.specs.declared.stages.Turn.{Turn}
 use Rattle.wait_class.specs.declared.stages.Turn.TheVariants as turn
-use Rattle.wait_class.specs.Tables.{Plan, CallTable}
 
 -- What differs: the call; its tests, with the point of each, whether it loads the condition, and whether the call has
 -- taken what it waits for there and in a finish; the points of its sleep and of its look for a signal; the tests behind

@@ -1,11 +1,9 @@
 -- To be believed.
 -- Which lock a part of a call gave back, whose next waiter is still to be woken.
 use Rattle.std.specs.Prelude.{ℕ, ◌≡◌, List, [], ◌∷◌, ◌++◌}
-use Rattle.wait_model.specs.declared.layout.TheConstants.{HEADS}
-use Rattle.wait_model.specs.declared.steps.Step.{Step}
+use Rattle.wait_model.specs.{declared.layout.TheConstants.HEADS, declared.steps.Step.Step}
 use Rattle.wait_model.specs.declared.steps.Step.TheVariants as step
-use Rattle.wait_rule.specs.Known.{Known}
-use Rattle.wait_rule.specs.Says.{history_of}
+use Rattle.wait_rule.specs.{Known.Known, Says.history_of}
 
 -- the head whose lock these steps gave back last, or this number where they gave none back
 abbrev pub given_back_by : Step → ℕ → ℕ

@@ -1,43 +1,29 @@
 -- For proofs alone.
 -- What a table has to keep, by what is done at each of its stages.
 use Rattle.std.specs.Prelude.{ℕ, ◌≡◌, ◌≤◌, ◌<◌, ◌⊎◌, ◌||◌, Bool, true, false, is_some, Option, Some, None, Result, Ok, Err, List, [], ◌∷◌, ◌++◌}
-use Rattle.wait_model.specs.declared.layout.TheConstants.{HEADS}
-use Rattle.wait_model.specs.declared.points.Seen.{Seen}
-use Rattle.wait_model.specs.declared.steps.Step.{Step}
-use Rattle.wait_model.specs.declared.steps.Step.TheVariants as step
-use Rattle.wait_model.specs.declared.watches.Entry.{Entry}
-use Rattle.wait_model.specs.declared.watches.Watch.{Watch}
-use Rattle.wait_model.specs.declared.points.Given.{Given}
-use Rattle.wait_model.specs.declared.queues.Form.{Form}
-use Rattle.wait_model.specs.Queues.{place_for}
-use Rattle.wait_model.specs.Runs.{entry_for}
-use Rattle.wait_model.specs.Views.{off}
+use Rattle.wait_model.specs.{declared.layout.TheConstants.HEADS, declared.points.Seen.Seen, declared.steps.Step.Step}
+use Rattle.wait_model.specs.{declared.watches.Entry.Entry, declared.watches.Watch.Watch, declared.points.Given.Given}
+use Rattle.wait_model.specs.{declared.queues.Form.Form, Queues.place_for, Runs.entry_for, Views.off, Watches.IsThere}
+use Rattle.wait_model.specs.Words.{entry_of}
 use Rattle.wait_model.specs.PointFacts.{IsHome, Zone, holds, pages, waits}
 use Rattle.wait_model.specs.Tasks.{pending, state_mask, task_of}
-use Rattle.wait_model.specs.Watches.{IsThere}
-use Rattle.wait_model.specs.Words.{entry_of}
-use Rattle.wait_rule.specs.Ends.{WasWorn}
-use Rattle.wait_rule.specs.HandedPermits.{OwesNoPermit}
-use Rattle.wait_rule.specs.Known.{Known}
-use Rattle.wait_rule.specs.Queues.{IsWholeBook, at_head, index, walk_of_hold}
-use Rattle.wait_rule.specs.declared.journal.Item.{Item}
-use Rattle.wait_rule.specs.Says.{Debts, Excuse, MayStore, added, history_of, stored_with, told_of, unlocked_with}
+use Rattle.wait_model.specs.declared.steps.Step.TheVariants as step
+use Rattle.wait_rule.specs.{Ends.WasWorn, HandedPermits.OwesNoPermit, Known.Known, declared.journal.Item.Item}
 use Rattle.wait_rule.specs.Shown.{shown_queue}
+use Rattle.wait_rule.specs.Queues.{IsWholeBook, at_head, index, walk_of_hold}
+use Rattle.wait_rule.specs.Says.{Debts, Excuse, MayStore, added, history_of, stored_with, told_of, unlocked_with}
 use Rattle.wait_rule.specs.Stays.{Carries, state_change, take_off_change, unchanged}
 use Rattle.wait_rule.specs.Tickets.{Ticket, no_ticket, taken}
 use Rattle.wait_rule.specs.Transitions.{Finds, IsMadeFor, IsSeenAs, OnlyLooks, StepOrLook, Transition, by_step, is_worn}
 use Rattle.wait_rule.specs.declared.journal.Item.TheVariants as item
-use Rattle.wq_head.specs.Holds.{IsHolding}
-use Rattle.wq_head.specs.Looks.{Looks}
-use Rattle.wq_head.specs.declared.adds.Worn.{Worn}
-use Rattle.wait_class.specs.Posts.{HasSeenOwn, IsStateFor, Post, zone_at}
-use Rattle.wait_class.specs.Posts.{own_of}
+use Rattle.wq_head.specs.{Holds.IsHolding, Looks.Looks, declared.adds.Worn.Worn}
+use Rattle.wait_class.specs.{declared.stages.Doing.Doing, declared.stages.Turn.Turn}
+use Rattle.wait_class.specs.Posts.{HasSeenOwn, IsStateFor, Post, zone_at, own_of}
 use Rattle.wait_class.specs.Findings.{saw_nothing, saw_entry, with_own, with_value, with_worn}
-use Rattle.wait_class.specs.Tables.{CallTable, falls, has_sleep, head_in, next_in, plan_program, post_of, took_in, stage_watch, watch_in}
+use Rattle.wait_class.specs.Tables.{CallTable, falls, has_sleep, head_in, next_in, plan_program, post_of, took_in}
+use Rattle.wait_class.specs.Tables.{stage_watch, watch_in}
 use Rattle.wait_class.specs.declared.stages.Added.TheVariants as adds
-use Rattle.wait_class.specs.declared.stages.Doing.{Doing}
 use Rattle.wait_class.specs.declared.stages.Doing.TheVariants as doing
-use Rattle.wait_class.specs.declared.stages.Turn.{Turn}
 use Rattle.wait_class.specs.declared.stages.Turn.TheVariants as turn
 
 -- a turn that goes on with no ticket drawn, or ends the wait

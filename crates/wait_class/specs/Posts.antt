@@ -3,29 +3,20 @@
 -- what stays of it from one point to another.
 use Rattle.std.specs.Prelude.{ℕ, ◌≡◌, ◌<◌, ◌⊎◌, ◌==◌, Bool, true, false, if◌then◌else◌, Option, Some, None, List, ◌∷◌}
 use Rattle.std.specs.Prelude.{◌++◌}
-use Rattle.wait_model.specs.declared.layout.TheConstants.{SLOTS}
-use Rattle.wait_model.specs.declared.steps.Step.{Step}
-use Rattle.wait_model.specs.declared.steps.Step.TheVariants as step
-use Rattle.wait_model.specs.declared.watches.Watch.{Watch}
-use Rattle.wait_model.specs.declared.watches.Entry.{Entry}
-use Rattle.wait_model.specs.declared.calls.Call.{Call}
-use Rattle.wait_model.specs.declared.points.Point.{Point}
-use Rattle.wait_model.specs.declared.points.Point.TheVariants as at
-use Rattle.wait_model.specs.declared.points.Next.{Next}
+use Rattle.wait_model.specs.{declared.layout.TheConstants.SLOTS, declared.steps.Step.Step, declared.watches.Watch.Watch}
+use Rattle.wait_model.specs.{declared.watches.Entry.Entry, declared.calls.Call.Call, declared.points.Point.Point}
+use Rattle.wait_model.specs.{declared.points.Next.Next, Tasks.state_mask, Words.entry_of}
 use Rattle.wait_model.specs.Points.{call_watch, head_at, state_in}
-use Rattle.wait_model.specs.Tasks.{state_mask}
 use Rattle.wait_model.specs.PointFacts.{Zone, absent, zone, IsHome, holds, stirs}
-use Rattle.wait_rule.specs.Ends.{WasWorn}
-use Rattle.wait_rule.specs.Known.{Known}
+use Rattle.wait_model.specs.declared.steps.Step.TheVariants as step
+use Rattle.wait_model.specs.declared.points.Point.TheVariants as at
+use Rattle.wait_rule.specs.{Ends.WasWorn, Known.Known, Members.IsOwnKind, Members.IsEntryWord}
 use Rattle.wait_rule.specs.Tickets.{Ticket, no_ticket, drawn, taken}
-use Rattle.wait_rule.specs.Members.{IsOwnKind}
-use Rattle.wait_model.specs.Words.{entry_of}
 use Rattle.wait_rule.specs.Says.{Excuse, history_of, told_of, added, OwesBut}
-use Rattle.wait_rule.specs.declared.journal.Item.TheVariants as item
-use Rattle.wait_rule.specs.Members.{IsEntryWord}
 use Rattle.wait_rule.specs.Queues.{IsAgreed, KnewEntry, index, saw}
 use Rattle.wait_rule.specs.Stays.{Carries, with_entry, only_looks}
 use Rattle.wait_rule.specs.Transitions.{Program, Transition, Goes}
+use Rattle.wait_rule.specs.declared.journal.Item.TheVariants as item
 
 -- What a point of a program says of the task: the head that it holds, the ticket that it has out, whether its state may
 -- be another than RUNNING, which one then, and what its own entry is, of a call for this watch.

@@ -1,18 +1,11 @@
 -- To be believed.
 -- The add of an entry in a hold, by its form.
 use Rattle.std.specs.Prelude.{ℕ, ◌≡◌, ◌&&◌, not, Bool, true, false, if◌then◌else◌, List, [], ◌∷◌}
-use Rattle.wait_model.specs.declared.queues.Form.{Form}
+use Rattle.wait_model.specs.{declared.queues.Form.Form, declared.queues.Member.Member, declared.tasks.How.How}
+use Rattle.wait_model.specs.{declared.watches.Entry.Entry, declared.watches.Kind.Kind, declared.watches.Watch.Watch}
+use Rattle.wait_model.specs.{Queues.is_exclusive, Queues.is_priority, Watches.is_simple}
 use Rattle.wait_model.specs.declared.queues.Form.TheVariants as forms
-use Rattle.wait_model.specs.declared.queues.Member.{Member}
-use Rattle.wait_model.specs.declared.tasks.How.{How}
-use Rattle.wait_model.specs.declared.watches.Entry.{Entry}
-use Rattle.wait_model.specs.declared.watches.Kind.{Kind}
-use Rattle.wait_model.specs.declared.watches.Watch.{Watch}
-use Rattle.wait_model.specs.Queues.{is_exclusive, is_priority}
-use Rattle.wait_model.specs.Watches.{is_simple}
-use Rattle.wait_rule.specs.Known.{Known}
-use Rattle.wait_rule.specs.Queues.{IsWholeBook}
-use Rattle.wait_rule.specs.Shown.{shown_queue}
+use Rattle.wait_rule.specs.{Known.Known, Queues.IsWholeBook, Shown.shown_queue}
 use Rattle.wq_head.specs.Adds.{IsFor, IsForPlain, IsForTail}
 
 -- the entry that an add of a form queues; a simple entry is not exclusive

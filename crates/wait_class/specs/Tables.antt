@@ -2,37 +2,22 @@
 -- Calls that wait, as tables of small stages: what a table has, how a task stands at a stage, and what a turn did.
 use Rattle.std.specs.Prelude.{ℕ, ◌≡◌, ◌⊎◌, ◌||◌, not, nat_lt, Bool, true, false, if◌then◌else◌, Option, Some, None}
 use Rattle.std.specs.Prelude.{List, [], ◌∷◌, ◌++◌}
-use Rattle.wait_model.specs.declared.calls.Call.{Call}
-use Rattle.wait_model.specs.declared.calls.Answer.{Answer}
-use Rattle.wait_model.specs.declared.points.Point.{Point}
-use Rattle.wait_model.specs.declared.points.Next.{Next}
-use Rattle.wait_model.specs.declared.points.Next.TheVariants as next
-use Rattle.wait_model.specs.declared.steps.Step.{Step}
-use Rattle.wait_model.specs.declared.steps.Step.TheVariants as step
-use Rattle.wait_model.specs.declared.watches.Watch.{Watch}
-use Rattle.wait_model.specs.declared.points.Given.{Given}
-use Rattle.wait_model.specs.declared.points.Planned.{Planned}
-use Rattle.wait_model.specs.declared.points.Seen.{Seen}
-use Rattle.wait_model.specs.declared.queues.Form.{Form}
-use Rattle.wait_model.specs.declared.tasks.SleepState.{SleepState}
+use Rattle.wait_model.specs.{declared.calls.Call.Call, declared.calls.Answer.Answer, declared.points.Point.Point}
+use Rattle.wait_model.specs.{declared.points.Next.Next, declared.steps.Step.Step, declared.watches.Watch.Watch}
+use Rattle.wait_model.specs.{declared.points.Given.Given, declared.points.Planned.Planned, declared.points.Seen.Seen}
+use Rattle.wait_model.specs.{declared.queues.Form.Form, declared.tasks.SleepState.SleepState, Programs.program}
+use Rattle.wait_model.specs.{Tasks.state_mask, Tasks.task_of, Watches.head_of, PointFacts.holds, PointFacts.stirs}
 use Rattle.wait_model.specs.Points.{call_watch, form_of, given_at, head_at, state_in}
-use Rattle.wait_model.specs.Programs.{program}
-use Rattle.wait_model.specs.Tasks.{state_mask, task_of}
-use Rattle.wait_model.specs.Watches.{head_of}
-use Rattle.wait_model.specs.PointFacts.{holds, stirs}
-use Rattle.wait_rule.specs.Known.{Known}
-use Rattle.wait_rule.specs.Queues.{index}
-use Rattle.wait_rule.specs.declared.journal.Item.TheVariants as item
+use Rattle.wait_model.specs.declared.points.Next.TheVariants as next
+use Rattle.wait_model.specs.declared.steps.Step.TheVariants as step
+use Rattle.wait_rule.specs.{Known.Known, Queues.index, Tickets.taken, Tried.IsOneMore, Transitions.Program}
+use Rattle.wait_rule.specs.Transitions.{Transition}
 use Rattle.wait_rule.specs.Says.{IsUp, IsDown, added, history_of}
-use Rattle.wait_rule.specs.Tickets.{taken}
-use Rattle.wait_rule.specs.Tried.{IsOneMore}
+use Rattle.wait_rule.specs.declared.journal.Item.TheVariants as item
 use Rattle.wq_head.specs.LockTurns.{FindsOther}
-use Rattle.wait_rule.specs.Transitions.{Program, Transition}
-use Rattle.wait_class.specs.Posts.{Post, Stands, Runs, ticket_out, zone_at}
-use Rattle.wait_class.specs.declared.stages.Added.{Added}
-use Rattle.wait_class.specs.declared.stages.Doing.{Doing}
-use Rattle.wait_class.specs.declared.stages.Run.{Run}
+use Rattle.wait_class.specs.{declared.stages.Added.Added, declared.stages.Doing.Doing, declared.stages.Run.Run}
 use Rattle.wait_class.specs.declared.stages.Turn.{Turn}
+use Rattle.wait_class.specs.Posts.{Post, Stands, Runs, ticket_out, zone_at}
 use Rattle.wait_class.specs.declared.stages.Turn.TheVariants as turn
 
 -- A call as a program: the event at each point by the number of its task and what was found there, and what its step is

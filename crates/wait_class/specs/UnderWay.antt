@@ -1,13 +1,10 @@
 -- To be believed.
 -- A call that goes on by stretches, from where it began to where it is.
 use Rattle.std.specs.Prelude.{◌≡◌, false}
-use Rattle.wait_rule.specs.Known.{Known}
-use Rattle.wait_rule.specs.Queues.{IsTold}
-use Rattle.wait_rule.specs.Says.{IsClean}
-use Rattle.wait_class.specs.declared.stages.Run.{Run}
-use Rattle.wait_class.specs.declared.stages.Turn.{Turn}
-use Rattle.wait_class.specs.declared.stages.Turn.TheVariants as turn
+use Rattle.wait_rule.specs.{Known.Known, Queues.IsTold, Says.IsClean}
+use Rattle.wait_class.specs.{declared.stages.Run.Run, declared.stages.Turn.Turn}
 use Rattle.wait_class.specs.Tables.{Advances, CallTable, Plan}
+use Rattle.wait_class.specs.declared.stages.Turn.TheVariants as turn
 
 -- where a call goes on: who waits for a lock goes on at its stage
 abbrev pub going : {S O : Type 0} → Turn S O → Turn S O

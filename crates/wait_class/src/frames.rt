@@ -4,10 +4,8 @@ ghost use Rattle.std.specs.Prelude.{◌≡◌, true};
 ghost use Rattle.wait_model.specs.declared.layout.TheConstants.{HEADS};
 ghost use Rattle.wait_rule.specs.Says.{IsUp};
 ghost use Rattle.wait_class.specs.declared.frame_stages.Stage.TheVariants as stage;
-ghost use Rattle.wait_class.specs.FrameLaws.{IsLawfulFrame};
-ghost use Rattle.wait_class.specs.Frames.{FrameTable, framed};
-ghost use Rattle.wait_class.specs.Handing.{LastGiven};
-ghost use Rattle.wait_class.specs.Laws.{AddsOwn, MayAdd};
+ghost use Rattle.wait_class.specs.{FrameLaws.IsLawfulFrame, Frames.FrameTable, Frames.framed, Handing.LastGiven};
+ghost use Rattle.wait_class.specs.{Laws.AddsOwn, Laws.MayAdd};
 ghost use Rattle.wait_class.specs.Tables.{IsAt, SleepsNot, Turned, falls};
 
 use crate::frame_stages::{Framed, Stage};

@@ -1,10 +1,8 @@
 //! Calls that wait, as tables of stages.
 
 ghost use Rattle.std.specs.Prelude.{◌≡◌, ◌⊎◌, not, true};
-ghost use Rattle.wait_model.specs.PointFacts.{holds};
-ghost use Rattle.wait_model.specs.Tasks.{IsState};
-ghost use Rattle.wait_rule.specs.PassedLocks.{PassesNone};
-ghost use Rattle.wait_rule.specs.Says.{IsUp};
+ghost use Rattle.wait_model.specs.{PointFacts.holds, Tasks.IsState};
+ghost use Rattle.wait_rule.specs.{PassedLocks.PassesNone, Says.IsUp};
 ghost use Rattle.wait_class.specs.declared.stages.Added.TheVariants as adds;
 ghost use Rattle.wait_class.specs.declared.stages.Doing.TheVariants as doing;
 ghost use Rattle.wait_class.specs.Handing.{LastGiven};

@@ -7,13 +7,10 @@ ghost use Rattle.wait_model.specs.Queues.{is_priority};
 ghost use Rattle.wait_model.specs.Watches.{head_of, is_simple};
 ghost use Rattle.wait_model.specs.declared.layout.TheConstants.{FIRST_DONE_HEAD, PRIORITY_TASKS};
 ghost use Rattle.wait_model.specs.declared.watches.Kind.TheVariants as kinds;
-ghost use Rattle.wait_rule.specs.Ends.{WasWorn};
-ghost use Rattle.wait_rule.specs.Queues.{index};
+ghost use Rattle.wait_rule.specs.{Ends.WasWorn, Queues.index, Stays.Carries, Stays.only_looks};
 ghost use Rattle.wait_rule.specs.Says.{AsksNoPage, IsUp, told_of};
-ghost use Rattle.wait_rule.specs.Stays.{Carries, only_looks};
+ghost use Rattle.wq_head.specs.{Holds.IsHolding, Looks.Looks};
 ghost use Rattle.wq_head.specs.Adds.{HasAdded, IsFormPlace, IsFormWorn};
-ghost use Rattle.wq_head.specs.Holds.{IsHolding};
-ghost use Rattle.wq_head.specs.Looks.{Looks};
 
 use wait_model::queues::Form;
 use wait_model::tasks::How;

@@ -1,14 +1,11 @@
 //! Calls that wait, by stretches, for who may not wait, and to their ends.
 
 ghost use Rattle.std.specs.Prelude.{◌≡◌, ◌≤◌, MatchBool, true};
-ghost use Rattle.wait_rule.specs.PassedLocks.{PassesNone};
-ghost use Rattle.wait_rule.specs.Says.{IsUp};
+ghost use Rattle.wait_rule.specs.{PassedLocks.PassesNone, Says.IsUp};
 ghost use Rattle.wq_head.specs.declared.locks.TheConstants.{LOOKS};
 ghost use Rattle.wait_class.specs.declared.stages.Turn.TheVariants as turn;
-ghost use Rattle.wait_class.specs.Handing.{LastGiven};
+ghost use Rattle.wait_class.specs.{Handing.LastGiven, UnderWay.Came, UnderWay.IsUnderWay, Wholes.HasRested};
 ghost use Rattle.wait_class.specs.Tables.{Advances, IsAsleepAt, IsAt, IsStop, LooksAwake, Turned, falls};
-ghost use Rattle.wait_class.specs.UnderWay.{Came, IsUnderWay};
-ghost use Rattle.wait_class.specs.Wholes.{HasRested};
 
 use crate::events::advance;
 use crate::machines::Machine;

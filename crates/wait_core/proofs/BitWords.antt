@@ -1,13 +1,11 @@
 -- The words that an exchange of a bit and a clear leave.
 use Rattle.std.proofs.Common.{refl, arith, ap, sym, ◌∙◌}
-use Rattle.wait_model.specs.declared.layout.TheConstants.{BIT_WORDS, WORD_BITS}
-use Rattle.std.specs.Prelude.{◌≡◌, ℕ, ◌+◌, ◌-◌, ◌^◌, ◌<◌, Bool, true, false, if◌then◌else◌, List, slice_index}
-use Rattle.wait_model.specs.declared.watches.Watch.{Watch}
-use Rattle.wait_model.specs.declared.watches.Watch.TheVariants as watch
-use Rattle.wait_model.specs.Functions.{put}
-use Rattle.wait_model.specs.Words.{bit_at, bit_word}
+use Rattle.wait_model.specs.{declared.layout.TheConstants.BIT_WORDS, declared.layout.TheConstants.WORD_BITS}
+use Rattle.wait_model.specs.{declared.watches.Watch.Watch, Functions.put, Words.bit_at, Words.bit_word}
 use Rattle.wait_model.specs.Tables.{Table, value_of, publish, consume}
 use Rattle.wait_model.specs.Locations.{Shows, Bits, position_of}
+use Rattle.std.specs.Prelude.{◌≡◌, ℕ, ◌+◌, ◌-◌, ◌^◌, ◌<◌, Bool, true, false, if◌then◌else◌, List, slice_index}
+use Rattle.wait_model.specs.declared.watches.Watch.TheVariants as watch
 use Rattle.wait_model.proofs.Functions.{put_at, put_same}
 use Rattle.wait_model.proofs.WordLaws.BitWords.{bit_word_small, bit_read, same_bits, bit_word_more, bit_word_less}
 

@@ -1,10 +1,8 @@
 -- The run of a core leaves nobody asleep whom a setter has published for and woken.
 use Rattle.std.proofs.Common.{subst}
 use Rattle.std.specs.Prelude.{ℕ, ◌≡◌, ◌≤◌, List}
-use Rattle.wait_model.specs.declared.layout.TheConstants.{EVENTS}
-use Rattle.wait_model.specs.declared.calls.Ran.{Ran}
-use Rattle.wait_model.specs.declared.points.Progress.{Progress}
-use Rattle.wait_model.specs.Followed.{LeavesNobody}
+use Rattle.wait_model.specs.{declared.layout.TheConstants.EVENTS, declared.calls.Ran.Ran}
+use Rattle.wait_model.specs.{declared.points.Progress.Progress, Followed.LeavesNobody}
 use Rattle.wait_core.specs.Core.{IsCore}
 use Rattle.wait_model.proofs.FollowedLaws.FollowedSetters.{setters_leave_nobody}
 

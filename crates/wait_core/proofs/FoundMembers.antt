@@ -1,27 +1,22 @@
 -- What the scan finds is the queue's member, and what the words show is what the task sees.
 use Rattle.std.specs.Prelude.{◌≡◌, ℕ, ◌+◌, ◌-◌, ◌*◌, Bool, true, false, nat_lt, ◌<◌, ◌≤◌}
 use Rattle.std.specs.Prelude.{if◌then◌else◌, min, List, slice_index, IfSome, Option, Some, None}
+use Rattle.wait_model.specs.{declared.watches.Entry.Entry, declared.queues.Member.Member, Tasks.task_word}
+use Rattle.wait_model.specs.{Tasks.task_of, declared.queues.Mark.Mark, Runs.State, declared.watches.Watch.Watch}
 use Rattle.wait_model.specs.declared.layout.TheConstants.{TASKS, ENTRIES, MEMBERS, CONDITIONS, HEADS, ENTRY_AT}
 use Rattle.wait_model.specs.declared.layout.TheConstants.{BOOKMARK_AT, PLACES, MIDDLE, FIRST_PRIORITY, FIRST_PLACE}
 use Rattle.wait_model.specs.declared.layout.TheConstants.{INDEXES, EVENTS}
-use Rattle.std.proofs.Common.{refl, arith, ap, sym, ◌∙◌, subst}
-use Rattle.wait_model.specs.declared.watches.Entry.{Entry}
-use Rattle.wait_model.specs.declared.queues.Member.{Member}
-use Rattle.wait_model.specs.Tasks.{task_word, task_of}
 use Rattle.wait_model.specs.Watches.{head_of, IsThere, number_of}
 use Rattle.wait_model.specs.Words.{entry_word, entry_of, head_word, held_of, spent_of, done_word, flag_of}
-use Rattle.wait_model.specs.declared.queues.Mark.{Mark}
-use Rattle.wait_model.specs.Tables.{mark_of}
+use Rattle.wait_model.specs.Tables.{mark_of, Table, value_of}
 use Rattle.wait_model.specs.Queues.{stand_by, stand_of, is_entry, rank, rank_at, first_from, member_from, entry_from}
 use Rattle.wait_model.specs.Queues.{entries_of, last_within, place_before, place_behind, front_place, tail_place}
 use Rattle.wait_model.specs.Queues.{priority_place, even_above, even_below, IsIn}
 use Rattle.wait_model.specs.Places.{within, front_for, tail_for, priority_for}
-use Rattle.wait_model.specs.Runs.{State}
 use Rattle.wait_model.specs.Reached.{IsSound, IsBookmark, IsInside, IsWithinAdds}
 use Rattle.wait_model.specs.Locations.{Shows, Task as TaskWord, Entry as EntryWord, Bookmark as BookmarkWord}
 use Rattle.wait_model.specs.Locations.{Flag as FlagWord, Head, cond_at, position_of, word_in, mark_word}
-use Rattle.wait_model.specs.declared.watches.Watch.{Watch}
-use Rattle.wait_model.specs.Tables.{Table, value_of}
+use Rattle.std.proofs.Common.{refl, arith, ap, sym, ◌∙◌, subst}
 use Rattle.wait_model.proofs.WordLaws.DecodedWords.{task_read, held_read, spent_read, done_read_back, mark_read}
 use Rattle.wait_model.proofs.WordLaws.DecodedWords.{no_mark_read}
 use Rattle.wait_model.proofs.WordLaws.CondWords.{cond_located, number_below, number_value}

@@ -1,10 +1,16 @@
 -- The list of members when one is put in or taken out.
 use Rattle.std.specs.Prelude.{◌≡◌, ◌≢◌, ℕ, ◌+◌, ◌-◌, ◌*◌, ◌%◌, ◌<◌, ◌≤◌, ◌⊎◌, ◌==◌, Bool, true, false, if◌then◌else◌}
 use Rattle.std.specs.Prelude.{nat_lt, List, [], length, slice_index_or, slice_index, slice_set, Option, Some, None}
+use Rattle.wait_model.specs.{declared.queues.Mark.Mark, Functions.put, Queues.stand_by, Words.entry_of, Tables.mark_of}
+use Rattle.wait_model.specs.Tables.{start}
 use Rattle.wait_model.specs.declared.layout.TheConstants.{TASKS, ENTRIES, MEMBERS, PLAIN_CONDITIONS, FIRST_DONE}
 use Rattle.wait_model.specs.declared.layout.TheConstants.{FIRST_BIT_WORD, FIRST_VARIABLE, ENTRY_AT, BOOKMARK_AT, WORDS}
 use Rattle.wait_model.specs.declared.layout.TheConstants.{PLACES, INDEXES}
-use Rattle.wait_core.specs.declared.index.TheConstants.{RANKS}
+use Rattle.wait_model.specs.Locations.{Location, Entry, Bookmark, Plain, Done, Bits, Var, IsLocation, Shows}
+use Rattle.wait_model.specs.Locations.{position_of, cond_at}
+use Rattle.wait_core.specs.{declared.index.TheConstants.RANKS, declared.index.RankedMember.RankedMember}
+use Rattle.wait_core.specs.Scan.{entry_in_words, shown_mark, shown_stand}
+use Rattle.wait_core.specs.Index.{IsListedMember, IsIndex, class_of, key, key_at, standing_of}
 use Rattle.std.specs.List.{Contains, insert, remove}
 use Rattle.std.proofs.Common.{zero, suc, refl, arith, ap, sym, ◌∙◌, subst, inl, inr}
 use Rattle.std.proofs.lemmas.Bool.Decides.{nat_tests, eqb_tells}
@@ -12,19 +18,8 @@ use Rattle.std.proofs.lemmas.List.{get_or_default, get_or-set_other}
 use Rattle.std.proofs.lemmas.Grind.{get_or-set_at}
 use Rattle.std.proofs.lemmas.List.Edits.{length-insert, get_or-insert_below, get_or-insert_at, get_or-insert_above}
 use Rattle.std.proofs.lemmas.List.Edits.{length-remove, get_or-remove_below, get_or-remove_above}
-use Rattle.wait_model.specs.declared.queues.Mark.{Mark}
-use Rattle.wait_model.specs.Functions.{put}
-use Rattle.wait_model.proofs.Functions.{put_other}
-use Rattle.wait_model.specs.Queues.{stand_by}
-use Rattle.wait_model.specs.Words.{entry_of}
-use Rattle.wait_model.specs.Tables.{mark_of, start}
-use Rattle.wait_model.specs.Locations.{Location, Entry, Bookmark, Plain, Done, Bits, Var, IsLocation, Shows}
-use Rattle.wait_model.specs.Locations.{position_of, cond_at}
-use Rattle.wait_model.proofs.WordLaws.DecodedWords.{none_read, no_mark_read}
-use Rattle.wait_core.specs.Scan.{entry_in_words, shown_mark, shown_stand}
-use Rattle.wait_core.specs.declared.index.RankedMember.{RankedMember}
+use Rattle.wait_model.proofs.{Functions.put_other, WordLaws.DecodedWords.none_read, WordLaws.DecodedWords.no_mark_read}
 use Rattle.wait_core.specs.declared.index.Class.TheVariants as class
-use Rattle.wait_core.specs.Index.{IsListedMember, IsIndex, class_of, key, key_at, standing_of}
 use Rattle.wait_core.proofs.IndexSearch.{sides, none}
 
 -- so many different numbers below m are at most m: the one that is m gives way to the last

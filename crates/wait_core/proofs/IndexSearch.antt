@@ -1,18 +1,15 @@
 -- What a search in the list of members finds.
 use Rattle.std.specs.Prelude.{◌≡◌, ℕ, ◌+◌, ◌<◌, ◌≤◌, Bool, true, false, ◌&&◌, ◌==◌, nat_lt, nat_le, List, length}
 use Rattle.std.specs.Prelude.{slice_index_or, ◌⊎◌, ◌≢◌, ◌*◌, min, Option, Some, None}
-use Rattle.wait_model.specs.declared.layout.TheConstants.{MEMBERS, INDEXES}
-use Rattle.wait_core.specs.declared.index.TheConstants.{RANKS}
+use Rattle.wait_model.specs.{declared.layout.TheConstants.MEMBERS, declared.layout.TheConstants.INDEXES}
+use Rattle.wait_model.specs.{declared.queues.Mark.Mark, declared.queues.Member.Member, Queues.rank}
+use Rattle.wait_core.specs.{declared.index.TheConstants.RANKS, declared.scan.Span.Span}
+use Rattle.wait_core.specs.declared.index.RankedMember.{RankedMember}
+use Rattle.wait_core.specs.Scan.{marked_member, is_in_span, prefers, IsPick, IsPicked}
+use Rattle.wait_core.specs.Index.{IsSorted, IsListedMember, IsIndex, key, key_at, standing_of}
 use Rattle.std.proofs.Common.{refl, arith, ap, sym, ◌∙◌, subst, inl, inr}
 use Rattle.std.proofs.lemmas.List.{get_or_default}
 use Rattle.std.proofs.lemmas.Bool.Decides.{nat_tests}
-use Rattle.wait_model.specs.declared.queues.Mark.{Mark}
-use Rattle.wait_model.specs.declared.queues.Member.{Member}
-use Rattle.wait_core.specs.declared.scan.Span.{Span}
-use Rattle.wait_core.specs.declared.index.RankedMember.{RankedMember}
-use Rattle.wait_model.specs.Queues.{rank}
-use Rattle.wait_core.specs.Scan.{marked_member, is_in_span, prefers, IsPick, IsPicked}
-use Rattle.wait_core.specs.Index.{IsSorted, IsListedMember, IsIndex, key, key_at, standing_of}
 
 -- what a read past the end of the list gives
 abbrev pub none : RankedMember

@@ -1,37 +1,28 @@
 -- Who keeps each bit, and which page was taken for each task, after an event.
 use Rattle.std.proofs.Common.{refl, arith, ap, sym, ◌∙◌, subst, inl, inr, length-set, get_or-set_other}
+use Rattle.wait_model.specs.{declared.watches.Entry.Entry, declared.watches.Watch.Watch, declared.steps.Step.Step}
+use Rattle.wait_model.specs.{declared.calls.Event.Event, declared.points.Given.Given, Views.View, Views.Bits}
+use Rattle.wait_model.specs.{Facts.Kept, Rows.AllAllowed, Reached.Allows, Reached.Joins, Functions.put}
 use Rattle.wait_model.specs.declared.layout.TheConstants.{TASKS, ENTRIES, BIT_WORDS, WORD_BITS, BITS}
+use Rattle.wait_model.specs.Watches.{same, is_bit, bit_of, page}
+use Rattle.wait_model.specs.Words.{bit_at, flag, head_word}
+use Rattle.wait_model.specs.Fold.{after, after_all, takes_note}
+use Rattle.wait_model.specs.Tables.{start, value_of, next}
+use Rattle.wait_model.specs.Runs.{State, is_publishing, looks_below, looks, peeks_below, all_peeks, set_step}
+use Rattle.wait_model.specs.Runs.{event_steps, after_event, own}
 use Rattle.std.proofs.lemmas.Grind.{get_or-set_at}
 use Rattle.std.proofs.lemmas.Option.{get_or_from_slice_get}
 use Rattle.std.proofs.lemmas.Bool.Decides.{nat_tests, eqb_tells}
 use Rattle.std.specs.Prelude.{◌≡◌, ◌≢◌, ℕ, zero, suc, ◌+◌, ◌*◌, ◌<◌, Bool, true, false, not, ◌&&◌, ◌||◌, ◌==◌}
 use Rattle.std.specs.Prelude.{if◌then◌else◌, List, [], ◌∷◌, length, slice_get, slice_index_or, slice_set, Option, Some}
 use Rattle.std.specs.Prelude.{None, IfSome}
-use Rattle.wait_model.specs.declared.watches.Entry.{Entry}
-use Rattle.wait_model.specs.declared.watches.Watch.{Watch}
 use Rattle.wait_model.specs.declared.watches.Watch.TheVariants as watch
-use Rattle.wait_model.specs.declared.steps.Step.{Step}
 use Rattle.wait_model.specs.declared.steps.Step.TheVariants as step
-use Rattle.wait_model.specs.declared.calls.Event.{Event}
 use Rattle.wait_model.specs.declared.calls.Event.TheVariants as event
-use Rattle.wait_model.specs.declared.points.Given.{Given}
-use Rattle.wait_model.specs.Watches.{same, is_bit, bit_of, page}
-use Rattle.wait_model.specs.Words.{bit_at, flag, head_word}
-use Rattle.wait_model.specs.Views.{View, Bits}
-use Rattle.wait_model.specs.Fold.{after, after_all, takes_note}
-use Rattle.wait_model.specs.Tables.{start, value_of, next}
-use Rattle.wait_model.specs.Facts.{Kept}
-use Rattle.wait_model.specs.Rows.{AllAllowed}
-use Rattle.wait_model.specs.Reached.{Allows, Joins}
-use Rattle.wait_model.specs.Runs.{State, is_publishing, looks_below, looks, peeks_below, all_peeks, set_step}
-use Rattle.wait_model.specs.Runs.{event_steps, after_event, own}
-use Rattle.wait_model.specs.Functions.{put}
-use Rattle.wait_model.proofs.Functions.{put_at}
-use Rattle.wait_model.proofs.RunLaws.OthersEvents.{own_one}
-use Rattle.wait_model.proofs.HistoryLaws.UnlockedLooks.{peeks_same as peeks_leave}
-use Rattle.wait_model.proofs.WordLaws.BitWords.{bit_read}
-use Rattle.wait_model.proofs.HistoryLaws.HoldLooks.{looks_same as looks_leave, steps_own, steps_other}
+use Rattle.wait_model.proofs.{Functions.put_at, RunLaws.OthersEvents.own_one}
+use Rattle.wait_model.proofs.{HistoryLaws.UnlockedLooks.peeks_same as peeks_leave, WordLaws.BitWords.bit_read}
 use Rattle.wait_model.proofs.StepLaws.UnlockSteps.{unlock_bits}
+use Rattle.wait_model.proofs.HistoryLaws.HoldLooks.{looks_same as looks_leave, steps_own, steps_other}
 use Rattle.wait_core.specs.Keepers.{ShowsKeepers, ShowsTaken, is_keeper, noted_by, kept_after, taken_after}
 use Rattle.wait_core.proofs.NotedBits.{NotesBits}
 

@@ -1,42 +1,31 @@
 -- A core is kept by an opening and by an event.
 use Rattle.std.specs.Prelude.{◌≡◌, ℕ, ◌+◌, ◌*◌, ◌<◌, ◌≤◌, Bool, true, false, if◌then◌else◌, List, [], ◌∷◌, ◌++◌}
 use Rattle.std.specs.Prelude.{slice_get, slice_set, length, ◌≢◌, Option}
+use Rattle.wait_model.specs.{declared.calls.Call.Call, declared.calls.Event.Event, declared.points.Point.Point}
+use Rattle.wait_model.specs.{declared.watches.Entry.Entry, Views.View, declared.points.Progress.Progress}
+use Rattle.wait_model.specs.{declared.calls.Ran.Ran, Programs.program_start, Points.call_watch, Points.given_at}
+use Rattle.wait_model.specs.{Admission.admits, Shown.IsInRange, Locations.Shows}
 use Rattle.wait_model.specs.declared.layout.TheConstants.{TASKS, EVENTS, RUN_ITEMS}
-use Rattle.std.specs.declared.option.Option.TheVariants.{Some, None}
-use Rattle.std.proofs.Common.{refl, arith, ap, sym, ◌∙◌, subst, inl, inr, length-set, length-append, get_or-set_other}
-use Rattle.std.proofs.lemmas.Option.{slice_get-get_or, slice_get_within, get_or_from_slice_get}
-use Rattle.std.proofs.lemmas.List.Sums.{sum_by-set, sum_by-cons}
-use Rattle.std.proofs.lemmas.Grind.{get_or-set_at}
-use Rattle.wait_model.specs.declared.calls.Call.{Call}
-use Rattle.wait_model.specs.declared.calls.Event.{Event}
-use Rattle.wait_model.specs.declared.calls.Event.TheVariants as event
-use Rattle.wait_model.specs.declared.points.Point.{Point}
-use Rattle.wait_model.specs.declared.points.Point.TheVariants as at
-use Rattle.wait_model.specs.declared.points.WalkPoint.TheVariants as walking
-use Rattle.wait_model.specs.declared.watches.Entry.{Entry}
-use Rattle.wait_model.specs.Views.{View}
-use Rattle.wait_model.specs.declared.points.Progress.{Progress}
-use Rattle.wait_model.specs.declared.points.Progress.TheVariants as now
-use Rattle.wait_model.specs.declared.calls.Ran.{Ran}
-use Rattle.wait_model.specs.declared.calls.Ran.TheVariants as ran
-use Rattle.wait_model.specs.Programs.{program_start}
-use Rattle.wait_model.specs.Points.{call_watch, given_at}
-use Rattle.wait_model.specs.Admission.{admits}
-use Rattle.wait_model.specs.Shown.{IsInRange}
-use Rattle.wait_model.specs.Locations.{Shows}
 use Rattle.wait_model.specs.Reached.{HandsAt, marked_at, IsSound, IsSoundCall, IsPlaced, Allows, Joins, Rests}
 use Rattle.wait_model.specs.Reached.{KeepsCleared, CountedAt, CountedBy}
 use Rattle.wait_model.specs.Runs.{State, start_state, after_event, planned, seen_by, progress_at, progress_after}
 use Rattle.wait_model.specs.Runs.{given_by, found_by, own, happens, state_of, IsItem, Continues, busy_head, made_in}
 use Rattle.wait_model.specs.Runs.{is_open, IsRun}
-use Rattle.wait_model.proofs.Functions.{put_at}
-use Rattle.wait_model.proofs.RunLaws.WalkEvents.{program_fine}
-use Rattle.wait_model.proofs.RunLaws.FineEvents.{Fine}
+use Rattle.std.specs.declared.option.Option.TheVariants.{Some, None}
+use Rattle.std.proofs.Common.{refl, arith, ap, sym, ◌∙◌, subst, inl, inr, length-set, length-append, get_or-set_other}
+use Rattle.std.proofs.lemmas.Option.{slice_get-get_or, slice_get_within, get_or_from_slice_get}
+use Rattle.std.proofs.lemmas.List.Sums.{sum_by-set, sum_by-cons}
+use Rattle.std.proofs.lemmas.Grind.{get_or-set_at}
+use Rattle.wait_model.specs.declared.calls.Event.TheVariants as event
+use Rattle.wait_model.specs.declared.points.Point.TheVariants as at
+use Rattle.wait_model.specs.declared.points.WalkPoint.TheVariants as walking
+use Rattle.wait_model.specs.declared.points.Progress.TheVariants as now
+use Rattle.wait_model.specs.declared.calls.Ran.TheVariants as ran
+use Rattle.wait_model.proofs.{Functions.put_at, RunLaws.WalkEvents.program_fine, RunLaws.FineEvents.Fine}
 use Rattle.wait_model.proofs.RunLaws.EveryRun.{sound_of, state_after-push, run_push, made_push, opened_push}
 use Rattle.wait_core.specs.Core.{IsCore, open_calls, one_if_open}
 use Rattle.wait_core.specs.Keepers.{ShowsKeepers, ShowsTaken, kept_after, taken_after}
-use Rattle.wait_core.proofs.NotedBits.{WalksPage, noted}
-use Rattle.wait_core.proofs.KeptBits.{event_keepers, event_taken}
+use Rattle.wait_core.proofs.{NotedBits.WalksPage, NotedBits.noted, KeptBits.event_keepers, KeptBits.event_taken}
 
 -- a walk that tries a page knows that it is for one
 page_of : (entry : ℕ → Option Entry) (v : View) (call : Call) (p : Point) → CountedAt entry v call p

@@ -1,13 +1,11 @@
 -- A queue is the members of its head, so the first of it from a rank on is the head's next member.
 use Rattle.std.proofs.lemmas.Bool.Decides.{nat_tests}
-use Rattle.wait_model.specs.declared.layout.TheConstants.{ENTRIES}
+use Rattle.wait_model.specs.{declared.layout.TheConstants.ENTRIES, declared.queues.Member.Member}
+use Rattle.wait_model.specs.{declared.queues.Mark.Mark, Runs.State}
+use Rattle.wait_model.specs.Queues.{stand_of, member_from, IsIn}
+use Rattle.wait_model.specs.Reached.{IsSound, IsMember, IsBookmark}
 use Rattle.std.proofs.Common.{refl, sym, ◌∙◌, ap, subst, arith, inl, inr}
 use Rattle.std.specs.Prelude.{ℕ, ◌≡◌, ◌+◌, ◌-◌, ◌<◌, ◌≤◌, Bool, true, false, nat_lt, Option, Some, None}
-use Rattle.wait_model.specs.declared.queues.Member.{Member}
-use Rattle.wait_model.specs.declared.queues.Mark.{Mark}
-use Rattle.wait_model.specs.Queues.{stand_of, member_from, IsIn}
-use Rattle.wait_model.specs.Runs.{State}
-use Rattle.wait_model.specs.Reached.{IsSound, IsMember, IsBookmark}
 use Rattle.wait_model.proofs.QueueLaws.QueueOrder.{IsFirstFrom, first_is}
 use Rattle.wait_model.proofs.QueueLaws.MemberStands.{some_stands, mark_stands, member_is}
 use Rattle.wait_core.specs.Members.{IsMemberAt, IsNextAt}

@@ -2,53 +2,42 @@
 -- another task too.
 use Rattle.std.proofs.Common.{refl}
 use Rattle.std.specs.Prelude.{◌≡◌, ℕ, ◌&&◌, ◌==◌, Bool, true, false, is_some, if◌then◌else◌, Option, Some, None}
-use Rattle.wait_model.specs.declared.watches.Watch.{Watch}
+use Rattle.wait_model.specs.{declared.watches.Watch.Watch, declared.watches.Kind.Kind}
+use Rattle.wait_model.specs.{declared.queues.CalledEntry.CalledEntry, declared.queues.Walking.Walking}
+use Rattle.wait_model.specs.{declared.calls.Call.Call, declared.calls.Event.Event, declared.points.Planned.Planned}
+use Rattle.wait_model.specs.{declared.points.Seen.Seen, declared.points.Point.Point}
+use Rattle.wait_model.specs.{declared.points.WalkPoint.WalkPoint, declared.points.AwaitPoint.AwaitPoint}
+use Rattle.wait_model.specs.{declared.points.CountPoint.CountPoint, declared.points.BitPoint.BitPoint, Tasks.meets}
+use Rattle.wait_model.specs.{Tasks.state_mask, Words.bit_at, Words.flag, Counts.taken_done, Reached.IsFitted}
+use Rattle.wait_model.specs.{Reached.IsPlain, declared.points.PagePoint.PagePoint, declared.points.PageStage.PageStage}
+use Rattle.wait_model.specs.Watches.{is_bit, is_done, word_of, bit_of, page, mask_of}
+use Rattle.wait_model.specs.Points.{call_aim, call_watch, call_head, is_await, is_publisher, is_lock, mode_of, state_in}
+use Rattle.wait_model.specs.Points.{form_of}
+use Rattle.wait_model.specs.Programs.{worn_next, go, ends_with, zero_answer, signalled, interrupted, call_fails, load}
+use Rattle.wait_model.specs.Programs.{store, exchange, ask, bit_event, finished, publishing_event, active_event}
+use Rattle.wait_model.specs.Programs.{reached, call_entry, call_next, walk_event, done_in, is_at_end, is_enough}
+use Rattle.wait_model.specs.Programs.{select_ends, select_next, await_ends, await_event, count_event, program}
+use Rattle.wait_model.specs.Programs.{hands_event, page_event}
 use Rattle.wait_model.specs.declared.watches.Watch.TheVariants as watch
-use Rattle.wait_model.specs.declared.watches.Kind.{Kind}
 use Rattle.wait_model.specs.declared.watches.Kind.TheVariants as kind
 use Rattle.wait_model.specs.declared.watches.Mode.TheVariants as mode
-use Rattle.wait_model.specs.declared.queues.CalledEntry.{CalledEntry}
-use Rattle.wait_model.specs.declared.queues.Walking.{Walking}
-use Rattle.wait_model.specs.declared.calls.Call.{Call}
 use Rattle.wait_model.specs.declared.calls.Answer.TheVariants as answer
 use Rattle.wait_model.specs.declared.calls.Call.TheVariants as calls
-use Rattle.wait_model.specs.declared.calls.Event.{Event}
 use Rattle.wait_model.specs.declared.calls.Event.TheVariants as event
-use Rattle.wait_model.specs.declared.points.Planned.{Planned}
-use Rattle.wait_model.specs.declared.points.Seen.{Seen}
-use Rattle.wait_model.specs.declared.points.Point.{Point}
 use Rattle.wait_model.specs.declared.points.Point.TheVariants as at
 use Rattle.wait_model.specs.declared.points.PreparePoint.TheVariants as preparing
 use Rattle.wait_model.specs.declared.points.LeavePoint.TheVariants as leaving
 use Rattle.wait_model.specs.declared.points.FinishPoint.TheVariants as finishing
-use Rattle.wait_model.specs.declared.points.WalkPoint.{WalkPoint}
 use Rattle.wait_model.specs.declared.points.WalkPoint.TheVariants as walking
 use Rattle.wait_model.specs.declared.points.AddPoint.TheVariants as adding
 use Rattle.wait_model.specs.declared.points.RemovePoint.TheVariants as removing
 use Rattle.wait_model.specs.declared.points.WokenPoint.TheVariants as hearing
 use Rattle.wait_model.specs.declared.points.SelectPoint.TheVariants as selecting
-use Rattle.wait_model.specs.declared.points.AwaitPoint.{AwaitPoint}
 use Rattle.wait_model.specs.declared.points.AwaitPoint.TheVariants as awaiting
-use Rattle.wait_model.specs.declared.points.CountPoint.{CountPoint}
 use Rattle.wait_model.specs.declared.points.CountPoint.TheVariants as counting
-use Rattle.wait_model.specs.declared.points.BitPoint.{BitPoint}
 use Rattle.wait_model.specs.declared.points.BitPoint.TheVariants as biting
-use Rattle.wait_model.specs.Tasks.{meets, state_mask}
-use Rattle.wait_model.specs.Watches.{is_bit, is_done, word_of, bit_of, page, mask_of}
-use Rattle.wait_model.specs.Words.{bit_at, flag}
-use Rattle.wait_model.specs.Points.{call_aim, call_watch, call_head, is_await, is_publisher, is_lock, mode_of, state_in}
-use Rattle.wait_model.specs.Points.{form_of}
-use Rattle.wait_model.specs.Counts.{taken_done}
-use Rattle.wait_model.specs.Programs.{worn_next, go, ends_with, zero_answer, signalled, interrupted, call_fails, load}
-use Rattle.wait_model.specs.Programs.{store, exchange, ask, bit_event, finished, publishing_event, active_event}
-use Rattle.wait_model.specs.Programs.{reached, call_entry, call_next, walk_event, done_in, is_at_end, is_enough}
-use Rattle.wait_model.specs.Programs.{select_ends, select_next, await_ends, await_event, count_event, program}
-use Rattle.wait_model.specs.Reached.{IsFitted, IsPlain}
-use Rattle.wait_model.specs.declared.points.PagePoint.{PagePoint}
 use Rattle.wait_model.specs.declared.points.PagePoint.TheVariants as paging
-use Rattle.wait_model.specs.declared.points.PageStage.{PageStage}
 use Rattle.wait_model.specs.declared.points.PageStage.TheVariants as staging
-use Rattle.wait_model.specs.Programs.{hands_event, page_event}
 
 -- an event of a call about a watch, where the task finds this value of the watch's word
 abbrev pub NotesBits : Watch → ℕ → Event → Type 0

@@ -1,17 +1,13 @@
 -- Where a walk goes on, by the entries that a scan finds.
 use Rattle.std.proofs.lemmas.Bool.Decides.{nat_tests}
+use Rattle.wait_model.specs.{declared.queues.Member.Member, declared.watches.Watch.Watch, Watches.is_for, Runs.State}
+use Rattle.wait_model.specs.{Runs.arrives_from, Reached.IsSound, Locations.Shows}
 use Rattle.wait_model.specs.declared.layout.TheConstants.{PLACES, INDEXES, BREAK}
+use Rattle.wait_model.specs.Queues.{rank, rank_at, member_from, entry_from, members_from, has_members, is_entry}
+use Rattle.wait_model.specs.Queues.{Arrival, arrive, IsIn, IsInOrder}
 use Rattle.std.proofs.Common.{refl, sym, ◌∙◌, ap, subst, arith, inl, inr}
 use Rattle.std.specs.Prelude.{ℕ, ◌≡◌, ◌+◌, ◌*◌, ◌<◌, ◌≤◌, ◌&&◌, Bool, true, false, cond, min, nat_le, nat_lt, is_some}
 use Rattle.std.specs.Prelude.{if◌then◌else◌, List, [], ◌∷◌, Option, Some, None}
-use Rattle.wait_model.specs.declared.queues.Member.{Member}
-use Rattle.wait_model.specs.Queues.{rank, rank_at, member_from, entry_from, members_from, has_members, is_entry}
-use Rattle.wait_model.specs.Queues.{Arrival, arrive, IsIn, IsInOrder}
-use Rattle.wait_model.specs.declared.watches.Watch.{Watch}
-use Rattle.wait_model.specs.Watches.{is_for}
-use Rattle.wait_model.specs.Runs.{State, arrives_from}
-use Rattle.wait_model.specs.Reached.{IsSound}
-use Rattle.wait_model.specs.Locations.{Shows}
 use Rattle.wait_model.proofs.QueueLaws.QueueOrder.{IsFirstFrom, before_in, first_is}
 use Rattle.wait_core.specs.Arrivals.{arrived}
 use Rattle.wait_core.proofs.FoundMembers.{below_end}

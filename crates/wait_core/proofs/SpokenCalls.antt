@@ -1,25 +1,18 @@
 -- What a task has made of a call when a step ends it.
 use Rattle.std.proofs.Common.{refl, sym, ap, ◌∙◌, subst}
-use Rattle.wait_model.specs.declared.layout.TheConstants.{TASKS, EVENTS}
+use Rattle.wait_model.specs.{declared.layout.TheConstants.TASKS, declared.layout.TheConstants.EVENTS}
+use Rattle.wait_model.specs.{declared.calls.Call.Call, declared.calls.Event.Event, declared.calls.Answer.Answer}
+use Rattle.wait_model.specs.{declared.calls.Ran.Ran, declared.points.Next.Next, declared.points.Planned.Planned}
+use Rattle.wait_model.specs.{declared.points.Point.Point, declared.points.Progress.Progress}
+use Rattle.wait_model.specs.Runs.{State, state_of, planned, found_by, busy_head, Continues, IsRun, made_in}
 use Rattle.std.specs.Prelude.{ℕ, ◌≡◌, ◌≤◌, ◌<◌, ◌==◌, Bool, true, false, if◌then◌else◌, List}
 use Rattle.std.specs.declared.option.Option.{Option}
 use Rattle.std.specs.declared.option.Option.TheVariants.{Some, None}
-use Rattle.wait_model.specs.declared.calls.Call.{Call}
-use Rattle.wait_model.specs.declared.calls.Event.{Event}
-use Rattle.wait_model.specs.declared.calls.Answer.{Answer}
-use Rattle.wait_model.specs.declared.calls.Ran.{Ran}
-use Rattle.wait_model.specs.declared.points.Next.{Next}
 use Rattle.wait_model.specs.declared.points.Next.TheVariants as next
-use Rattle.wait_model.specs.declared.points.Planned.{Planned}
-use Rattle.wait_model.specs.declared.points.Point.{Point}
-use Rattle.wait_model.specs.declared.points.Progress.{Progress}
 use Rattle.wait_model.specs.declared.points.Progress.TheVariants as now
-use Rattle.wait_model.specs.Runs.{State, state_of, planned, found_by, busy_head, Continues, IsRun, made_in}
-use Rattle.wait_core.specs.declared.engine.Stepped.{Stepped}
-use Rattle.wait_core.specs.declared.engine.Stepped.TheVariants as answers
-use Rattle.wait_core.specs.Ended.{answer_of}
-use Rattle.wait_core.specs.Stepped.{stepped, event_or_refusal}
+use Rattle.wait_core.specs.{declared.engine.Stepped.Stepped, Ended.answer_of, Stepped.stepped, Stepped.event_or_refusal}
 use Rattle.wait_core.specs.Spoken.{EndsSentence}
+use Rattle.wait_core.specs.declared.engine.Stepped.TheVariants as answers
 use Rattle.wait_model.proofs.SentenceLaws.SpokenCalls.{calls_follow_sentences}
 
 ended_by : (n : Next) (a : Answer) → answer_of n ≡ Some a → n ≡ next.Ends a

@@ -1,61 +1,47 @@
 -- The answers of a step and of a start, by what the code read.
 use Rattle.std.specs.Prelude.{◌≡◌, ℕ, ◌+◌, ◌*◌, ◌<◌, ◌≤◌, Bool, true, false, ◌==◌, if◌then◌else◌, List, [], ◌∷◌, ◌++◌}
 use Rattle.std.specs.Prelude.{slice_get, slice_set, length, not, nat_lt}
+use Rattle.wait_model.specs.{declared.calls.Call.Call, declared.calls.Event.Event, declared.points.Seen.Seen}
+use Rattle.wait_model.specs.{declared.points.WalkPoint.WalkPoint, declared.queues.CalledEntry.CalledEntry}
+use Rattle.wait_model.specs.{declared.watches.Kind.Kind, declared.tasks.TaskRecord.TaskRecord}
+use Rattle.wait_model.specs.{declared.points.Planned.Planned, declared.points.Point.Point}
+use Rattle.wait_model.specs.{declared.points.PageStage.PageStage, declared.queues.Walking.Walking}
+use Rattle.wait_model.specs.{declared.watches.Entry.Entry, declared.points.Progress.Progress, declared.calls.Ran.Ran}
+use Rattle.wait_model.specs.{Watches.IsThere, Shown.IsInRange, Tables.Table}
 use Rattle.wait_model.specs.declared.layout.TheConstants.{TASKS, BIT_WORDS, WORD_BITS, BREAK, EVENTS, RUN_ITEMS}
+use Rattle.wait_model.specs.Programs.{program, program_start, walk_event, hands_event, call_entry, call_next, go}
+use Rattle.wait_model.specs.Programs.{IsFitting, IsFittingWalk}
+use Rattle.wait_model.specs.Points.{call_watch, call_head, call_aim, given_at, IsNamed, IsReachable}
+use Rattle.wait_model.specs.Admission.{is_in_range, lacks_bit, is_queued_twice, lacks_entry, IsListed}
+use Rattle.wait_model.specs.Locations.{Shows, IsLocation, location_of}
+use Rattle.wait_model.specs.Reached.{IsSound, IsSoundCall, IsCallSound, IsCounted, Allows, Joins}
+use Rattle.wait_model.specs.Runs.{State, start_state, after_event, given_by, planned, progress_at, found_by, seen_by}
+use Rattle.wait_model.specs.Runs.{arrives_at, arrives_from, own, state_of, busy_head, made_in, is_open}
 use Rattle.std.specs.declared.option.Option.{Option}
 use Rattle.std.specs.declared.option.Option.TheVariants.{Some, None}
 use Rattle.std.proofs.Common.{refl, arith, ap, sym, ◌∙◌, subst, get_or}
 use Rattle.std.proofs.lemmas.Option.{slice_get_read}
-use Rattle.wait_model.specs.declared.calls.Call.{Call}
-use Rattle.wait_model.specs.declared.calls.Event.{Event}
 use Rattle.wait_model.specs.declared.calls.Event.TheVariants as events
-use Rattle.wait_model.specs.declared.points.Seen.{Seen}
-use Rattle.wait_model.specs.declared.points.WalkPoint.{WalkPoint}
-use Rattle.wait_model.specs.declared.queues.CalledEntry.{CalledEntry}
-use Rattle.wait_model.specs.declared.watches.Kind.{Kind}
 use Rattle.wait_model.specs.declared.watches.Kind.TheVariants as kind
-use Rattle.wait_model.specs.declared.tasks.TaskRecord.{TaskRecord}
-use Rattle.wait_model.specs.declared.points.Planned.{Planned}
-use Rattle.wait_model.specs.declared.points.Point.{Point}
 use Rattle.wait_model.specs.declared.points.Point.TheVariants as at
 use Rattle.wait_model.specs.declared.points.WalkPoint.TheVariants as walking
-use Rattle.wait_model.specs.declared.points.PageStage.{PageStage}
 use Rattle.wait_model.specs.declared.points.PageStage.TheVariants as staging
 use Rattle.wait_model.specs.declared.points.SelectPoint.TheVariants as selecting
-use Rattle.wait_model.specs.declared.queues.Walking.{Walking}
-use Rattle.wait_model.specs.declared.watches.Entry.{Entry}
-use Rattle.wait_model.specs.declared.points.Progress.{Progress}
 use Rattle.wait_model.specs.declared.points.Progress.TheVariants as now
-use Rattle.wait_model.specs.declared.calls.Ran.{Ran}
 use Rattle.wait_model.specs.declared.calls.Ran.TheVariants as ran
-use Rattle.wait_model.specs.Programs.{program, program_start, walk_event, hands_event, call_entry, call_next, go}
-use Rattle.wait_model.specs.Points.{call_watch, call_head, call_aim, given_at, IsNamed, IsReachable}
-use Rattle.wait_model.specs.Watches.{IsThere}
-use Rattle.wait_model.specs.Programs.{IsFitting, IsFittingWalk}
 use Rattle.wait_model.specs.declared.calls.Call.TheVariants as calls
-use Rattle.wait_model.specs.Admission.{is_in_range, lacks_bit, is_queued_twice, lacks_entry, IsListed}
-use Rattle.wait_model.proofs.Functions.{both_left, both_right}
-use Rattle.wait_model.proofs.RunLaws.EveryRun.{admits_parts, state_after-push}
-use Rattle.wait_model.proofs.QueueLaws.OutsideWalks.{IsUnmarked, program_away}
-use Rattle.wait_core.specs.declared.arrivals.Arrived.{Arrived}
-use Rattle.wait_core.specs.Arrivals.{arrived, IsMarkedBy}
-use Rattle.wait_model.specs.Shown.{IsInRange}
-use Rattle.wait_model.specs.Locations.{Shows, IsLocation, location_of}
-use Rattle.wait_model.specs.Tables.{Table}
-use Rattle.wait_model.proofs.WordLaws.ShownSteps.{event_located}
-use Rattle.wait_model.specs.Reached.{IsSound, IsSoundCall, IsCallSound, IsCounted, Allows, Joins}
-use Rattle.wait_model.specs.Runs.{State, start_state, after_event, given_by, planned, progress_at, found_by, seen_by}
-use Rattle.wait_model.specs.Runs.{arrives_at, arrives_from, own, state_of, busy_head, made_in, is_open}
-use Rattle.std.proofs.lemmas.Bool.Decides.{nat_tests}
-use Rattle.wait_core.specs.declared.engine.Stepped.{Stepped}
-use Rattle.wait_core.specs.declared.engine.Stepped.TheVariants as answers
-use Rattle.wait_core.specs.Ended.{answer_of}
+use Rattle.wait_model.proofs.{Functions.both_left, Functions.both_right, RunLaws.EveryRun.admits_parts}
+use Rattle.wait_model.proofs.{RunLaws.EveryRun.state_after-push, QueueLaws.OutsideWalks.IsUnmarked}
+use Rattle.wait_model.proofs.{QueueLaws.OutsideWalks.program_away, WordLaws.ShownSteps.event_located}
+use Rattle.wait_core.specs.{declared.arrivals.Arrived.Arrived, Arrivals.arrived, Arrivals.IsMarkedBy}
+use Rattle.wait_core.specs.{declared.engine.Stepped.Stepped, Ended.answer_of, declared.reads.Found.Found, Core.IsCore}
+use Rattle.wait_core.specs.Core.{open_calls}
 use Rattle.wait_core.specs.Stepped.{stepped, event_or_refusal, first_refusal, started, MayStep, IsFound}
-use Rattle.wait_core.specs.declared.reads.Found.{Found}
+use Rattle.wait_core.specs.Keepers.{ShowsKeepers, ShowsTaken, keeps_shown, kept_after, taken_after}
+use Rattle.std.proofs.lemmas.Bool.Decides.{nat_tests}
+use Rattle.wait_core.specs.declared.engine.Stepped.TheVariants as answers
 use Rattle.wait_core.specs.declared.engine.StartFault.TheVariants as faults
 use Rattle.std.specs.declared.result.Result.TheVariants.{Ok, Err}
-use Rattle.wait_core.specs.Core.{IsCore, open_calls}
-use Rattle.wait_core.specs.Keepers.{ShowsKeepers, ShowsTaken, keeps_shown, kept_after, taken_after}
 use Rattle.wait_core.proofs.KeptCore.{calls_few, MayOpen, sound, allowed_in_range, open_is, allowed, joins, made_core}
 use Rattle.wait_core.proofs.KeptCore.{keepers_kept, taken_kept, opened_room, opened_core}
 

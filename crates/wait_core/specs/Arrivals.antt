@@ -1,13 +1,9 @@
 -- For proofs alone.
 -- Where a walk goes on, as the core has it.
 use Rattle.std.specs.Prelude.{◌≡◌}
-use Rattle.wait_model.specs.Queues.{Arrival}
-use Rattle.wait_model.specs.declared.calls.Call.{Call}
-use Rattle.wait_model.specs.declared.calls.Event.{Event}
+use Rattle.wait_model.specs.{Queues.Arrival, declared.calls.Call.Call, declared.calls.Event.Event}
+use Rattle.wait_model.specs.{declared.points.Point.Point, Points.given_at, Runs.State, Runs.arrives_from}
 use Rattle.wait_model.specs.declared.calls.Event.TheVariants as event
-use Rattle.wait_model.specs.declared.points.Point.{Point}
-use Rattle.wait_model.specs.Points.{given_at}
-use Rattle.wait_model.specs.Runs.{State, arrives_from}
 use Rattle.wait_core.specs.declared.arrivals.Arrived.{Arrived}
 
 abbrev pub arrived : Arrival → Arrived

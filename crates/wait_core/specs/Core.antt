@@ -1,17 +1,13 @@
 -- To be believed.
 -- What the parts of a core have in common: the words show the state of the stored run.
 use Rattle.std.specs.Prelude.{◌≡◌, ℕ, ◌+◌, ◌*◌, ◌<◌, ◌≤◌, List, slice_get, length, sum_by, if◌then◌else◌}
+use Rattle.wait_model.specs.{declared.points.Progress.Progress, declared.calls.Ran.Ran, Locations.Shows}
 use Rattle.wait_model.specs.declared.layout.TheConstants.{TASKS, MEMBERS, EVENTS, RUN_ITEMS}
+use Rattle.wait_model.specs.Runs.{IsRun, state_of, made_in, is_open}
 use Rattle.std.specs.declared.option.Option.{Option}
 use Rattle.std.specs.declared.option.Option.TheVariants.{Some}
-use Rattle.wait_model.specs.declared.points.Progress.{Progress}
-use Rattle.wait_core.specs.declared.index.RankedMember.{RankedMember}
-use Rattle.wait_core.specs.Scan.{shown_stand}
-use Rattle.wait_core.specs.Index.{IsIndex}
-use Rattle.wait_core.specs.Keepers.{ShowsKeepers, ShowsTaken}
-use Rattle.wait_model.specs.declared.calls.Ran.{Ran}
-use Rattle.wait_model.specs.Runs.{IsRun, state_of, made_in, is_open}
-use Rattle.wait_model.specs.Locations.{Shows}
+use Rattle.wait_core.specs.{declared.index.RankedMember.RankedMember, Scan.shown_stand, Index.IsIndex}
+use Rattle.wait_core.specs.{Keepers.ShowsKeepers, Keepers.ShowsTaken}
 
 -- how many calls are open
 abbrev pub one_if_open : Progress → ℕ

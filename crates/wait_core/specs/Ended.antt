@@ -2,8 +2,7 @@
 -- The answer of a call that ended.
 use Rattle.std.specs.declared.option.Option.{Option}
 use Rattle.std.specs.declared.option.Option.TheVariants.{Some, None}
-use Rattle.wait_model.specs.declared.calls.Answer.{Answer}
-use Rattle.wait_model.specs.declared.points.Next.{Next}
+use Rattle.wait_model.specs.{declared.calls.Answer.Answer, declared.points.Next.Next}
 use Rattle.wait_model.specs.declared.points.Next.TheVariants as next
 
 abbrev pub answer_of : Next → Option Answer

@@ -1,16 +1,13 @@
 -- For proofs alone.
 -- The members that stand, in one list by rising head and rank.
 use Rattle.std.specs.Prelude.{◌≡◌, ℕ, ◌+◌, ◌*◌, ◌<◌, List, length, slice_index_or, Option, Some}
+use Rattle.wait_model.specs.{declared.queues.Mark.Mark, Queues.rank}
 use Rattle.wait_model.specs.declared.layout.TheConstants.{TASKS, ENTRIES, MEMBERS, INDEXES}
-use Rattle.wait_core.specs.declared.index.TheConstants.{RANKS}
-use Rattle.std.specs.List.{Contains}
-use Rattle.wait_model.specs.declared.queues.Mark.{Mark}
-use Rattle.wait_model.specs.Queues.{rank}
-use Rattle.wait_core.specs.declared.index.RankedMember.{RankedMember}
-use Rattle.wait_core.specs.declared.index.Class.{Class}
-use Rattle.wait_core.specs.declared.index.Class.TheVariants as class
 use Rattle.wait_model.specs.Locations.{Location, Entry, Bookmark}
-use Rattle.wait_core.specs.Scan.{marked_member}
+use Rattle.wait_core.specs.{declared.index.TheConstants.RANKS, declared.index.RankedMember.RankedMember}
+use Rattle.wait_core.specs.{declared.index.Class.Class, Scan.marked_member}
+use Rattle.std.specs.List.{Contains}
+use Rattle.wait_core.specs.declared.index.Class.TheVariants as class
 
 -- the list goes by this number, which rises with the head, and within a head with the rank
 abbrev pub key_at : ℕ → ℕ → ℕ

@@ -3,14 +3,11 @@
 -- walk took for each task, which has not taken note of it yet.
 use Rattle.std.specs.Prelude.{◌≡◌, ℕ, ◌+◌, ◌*◌, ◌<◌, ◌==◌, Bool, false, if◌then◌else◌, List, length, slice_index_or}
 use Rattle.std.specs.Prelude.{slice_set, Option, Some, None}
+use Rattle.wait_model.specs.{declared.calls.Call.Call, declared.calls.Event.Event, Views.View, Runs.own}
 use Rattle.wait_model.specs.declared.layout.TheConstants.{TASKS, BIT_WORDS, WORD_BITS, BITS}
 use Rattle.wait_model.specs.declared.watches.Watch.TheVariants as watch
-use Rattle.wait_model.specs.declared.calls.Call.{Call}
 use Rattle.wait_model.specs.declared.calls.Call.TheVariants as calls
-use Rattle.wait_model.specs.declared.calls.Event.{Event}
 use Rattle.wait_model.specs.declared.calls.Event.TheVariants as event
-use Rattle.wait_model.specs.Views.{View}
-use Rattle.wait_model.specs.Runs.{own}
 
 -- whether a task is the keeper of a bit
 abbrev pub is_keeper : Option ℕ → ℕ → Bool

@@ -1,11 +1,8 @@
 -- To be believed.
 -- The members of a head: the entries that are queued at it and the bookmarks that stand at it.
 use Rattle.std.specs.Prelude.{◌≡◌, ℕ, ◌+◌, ◌<◌, ◌≤◌, ◌⊎◌, Option, Some, None}
-use Rattle.wait_model.specs.declared.layout.TheConstants.{TASKS, ENTRIES}
-use Rattle.wait_model.specs.declared.watches.Entry.{Entry}
-use Rattle.wait_model.specs.declared.queues.Member.{Member}
-use Rattle.wait_model.specs.Watches.{head_of}
-use Rattle.wait_model.specs.Queues.{rank}
+use Rattle.wait_model.specs.{declared.layout.TheConstants.TASKS, declared.layout.TheConstants.ENTRIES}
+use Rattle.wait_model.specs.{declared.watches.Entry.Entry, declared.queues.Member.Member, Watches.head_of, Queues.rank}
 use Rattle.wait_model.specs.Tables.{Table}
 
 -- an entry whose word names the head and this place

@@ -2,14 +2,11 @@
 -- The member that a scan over the words of entries and bookmarks finds.
 use Rattle.std.specs.Prelude.{◌≡◌, ℕ, ◌+◌, ◌<◌, Bool, true, false, ◌&&◌, ◌==◌, nat_lt, if◌then◌else◌, List, slice_index}
 use Rattle.std.specs.Prelude.{Option, Some, None}
-use Rattle.wait_model.specs.declared.layout.TheConstants.{ENTRY_AT, BOOKMARK_AT}
-use Rattle.wait_model.specs.declared.watches.Entry.{Entry}
-use Rattle.wait_model.specs.declared.queues.Member.{Member}
-use Rattle.wait_model.specs.declared.queues.Mark.{Mark}
-use Rattle.wait_core.specs.declared.scan.Span.{Span}
-use Rattle.wait_model.specs.Words.{entry_of}
-use Rattle.wait_model.specs.Tables.{mark_of}
+use Rattle.wait_model.specs.{declared.layout.TheConstants.ENTRY_AT, declared.layout.TheConstants.BOOKMARK_AT}
+use Rattle.wait_model.specs.{declared.watches.Entry.Entry, declared.queues.Member.Member, declared.queues.Mark.Mark}
+use Rattle.wait_model.specs.{Words.entry_of, Tables.mark_of}
 use Rattle.wait_model.specs.Queues.{stand_of, rank, is_within}
+use Rattle.wait_core.specs.declared.scan.Span.{Span}
 
 -- the entry that an entry word shows, the bookmark that a bookmark word shows, and what the words show of a
 -- member by its number

@@ -2,16 +2,11 @@
 -- What a task has made of its open call, and of the call that a step ends.
 use Rattle.std.specs.Prelude.{ℕ, ◌≡◌, List, [], ◌∷◌, ◌++◌}
 use Rattle.std.specs.declared.option.Option.TheVariants.{Some}
-use Rattle.wait_model.specs.declared.calls.Call.{Call}
-use Rattle.wait_model.specs.declared.calls.Event.{Event}
-use Rattle.wait_model.specs.declared.calls.Answer.{Answer}
-use Rattle.wait_model.specs.declared.calls.Ran.{Ran}
+use Rattle.wait_model.specs.{declared.calls.Call.Call, declared.calls.Event.Event, declared.calls.Answer.Answer}
+use Rattle.wait_model.specs.{declared.calls.Ran.Ran, declared.points.Point.Point, Runs.state_of, Runs.found_by}
+use Rattle.wait_model.specs.{Sentences.Follows, Spoken.said_in}
 use Rattle.wait_model.specs.declared.calls.Ran.TheVariants as ran
-use Rattle.wait_model.specs.declared.points.Point.{Point}
 use Rattle.wait_model.specs.declared.points.Progress.TheVariants as now
-use Rattle.wait_model.specs.Runs.{state_of, found_by}
-use Rattle.wait_model.specs.Sentences.{Follows}
-use Rattle.wait_model.specs.Spoken.{said_in}
 use Rattle.wait_core.specs.declared.engine.Stepped.{Stepped}
 use Rattle.wait_core.specs.declared.engine.Stepped.TheVariants as answers
 

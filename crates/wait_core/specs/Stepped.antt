@@ -2,30 +2,23 @@
 -- What a step answers, and what it adds to the run.
 use Rattle.std.specs.Prelude.{ℕ, ◌<◌, ◌-◌, ◌^◌, Bool, true, false, ◌≡◌, ◌==◌, if◌then◌else◌, List, [], ◌∷◌, ◌++◌}
 use Rattle.std.specs.Prelude.{IfSome}
-use Rattle.wait_model.specs.declared.layout.TheConstants.{EVENTS, PLACES}
+use Rattle.wait_model.specs.{declared.layout.TheConstants.EVENTS, declared.layout.TheConstants.PLACES}
+use Rattle.wait_model.specs.{declared.calls.Call.Call, declared.points.Planned.Planned}
+use Rattle.wait_model.specs.{declared.points.Progress.Progress, declared.calls.Ran.Ran, declared.points.Point.Point}
+use Rattle.wait_model.specs.{Followed.LeavesNobody, Points.call_watch, Points.call_head, Programs.IsFitting}
+use Rattle.wait_model.specs.Programs.{IsFittingEntry}
+use Rattle.wait_model.specs.Runs.{State, own, planned, found_by, is_open, busy_head, state_of, made_in, seen_by}
+use Rattle.wait_model.specs.Runs.{arrives_at}
+use Rattle.wait_model.specs.Admission.{is_in_range, lacks_bit, is_queued_twice, lacks_entry}
 use Rattle.std.specs.declared.option.Option.{Option}
 use Rattle.std.specs.declared.option.Option.TheVariants.{Some, None}
 use Rattle.std.specs.declared.result.Result.{Result}
 use Rattle.std.specs.declared.result.Result.TheVariants.{Ok, Err}
-use Rattle.wait_model.specs.declared.calls.Call.{Call}
-use Rattle.wait_model.specs.declared.points.Planned.{Planned}
-use Rattle.wait_model.specs.declared.points.Progress.{Progress}
 use Rattle.wait_model.specs.declared.points.Progress.TheVariants as now
-use Rattle.wait_model.specs.declared.calls.Ran.{Ran}
 use Rattle.wait_model.specs.declared.calls.Ran.TheVariants as ran
-use Rattle.wait_model.specs.declared.points.Point.{Point}
-use Rattle.wait_model.specs.Runs.{State, own, planned, found_by, is_open, busy_head, state_of, made_in, seen_by}
-use Rattle.wait_model.specs.Runs.{arrives_at}
-use Rattle.wait_model.specs.Followed.{LeavesNobody}
-use Rattle.wait_model.specs.Admission.{is_in_range, lacks_bit, is_queued_twice, lacks_entry}
-use Rattle.wait_model.specs.Points.{call_watch, call_head}
-use Rattle.wait_model.specs.Programs.{IsFitting, IsFittingEntry}
-use Rattle.wait_core.specs.Arrivals.{arrived}
-use Rattle.wait_core.specs.declared.reads.Found.{Found}
-use Rattle.wait_core.specs.Ended.{answer_of}
-use Rattle.wait_core.specs.declared.engine.Stepped.{Stepped}
+use Rattle.wait_core.specs.{Arrivals.arrived, declared.reads.Found.Found, Ended.answer_of}
+use Rattle.wait_core.specs.{declared.engine.Stepped.Stepped, declared.engine.StartFault.StartFault}
 use Rattle.wait_core.specs.declared.engine.Stepped.TheVariants as answers
-use Rattle.wait_core.specs.declared.engine.StartFault.{StartFault}
 use Rattle.wait_core.specs.declared.engine.StartFault.TheVariants as faults
 
 -- an event is made unless its lock is held or the run is full

@@ -1,15 +1,11 @@
 //! Where a walk goes on: behind the entries of other watches, or at the member before which it breaks.
 
 ghost use Rattle.std.specs.Prelude.{◌≡◌, ℕ, ◌+◌, ◌*◌, ◌<◌, ◌≤◌, ◌^◌, ◌-◌, IfSome, length, false};
-ghost use Rattle.wait_core.specs.Arrivals.{arrived};
-ghost use Rattle.wait_core.specs.Index.{IsIndex};
-ghost use Rattle.wait_core.specs.Scan.{shown_stand};
-ghost use Rattle.wait_model.specs.Locations.{Shows};
-ghost use Rattle.wait_model.specs.Queues as queue;
-ghost use Rattle.wait_model.specs.Reached.{IsSound};
-ghost use Rattle.wait_model.specs.Runs.{State, arrives_from};
-ghost use Rattle.wait_model.specs.Watches.{same, is_for};
+ghost use Rattle.wait_core.specs.{Arrivals.arrived, Index.IsIndex, Scan.shown_stand};
+ghost use Rattle.wait_model.specs.{Locations.Shows, Reached.IsSound, Runs.State, Runs.arrives_from, Watches.same};
+ghost use Rattle.wait_model.specs.Watches.{is_for};
 ghost use Rattle.wait_model.specs.declared.layout.TheConstants.{ENTRIES, WORDS, PLACES};
+ghost use Rattle.wait_model.specs.Queues as queue;
 
 use crate::index::RankedMember;
 use crate::scan::{entry_in, entry_ranked, member_ranked};

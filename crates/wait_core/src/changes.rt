@@ -1,17 +1,13 @@
 //! How an event changes its word.
 
 ghost use Rattle.std.specs.Prelude.{◌≡◌, ℕ, ◌+◌, ◌*◌, ◌<◌, ◌≤◌, ◌^◌, IfSome, length, slice_index, slice_set};
+ghost use Rattle.wait_model.specs.{Queues.place_for, Shown.IsInRange, Words.entry_word, Points.given_at};
 ghost use Rattle.wait_model.specs.declared.layout.TheConstants.{TASKS, WORDS, PLACES};
 ghost use Rattle.wait_model.specs.Runs.{State, after_event, found_by, left_of, entry_for};
-ghost use Rattle.wait_model.specs.Queues.{place_for};
-ghost use Rattle.wait_model.specs.Shown.{IsInRange};
 ghost use Rattle.wait_model.specs.Locations.{Shows, position_of, location_of};
 ghost use Rattle.wait_model.specs.Reached.{IsSound, Allows, Joins};
-ghost use Rattle.wait_model.specs.Words.{entry_word};
-ghost use Rattle.wait_model.specs.Points.{given_at};
-ghost use Rattle.wait_core.specs.Scan.{shown_stand};
+ghost use Rattle.wait_core.specs.{Scan.shown_stand, Arrivals.IsMarkedBy};
 ghost use Rattle.wait_core.specs.Index.{IsIndex, IsClass, class_of};
-ghost use Rattle.wait_core.specs.Arrivals.{IsMarkedBy};
 
 use crate::arrivals::{Arrived, place_before};
 use crate::index::{Class, RankedMember};

@@ -3,16 +3,10 @@
 ghost use Rattle.std.specs.Prelude.{◌≡◌, ◌+◌, ◌<◌, ◌≤◌, ◌++◌, ◌∷◌, ◌^◌, [], IfOk, IfSome, IsTrue, ◌↔◌, length};
 ghost use Rattle.std.specs.Prelude.{vec_capacity, nat_lt};
 ghost use Rattle.std.specs.Prelude.{◌*◌, ℕ, slice_index, slice_get};
-ghost use Rattle.wait_core.specs.Ended.{answer_of};
-ghost use Rattle.wait_core.specs.Spoken.{EndsSentence};
-ghost use Rattle.wait_model.specs.Admission.{IsListed};
-ghost use Rattle.wait_model.specs.Followed.{LeavesNobody};
-ghost use Rattle.wait_model.specs.Locations.{Shows};
-ghost use Rattle.wait_model.specs.Programs.{program};
-ghost use Rattle.wait_model.specs.Runs.{is_open, progress_at};
-ghost use Rattle.wait_model.specs.Tables.{start};
+ghost use Rattle.wait_core.specs.{Ended.answer_of, Spoken.EndsSentence};
+ghost use Rattle.wait_model.specs.{Admission.IsListed, Followed.LeavesNobody, Locations.Shows, Programs.program};
+ghost use Rattle.wait_model.specs.{Runs.is_open, Runs.progress_at, Tables.start, declared.points.Point.Point};
 ghost use Rattle.wait_model.specs.declared.layout.TheConstants.{MEMBERS, WORDS, PLACES};
-ghost use Rattle.wait_model.specs.declared.points.Point.{Point};
 ghost use Rattle.wait_model.specs.declared.points.Progress.TheVariants as now;
 
 use crate::changes::{change_by, class_at};

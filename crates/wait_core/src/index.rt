@@ -2,16 +2,13 @@
 
 ghost use Rattle.std.specs.Prelude.{◌≡◌, ℕ, ◌+◌, ◌*◌, ◌<◌, ◌≤◌, ◌^◌, IfSome, length, nat_lt, slice_index_or, slice_set};
 ghost use Rattle.std.specs.Prelude.{vec_capacity, Option, None};
+ghost use Rattle.wait_model.specs.{Queues.stand_by, Functions.put, declared.queues.Mark.Mark};
 ghost use Rattle.wait_model.specs.declared.layout.TheConstants.{MEMBERS, WORDS, PLACES, INDEXES};
-ghost use Rattle.wait_core.specs.declared.index.TheConstants.{RANKS};
-ghost use Rattle.wait_model.specs.Queues.{stand_by};
+ghost use Rattle.wait_model.specs.Locations.{Location, IsLocation, position_of};
+ghost use Rattle.wait_core.specs.{declared.index.TheConstants.RANKS, Scan.shown_stand};
+ghost use Rattle.wait_core.specs.Index.{IsSorted, IsIndex, IsClass, class_of, key, key_at};
 ghost use Rattle.wait_model.specs.Words as words_of;
 ghost use Rattle.wait_model.specs.Tables as tables;
-ghost use Rattle.wait_model.specs.Functions.{put};
-ghost use Rattle.wait_model.specs.declared.queues.Mark.{Mark};
-ghost use Rattle.wait_core.specs.Scan.{shown_stand};
-ghost use Rattle.wait_core.specs.Index.{IsSorted, IsIndex, IsClass, class_of, key, key_at};
-ghost use Rattle.wait_model.specs.Locations.{Location, IsLocation, position_of};
 
 use crate::scan::{entry_in, mark_in};
 use wait_model::heads::head_of;

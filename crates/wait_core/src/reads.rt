@@ -1,18 +1,11 @@
 //! What a task finds in the words, and the event that it makes next.
 
 ghost use Rattle.std.specs.Prelude.{◌≡◌, ℕ, ◌+◌, ◌*◌, ◌<◌, ◌≤◌, ◌^◌, ◌-◌, IfSome, length, false};
-ghost use Rattle.wait_core.specs.Arrivals.{arrived};
-ghost use Rattle.wait_core.specs.Index.{IsIndex};
-ghost use Rattle.wait_core.specs.Scan.{shown_stand};
-ghost use Rattle.wait_model.specs.Locations.{Shows};
+ghost use Rattle.wait_core.specs.{Arrivals.arrived, Index.IsIndex, Scan.shown_stand};
+ghost use Rattle.wait_model.specs.{Locations.Shows, Programs.IsFitting, Reached.IsSound, Shown.IsInRange};
+ghost use Rattle.wait_model.specs.{Tables.value_of, Watches.IsThere};
 ghost use Rattle.wait_model.specs.Points.{call_watch, call_head, IsReachable};
-ghost use Rattle.wait_model.specs.Programs.{IsFitting};
-ghost use Rattle.wait_model.specs.Reached.{IsSound};
-ghost use Rattle.wait_model.specs.Runs.{State, seen_by, arrives_at, walk_member, members_at, called_by};
-ghost use Rattle.wait_model.specs.Runs.{busy_head, own};
-ghost use Rattle.wait_model.specs.Shown.{IsInRange};
-ghost use Rattle.wait_model.specs.Tables.{value_of};
-ghost use Rattle.wait_model.specs.Watches.{IsThere};
+ghost use Rattle.wait_model.specs.Runs.{State, seen_by, arrives_at, walk_member, members_at, called_by, busy_head, own};
 ghost use Rattle.wait_model.specs.declared.layout.TheConstants.{TASKS, ENTRIES, HEADS, WORDS, PLACES};
 
 use crate::arrivals::{Arrived, arrive};

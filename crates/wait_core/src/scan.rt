@@ -1,13 +1,10 @@
 //! What the words show of a queue: its members by their places.
 
 ghost use Rattle.std.specs.Prelude.{◌≡◌, ℕ, ◌+◌, ◌*◌, ◌<◌, ◌≤◌, ◌^◌, ◌-◌, ◌⊎◌, IfSome, Option, length, true, false};
+ghost use Rattle.wait_model.specs.{Runs.State, Locations.Shows, Reached.IsSound, declared.queues.Mark.Mark};
 ghost use Rattle.wait_model.specs.declared.layout.TheConstants.{ENTRIES, MEMBERS, WORDS, PLACES};
-ghost use Rattle.wait_model.specs.Runs.{State};
 ghost use Rattle.wait_model.specs.Queues.{member_from, entry_from, entries_of, last_within, rank, rank_at, place_for};
 ghost use Rattle.wait_model.specs.Queues as queue;
-ghost use Rattle.wait_model.specs.Locations.{Shows};
-ghost use Rattle.wait_model.specs.Reached.{IsSound};
-ghost use Rattle.wait_model.specs.declared.queues.Mark.{Mark};
 ghost use Rattle.wait_core.specs.Scan.{IsPicked, found_place, entry_in_words, shown_mark, shown_stand};
 ghost use Rattle.wait_core.specs.Index.{IsSorted, IsIndex};
 

@@ -2,11 +2,8 @@
 use Rattle.std.proofs.Common.{◌∙◌, ap, sym, refl, subst}
 use Rattle.std.specs.Prelude.{ℕ, ◌≡◌, Bool, false, None}
 use Rattle.wait_model.specs.PointFacts.{IsHome, Zone, absent}
-use Rattle.wait_rule.specs.Known.{Known}
-use Rattle.wait_rule.specs.Queues.{IsIdle, index}
+use Rattle.wait_rule.specs.{Known.Known, Queues.IsIdle, Queues.index, Stays.Carries, Tickets.no_ticket}
 use Rattle.wait_rule.specs.Says.{Excuse, IsClean, IsFree, IsUp, OwesBut, no_excuse, told_of}
-use Rattle.wait_rule.specs.Stays.{Carries}
-use Rattle.wait_rule.specs.Tickets.{no_ticket}
 use Rattle.wait_rule.proofs.KnownLaws.StayingParts.{owes_also, owes_out}
 use Rattle.wait_class.specs.Posts.{IsOut, IsStateFor, KeepsBut, Post, Stands, own_of}
 use Rattle.wait_class.proofs.Wholes.{none_of}

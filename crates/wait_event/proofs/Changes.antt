@@ -2,12 +2,9 @@
 use Rattle.std.proofs.Common.{◌∙◌, ap, sym, refl, subst}
 use Rattle.std.specs.Prelude.{ℕ, ◌≡◌, true, false, Some, None}
 use Rattle.wait_model.specs.declared.watches.Watch.{Watch}
-use Rattle.wait_rule.specs.Known.{Known}
-use Rattle.wait_rule.specs.Pipes.{End}
-use Rattle.wait_rule.specs.PipeSays.{KeepsEnd}
-use Rattle.wait_rule.specs.Queues.{IsIdle, index}
+use Rattle.wait_rule.specs.{Known.Known, Pipes.End, PipeSays.KeepsEnd, Queues.IsIdle, Queues.index, Stays.Carries}
+use Rattle.wait_rule.specs.Stays.{Change}
 use Rattle.wait_rule.specs.Says.{Excuse, IsFree, OwesBut, told_of}
-use Rattle.wait_rule.specs.Stays.{Carries, Change}
 use Rattle.wait_class.specs.Posts.{IsOut}
 
 -- of more entries, with looks at others, of more watches that are published, and for other excuses

@@ -2,24 +2,18 @@
 use Rattle.std.proofs.Common.{◌∙◌, ap, sym, refl, subst, inl, inr, arith}
 use Rattle.std.proofs.lemmas.Bool.Decides.{nat_tests}
 use Rattle.std.specs.Prelude.{ℕ, ◌≡◌, ◌+◌, ◌<◌, ◌≤◌, nat_lt, Bool, true, false, if◌then◌else◌}
+use Rattle.wait_model.specs.{declared.queues.Form.Form, declared.tasks.How.How, declared.watches.Kind.Kind}
+use Rattle.wait_model.specs.{declared.watches.Watch.Watch, Queues.is_priority}
 use Rattle.wait_model.specs.declared.layout.TheConstants.{BIT_WORDS, FIRST_DONE_HEAD, FIRST_SIMPLE, HEADS}
 use Rattle.wait_model.specs.declared.layout.TheConstants.{PLAIN_CONDITIONS, VARIABLES}
-use Rattle.wait_model.specs.declared.queues.Form.{Form}
-use Rattle.wait_model.specs.declared.queues.Form.TheVariants as forms
-use Rattle.wait_model.specs.declared.tasks.How.{How}
-use Rattle.wait_model.specs.declared.watches.Kind.{Kind}
-use Rattle.wait_model.specs.declared.watches.Kind.TheVariants as kind
-use Rattle.wait_model.specs.declared.watches.Watch.{Watch}
-use Rattle.wait_model.specs.declared.watches.Watch.TheVariants as watch
-use Rattle.wait_model.specs.Queues.{is_priority}
 use Rattle.wait_model.specs.Watches.{IsThere, bare, head_of, kind_for}
-use Rattle.wq_head.proofs.FullHeads.{hashed_low}
-use Rattle.wq_head.proofs.PermitHeads.{bits_low}
+use Rattle.wait_model.specs.declared.queues.Form.TheVariants as forms
+use Rattle.wait_model.specs.declared.watches.Kind.TheVariants as kind
+use Rattle.wait_model.specs.declared.watches.Watch.TheVariants as watch
+use Rattle.wq_head.proofs.{FullHeads.hashed_low, PermitHeads.bits_low}
 use Rattle.wait_class.specs.Queueing.{IsForBy, wait_form}
 use Rattle.wait_class.proofs.EntryForms.{for_by}
-use Rattle.wait_event.specs.Prepares.{SuitsWait}
-use Rattle.wait_event.specs.WaitPlans.{IsWaitFor}
-use Rattle.wait_event.specs.Waits.{IsRunningWait}
+use Rattle.wait_event.specs.{Prepares.SuitsWait, WaitPlans.IsWaitFor, Waits.IsRunningWait}
 use Rattle.wait_event.specs.declared.waits.WaitCall.{WaitCall}
 
 -- a wait for a condition with a full head, one with a simple head whose entry goes to the tail, and one for a variable

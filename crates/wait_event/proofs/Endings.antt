@@ -1,32 +1,26 @@
 -- Whole waits: how they begin, and what they say at their end.
 use Rattle.std.proofs.Common.{◌∙◌, ap, sym, refl, subst}
 use Rattle.std.specs.Prelude.{ℕ, ◌≡◌, ◌||◌, ◌&&◌, not, Bool, false, None, [], ◌∷◌, ◌++◌}
-use Rattle.wait_model.specs.declared.tasks.How.{How}
+use Rattle.wait_model.specs.{declared.tasks.How.How, declared.watches.Watch.Watch, Watches.head_of}
+use Rattle.wait_model.specs.Tasks.{pending, state_mask, task_of}
 use Rattle.wait_model.specs.declared.points.Next.TheVariants as next
 use Rattle.wait_model.specs.declared.steps.Step.TheVariants as step
-use Rattle.wait_model.specs.declared.watches.Watch.{Watch}
 use Rattle.wait_model.specs.declared.watches.Watch.TheVariants as watch
-use Rattle.wait_model.specs.Tasks.{pending, state_mask, task_of}
-use Rattle.wait_model.specs.Watches.{head_of}
-use Rattle.wait_rule.specs.Ends.{WasWorn}
-use Rattle.wait_rule.specs.Known.{Known}
+use Rattle.wait_rule.specs.{Ends.WasWorn, Known.Known, Stays.Carries}
 use Rattle.wait_rule.specs.Says.{IsClean, IsUp, told_of}
 use Rattle.wait_rule.specs.Queues.{IsIdle, IsTold, index}
-use Rattle.wait_rule.specs.Stays.{Carries}
 use Rattle.wait_rule.specs.Transitions.{Goes, Program, call_program}
-use Rattle.wait_event.specs.WaitPlans.{call_for}
-use Rattle.wait_event.specs.Waits.{IsFreshWait, IsRunningWait, IsUnset, LeftQueue, LeftSo, SameCall, answer_to_wait, last_load, wait_left_by, wait_end_post, wait_point_at, has_queued_in, wait_table}
-use Rattle.wait_class.specs.Posts.{EndsWith, own_of}
+use Rattle.wait_event.specs.{WaitPlans.call_for, declared.waits.WaitOutcome.WaitOutcome}
+use Rattle.wait_event.specs.{declared.waits.WaitCall.WaitCall, declared.waits.WaitStage.WaitStage}
+use Rattle.wait_event.specs.Waits.{IsFreshWait, IsRunningWait, IsUnset, LeftQueue, LeftSo, SameCall, answer_to_wait}
+use Rattle.wait_event.specs.Waits.{last_load, wait_left_by, wait_end_post, wait_point_at, has_queued_in, wait_table}
 use Rattle.wait_event.specs.Ends.{EndsWait, FoundNoPlace, HasWaitedFor, WasSignalled, wait_end_in, wait_change}
-use Rattle.wait_class.specs.Posts.{IsOut, Keeps}
-use Rattle.wait_event.specs.declared.waits.WaitOutcome.{WaitOutcome}
-use Rattle.wait_event.specs.declared.waits.WaitOutcome.TheVariants as outcome
-use Rattle.wait_event.specs.declared.waits.WaitCall.{WaitCall}
-use Rattle.wait_event.specs.declared.waits.WaitStage.{WaitStage}
-use Rattle.wait_event.specs.declared.waits.WaitStage.TheVariants as stage
+use Rattle.wait_class.specs.Posts.{EndsWith, own_of, IsOut, Keeps}
 use Rattle.wait_class.specs.declared.stages.Run.{Run}
-use Rattle.wait_class.specs.declared.stages.Turn.TheVariants as turn
 use Rattle.wait_class.specs.Tables.{Advances, IsAt, IsEnded, Plan}
+use Rattle.wait_event.specs.declared.waits.WaitOutcome.TheVariants as outcome
+use Rattle.wait_event.specs.declared.waits.WaitStage.TheVariants as stage
+use Rattle.wait_class.specs.declared.stages.Turn.TheVariants as turn
 use Rattle.wait_class.proofs.Wholes.{begins}
 use Rattle.wait_event.proofs.Behind.{IsBehind, StandsOver, behind_at, carried_behind, clean_behind, over_behind, owes_behind}
 use Rattle.wait_event.proofs.Plans.{program_is}

@@ -2,46 +2,33 @@
 use Rattle.std.proofs.Common.{◌∙◌, ap, sym, refl, subst, inl, inr}
 use Rattle.std.specs.Prelude.{ℕ, ◌≡◌, ◌<◌, ◌&&◌, not, Bool, true, false, Some, None, Result, Ok, Err, IfOk, IfErr}
 use Rattle.std.specs.Prelude.{[], ◌∷◌, ◌++◌}
-use Rattle.wait_model.specs.declared.layout.TheConstants.{FIRST_SIMPLE}
+use Rattle.wait_model.specs.{declared.layout.TheConstants.FIRST_SIMPLE, declared.points.Next.Next}
+use Rattle.wait_model.specs.{declared.queues.Form.Form, declared.watches.Entry.Entry, declared.watches.Kind.Kind}
+use Rattle.wait_model.specs.{Programs.zero_answer, Watches.head_of, Watches.is_simple}
+use Rattle.wait_model.specs.Queues.{is_exclusive, is_priority, place_for}
 use Rattle.wait_model.specs.declared.calls.Call.TheVariants as calls
 use Rattle.wait_model.specs.declared.calls.Answer.TheVariants as answer
 use Rattle.wait_model.specs.declared.points.Point.TheVariants as at
 use Rattle.wait_model.specs.declared.points.AddPoint.TheVariants as adding
-use Rattle.wait_model.specs.declared.points.Next.{Next}
 use Rattle.wait_model.specs.declared.points.Next.TheVariants as next
-use Rattle.wait_model.specs.declared.queues.Form.{Form}
 use Rattle.wait_model.specs.declared.steps.Step.TheVariants as step
-use Rattle.wait_model.specs.declared.watches.Entry.{Entry}
-use Rattle.wait_model.specs.declared.watches.Kind.{Kind}
 use Rattle.wait_model.specs.declared.watches.Kind.TheVariants as kind
 use Rattle.wait_model.specs.declared.watches.Watch.TheVariants as watch
-use Rattle.wait_model.specs.Programs.{zero_answer}
-use Rattle.wait_model.specs.Queues.{is_exclusive, is_priority, place_for}
-use Rattle.wait_model.specs.Watches.{head_of, is_simple}
-use Rattle.wait_rule.specs.declared.journal.Item.{Item}
-use Rattle.wait_rule.specs.declared.journal.Item.TheVariants as item
-use Rattle.wait_rule.specs.Ends.{WasWorn}
-use Rattle.wait_rule.specs.Known.{Known}
-use Rattle.wait_rule.specs.Members.{IsOwnKind}
+use Rattle.wait_rule.specs.{declared.journal.Item.Item, Ends.WasWorn, Known.Known, Members.IsOwnKind, Shown.shown_queue}
 use Rattle.wait_rule.specs.Says.{Excuse, IsFree, IsUp, added, stored_with, told_of, unlocked_with}
 use Rattle.wait_rule.specs.Queues.{IsTold, index, at_head, walk_of_hold}
-use Rattle.wait_rule.specs.Shown.{shown_queue}
 use Rattle.wait_rule.specs.Stays.{Carries, lock_change, only, only_looks, queue_change, unchanged, unlock_change}
 use Rattle.wait_rule.specs.Stays.{with_entry}
 use Rattle.wait_rule.specs.Transitions.{OnlyLooks, Program, by_step, call_program}
-use Rattle.wait_rule.proofs.KnownLaws.MemberBits.{bit_looks}
-use Rattle.wait_rule.proofs.KnownLaws.Transitions.{only_none, only_looked}
-use Rattle.wait_rule.proofs.KnownLaws.Turns.{serve_looks}
+use Rattle.wait_rule.specs.declared.journal.Item.TheVariants as item
+use Rattle.wait_rule.proofs.{KnownLaws.MemberBits.bit_looks, KnownLaws.Transitions.only_none}
+use Rattle.wait_rule.proofs.{KnownLaws.Transitions.only_looked, KnownLaws.Turns.serve_looks}
 use Rattle.wait_rule.proofs.WornHeads.WornNotes.{notes_stay}
-use Rattle.wq_head.specs.declared.adds.Worn.{Worn}
+use Rattle.wq_head.specs.{declared.adds.Worn.Worn, Holds.HasLocked, Holds.HasUnlocked}
 use Rattle.wq_head.specs.Adds.{HasAdded, IsForPlain, IsFormPlace, IsFormWorn}
-use Rattle.wq_head.specs.Holds.{HasLocked, HasUnlocked}
 use Rattle.wq_head.proofs.LockWaits.{turn_looks, turn_of}
 use Rattle.wait_event.specs.Entries.{EndsAdd, HasWokenEntry, MayRemove, add_change, hold_change}
-use Rattle.wait_class.specs.Posts.{Runs}
-use Rattle.wait_class.specs.Queueing.{form_entry}
-use Rattle.wait_class.specs.Findings.{saw_nothing, with_worn}
-use Rattle.wait_class.specs.Posts.{own_of}
+use Rattle.wait_class.specs.{Posts.Runs, Posts.own_of, Queueing.form_entry, Findings.saw_nothing, Findings.with_worn}
 use Rattle.wait_class.proofs.Ground.Going.{runs_on, runs_one}
 use Rattle.wait_class.proofs.FormPlaces.{form_is, form_left, form_worn}
 

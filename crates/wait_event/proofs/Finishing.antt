@@ -1,27 +1,22 @@
 -- Finishes: the store of the state, the look at the own entry, and the hold in which it is taken off.
 use Rattle.std.proofs.Common.{◌∙◌, ap, sym, refl, subst}
 use Rattle.std.specs.Prelude.{ℕ, ◌≡◌, ◌<◌, Bool, false, Option, Some, None}
-use Rattle.wait_model.specs.declared.layout.TheConstants.{FIRST_DONE_HEAD}
+use Rattle.wait_model.specs.{declared.layout.TheConstants.FIRST_DONE_HEAD, declared.watches.Entry.Entry}
+use Rattle.wait_model.specs.{declared.watches.Watch.Watch, Programs.zero_answer, Watches.head_of}
 use Rattle.wait_model.specs.declared.points.FinishPoint.TheVariants as finishing
 use Rattle.wait_model.specs.declared.points.Next.TheVariants as next
 use Rattle.wait_model.specs.declared.points.Point.TheVariants as at
 use Rattle.wait_model.specs.declared.steps.Step.TheVariants as step
-use Rattle.wait_model.specs.declared.watches.Entry.{Entry}
-use Rattle.wait_model.specs.declared.watches.Watch.{Watch}
 use Rattle.wait_model.specs.declared.watches.Watch.TheVariants as watch
-use Rattle.wait_model.specs.Programs.{zero_answer}
-use Rattle.wait_model.specs.Watches.{head_of}
 use Rattle.wait_rule.specs.declared.journal.Item.TheVariants as item
-use Rattle.wait_rule.specs.HandedPermits.{OwesNoPermit}
-use Rattle.wait_rule.specs.Known.{Known}
+use Rattle.wait_rule.specs.{HandedPermits.OwesNoPermit, Known.Known}
 use Rattle.wait_rule.specs.Queues.{at_head, index, saw, walk_of_hold}
 use Rattle.wait_rule.specs.Says.{IsFree, IsUp, added, told_of}
 use Rattle.wait_rule.specs.Stays.{Carries, lock_change, state_change, unlock_change}
 use Rattle.wait_rule.specs.Transitions.{OnlyLooks, Program, by_step}
 use Rattle.wait_rule.proofs.KnownLaws.Transitions.{only_none}
 use Rattle.wq_head.specs.Holds.{HasLocked, HasUnlocked, IsHolding}
-use Rattle.wq_head.proofs.LockWaits.{turn_looks, turn_of}
-use Rattle.wq_head.proofs.PermitHeads.{owes_low}
+use Rattle.wq_head.proofs.{LockWaits.turn_looks, LockWaits.turn_of, PermitHeads.owes_low}
 use Rattle.wait_class.specs.Findings.{saw_nothing, saw_entry as finds}
 use Rattle.wait_class.specs.Posts.{HasSeenOwn, Keeps, Runs, own_of}
 use Rattle.wait_class.proofs.Ground.Going.{runs_on, runs_one}

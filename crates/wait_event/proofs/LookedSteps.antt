@@ -2,10 +2,8 @@
 use Rattle.std.specs.Prelude.{ℕ, List, [], ◌∷◌}
 use Rattle.wait_model.specs.declared.steps.Step.{Step}
 use Rattle.wait_model.specs.declared.steps.Step.TheVariants as step
-use Rattle.wait_rule.specs.declared.journal.Item.{Item}
+use Rattle.wait_rule.specs.{declared.journal.Item.Item, Items.steps_of, Transitions.AreLooks}
 use Rattle.wait_rule.specs.declared.journal.Item.TheVariants as item
-use Rattle.wait_rule.specs.Items.{steps_of}
-use Rattle.wait_rule.specs.Transitions.{AreLooks}
 
 -- so what is so of no step, and stays so in front of such a look, is so of them all
 pub looks_all : (P : List Step → Type 0) → P [] → ((x w : ℕ) (es : List Step) → P es → P (step.Saw x w ∷ es))

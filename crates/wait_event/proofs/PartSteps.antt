@@ -2,51 +2,37 @@
 use Rattle.std.proofs.Common.{◌∙◌, ap, sym, refl, subst, inl}
 use Rattle.std.specs.Prelude.{ℕ, ◌≡◌, ◌==◌, Bool, true, false, if◌then◌else◌, is_some, Option, Some, None, Result, Ok, Err}
 use Rattle.std.specs.Prelude.{[], ◌∷◌}
-use Rattle.wait_model.specs.declared.points.Point.{Point}
+use Rattle.wait_model.specs.{declared.points.Point.Point, declared.points.Next.Next, declared.points.Seen.Seen}
+use Rattle.wait_model.specs.{declared.queues.Form.Form, declared.watches.Entry.Entry, declared.watches.Watch.Watch}
+use Rattle.wait_model.specs.{Views.Look, Watches.bare, Watches.head_of}
+use Rattle.wait_model.specs.Tasks.{looks_in, pending, state_mask, task_of}
 use Rattle.wait_model.specs.declared.points.Point.TheVariants as at
 use Rattle.wait_model.specs.declared.points.PreparePoint.TheVariants as preparing
-use Rattle.wait_model.specs.declared.points.Next.{Next}
 use Rattle.wait_model.specs.declared.points.Next.TheVariants as next
-use Rattle.wait_model.specs.declared.points.Seen.{Seen}
-use Rattle.wait_model.specs.declared.queues.Form.{Form}
 use Rattle.wait_model.specs.declared.steps.Step.TheVariants as step
-use Rattle.wait_model.specs.declared.watches.Entry.{Entry}
-use Rattle.wait_model.specs.declared.watches.Watch.{Watch}
-use Rattle.wait_model.specs.Tasks.{looks_in, pending, state_mask, task_of}
-use Rattle.wait_model.specs.Views.{Look}
-use Rattle.wait_model.specs.Watches.{bare, head_of}
-use Rattle.wait_rule.specs.declared.journal.Item.{Item}
-use Rattle.wait_rule.specs.declared.journal.Item.TheVariants as item
-use Rattle.wait_rule.specs.Ends.{WasWorn}
-use Rattle.wait_rule.specs.Known.{Known}
+use Rattle.wait_rule.specs.{declared.journal.Item.Item, Ends.WasWorn, Known.Known, Asked.after_item}
 use Rattle.wait_rule.specs.Queues.{MayUnqueue, index, saw}
-use Rattle.wait_rule.specs.Asked.{after_item}
 use Rattle.wait_rule.specs.Says.{Excuse, OwesBut, added, asks_for, stored_with, told_of}
-use Rattle.wait_rule.specs.Stays.{Carries, no_entries, only, queue_change, state_change, take_off_change}
-use Rattle.wait_rule.specs.Stays.{unchanged, with_entry}
-use Rattle.wait_rule.specs.Transitions.{Finds, Goes, IsMadeFor, IsSeenAs, OnlyLooks, Program, StepOrLook, after_step_or_look}
-use Rattle.wait_rule.specs.Transitions.{by_step, is_worn}
-use Rattle.wait_rule.proofs.KnownLaws.AskedPages.{asked_added, asks_nothing}
-use Rattle.wait_rule.proofs.KnownLaws.CarriedTasks.{unchanged_none}
-use Rattle.wait_rule.proofs.KnownLaws.MemberBits.{bit_looks}
-use Rattle.wait_rule.proofs.KnownLaws.StayingParts.{owes_also}
+use Rattle.wait_rule.specs.Stays.{Carries, no_entries, only, queue_change, state_change, take_off_change, unchanged}
+use Rattle.wait_rule.specs.Stays.{with_entry}
+use Rattle.wait_rule.specs.Transitions.{Finds, Goes, IsMadeFor, IsSeenAs, OnlyLooks, Program, StepOrLook}
+use Rattle.wait_rule.specs.Transitions.{after_step_or_look, by_step, is_worn}
+use Rattle.wait_rule.specs.declared.journal.Item.TheVariants as item
+use Rattle.wait_rule.proofs.{KnownLaws.AskedPages.asked_added, KnownLaws.AskedPages.asks_nothing}
+use Rattle.wait_rule.proofs.{KnownLaws.CarriedTasks.unchanged_none, KnownLaws.MemberBits.bit_looks}
+use Rattle.wait_rule.proofs.{KnownLaws.StayingParts.owes_also, WornHeads.WornNotes.notes_stay}
 use Rattle.wait_rule.proofs.KnownLaws.Transitions.{goes_none, only_looked, only_none, only_on}
-use Rattle.wait_rule.proofs.WornHeads.WornNotes.{notes_stay}
-use Rattle.wq_head.specs.declared.adds.Worn.{Worn}
+use Rattle.wq_head.specs.{declared.adds.Worn.Worn, Holds.IsHolding, Looks.Looks}
 use Rattle.wq_head.specs.Adds.{HasAdded, HasRemoved, IsFormPlace, IsFormWorn}
-use Rattle.wq_head.specs.Holds.{IsHolding}
-use Rattle.wq_head.specs.Looks.{Looks}
-use Rattle.wq_head.proofs.CarriedHolds.{looks_carried}
-use Rattle.wq_head.proofs.OneMoreLook.{saw_looks, whole_of}
+use Rattle.wq_head.proofs.{CarriedHolds.looks_carried, OneMoreLook.saw_looks, OneMoreLook.whole_of}
 use Rattle.wait_class.specs.Findings.{saw_nothing, with_own, saw_entry as finds}
 use Rattle.wait_class.specs.Posts.{HasSeenOwn, Keeps, Runs, own_of}
 use Rattle.wait_class.specs.Queueing.{TellsFirst, form_entry, wait_form}
+use Rattle.wait_class.proofs.{Ground.Going.runs_on, Ground.Going.runs_one, Ground.Keeping.keeps_of, Ground.Keeping.once}
+use Rattle.wait_class.proofs.{Histories.and_left, WornPlaces.queue_same, WornPlaces.whole_seen}
 use Rattle.wait_class.proofs.FormPlaces.{first_later, form_is, form_left, form_worn}
-use Rattle.wait_class.proofs.Ground.Going.{runs_on, runs_one}
-use Rattle.wait_class.proofs.Ground.Keeping.{keeps_of, once}
-use Rattle.wait_class.proofs.Ground.Standing.{bare_head, finds_own, seen_is, seen_looks, seen_shows, seen_stored, state_looks}
-use Rattle.wait_class.proofs.Histories.{and_left}
-use Rattle.wait_class.proofs.WornPlaces.{queue_same, whole_seen}
+use Rattle.wait_class.proofs.Ground.Standing.{bare_head, finds_own, seen_is, seen_looks, seen_shows, seen_stored}
+use Rattle.wait_class.proofs.Ground.Standing.{state_looks}
 use Rattle.wait_event.specs.Prepares.{IsPart, answers_first}
 use Rattle.wait_event.specs.WaitPlans.{behind_prepare}
 use Rattle.wait_event.specs.PartSteps.{HasJoinedPart, Heeds, IsAtHead, IsWornPart, JoinsPart, PartCarries, ParesPart, asks_one, part_looked_to, part_change, program_of}

@@ -2,44 +2,29 @@
 use Rattle.std.proofs.Common.{refl, ◌∙◌, ap, subst, append-nil, append_assoc}
 use Rattle.std.specs.Prelude.{ℕ, ◌≡◌, Bool, true, false, if◌then◌else◌, Option, None, Some, is_some, List, [], ◌∷◌, ◌++◌}
 use Rattle.std.proofs.lemmas.Bool.{false≢true, true≢false}
-use Rattle.wait_model.specs.declared.calls.Answer.{Answer}
-use Rattle.wait_model.specs.declared.calls.Event.{Event}
+use Rattle.wait_model.specs.{declared.calls.Answer.Answer, declared.calls.Event.Event, declared.points.Next.Next}
+use Rattle.wait_model.specs.{declared.points.Planned.Planned, declared.points.Point.Point, declared.points.Seen.Seen}
+use Rattle.wait_model.specs.{declared.steps.Step.Step, declared.tasks.How.How, declared.watches.Entry.Entry}
+use Rattle.wait_model.specs.{declared.watches.Kind.Kind, declared.watches.Watch.Watch, Findings.none_noted}
+use Rattle.wait_model.specs.{Findings.notes, Programs.go, Programs.zero_answer, Tables.Table, Watches.head_of}
+use Rattle.wait_model.specs.SentenceSteps.{Prepared, enters, finishes, is_ready, is_signalled, is_worn, locks, nothing}
+use Rattle.wait_model.specs.SentenceSteps.{number, stands, takes_off, unlocks}
+use Rattle.wait_model.specs.Tasks.{looks_in, pending, state_mask}
 use Rattle.wait_model.specs.declared.calls.Event.TheVariants as event
 use Rattle.wait_model.specs.declared.points.FinishPoint.TheVariants as finishing
 use Rattle.wait_model.specs.declared.points.LeavePoint.TheVariants as leaving
-use Rattle.wait_model.specs.declared.points.Next.{Next}
 use Rattle.wait_model.specs.declared.points.Next.TheVariants as next
-use Rattle.wait_model.specs.declared.points.Planned.{Planned}
-use Rattle.wait_model.specs.declared.points.Point.{Point}
 use Rattle.wait_model.specs.declared.points.Point.TheVariants as at
 use Rattle.wait_model.specs.declared.points.PreparePoint.TheVariants as preparing
-use Rattle.wait_model.specs.declared.points.Seen.{Seen}
-use Rattle.wait_model.specs.declared.steps.Step.{Step}
-use Rattle.wait_model.specs.declared.tasks.How.{How}
-use Rattle.wait_model.specs.declared.watches.Entry.{Entry}
-use Rattle.wait_model.specs.declared.watches.Kind.{Kind}
-use Rattle.wait_model.specs.declared.watches.Watch.{Watch}
-use Rattle.wait_model.specs.Findings.{none_noted, notes}
 use Rattle.wait_model.specs.Phrases.{Phrase, Rest, ◌>>=◌, ◌>>◌, ends, finds, gives, makes, when◌then◌otherwise◌}
-use Rattle.wait_model.specs.Programs.{go, zero_answer}
-use Rattle.wait_model.specs.SentenceSteps.{Prepared, enters, finishes, is_ready, is_signalled, is_worn, locks, nothing}
-use Rattle.wait_model.specs.SentenceSteps.{number, stands, takes_off, unlocks}
-use Rattle.wait_model.specs.Tables.{Table}
-use Rattle.wait_model.specs.Tasks.{looks_in, pending, state_mask}
-use Rattle.wait_model.specs.Watches.{head_of}
 use Rattle.wait_model.proofs.WaitLaws.OutsideStages.{either}
-use Rattle.wait_rule.specs.Interleavings.{IsInterleaved}
-use Rattle.wait_rule.specs.Items.{steps_of}
-use Rattle.wait_rule.specs.Known.{Known}
-use Rattle.wait_rule.specs.Queues.{index}
-use Rattle.wait_rule.specs.SaidEvents.{said}
-use Rattle.wait_rule.specs.Says.{history_of, told_of}
+use Rattle.wait_rule.specs.{Interleavings.IsInterleaved, Items.steps_of, Known.Known, Queues.index, SaidEvents.said}
+use Rattle.wait_rule.specs.{Says.history_of, Says.told_of}
 use Rattle.wait_rule.specs.Transitions.{Finds, FindsAt, Goes, IsSeenAs, Program, StepOrLook, Transition}
 use Rattle.wait_rule.specs.Transitions.{after_transition, by_look, by_step}
-use Rattle.wait_rule.proofs.KnownLaws.Moments.{moment_of}
-use Rattle.wait_rule.proofs.SaidEvents.Fronts.{IsOff, number_stays, off_on, off_still, step_follows, steps_made}
-use Rattle.wait_rule.proofs.SaidEvents.OwnFindings.{own_off}
+use Rattle.wait_rule.proofs.{KnownLaws.Moments.moment_of, SaidEvents.OwnFindings.own_off}
 use Rattle.wait_rule.proofs.TableSteps.ItemLists.{steps_append}
+use Rattle.wait_rule.proofs.SaidEvents.Fronts.{IsOff, number_stays, off_on, off_still, step_follows, steps_made}
 use Rattle.wait_class.specs.Queueing.{wait_form}
 use Rattle.wait_class.proofs.Ground.Standing.{owner_own}
 use Rattle.wait_event.specs.Prepares.{finish_program, prepare_program}

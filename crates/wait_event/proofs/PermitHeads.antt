@@ -1,15 +1,11 @@
 -- The heads of waits for plain conditions and variables are none of a completion.
 use Rattle.std.proofs.Common.{arith}
 use Rattle.std.specs.Prelude.{ℕ, ◌+◌, ◌<◌}
+use Rattle.wait_model.specs.{declared.tasks.How.How, declared.watches.Watch.Watch, Watches.IsThere, Watches.head_of}
 use Rattle.wait_model.specs.declared.layout.TheConstants.{BIT_WORDS, FIRST_DONE_HEAD, FIRST_SIMPLE}
-use Rattle.wait_model.specs.declared.tasks.How.{How}
-use Rattle.wait_model.specs.declared.watches.Watch.{Watch}
 use Rattle.wait_model.specs.declared.watches.Watch.TheVariants as watch
-use Rattle.wait_model.specs.Watches.{IsThere, head_of}
 use Rattle.wq_head.proofs.FullHeads.{hashed_low}
-use Rattle.wait_event.specs.WaitPlans.{IsWaitFor}
-use Rattle.wait_event.specs.Waits.{IsRunningWait}
-use Rattle.wait_event.specs.declared.waits.WaitCall.{WaitCall}
+use Rattle.wait_event.specs.{WaitPlans.IsWaitFor, Waits.IsRunningWait, declared.waits.WaitCall.WaitCall}
 
 low_for : (w : Watch) (how : How) → IsThere w → IsWaitFor w how → head_of w < FIRST_DONE_HEAD
 unfolding head_of

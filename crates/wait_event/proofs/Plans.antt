@@ -4,28 +4,18 @@ use Rattle.std.specs.Prelude.{ℕ, ◌≡◌, Bool, true, false, if◌then◌els
 use Rattle.wait_model.specs.declared.calls.Event.TheVariants as event
 use Rattle.wait_model.specs.declared.points.FinishPoint.TheVariants as finishing
 use Rattle.wait_model.specs.declared.points.LeavePoint.TheVariants as leaving
-use Rattle.wait_model.specs.declared.points.Next.{Next}
+use Rattle.wait_model.specs.{declared.points.Next.Next, declared.points.Planned.Planned, declared.points.Point.Point}
+use Rattle.wait_model.specs.{declared.points.Seen.Seen, declared.queues.Form.Form, declared.tasks.How.How}
+use Rattle.wait_model.specs.{declared.watches.Watch.Watch, Points.given_at, Programs.go, Programs.program}
+use Rattle.wait_model.specs.{Tasks.state_mask, Watches.head_of, Watches.kind_for}
 use Rattle.wait_model.specs.declared.points.Next.TheVariants as next
-use Rattle.wait_model.specs.declared.points.Planned.{Planned}
-use Rattle.wait_model.specs.declared.points.Point.{Point}
 use Rattle.wait_model.specs.declared.points.Point.TheVariants as at
 use Rattle.wait_model.specs.declared.points.PreparePoint.TheVariants as preparing
-use Rattle.wait_model.specs.declared.points.Seen.{Seen}
-use Rattle.wait_model.specs.declared.queues.Form.{Form}
 use Rattle.wait_model.specs.declared.queues.Form.TheVariants as forms
-use Rattle.wait_model.specs.declared.tasks.How.{How}
-use Rattle.wait_model.specs.declared.watches.Watch.{Watch}
 use Rattle.wait_model.specs.declared.watches.Watch.TheVariants as watch
-use Rattle.wait_model.specs.Points.{given_at}
-use Rattle.wait_model.specs.Programs.{go, program}
-use Rattle.wait_model.specs.Tasks.{state_mask}
-use Rattle.wait_model.specs.Watches.{head_of, kind_for}
-use Rattle.wait_rule.specs.Known.{Known}
-use Rattle.wait_rule.specs.Queues.{index}
+use Rattle.wait_rule.specs.{Known.Known, Queues.index}
 use Rattle.wait_rule.specs.Transitions.{Goes, Program, call_program}
-use Rattle.wait_class.specs.Posts.{Runs}
-use Rattle.wait_class.specs.Queueing.{wait_form}
-use Rattle.wait_class.specs.Tables.{plan_program}
+use Rattle.wait_class.specs.{Posts.Runs, Queueing.wait_form, Tables.plan_program}
 use Rattle.wait_event.specs.WaitPlans.{IsWaitFor, planned_as_asked, call_for, gives_lock_back, kind_for_point, plan, wait_plan}
 use Rattle.wait_event.specs.Waits.{IsRunningWait}
 use Rattle.wait_event.specs.declared.waits.WaitCall.{WaitCall}

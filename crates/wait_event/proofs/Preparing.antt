@@ -2,59 +2,44 @@
 use Rattle.std.proofs.Common.{◌∙◌, ap, sym, refl, subst, inr}
 use Rattle.std.specs.Prelude.{ℕ, ◌≡◌, ◌⊎◌, ◌<◌, ◌&&◌, ◌||◌, Bool, true, false, if◌then◌else◌, is_some, Option, Some, None}
 use Rattle.std.specs.Prelude.{Result, Ok, Err, List, [], ◌∷◌, ◌++◌}
-use Rattle.wait_model.specs.declared.layout.TheConstants.{FIRST_DONE_HEAD}
-use Rattle.wait_model.specs.declared.calls.Answer.{Answer}
+use Rattle.wait_model.specs.{declared.layout.TheConstants.FIRST_DONE_HEAD, declared.calls.Answer.Answer}
+use Rattle.wait_model.specs.{declared.points.Next.Next, declared.points.Point.Point, declared.steps.Step.Step}
+use Rattle.wait_model.specs.{declared.tasks.How.How, declared.tasks.SleepState.SleepState, declared.watches.Entry.Entry}
+use Rattle.wait_model.specs.{declared.watches.Kind.Kind, declared.watches.Watch.Watch, Programs.signalled}
+use Rattle.wait_model.specs.{Programs.zero_answer, Tasks.looks_in, Tasks.state_mask, Watches.head_of}
 use Rattle.wait_model.specs.declared.calls.Answer.TheVariants as answer
 use Rattle.wait_model.specs.declared.points.LeavePoint.TheVariants as leaving
-use Rattle.wait_model.specs.declared.points.Next.{Next}
 use Rattle.wait_model.specs.declared.points.Next.TheVariants as next
-use Rattle.wait_model.specs.declared.points.Point.{Point}
 use Rattle.wait_model.specs.declared.points.Point.TheVariants as at
 use Rattle.wait_model.specs.declared.points.PreparePoint.TheVariants as preparing
-use Rattle.wait_model.specs.declared.steps.Step.{Step}
 use Rattle.wait_model.specs.declared.steps.Step.TheVariants as step
-use Rattle.wait_model.specs.declared.tasks.How.{How}
-use Rattle.wait_model.specs.declared.tasks.SleepState.{SleepState}
-use Rattle.wait_model.specs.declared.watches.Entry.{Entry}
-use Rattle.wait_model.specs.declared.watches.Kind.{Kind}
-use Rattle.wait_model.specs.declared.watches.Watch.{Watch}
-use Rattle.wait_model.specs.Programs.{signalled, zero_answer}
-use Rattle.wait_model.specs.Tasks.{looks_in, state_mask}
-use Rattle.wait_model.specs.Watches.{head_of}
 use Rattle.wait_rule.specs.declared.journal.Item.TheVariants as item
-use Rattle.wait_rule.specs.HandedPermits.{OwesNoPermit}
-use Rattle.wait_rule.specs.Known.{Known}
+use Rattle.wait_rule.specs.{HandedPermits.OwesNoPermit, Known.Known}
 use Rattle.wait_rule.specs.Queues.{IsTold, at_head, index, saw, walk_of_hold}
 use Rattle.wait_rule.specs.Says.{IsFree, IsUp, MayStore, added, history_of, stored_with, told_of, unlocked_with}
 use Rattle.wait_rule.specs.Stays.{Carries, lock_change, unlock_change, with_entry}
 use Rattle.wait_rule.specs.Transitions.{Goes, IsSeenAs, OnlyLooks, Program, Transition, by_step}
-use Rattle.wait_rule.proofs.KnownLaws.MemberBits.{bit_looks}
-use Rattle.wait_rule.proofs.KnownLaws.StayingParts.{owes_also, owes_out}
-use Rattle.wait_rule.proofs.KnownLaws.TaskHistories.{history_after}
+use Rattle.wait_rule.proofs.{KnownLaws.MemberBits.bit_looks, KnownLaws.StayingParts.owes_also}
+use Rattle.wait_rule.proofs.{KnownLaws.StayingParts.owes_out, KnownLaws.TaskHistories.history_after}
 use Rattle.wait_rule.proofs.KnownLaws.Transitions.{only_none}
 use Rattle.wq_head.specs.declared.adds.Worn.{Worn}
 use Rattle.wq_head.specs.Holds.{HasLocked, HasUnlocked, IsHolding}
-use Rattle.wq_head.proofs.LockWaits.{turn_looks, turn_of}
-use Rattle.wq_head.proofs.PermitHeads.{owes_low}
+use Rattle.wq_head.proofs.{LockWaits.turn_looks, LockWaits.turn_of, PermitHeads.owes_low}
 use Rattle.wait_class.specs.Findings.{saw_nothing, with_worn, saw_entry as finds}
 use Rattle.wait_class.specs.Posts.{EndsWith, IsOut, Keeps, Runs, own_of}
 use Rattle.wait_class.proofs.Ground.Going.{runs_on, runs_one}
 use Rattle.wait_class.proofs.Ground.Keeping.{keeps_of, keeps_on}
 use Rattle.wait_class.proofs.Ground.Standing.{bare_head, finds_own, owner_own, seen_looks, seen_stored}
 use Rattle.wait_class.proofs.Histories.{ends_more, stored_history, unlocked_history}
-use Rattle.wait_event.specs.declared.prepares.Part.{Part}
+use Rattle.wait_event.specs.{declared.prepares.Part.Part, Waits.wait_left_by, Waits.queues_first}
 use Rattle.wait_event.specs.PartSteps.{HasJoinedPart, Heeds, IsAtHead, IsWornPart, JoinsPart, PartCarries, ParesPart}
 use Rattle.wait_event.specs.PartSteps.{locked_to, part_looked_to, program_of, unsignalled}
 use Rattle.wait_event.specs.Prepares.{BeginsOwing, CarriesPrepare, EndsExclusive, EndsPart, IsPrepareLeft, IsNoWaiter}
 use Rattle.wait_event.specs.Prepares.{IsPart, MayFinish, MayPrepare, Prepares, SuitsWait, WasAsked, answers_first}
 use Rattle.wait_event.specs.Prepares.{exclusive_in, leave_change, prepare_program, prepare_change, with_none}
-use Rattle.wait_event.specs.Waits.{wait_left_by, queues_first}
-use Rattle.wait_event.proofs.Conditions.{suits_low}
-use Rattle.wait_event.proofs.Entering.{note_unlocked, unlock_looks}
-use Rattle.wait_event.proofs.Behind.{call_carried}
+use Rattle.wait_event.proofs.{Conditions.suits_low, Entering.note_unlocked, Entering.unlock_looks, Behind.call_carried}
+use Rattle.wait_event.proofs.{Tellings.firsts_more, WaitTrails.left_off, WaitTrails.left_taken}
 use Rattle.wait_event.proofs.PartSteps.{IsPlanned, part_keeps, pares_out, pares_part, runs_planned, still_part}
-use Rattle.wait_event.proofs.Tellings.{firsts_more}
-use Rattle.wait_event.proofs.WaitTrails.{left_off, left_taken}
 
 -- the lock, and the unlock
 pub lock_as : (old a : Known) (r h : ℕ) → r ≡ h → HasLocked old a r (walk_of_hold r None)

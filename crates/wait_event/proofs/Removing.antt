@@ -1,44 +1,33 @@
 -- The call that takes the own entry of a task off: its transitions, and what it carries on.
 use Rattle.std.proofs.Common.{◌∙◌, ap, sym, refl, subst, inl, arith}
 use Rattle.std.specs.Prelude.{ℕ, ◌≡◌, ◌+◌, ◌<◌, false, true, Option, Some, None}
+use Rattle.wait_model.specs.{declared.watches.Entry.Entry, declared.watches.Watch.Watch, Programs.plain_cond}
+use Rattle.wait_model.specs.{Programs.zero_answer, Views.View as Told, Watches.head_of}
 use Rattle.wait_model.specs.declared.layout.TheConstants.{FIRST_DONE_HEAD, FIRST_PLAIN_HEAD, HEADS}
 use Rattle.wait_model.specs.declared.calls.Call.TheVariants as calls
 use Rattle.wait_model.specs.declared.points.Point.TheVariants as at
 use Rattle.wait_model.specs.declared.points.RemovePoint.TheVariants as removing
 use Rattle.wait_model.specs.declared.points.Next.TheVariants as next
 use Rattle.wait_model.specs.declared.steps.Step.TheVariants as step
-use Rattle.wait_model.specs.declared.watches.Entry.{Entry}
-use Rattle.wait_model.specs.declared.watches.Watch.{Watch}
 use Rattle.wait_model.specs.declared.watches.Watch.TheVariants as watch
-use Rattle.wait_model.specs.Programs.{plain_cond, zero_answer}
-use Rattle.wait_model.specs.Views.{View as Told}
-use Rattle.wait_model.specs.Watches.{head_of}
 use Rattle.wait_rule.specs.declared.journal.Item.TheVariants as item
-use Rattle.wait_rule.specs.Items.{Book}
-use Rattle.wait_rule.specs.HandedPermits.{OwesNoPermit}
-use Rattle.wait_rule.specs.Known.{Known}
-use Rattle.wait_rule.specs.Members.{IsOwnKind}
+use Rattle.wait_rule.specs.{Items.Book, HandedPermits.OwesNoPermit, Known.Known, Members.IsOwnKind}
 use Rattle.wait_rule.specs.Says.{IsFree, added, stored_with, told_of}
 use Rattle.wait_rule.specs.Queues.{IsTold, MayUnqueue, index, at_head, walk_of_hold}
 use Rattle.wait_rule.specs.Stays.{Carries, lock_change, only, take_off_change, unlock_change, with_entry}
 use Rattle.wait_rule.specs.Transitions.{OnlyLooks, Program, by_step, call_program}
-use Rattle.wait_rule.proofs.KnownLaws.MemberBits.{bit_looks}
-use Rattle.wait_rule.proofs.KnownLaws.Transitions.{only_none}
+use Rattle.wait_rule.proofs.{KnownLaws.MemberBits.bit_looks, KnownLaws.Transitions.only_none}
 use Rattle.wq_head.specs.Adds.{HasRemoved}
 use Rattle.wq_head.specs.Holds.{HasLocked, HasUnlocked, IsHolding}
 use Rattle.wq_head.proofs.PermitHeads.{owes_low}
 use Rattle.wq_head.proofs.LockWaits.{turn_looks, turn_of, turn_told}
-use Rattle.wait_class.specs.Posts.{IsOut}
-use Rattle.wait_event.specs.Entries.{HasRemovedOwn, MayRemove, remove_change}
-use Rattle.wait_class.specs.Posts.{HasSeenOwn, Runs}
+use Rattle.wait_class.specs.Posts.{IsOut, HasSeenOwn, Runs, own_of}
 use Rattle.wait_class.specs.Findings.{saw_nothing, saw_entry as finds}
-use Rattle.wait_class.specs.Posts.{own_of}
+use Rattle.wait_event.specs.Entries.{HasRemovedOwn, MayRemove, remove_change}
 use Rattle.wait_event.proofs.Entering.{hold_carried, looked_carried, runs_lock, unlock_looks}
-use Rattle.wait_class.proofs.WatchHeads.{head_fits}
+use Rattle.wait_class.proofs.{WatchHeads.head_fits, Ground.Going.runs_on, Ground.Going.runs_one}
+use Rattle.wait_class.proofs.Ground.Standing.{owner_own, seen_book, seen_looks, seen_shows}
 use Rattle.wait_event.proofs.PermitHeads.{cond_low}
-use Rattle.wait_class.proofs.Ground.Standing.{owner_own}
-use Rattle.wait_class.proofs.Ground.Going.{runs_on, runs_one}
-use Rattle.wait_class.proofs.Ground.Standing.{seen_book, seen_looks, seen_shows}
 
 head_plain : (c : ℕ) → head_of (watch.Plain c) ≡ FIRST_PLAIN_HEAD + c
 unfolding head_of

@@ -5,27 +5,19 @@ use Rattle.wait_model.specs.declared.calls.Call.TheVariants as calls
 use Rattle.wait_model.specs.declared.points.Next.TheVariants as next
 use Rattle.wait_model.specs.declared.points.Point.TheVariants as at
 use Rattle.wait_model.specs.declared.steps.Step.TheVariants as step
-use Rattle.wait_model.specs.declared.queues.Walked.{Walked}
-use Rattle.wait_model.specs.declared.watches.Mode.{Mode}
+use Rattle.wait_model.specs.{declared.queues.Walked.Walked, declared.watches.Mode.Mode, declared.watches.Watch.Watch}
+use Rattle.wait_model.specs.{Programs.zero_answer, Tasks.meets, Watches.same, Watches.mask_of}
 use Rattle.wait_model.specs.declared.watches.Mode.TheVariants as mode
-use Rattle.wait_model.specs.declared.watches.Watch.{Watch}
 use Rattle.wait_model.specs.declared.watches.Watch.TheVariants as watch
-use Rattle.wait_model.specs.Programs.{zero_answer}
-use Rattle.wait_model.specs.Tasks.{meets}
-use Rattle.wait_model.specs.Watches.{same, mask_of}
 use Rattle.wait_rule.specs.declared.journal.Item.TheVariants as item
-use Rattle.wait_rule.specs.Known.{Known}
+use Rattle.wait_rule.specs.{Known.Known, Queues.IsIdle, Queues.index, Transitions.by_step, Transitions.call_program}
 use Rattle.wait_rule.specs.Says.{Excuse, OwesBut, added, told_of}
-use Rattle.wait_rule.specs.Queues.{IsIdle, index}
 use Rattle.wait_rule.specs.Stays.{Carries, publish_change, wake_all_change, with_wakes}
-use Rattle.wait_rule.specs.Transitions.{by_step, call_program}
-use Rattle.wait_rule.proofs.KnownLaws.CarriedTasks.{owes_more}
-use Rattle.wait_rule.proofs.KnownLaws.Transitions.{only_none}
+use Rattle.wait_rule.proofs.{KnownLaws.CarriedTasks.owes_more, KnownLaws.Transitions.only_none}
 use Rattle.wq_head.specs.Walks.{HasWoken, HasEnded}
-use Rattle.wait_class.specs.Posts.{Runs}
+use Rattle.wait_class.specs.{Posts.Runs, Findings.with_value}
 use Rattle.wait_event.specs.Conds.{HasSet, HasTakenCond, left_owed, set_change}
 use Rattle.wait_class.proofs.Ground.Going.{runs_one}
-use Rattle.wait_class.specs.Findings.{with_value}
 
 pub takes : (old new : Known) (c v : ℕ) → new ≡ added old (item.Made (step.Consume (watch.Plain c) 0 v))
     → HasTakenCond old new c v

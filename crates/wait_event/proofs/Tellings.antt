@@ -5,8 +5,7 @@ use Rattle.wait_model.specs.declared.steps.Step.TheVariants as step
 use Rattle.wait_model.specs.declared.watches.Entry.{Entry}
 use Rattle.wait_rule.specs.Shown.{shown_queue}
 use Rattle.wait_rule.specs.Transitions.{StepOrLook, Transition, by_look, by_step}
-use Rattle.wait_class.specs.Laws.{TellsLaws, is_quiet_event}
-use Rattle.wait_class.specs.Queueing.{is_none}
+use Rattle.wait_class.specs.{Laws.TellsLaws, Laws.is_quiet_event, Queueing.is_none}
 use Rattle.wait_event.specs.Waits.{SameCall, TellsWait, is_queue, last_loaded, loaded_by, has_queued_in, queues_first}
 use Rattle.wait_event.specs.declared.waits.WaitCall.{WaitCall}
 

@@ -1,26 +1,19 @@
 -- The add of a wait's entry.
 use Rattle.std.proofs.Common.{◌∙◌, ap, sym, refl, subst}
 use Rattle.std.specs.Prelude.{◌≡◌, Bool, true, false, if◌then◌else◌, Result, Ok, Err, IfOk, IfErr}
-use Rattle.wait_model.specs.declared.queues.Form.{Form}
+use Rattle.wait_model.specs.{declared.queues.Form.Form, declared.watches.Kind.Kind, declared.watches.Watch.Watch}
+use Rattle.wait_model.specs.{Queues.is_priority, Watches.bare, Watches.kind_for}
 use Rattle.wait_model.specs.declared.queues.Form.TheVariants as forms
-use Rattle.wait_model.specs.declared.watches.Kind.{Kind}
-use Rattle.wait_model.specs.declared.watches.Watch.{Watch}
 use Rattle.wait_model.specs.declared.watches.Watch.TheVariants as watch
-use Rattle.wait_model.specs.Queues.{is_priority}
-use Rattle.wait_model.specs.Watches.{bare, kind_for}
-use Rattle.wait_rule.specs.Ends.{WasWorn}
-use Rattle.wait_rule.specs.Known.{Known}
-use Rattle.wait_rule.specs.Queues.{index}
-use Rattle.wq_head.specs.declared.adds.Worn.{Worn}
+use Rattle.wait_rule.specs.{Ends.WasWorn, Known.Known, Queues.index}
+use Rattle.wq_head.specs.{declared.adds.Worn.Worn, Holds.IsHolding}
 use Rattle.wq_head.specs.Adds.{HasAdded, IsFormPlace, IsFormWorn}
-use Rattle.wq_head.specs.Holds.{IsHolding}
 use Rattle.wait_class.specs.declared.stages.Doing.TheVariants as doing
 use Rattle.wait_class.specs.Laws.{AddsOwn, HasJoined, IsWornFor}
 use Rattle.wait_class.specs.Queueing.{form_entry, wait_form}
 use Rattle.wait_class.proofs.FormPlaces.{form_is, form_left, form_worn}
 use Rattle.wait_class.proofs.Ground.Keeping.{keeps_queued}
-use Rattle.wait_event.specs.Waits.{wait_doing, wait_table}
-use Rattle.wait_event.specs.declared.waits.WaitCall.{WaitCall}
+use Rattle.wait_event.specs.{Waits.wait_doing, Waits.wait_table, declared.waits.WaitCall.WaitCall}
 use Rattle.wait_event.specs.declared.waits.WaitStage.{WaitStage}
 use Rattle.wait_event.specs.declared.waits.WaitStage.TheVariants as stage
 

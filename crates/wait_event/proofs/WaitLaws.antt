@@ -2,38 +2,29 @@
 use Rattle.std.proofs.Common.{◌∙◌, ap, refl, inl, arith}
 use Rattle.std.specs.Prelude.{ℕ, ◌≡◌, ◌≤◌, Bool, true, false, if◌then◌else◌, is_some, Option, Some, None}
 use Rattle.wait_model.specs.declared.calls.Answer.TheVariants as answer
-use Rattle.wait_model.specs.declared.calls.Event.{Event}
+use Rattle.wait_model.specs.{declared.calls.Event.Event, declared.watches.Entry.Entry, Tasks.looks_in}
+use Rattle.wait_model.specs.Programs.{ends_with, go, signalled, zero_answer}
+use Rattle.wait_model.specs.Watches.{head_of, misses, number_of}
 use Rattle.wait_model.specs.declared.calls.Event.TheVariants as event
 use Rattle.wait_model.specs.declared.points.FinishPoint.TheVariants as finishing
 use Rattle.wait_model.specs.declared.points.LeavePoint.TheVariants as leaving
 use Rattle.wait_model.specs.declared.points.Next.TheVariants as next
 use Rattle.wait_model.specs.declared.points.Point.TheVariants as at
 use Rattle.wait_model.specs.declared.points.PreparePoint.TheVariants as preparing
-use Rattle.wait_model.specs.declared.watches.Entry.{Entry}
-use Rattle.wait_model.specs.Programs.{ends_with, go, signalled, zero_answer}
-use Rattle.wait_model.specs.Tasks.{looks_in}
-use Rattle.wait_model.specs.Watches.{head_of, misses, number_of}
-use Rattle.wait_rule.specs.HandedPermits.{OwesNoPermit}
-use Rattle.wait_rule.specs.Known.{Known}
-use Rattle.wait_rule.specs.Queues.{index}
-use Rattle.wait_rule.specs.Says.{history_of, told_of}
+use Rattle.wait_rule.specs.{HandedPermits.OwesNoPermit, Known.Known, Queues.index, Says.history_of, Says.told_of}
 use Rattle.wq_head.proofs.PermitHeads.{owes_low}
 use Rattle.wait_class.specs.declared.stages.Turn.TheVariants as turn
 use Rattle.wait_class.specs.Laws.{IsLawfulCallTable, LawOf, LoadLaw, LockLaw, LookLaw, PeekLaw, QueueLaw}
-use Rattle.wait_class.proofs.Ground.Standing.{home_waits}
+use Rattle.wait_class.proofs.{Ground.Standing.home_waits, Stays.wait_stays, Histories.found_calm}
 use Rattle.wait_class.proofs.Holds.{LockWay, draw_by, give_by, lock_by, lock_to, lock_way, pare_by, peek_by, queue_by}
 use Rattle.wait_class.proofs.Holds.{running_by, state_by, unlock_by}
-use Rattle.wait_class.proofs.Stays.{wait_stays}
 use Rattle.wait_class.proofs.Ways.{go_if, load_fork, look_by, sleep_by, way}
-use Rattle.wait_event.specs.Waits.{IsRunningWait, depth, wait_doing, looks_first, wait_loaded_to, wait_table}
-use Rattle.wait_event.specs.declared.waits.WaitCall.{WaitCall}
+use Rattle.wait_event.specs.{declared.waits.WaitCall.WaitCall, declared.waits.WaitStage.WaitStage}
+use Rattle.wait_event.specs.Waits.{IsRunningWait, depth, wait_doing, looks_first, wait_loaded_to, wait_table, last_load}
 use Rattle.wait_event.specs.declared.waits.WaitOutcome.TheVariants as outcome
-use Rattle.wait_event.specs.declared.waits.WaitStage.{WaitStage}
 use Rattle.wait_event.specs.declared.waits.WaitStage.TheVariants as stage
 use Rattle.wait_event.proofs.PermitHeads.{run_low}
 use Rattle.wait_event.proofs.Tellings.{joined_told, loaded_told, quiet_told, wait_told}
-use Rattle.wait_class.proofs.Histories.{found_calm}
-use Rattle.wait_event.specs.Waits.{last_load}
 use Rattle.wait_event.proofs.WaitTrails.{finds_off, gives_back, left_loads, signal_seen, takes_entry, trail_rises}
 use Rattle.wait_event.proofs.WaitTrails.{trail_still, unset_by}
 

@@ -3,41 +3,30 @@ use Rattle.std.proofs.Common.{◌∙◌, ap, sym, refl, subst}
 use Rattle.std.specs.Prelude.{ℕ, ◌≡◌, ◌||◌, ◌&&◌, not, Bool, true, false, is_some, None}
 use Rattle.wait_model.specs.declared.points.FinishPoint.TheVariants as finishing
 use Rattle.wait_model.specs.declared.points.LeavePoint.TheVariants as leaving
-use Rattle.wait_model.specs.declared.points.Point.{Point}
+use Rattle.wait_model.specs.{declared.points.Point.Point, declared.points.Seen.Seen, declared.tasks.How.How}
+use Rattle.wait_model.specs.{declared.watches.Watch.Watch, Watches.misses}
 use Rattle.wait_model.specs.declared.points.Point.TheVariants as at
-use Rattle.wait_model.specs.declared.points.Seen.{Seen}
-use Rattle.wait_model.specs.declared.tasks.How.{How}
-use Rattle.wait_model.specs.declared.watches.Watch.{Watch}
-use Rattle.wait_model.specs.Watches.{misses}
-use Rattle.wait_rule.specs.Known.{Known}
+use Rattle.wait_rule.specs.{Known.Known, Stays.Carries}
 use Rattle.wait_rule.specs.Queues.{IsIdle, IsTold, index}
 use Rattle.wait_rule.specs.Says.{IsClean, IsUp, told_of}
-use Rattle.wait_rule.specs.Stays.{Carries}
-use Rattle.wait_class.specs.Posts.{Keeps}
+use Rattle.wait_class.specs.{Posts.Keeps, declared.stages.Run.Run, declared.stages.Turn.Turn, Tables.IsEnded}
+use Rattle.wait_class.specs.Tables.{Plan}
 use Rattle.wait_class.specs.declared.stages.Doing.TheVariants as doing
-use Rattle.wait_class.specs.declared.stages.Run.{Run}
-use Rattle.wait_class.specs.declared.stages.Turn.{Turn}
 use Rattle.wait_class.specs.declared.stages.Turn.TheVariants as turn
-use Rattle.wait_class.specs.Tables.{IsEnded, Plan}
-use Rattle.wait_leave.specs.ExitLaws.{AreLawfulExits, AwakeOn}
-use Rattle.wait_leave.specs.Leaves.{GoesOut, stays_awake}
+use Rattle.wait_leave.specs.{ExitLaws.AreLawfulExits, ExitLaws.AwakeOn, Leaves.GoesOut, Leaves.stays_awake}
 use Rattle.wait_leave.specs.OnTheWay.{IsOnWay, OnTheWay, left_at, straight}
 use Rattle.wait_leave.proofs.ExitForms.{AskLaw, LawAt, either_awake, if_asked, lawful_exits, out_at_once, out_rested}
 use Rattle.wait_leave.proofs.Ways.{way_asked, way_keeps, way_lands, way_stays}
-use Rattle.wait_event.specs.Ends.{wait_change}
+use Rattle.wait_event.specs.{Ends.wait_change, declared.waits.WaitCall.WaitCall, declared.waits.WaitOutcome.WaitOutcome}
+use Rattle.wait_event.specs.declared.waits.WaitStage.{WaitStage}
 use Rattle.wait_event.specs.WaitLeaves.{EndsWaitUntil, IsAskedWait, IsAwakeOff, IsWaitCause, LeavesWait, out_queues}
 use Rattle.wait_event.specs.WaitLeaves.{parted_in, wait_awake, wait_exit, wait_exits, wait_until_in, way_queues}
 use Rattle.wait_event.specs.Waits.{IsFreshWait, IsUnset, LeftSo, SameCall, WaitTrailEnd, last_load, wait_table}
-use Rattle.wait_event.specs.declared.waits.WaitCall.{WaitCall}
-use Rattle.wait_event.specs.declared.waits.WaitOutcome.{WaitOutcome}
 use Rattle.wait_event.specs.declared.waits.WaitOutcome.TheVariants as outcome
-use Rattle.wait_event.specs.declared.waits.WaitStage.{WaitStage}
 use Rattle.wait_event.specs.declared.waits.WaitStage.TheVariants as stage
+use Rattle.wait_event.proofs.{Endings.wait_behind, Tellings.or_assoc, Tellings.or_none, WaitLaws.wait_lawful}
 use Rattle.wait_event.proofs.Behind.{IsBehind, StandsOver, carried_behind, clean_behind, idle_behind, over_behind}
 use Rattle.wait_event.proofs.Behind.{owes_behind}
-use Rattle.wait_event.proofs.Endings.{wait_behind}
-use Rattle.wait_event.proofs.Tellings.{or_assoc, or_none}
-use Rattle.wait_event.proofs.WaitLaws.{wait_lawful}
 
 -- the exits: in the hold of the prepare, and before it
 asks_law : AskLaw wait_table wait_exits

@@ -2,23 +2,16 @@
 use Rattle.std.proofs.Common.{◌∙◌, ap, sym, refl, subst, append_assoc, arith}
 use Rattle.std.proofs.lemmas.Bool.Decides.{nat_tests}
 use Rattle.std.specs.Prelude.{ℕ, ◌≡◌, Bool, true, false, if◌then◌else◌, is_some, Option, List, [], ◌∷◌, ◌++◌}
-use Rattle.wait_model.specs.declared.steps.Step.{Step}
+use Rattle.wait_model.specs.{declared.steps.Step.Step, declared.watches.Entry.Entry, declared.watches.Watch.Watch}
+use Rattle.wait_model.specs.{Watches.misses, Words.entry_of}
 use Rattle.wait_model.specs.declared.steps.Step.TheVariants as step
-use Rattle.wait_model.specs.declared.watches.Entry.{Entry}
-use Rattle.wait_model.specs.declared.watches.Watch.{Watch}
 use Rattle.wait_model.specs.declared.watches.Watch.TheVariants as watch
-use Rattle.wait_model.specs.Watches.{misses}
-use Rattle.wait_model.specs.Words.{entry_of}
-use Rattle.wait_rule.specs.Known.{Known}
-use Rattle.wait_rule.specs.Queues.{index}
-use Rattle.wait_rule.specs.Says.{history_of, told_of}
-use Rattle.wait_class.specs.Posts.{EndsWith, own_of}
-use Rattle.wait_class.specs.Laws.{Calm, Unmoved}
+use Rattle.wait_rule.specs.{Known.Known, Queues.index, Says.history_of, Says.told_of}
+use Rattle.wait_class.specs.{Posts.EndsWith, Posts.own_of, Laws.Calm, Laws.Unmoved}
 use Rattle.wait_class.proofs.Histories.{ends_calm, ends_still, found_still, unmoved_by}
+use Rattle.wait_event.specs.{declared.waits.WaitCall.WaitCall, declared.waits.WaitStage.WaitStage}
 use Rattle.wait_event.specs.Waits.{GoesOff, IsQueuedIn, IsUnset, LeftQueue, LeftSo, PartedQueue, SawSignal, TakesOwnOff}
 use Rattle.wait_event.specs.Waits.{WaitTrailAt, head_of_wait, is_slept, last_load, wait_left_by, off_by}
-use Rattle.wait_event.specs.declared.waits.WaitCall.{WaitCall}
-use Rattle.wait_event.specs.declared.waits.WaitStage.{WaitStage}
 use Rattle.wait_event.specs.declared.waits.WaitStage.TheVariants as stage
 
 own_same : (old new : Known) → new.view.number ≡ old.view.number → own_of old ≡ own_of new

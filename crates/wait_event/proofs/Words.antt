@@ -8,27 +8,18 @@ use Rattle.wait_model.specs.declared.points.AddPoint.TheVariants as adding
 use Rattle.wait_model.specs.declared.points.RemovePoint.TheVariants as removing
 use Rattle.wait_model.specs.declared.points.WalkPoint.TheVariants as walking
 use Rattle.wait_model.specs.declared.points.WokenPoint.TheVariants as hearing
-use Rattle.wait_model.specs.declared.points.Next.{Next}
+use Rattle.wait_model.specs.{declared.points.Next.Next, declared.steps.Step.Step, Programs.zero_answer}
 use Rattle.wait_model.specs.declared.points.Next.TheVariants as next
-use Rattle.wait_model.specs.declared.steps.Step.{Step}
 use Rattle.wait_model.specs.declared.steps.Step.TheVariants as step
-use Rattle.wait_model.specs.Programs.{zero_answer}
-use Rattle.wait_rule.specs.declared.journal.Item.{Item}
-use Rattle.wait_rule.specs.declared.journal.Item.TheVariants as item
-use Rattle.wait_rule.specs.declared.journal.Journal.{Journal}
-use Rattle.wait_rule.specs.Known.{Known}
-use Rattle.wait_rule.specs.Says.{MeetsLaw, added}
-use Rattle.wait_rule.specs.SaidEvents.{HasWalked, plain_aim}
+use Rattle.wait_rule.specs.{declared.journal.Item.Item, declared.journal.Journal.Journal, Known.Known, Says.MeetsLaw}
+use Rattle.wait_rule.specs.{Says.added, SaidEvents.HasWalked, SaidEvents.plain_aim}
 use Rattle.wait_rule.specs.Transitions.{Goes, Program, StepOrLook, Transition, after_step_or_look, after_transition}
 use Rattle.wait_rule.specs.Transitions.{by_look, by_step, call_program, walk_program, with_lock}
-use Rattle.wait_rule.proofs.SaidEvents.Fronts.{number_stays}
-use Rattle.wait_rule.proofs.SaidEvents.FollowedRuns.{runs_follow}
-use Rattle.wait_rule.proofs.SaidEvents.FollowedWalks.{walks_follow}
-use Rattle.wait_rule.proofs.SaidEvents.SelectedEntries.{runs_tell}
-use Rattle.wait_rule.proofs.SaidEvents.SelectingWalks.{runs_select}
-use Rattle.wait_rule.proofs.SaidEvents.SignalledRuns.{runs_heed}
-use Rattle.wait_event.specs.Ends.{answer_of_end}
-use Rattle.wait_event.specs.Entries.{add_answer}
+use Rattle.wait_rule.specs.declared.journal.Item.TheVariants as item
+use Rattle.wait_rule.proofs.{SaidEvents.Fronts.number_stays, SaidEvents.FollowedRuns.runs_follow}
+use Rattle.wait_rule.proofs.{SaidEvents.FollowedWalks.walks_follow, SaidEvents.SelectedEntries.runs_tell}
+use Rattle.wait_rule.proofs.{SaidEvents.SelectingWalks.runs_select, SaidEvents.SignalledRuns.runs_heed}
+use Rattle.wait_event.specs.{Ends.answer_of_end, Entries.add_answer}
 use Rattle.wait_event.specs.Words.{AddsFollow, RemovesFollow, SetsFollow, TakesFollow, WaitsFollow, WaitsHeed, WaitsSay}
 use Rattle.wait_event.specs.Words.{WokensFollow, call_says}
 use Rattle.wait_event.specs.declared.wait_events.WaitEnd.TheVariants as wait_end

@@ -5,17 +5,12 @@ use Rattle.wait_model.specs.declared.calls.Call.TheVariants as calls
 use Rattle.wait_model.specs.declared.calls.Answer.TheVariants as answer
 use Rattle.wait_model.specs.declared.points.Next.TheVariants as next
 use Rattle.wait_model.specs.declared.points.Point.TheVariants as at
-use Rattle.wait_model.specs.declared.queues.Walked.{Walked}
-use Rattle.wait_model.specs.declared.watches.Mode.{Mode}
+use Rattle.wait_model.specs.{declared.queues.Walked.Walked, declared.watches.Mode.Mode, declared.watches.Watch.Watch}
+use Rattle.wait_model.specs.{Programs.zero_answer, Watches.same}
 use Rattle.wait_model.specs.declared.watches.Mode.TheVariants as mode
-use Rattle.wait_model.specs.declared.watches.Watch.{Watch}
 use Rattle.wait_model.specs.declared.watches.Watch.TheVariants as watch
-use Rattle.wait_model.specs.Programs.{zero_answer}
-use Rattle.wait_model.specs.Watches.{same}
-use Rattle.wait_rule.specs.Known.{Known}
-use Rattle.wait_rule.specs.Says.{Excuse}
+use Rattle.wait_rule.specs.{Known.Known, Says.Excuse, Transitions.call_program}
 use Rattle.wait_rule.specs.Stays.{Change, unchanged, with_wakes}
-use Rattle.wait_rule.specs.Transitions.{call_program}
 use Rattle.wq_head.specs.Walks.{HasWoken, HasEnded}
 use Rattle.wait_class.specs.Posts.{Runs}
 

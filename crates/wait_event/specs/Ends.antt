@@ -1,31 +1,22 @@
 -- To be believed.
 -- What whole waits say.
 use Rattle.std.specs.Prelude.{ℕ, ◌≡◌, ◌&&◌, not, Bool, true, false, is_some, Result, Ok, Err, [], ◌∷◌, ◌++◌}
-use Rattle.wait_model.specs.declared.calls.Answer.{Answer}
+use Rattle.wait_model.specs.{declared.calls.Answer.Answer, Programs.zero_answer, Programs.signalled}
+use Rattle.wait_model.specs.{declared.tasks.How.How, declared.points.Next.Next, declared.watches.Watch.Watch}
+use Rattle.wait_model.specs.{Watches.head_of, Words.entry_of}
+use Rattle.wait_model.specs.Tasks.{pending, state_mask, task_of}
 use Rattle.wait_model.specs.declared.calls.Answer.TheVariants as answer
 use Rattle.wait_model.specs.declared.points.Point.TheVariants as at
 use Rattle.wait_model.specs.declared.points.Next.TheVariants as next
-use Rattle.wait_model.specs.Programs.{zero_answer, signalled}
-use Rattle.wait_event.specs.declared.wait_events.WaitEnd.{WaitEnd}
-use Rattle.wait_event.specs.declared.wait_events.WaitEnd.TheVariants as wait_end
-use Rattle.wait_model.specs.declared.tasks.How.{How}
-use Rattle.wait_model.specs.declared.points.Next.{Next}
-use Rattle.wait_model.specs.declared.steps.Step.TheVariants as step
-use Rattle.wait_model.specs.declared.watches.Watch.{Watch}
-use Rattle.wait_model.specs.declared.watches.Watch.TheVariants as watch
-use Rattle.wait_model.specs.Tasks.{pending, state_mask, task_of}
-use Rattle.wait_model.specs.Watches.{head_of}
-use Rattle.wait_model.specs.Words.{entry_of}
-use Rattle.wait_rule.specs.Ends.{WasWorn}
-use Rattle.wait_rule.specs.Known.{Known}
-use Rattle.wait_rule.specs.Stays.{Change, only, unchanged}
-use Rattle.wait_rule.specs.Transitions.{call_program}
-use Rattle.wait_class.specs.Posts.{Runs}
-use Rattle.wait_class.specs.Posts.{EndsWith, own_of}
-use Rattle.wait_event.specs.Waits.{IsUnset, head_of_wait, wait_left_by, has_queued_in}
-use Rattle.wait_event.specs.WaitPlans.{call_for}
-use Rattle.wait_event.specs.declared.waits.WaitCall.{WaitCall}
+use Rattle.wait_event.specs.{declared.wait_events.WaitEnd.WaitEnd, WaitPlans.call_for, declared.waits.WaitCall.WaitCall}
 use Rattle.wait_event.specs.declared.waits.WaitOutcome.{WaitOutcome}
+use Rattle.wait_event.specs.Waits.{IsUnset, head_of_wait, wait_left_by, has_queued_in}
+use Rattle.wait_event.specs.declared.wait_events.WaitEnd.TheVariants as wait_end
+use Rattle.wait_model.specs.declared.steps.Step.TheVariants as step
+use Rattle.wait_model.specs.declared.watches.Watch.TheVariants as watch
+use Rattle.wait_rule.specs.{Ends.WasWorn, Known.Known, Transitions.call_program}
+use Rattle.wait_rule.specs.Stays.{Change, only, unchanged}
+use Rattle.wait_class.specs.Posts.{Runs, EndsWith, own_of}
 use Rattle.wait_event.specs.declared.waits.WaitOutcome.TheVariants as outcome
 
 -- A wait leaves a task as it was but for the head whose lock it took last: RUNNING, with no lock, owing what it owed.

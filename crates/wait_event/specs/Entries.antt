@@ -1,31 +1,22 @@
 -- To be believed.
 -- What the calls say that add an entry of a task and remove it.
 use Rattle.std.specs.Prelude.{ℕ, ◌≡◌, ◌<◌, true, Some, Result, Ok, Err}
-use Rattle.wait_model.specs.declared.layout.TheConstants.{FIRST_SIMPLE}
+use Rattle.wait_model.specs.{declared.layout.TheConstants.FIRST_SIMPLE, declared.calls.Answer.Answer}
+use Rattle.wait_model.specs.{declared.queues.Form.Form, declared.watches.Entry.Entry, declared.watches.Kind.Kind}
+use Rattle.wait_model.specs.{Programs.zero_answer, Watches.head_of}
 use Rattle.wait_model.specs.declared.calls.Call.TheVariants as calls
-use Rattle.wait_model.specs.declared.calls.Answer.{Answer}
 use Rattle.wait_model.specs.declared.calls.Answer.TheVariants as answer
 use Rattle.wait_model.specs.declared.points.Point.TheVariants as at
 use Rattle.wait_model.specs.declared.points.AddPoint.TheVariants as adding
 use Rattle.wait_model.specs.declared.points.RemovePoint.TheVariants as removing
 use Rattle.wait_model.specs.declared.points.Next.TheVariants as next
-use Rattle.wait_model.specs.declared.queues.Form.{Form}
-use Rattle.wait_model.specs.declared.watches.Entry.{Entry}
-use Rattle.wait_model.specs.declared.watches.Kind.{Kind}
 use Rattle.wait_model.specs.declared.watches.Kind.TheVariants as kinds
 use Rattle.wait_model.specs.declared.watches.Watch.TheVariants as watch
-use Rattle.wait_model.specs.Programs.{zero_answer}
-use Rattle.wait_model.specs.Watches.{head_of}
-use Rattle.wait_rule.specs.Ends.{WasWorn}
-use Rattle.wait_rule.specs.Known.{Known}
-use Rattle.wait_rule.specs.Members.{IsOwnKind}
+use Rattle.wait_rule.specs.{Ends.WasWorn, Known.Known, Members.IsOwnKind, Transitions.call_program}
 use Rattle.wait_rule.specs.Says.{IsUp, IsFree, told_of}
 use Rattle.wait_rule.specs.Stays.{Change, only, unchanged, with_entry}
-use Rattle.wait_rule.specs.Transitions.{call_program}
 use Rattle.wq_head.specs.declared.adds.Worn.{Worn}
-use Rattle.wait_class.specs.Posts.{Runs}
-use Rattle.wait_class.specs.Queueing.{form_entry}
-use Rattle.wait_class.specs.Posts.{own_of}
+use Rattle.wait_class.specs.{Posts.Runs, Posts.own_of, Queueing.form_entry}
 
 -- Each of these calls takes the lock of one head, and looks at entries. An add queues the own entry of this index, a
 -- removal takes it off, and one that finds no place changes nothing more.

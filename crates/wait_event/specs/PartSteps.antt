@@ -1,31 +1,23 @@
 -- For proofs alone.
 -- The steps of a prepare and a finish in their hold: the look for a signal, the add, and the removal.
 use Rattle.std.specs.Prelude.{ℕ, ◌≡◌, ◌&&◌, Bool, true, false, if◌then◌else◌, is_some, Option, Some, None, Result, Ok, Err}
-use Rattle.wait_model.specs.declared.points.Point.{Point}
+use Rattle.wait_model.specs.{declared.points.Point.Point, declared.watches.Entry.Entry, Watches.head_of}
+use Rattle.wait_model.specs.Tasks.{looks_in, pending, state_mask, task_of}
 use Rattle.wait_model.specs.declared.points.Point.TheVariants as at
 use Rattle.wait_model.specs.declared.points.PreparePoint.TheVariants as preparing
 use Rattle.wait_model.specs.declared.points.LeavePoint.TheVariants as leaving
 use Rattle.wait_model.specs.declared.points.Next.TheVariants as next
 use Rattle.wait_model.specs.declared.steps.Step.TheVariants as step
-use Rattle.wait_model.specs.declared.watches.Entry.{Entry}
-use Rattle.wait_model.specs.Tasks.{looks_in, pending, state_mask, task_of}
-use Rattle.wait_model.specs.Watches.{head_of}
 use Rattle.wait_rule.specs.declared.journal.Item.TheVariants as item
-use Rattle.wait_rule.specs.Ends.{WasWorn}
-use Rattle.wait_rule.specs.Known.{Known}
-use Rattle.wait_rule.specs.Queues.{IsWholeBook}
-use Rattle.wait_rule.specs.Asked.{nothing_asked}
+use Rattle.wait_rule.specs.{Ends.WasWorn, Known.Known, Queues.IsWholeBook, Asked.nothing_asked, Shown.shown_queue}
 use Rattle.wait_rule.specs.Says.{added, asks_for, told_of}
-use Rattle.wait_rule.specs.Shown.{shown_queue}
 use Rattle.wait_rule.specs.Stays.{Carries, Change, only, unchanged, with_entry}
 use Rattle.wait_rule.specs.Transitions.{IsSeenAs, OnlyLooks, Program, is_worn}
-use Rattle.wq_head.specs.declared.adds.Worn.{Worn}
-use Rattle.wq_head.specs.Adds.{HasRemoved}
+use Rattle.wq_head.specs.{declared.adds.Worn.Worn, Adds.HasRemoved}
 use Rattle.wait_class.specs.Posts.{HasSeenOwn, Runs, own_of}
 use Rattle.wait_class.specs.Queueing.{wait_form}
+use Rattle.wait_event.specs.{Waits.queues_first, declared.prepares.Part.Part}
 use Rattle.wait_event.specs.Prepares.{IsPart, answers_first, prepare_program}
-use Rattle.wait_event.specs.Waits.{queues_first}
-use Rattle.wait_event.specs.declared.prepares.Part.{Part}
 
 abbrev pub program_of : Part → ℕ → Program
 program_of p me = prepare_program p.asks me p.watch p.kind p.how

@@ -2,37 +2,30 @@
 -- What preparing to wait says, and finishing.
 use Rattle.std.specs.Prelude.{ℕ, ◌≡◌, ◌⊎◌, ◌<◌, ◌≤◌, ◌&&◌, not, Bool, true, false, Option, Some, None, Result, Ok, Err, []}
 use Rattle.std.specs.Prelude.{◌++◌}
+use Rattle.wait_model.specs.{declared.tasks.How.How, declared.tasks.SleepState.SleepState, declared.calls.Answer.Answer}
+use Rattle.wait_model.specs.{Programs.signalled, Programs.zero_answer, declared.watches.Entry.Entry}
+use Rattle.wait_model.specs.{declared.watches.Kind.Kind, declared.watches.Watch.Watch}
 use Rattle.wait_model.specs.declared.layout.TheConstants.{BIT_WORDS, FIRST_DONE_HEAD, FIRST_SIMPLE, PLAIN_CONDITIONS}
 use Rattle.wait_model.specs.declared.layout.TheConstants.{VARIABLES, WORD_BITS}
-use Rattle.wait_model.specs.declared.tasks.How.{How}
+use Rattle.wait_model.specs.Tasks.{pending, state_mask, task_of}
+use Rattle.wait_model.specs.Watches.{bare, head_of, kind_for}
 use Rattle.wait_model.specs.declared.points.Point.TheVariants as at
 use Rattle.wait_model.specs.declared.points.PreparePoint.TheVariants as preparing
 use Rattle.wait_model.specs.declared.points.FinishPoint.TheVariants as finishing
-use Rattle.wait_model.specs.declared.tasks.SleepState.{SleepState}
 use Rattle.wait_model.specs.declared.tasks.SleepState.TheVariants as states
-use Rattle.wait_model.specs.declared.calls.Answer.{Answer}
 use Rattle.wait_model.specs.declared.calls.Answer.TheVariants as answer
-use Rattle.wait_model.specs.Programs.{signalled, zero_answer}
 use Rattle.wait_model.specs.declared.points.Next.TheVariants as next
-use Rattle.wait_model.specs.declared.watches.Entry.{Entry}
-use Rattle.wait_model.specs.declared.watches.Kind.{Kind}
 use Rattle.wait_model.specs.declared.watches.Kind.TheVariants as kinds
-use Rattle.wait_model.specs.declared.watches.Watch.{Watch}
 use Rattle.wait_model.specs.declared.watches.Watch.TheVariants as watch
-use Rattle.wait_model.specs.Tasks.{pending, state_mask, task_of}
-use Rattle.wait_model.specs.Watches.{bare, head_of, kind_for}
-use Rattle.wait_rule.specs.Ends.{WasWorn}
-use Rattle.wait_rule.specs.Known.{Known}
+use Rattle.wait_rule.specs.{Ends.WasWorn, Known.Known, Transitions.Program}
 use Rattle.wait_rule.specs.Says.{Excuse, IsFree, IsUp, OwesBut, told_of}
 use Rattle.wait_rule.specs.Stays.{Carries, Change, only, unchanged, with_entry}
-use Rattle.wait_rule.specs.Transitions.{Program}
 use Rattle.wq_head.specs.declared.adds.Worn.{Worn}
 use Rattle.wait_class.specs.Posts.{EndsWith, IsOut, Keeps, Runs, own_of}
 use Rattle.wait_class.specs.Tables.{plan_program}
-use Rattle.wait_event.specs.Waits.{IsQueuedIn, wait_left_by, queues_first}
-use Rattle.wait_event.specs.WaitPlans.{part_plan, prepare_plan}
-use Rattle.wait_event.specs.declared.prepares.Part.{Part}
+use Rattle.wait_event.specs.{WaitPlans.part_plan, WaitPlans.prepare_plan, declared.prepares.Part.Part}
 use Rattle.wait_event.specs.declared.prepares.Prepared.{Prepared}
+use Rattle.wait_event.specs.Waits.{IsQueuedIn, wait_left_by, queues_first}
 use Rattle.wait_event.specs.declared.prepares.Prepared.TheVariants as prepared
 
 -- What a prepare may queue, by the kind of the entry: one for a plain condition with a full head, at the front or at the

@@ -1,31 +1,22 @@
 -- To be believed.
 -- A wait for a plain condition or a variable that its task leaves: its exits, and what it says.
 use Rattle.std.specs.Prelude.{ℕ, ◌≡◌, ◌||◌, ◌&&◌, not, Bool, true, false, is_some, Option, Some, None, Result, Ok, Err, [], ◌∷◌, ◌++◌}
-use Rattle.wait_model.specs.declared.points.Point.{Point}
+use Rattle.wait_model.specs.{declared.points.Point.Point, declared.tasks.How.How, declared.watches.Watch.Watch}
+use Rattle.wait_model.specs.{Watches.head_of, Watches.misses, Words.entry_of}
 use Rattle.wait_model.specs.declared.points.Point.TheVariants as at
 use Rattle.wait_model.specs.declared.steps.Step.TheVariants as step
-use Rattle.wait_model.specs.declared.tasks.How.{How}
-use Rattle.wait_model.specs.declared.watches.Watch.{Watch}
-use Rattle.wait_model.specs.Watches.{head_of, misses}
-use Rattle.wait_model.specs.Words.{entry_of}
 use Rattle.wait_rule.specs.Known.{Known}
-use Rattle.wait_class.specs.Posts.{EndsWith, own_of}
-use Rattle.wait_class.specs.declared.stages.Run.{Run}
-use Rattle.wait_class.specs.declared.stages.Turn.{Turn}
-use Rattle.wait_class.specs.declared.stages.Turn.TheVariants as turn
+use Rattle.wait_class.specs.{Posts.EndsWith, Posts.own_of, declared.stages.Run.Run, declared.stages.Turn.Turn}
 use Rattle.wait_class.specs.Tables.{SleepsNot}
-use Rattle.wait_leave.specs.declared.exits.Exit.{Exit}
-use Rattle.wait_leave.specs.Leaves.{Exits, GoesOut}
+use Rattle.wait_class.specs.declared.stages.Turn.TheVariants as turn
+use Rattle.wait_leave.specs.{declared.exits.Exit.Exit, Leaves.Exits, Leaves.GoesOut}
 use Rattle.wait_leave.specs.OnTheWay.{OnTheWay, left_at, straight}
-use Rattle.wait_event.specs.Ends.{IsEndCause, wait_end_in}
+use Rattle.wait_event.specs.{Ends.IsEndCause, Ends.wait_end_in, declared.wait_events.WaitEnd.WaitEnd}
+use Rattle.wait_event.specs.{declared.wait_leaves.WaitUntil.WaitUntil, declared.waits.WaitCall.WaitCall}
+use Rattle.wait_event.specs.{declared.waits.WaitOutcome.WaitOutcome, declared.waits.WaitStage.WaitStage}
 use Rattle.wait_event.specs.Waits.{IsFreshWait, IsUnset, SameCall, off_by, has_queued_in, wait_table}
-use Rattle.wait_event.specs.declared.wait_events.WaitEnd.{WaitEnd}
-use Rattle.wait_event.specs.declared.wait_leaves.WaitUntil.{WaitUntil}
 use Rattle.wait_event.specs.declared.wait_leaves.WaitUntil.TheVariants as until
-use Rattle.wait_event.specs.declared.waits.WaitCall.{WaitCall}
-use Rattle.wait_event.specs.declared.waits.WaitOutcome.{WaitOutcome}
 use Rattle.wait_event.specs.declared.waits.WaitOutcome.TheVariants as outcome
-use Rattle.wait_event.specs.declared.waits.WaitStage.{WaitStage}
 use Rattle.wait_event.specs.declared.waits.WaitStage.TheVariants as stage
 
 -- In the hold of its prepare it leaves its queue, as one that found a signal does. Before its load or its sleep, where

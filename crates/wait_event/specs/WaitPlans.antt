@@ -2,33 +2,25 @@
 -- The call of a wait for a watch, and its program point by point, for any watch: that of the call in the model, as
 -- `proofs/Plans` shows.
 use Rattle.std.specs.Prelude.{ℕ, ◌≡◌, ◌≤◌, Bool, true, false, if◌then◌else◌, is_some, []}
-use Rattle.wait_model.specs.declared.layout.TheConstants.{FIRST_SIMPLE}
-use Rattle.wait_model.specs.declared.calls.Answer.TheVariants as answer
-use Rattle.wait_model.specs.declared.calls.Call.{Call}
-use Rattle.wait_model.specs.declared.calls.Call.TheVariants as calls
-use Rattle.wait_model.specs.declared.calls.Event.{Event}
-use Rattle.wait_model.specs.declared.calls.Event.TheVariants as event
-use Rattle.wait_model.specs.declared.points.FinishPoint.TheVariants as finishing
-use Rattle.wait_model.specs.declared.points.LeavePoint.TheVariants as leaving
-use Rattle.wait_model.specs.declared.points.Next.{Next}
-use Rattle.wait_model.specs.declared.points.Next.TheVariants as next
-use Rattle.wait_model.specs.declared.points.Planned.{Planned}
-use Rattle.wait_model.specs.declared.points.Point.{Point}
-use Rattle.wait_model.specs.declared.points.Point.TheVariants as at
-use Rattle.wait_model.specs.declared.points.PreparePoint.TheVariants as preparing
-use Rattle.wait_model.specs.declared.points.Seen.{Seen}
-use Rattle.wait_model.specs.declared.tasks.How.{How}
-use Rattle.wait_model.specs.declared.watches.Kind.{Kind}
-use Rattle.wait_model.specs.declared.watches.Kind.TheVariants as kind
-use Rattle.wait_model.specs.declared.watches.Watch.{Watch}
-use Rattle.wait_model.specs.declared.watches.Watch.TheVariants as watch
-use Rattle.wait_model.specs.PointFacts.{stirs}
+use Rattle.wait_model.specs.{declared.layout.TheConstants.FIRST_SIMPLE, declared.calls.Call.Call}
+use Rattle.wait_model.specs.{declared.calls.Event.Event, declared.points.Next.Next, declared.points.Planned.Planned}
+use Rattle.wait_model.specs.{declared.points.Point.Point, declared.points.Seen.Seen, declared.tasks.How.How}
+use Rattle.wait_model.specs.{declared.watches.Kind.Kind, declared.watches.Watch.Watch, PointFacts.stirs}
 use Rattle.wait_model.specs.Points.{given_at}
 use Rattle.wait_model.specs.Programs.{ends_with, go, program, signalled, sleep_event, zero_answer}
 use Rattle.wait_model.specs.Tasks.{looks_in, pending, state_mask}
 use Rattle.wait_model.specs.Watches.{head_of, kind_for, misses, number_of}
-use Rattle.wait_class.specs.Queueing.{wait_form}
-use Rattle.wait_class.specs.Tables.{Plan}
+use Rattle.wait_model.specs.declared.calls.Answer.TheVariants as answer
+use Rattle.wait_model.specs.declared.calls.Call.TheVariants as calls
+use Rattle.wait_model.specs.declared.calls.Event.TheVariants as event
+use Rattle.wait_model.specs.declared.points.FinishPoint.TheVariants as finishing
+use Rattle.wait_model.specs.declared.points.LeavePoint.TheVariants as leaving
+use Rattle.wait_model.specs.declared.points.Next.TheVariants as next
+use Rattle.wait_model.specs.declared.points.Point.TheVariants as at
+use Rattle.wait_model.specs.declared.points.PreparePoint.TheVariants as preparing
+use Rattle.wait_model.specs.declared.watches.Kind.TheVariants as kind
+use Rattle.wait_model.specs.declared.watches.Watch.TheVariants as watch
+use Rattle.wait_class.specs.{Queueing.wait_form, Tables.Plan}
 
 -- the call of a wait for a watch; plain conditions and variables have one
 abbrev pub call_for : Watch → How → Call

@@ -2,43 +2,29 @@
 -- A wait for a plain condition or a variable: its stages, where it goes on behind each, what it tells of its
 -- transitions, and what its places say of its last steps.
 use Rattle.std.specs.Prelude.{ℕ, ◌≡◌, ◌||◌, ◌&&◌, Bool, true, false, if◌then◌else◌, is_some, Option, Some, None, List, [], ◌∷◌, ◌++◌}
-use Rattle.wait_model.specs.declared.calls.Answer.{Answer}
+use Rattle.wait_model.specs.{declared.calls.Answer.Answer, declared.tasks.How.How, declared.points.Point.Point}
+use Rattle.wait_model.specs.{declared.steps.Step.Step, declared.watches.Watch.Watch, Words.entry_of}
+use Rattle.wait_model.specs.{Programs.zero_answer, Programs.signalled, PointFacts.absent}
+use Rattle.wait_model.specs.Tasks.{looks_in, task_of, state_mask, pending}
+use Rattle.wait_model.specs.Watches.{IsThere, head_of, misses}
 use Rattle.wait_model.specs.declared.calls.Answer.TheVariants as answer
-use Rattle.wait_model.specs.declared.tasks.How.{How}
-use Rattle.wait_model.specs.declared.points.Point.{Point}
 use Rattle.wait_model.specs.declared.points.Point.TheVariants as at
 use Rattle.wait_model.specs.declared.points.PreparePoint.TheVariants as preparing
 use Rattle.wait_model.specs.declared.points.LeavePoint.TheVariants as leaving
 use Rattle.wait_model.specs.declared.points.FinishPoint.TheVariants as finishing
-use Rattle.wait_model.specs.declared.steps.Step.{Step}
 use Rattle.wait_model.specs.declared.steps.Step.TheVariants as step
-use Rattle.wait_model.specs.declared.watches.Watch.{Watch}
 use Rattle.wait_model.specs.declared.watches.Watch.TheVariants as watch
-use Rattle.wait_model.specs.Tasks.{looks_in, task_of, state_mask, pending}
-use Rattle.wait_model.specs.Words.{entry_of}
-use Rattle.wait_model.specs.Programs.{zero_answer, signalled}
-use Rattle.wait_model.specs.PointFacts.{absent}
-use Rattle.wait_model.specs.Watches.{IsThere, head_of, misses}
-use Rattle.wait_rule.specs.Known.{Known}
-use Rattle.wait_rule.specs.Tickets.{no_ticket}
-use Rattle.wait_rule.specs.Says.{told_of}
-use Rattle.wait_rule.specs.Shown.{shown_queue}
+use Rattle.wait_rule.specs.{Known.Known, Tickets.no_ticket, Says.told_of, Shown.shown_queue}
 use Rattle.wait_rule.specs.Transitions.{StepOrLook, Transition, by_step}
-use Rattle.wait_class.specs.declared.stages.Added.{Added}
-use Rattle.wait_class.specs.declared.stages.Added.TheVariants as adds
-use Rattle.wait_class.specs.declared.stages.Doing.{Doing}
-use Rattle.wait_class.specs.declared.stages.Doing.TheVariants as doing
-use Rattle.wait_class.specs.declared.stages.Turn.{Turn}
-use Rattle.wait_class.specs.declared.stages.Turn.TheVariants as turn
-use Rattle.wait_class.specs.Frames.{KeepsAll}
+use Rattle.wait_class.specs.{declared.stages.Added.Added, declared.stages.Doing.Doing, declared.stages.Turn.Turn}
+use Rattle.wait_class.specs.{Frames.KeepsAll, Queueing.is_none, Tables.CallTable}
 use Rattle.wait_class.specs.Posts.{EndsWith, FoundWorn, Post, own_of}
-use Rattle.wait_class.specs.Queueing.{is_none}
-use Rattle.wait_class.specs.Tables.{CallTable}
-use Rattle.wait_event.specs.WaitPlans.{IsWaitFor, wait_plan}
-use Rattle.wait_event.specs.declared.waits.WaitCall.{WaitCall}
-use Rattle.wait_event.specs.declared.waits.WaitOutcome.{WaitOutcome}
+use Rattle.wait_class.specs.declared.stages.Added.TheVariants as adds
+use Rattle.wait_class.specs.declared.stages.Doing.TheVariants as doing
+use Rattle.wait_class.specs.declared.stages.Turn.TheVariants as turn
+use Rattle.wait_event.specs.{WaitPlans.IsWaitFor, WaitPlans.wait_plan, declared.waits.WaitCall.WaitCall}
+use Rattle.wait_event.specs.{declared.waits.WaitOutcome.WaitOutcome, declared.waits.WaitStage.WaitStage}
 use Rattle.wait_event.specs.declared.waits.WaitOutcome.TheVariants as outcome
-use Rattle.wait_event.specs.declared.waits.WaitStage.{WaitStage}
 use Rattle.wait_event.specs.declared.waits.WaitStage.TheVariants as stage
 
 -- The stages: the point of the program, and whether the ticket of its lock is drawn.

@@ -2,30 +2,19 @@
 -- A wait for the flag of an own entry of kind Woken, in stretches: its stages, and what each turn does.
 use Rattle.std.specs.Prelude.{ℕ, ◌≡◌, Bool, true, false, None, List, [], ◌∷◌}
 use Rattle.wait_model.specs.declared.calls.Call.TheVariants as calls
-use Rattle.wait_model.specs.declared.points.Point.{Point}
+use Rattle.wait_model.specs.{declared.points.Point.Point, declared.points.Next.Next, declared.steps.Step.Step}
+use Rattle.wait_model.specs.{declared.tasks.SleepState.SleepState, declared.watches.Watch.Watch, Points.call_watch}
+use Rattle.wait_model.specs.{Programs.zero_answer, PointFacts.free, Tasks.state_mask, Words.flag_of}
 use Rattle.wait_model.specs.declared.points.Point.TheVariants as at
 use Rattle.wait_model.specs.declared.points.WokenPoint.TheVariants as hearing
-use Rattle.wait_model.specs.declared.points.Next.{Next}
 use Rattle.wait_model.specs.declared.points.Next.TheVariants as next
-use Rattle.wait_model.specs.declared.steps.Step.{Step}
 use Rattle.wait_model.specs.declared.steps.Step.TheVariants as step
-use Rattle.wait_model.specs.declared.tasks.SleepState.{SleepState}
-use Rattle.wait_model.specs.declared.watches.Watch.{Watch}
-use Rattle.wait_model.specs.Points.{call_watch}
-use Rattle.wait_model.specs.Programs.{zero_answer}
-use Rattle.wait_model.specs.PointFacts.{free}
-use Rattle.wait_model.specs.Tasks.{state_mask}
-use Rattle.wait_model.specs.Words.{flag_of}
-use Rattle.wait_rule.specs.Known.{Known}
-use Rattle.wait_rule.specs.Tickets.{no_ticket}
+use Rattle.wait_rule.specs.{Known.Known, Tickets.no_ticket, Transitions.Program, Transitions.call_program}
 use Rattle.wait_rule.specs.Says.{Excuse, IsDown, IsUp, told_of, OwesBut}
-use Rattle.wait_rule.specs.Transitions.{Program, call_program}
-use Rattle.wait_event.specs.Entries.{HasWokenEntry}
-use Rattle.wait_class.specs.Posts.{Post, Runs, Stands, post_at}
-use Rattle.wait_class.specs.Posts.{EndsWith, own_of}
-use Rattle.wait_event.specs.declared.woken_waits.WokenStage.{WokenStage}
-use Rattle.wait_event.specs.declared.woken_waits.WokenStage.TheVariants as stage
+use Rattle.wait_event.specs.{Entries.HasWokenEntry, declared.woken_waits.WokenStage.WokenStage}
 use Rattle.wait_event.specs.declared.woken_waits.WokenTurn.{WokenTurn}
+use Rattle.wait_class.specs.Posts.{Post, Runs, Stands, post_at, EndsWith, own_of}
+use Rattle.wait_event.specs.declared.woken_waits.WokenStage.TheVariants as stage
 use Rattle.wait_event.specs.declared.woken_waits.WokenTurn.TheVariants as turn
 
 -- the point of the program at each stage, and the program

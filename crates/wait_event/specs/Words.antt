@@ -2,43 +2,31 @@
 -- Whole calls as lists of events: what each makes follows its sentence, and a wait that answers for a signal has found
 -- one in its last turn.
 use Rattle.std.specs.Prelude.{ℕ, ◌≡◌, ◌<◌, Bool, true, false, if◌then◌else◌, Result, Err, List, []}
-use Rattle.wait_model.specs.declared.layout.TheConstants.{PLAIN_CONDITIONS}
-use Rattle.wait_model.specs.declared.calls.Call.{Call}
+use Rattle.wait_model.specs.{declared.layout.TheConstants.PLAIN_CONDITIONS, declared.calls.Call.Call}
+use Rattle.wait_model.specs.{declared.calls.Event.Event, declared.calls.Answer.Answer, declared.queues.Form.Form}
+use Rattle.wait_model.specs.{declared.queues.Walked.Walked, declared.tasks.How.How}
+use Rattle.wait_model.specs.{declared.tasks.SleepState.SleepState, declared.watches.Kind.Kind}
+use Rattle.wait_model.specs.{declared.watches.Mode.Mode, declared.watches.Watch.Watch, Sentences.Follows}
+use Rattle.wait_model.specs.Programs.{program_start, signalled, zero_answer}
+use Rattle.wait_model.specs.SentenceSteps.{Prepared, finishes, is_ready, is_signalled, is_worn, number, prepares}
+use Rattle.wait_model.specs.SentenceSteps.{prepares_event}
 use Rattle.wait_model.specs.declared.calls.Call.TheVariants as calls
-use Rattle.wait_model.specs.declared.calls.Event.{Event}
-use Rattle.wait_model.specs.declared.calls.Answer.{Answer}
 use Rattle.wait_model.specs.declared.calls.Answer.TheVariants as answer
 use Rattle.wait_model.specs.declared.points.FinishPoint.TheVariants as finishing
 use Rattle.wait_model.specs.declared.points.PreparePoint.TheVariants as preparing
 use Rattle.wait_model.specs.declared.points.Point.TheVariants as at
 use Rattle.wait_model.specs.declared.points.WalkPoint.TheVariants as walking
 use Rattle.wait_model.specs.declared.points.Next.TheVariants as next
-use Rattle.wait_model.specs.declared.queues.Form.{Form}
-use Rattle.wait_model.specs.declared.queues.Walked.{Walked}
-use Rattle.wait_model.specs.declared.tasks.How.{How}
-use Rattle.wait_model.specs.declared.tasks.SleepState.{SleepState}
-use Rattle.wait_model.specs.declared.watches.Kind.{Kind}
-use Rattle.wait_model.specs.declared.watches.Mode.{Mode}
-use Rattle.wait_model.specs.Programs.{program_start, signalled, zero_answer}
-use Rattle.wait_model.specs.declared.watches.Watch.{Watch}
 use Rattle.wait_model.specs.Phrases.{Phrase, ◌>>=◌, ◌>>◌, ends, gives}
-use Rattle.wait_model.specs.SentenceSteps.{Prepared, finishes, is_ready, is_signalled, is_worn, number, prepares}
-use Rattle.wait_model.specs.SentenceSteps.{prepares_event}
-use Rattle.wait_model.specs.Sentences.{Follows}
-use Rattle.wait_class.specs.Queueing.{wait_form}
-use Rattle.wait_rule.specs.Known.{Known}
-use Rattle.wait_rule.specs.Says.{MeetsLaw}
-use Rattle.wait_rule.specs.SaidEvents.{plain_aim, said}
-use Rattle.wait_rule.specs.Heeding.{EndsSignalled, trail_of}
+use Rattle.wait_class.specs.{Queueing.wait_form, Posts.IsOut}
+use Rattle.wait_rule.specs.{Known.Known, Says.MeetsLaw, SaidEvents.plain_aim, SaidEvents.said, Heeding.EndsSignalled}
+use Rattle.wait_rule.specs.Heeding.{trail_of}
 use Rattle.wait_rule.specs.Selecting.{IsTallied, selects_in, yes_in}
 use Rattle.wait_rule.specs.Transitions.{Transition, call_program, walk_program}
-use Rattle.wait_event.specs.Conds.{HasSet, HasTakenCond}
-use Rattle.wait_event.specs.Ends.{EndsWait, answer_of_end}
-use Rattle.wait_event.specs.Entries.{EndsAdd, HasRemovedOwn, add_answer}
-use Rattle.wait_class.specs.Posts.{IsOut}
-use Rattle.wait_event.specs.Prepares.{HasFinished, Prepares, finish_program, prepare_program}
-use Rattle.wait_event.specs.WokenWaits.{EndsWoken}
+use Rattle.wait_event.specs.{Conds.HasSet, Conds.HasTakenCond, Ends.EndsWait, Ends.answer_of_end, WokenWaits.EndsWoken}
 use Rattle.wait_event.specs.declared.wait_events.WaitEnd.{WaitEnd}
+use Rattle.wait_event.specs.Entries.{EndsAdd, HasRemovedOwn, add_answer}
+use Rattle.wait_event.specs.Prepares.{HasFinished, Prepares, finish_program, prepare_program}
 use Rattle.wq_head.specs.declared.adds.Worn.{Worn}
 
 -- the events of a call, and those of a walk

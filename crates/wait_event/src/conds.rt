@@ -3,9 +3,7 @@
 ghost use Rattle.std.specs.Prelude.{◌≡◌, ◌<◌};
 ghost use Rattle.wait_model.specs.declared.layout.TheConstants.{FIRST_SIMPLE, PLAIN_CONDITIONS};
 ghost use Rattle.wait_model.specs.declared.watches.Watch.TheVariants as watch;
-ghost use Rattle.wait_rule.specs.Says.{IsUp};
-ghost use Rattle.wait_rule.specs.Queues.{IsAgreedHold, IsIdle};
-ghost use Rattle.wait_rule.specs.Stays.{Carries, unchanged};
+ghost use Rattle.wait_rule.specs.{Says.IsUp, Queues.IsAgreedHold, Queues.IsIdle, Stays.Carries, Stays.unchanged};
 ghost use Rattle.wait_event.specs.Conds.{HasSet, HasTakenCond, set_change};
 
 use std::sync::Wait;

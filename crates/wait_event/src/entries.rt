@@ -4,13 +4,11 @@ ghost use Rattle.std.specs.Prelude.{◌≡◌, ◌<◌, true, Some, IfErr, IfOk}
 ghost use Rattle.wait_model.specs.declared.layout.TheConstants.{FIRST_SIMPLE, PRIORITY_TASKS};
 ghost use Rattle.wait_model.specs.declared.watches.Kind.TheVariants as kinds;
 ghost use Rattle.wait_model.specs.Queues.{is_priority};
-ghost use Rattle.wait_rule.specs.Members.{IsOwnKind};
+ghost use Rattle.wait_rule.specs.{Members.IsOwnKind, Stays.Carries};
 ghost use Rattle.wait_rule.specs.Says.{AsksNoPage, IsFree, IsUp, told_of};
-ghost use Rattle.wait_rule.specs.Stays.{Carries};
-ghost use Rattle.wait_class.specs.Posts.{IsOut};
+ghost use Rattle.wait_class.specs.Posts.{IsOut, own_of};
 ghost use Rattle.wait_event.specs.Entries.{EndsAdd, HasRemovedOwn, HasWokenEntry, MayRemove};
 ghost use Rattle.wait_event.specs.Entries.{add_change, hold_change, remove_change};
-ghost use Rattle.wait_class.specs.Posts.{own_of};
 
 use std::sync::Wait;
 use wait_class::queueing::{add_by, own_entry};

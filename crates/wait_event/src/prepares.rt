@@ -2,16 +2,14 @@
 
 ghost use Rattle.std.specs.Prelude.{◌≡◌, ◌⊎◌, false, true};
 ghost use Rattle.wait_model.specs.declared.watches.Kind.TheVariants as kinds;
-ghost use Rattle.wait_model.specs.Tasks.{state_mask};
-ghost use Rattle.wait_model.specs.Watches.{head_of};
+ghost use Rattle.wait_model.specs.{Tasks.state_mask, Watches.head_of};
 ghost use Rattle.wait_event.specs.Prepares.{BeginsOwing, CarriesPrepare, EndsExclusive, EndsPart, EndsPrepare};
 ghost use Rattle.wait_event.specs.Prepares.{HasFinished, IsPart, MayFinish, MayPrepare, SuitsWait};
 ghost use Rattle.wait_event.specs.Prepares.{answers_first, finish_change, with_first, with_none, with_signal};
 ghost use Rattle.wait_event.specs.PartSteps.{Heeds, IsAtHead, JoinsPart, ParesPart, asks_one, unsignalled};
 ghost use Rattle.wait_class.specs.Posts.{Keeps, own_of};
-ghost use Rattle.wait_rule.specs.Queues.{IsTold};
+ghost use Rattle.wait_rule.specs.{Queues.IsTold, Stays.Carries};
 ghost use Rattle.wait_rule.specs.Says.{AsksNoPage, IsUp, MayStore, told_of};
-ghost use Rattle.wait_rule.specs.Stays.{Carries};
 ghost use Rattle.wq_head.specs.Holds.{IsHolding};
 
 use std::sync::Wait;

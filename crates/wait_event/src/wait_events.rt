@@ -3,16 +3,13 @@
 ghost use Rattle.std.specs.Prelude.{◌≡◌, ◌<◌};
 ghost use Rattle.wait_model.specs.declared.layout.TheConstants.{FIRST_SIMPLE};
 ghost use Rattle.wait_model.specs.declared.watches.Watch.TheVariants as watch;
-ghost use Rattle.wait_rule.specs.Says.{IsClean, IsUp};
+ghost use Rattle.wait_rule.specs.{Says.IsClean, Says.IsUp, Stays.Carries};
 ghost use Rattle.wait_rule.specs.Queues.{IsIdle, IsTold, index};
 ghost use Rattle.wait_event.specs.declared.waits.WaitStage.TheVariants as stage;
 ghost use Rattle.wait_class.specs.declared.stages.Turn.TheVariants as turn;
-ghost use Rattle.wait_class.specs.Tables.{Advances, IsAt};
-ghost use Rattle.wait_class.specs.UnderWay.{IsUnderWay};
+ghost use Rattle.wait_class.specs.{Tables.Advances, Tables.IsAt, UnderWay.IsUnderWay, Posts.IsOut};
 ghost use Rattle.wait_event.specs.Waits.{IsFreshWait, wait_table};
-ghost use Rattle.wait_rule.specs.Stays.{Carries};
 ghost use Rattle.wait_event.specs.Ends.{EndsWait, wait_end_in, wait_change};
-ghost use Rattle.wait_class.specs.Posts.{IsOut};
 
 use crate::waits::{WaitCall, WaitOutcome, WaitRun, WaitStage, fresh_wait};
 use std::sync::Wait;

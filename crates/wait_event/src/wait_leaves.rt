@@ -3,16 +3,13 @@
 ghost use Rattle.std.specs.Prelude.{◌≡◌, ◌<◌, None, Some, true};
 ghost use Rattle.wait_model.specs.declared.layout.TheConstants.{FIRST_SIMPLE};
 ghost use Rattle.wait_model.specs.declared.watches.Watch.TheVariants as watch;
-ghost use Rattle.wait_rule.specs.Queues.{IsIdle, index};
+ghost use Rattle.wait_rule.specs.{Queues.IsIdle, Queues.index, Stays.Carries};
 ghost use Rattle.wait_rule.specs.Says.{IsClean, IsUp, told_of};
-ghost use Rattle.wait_rule.specs.Stays.{Carries};
-ghost use Rattle.wait_class.specs.Posts.{IsOut, Keeps};
-ghost use Rattle.wait_class.specs.Tables.{IsAt, SleepsNot};
+ghost use Rattle.wait_class.specs.{Posts.IsOut, Posts.Keeps, Tables.IsAt, Tables.SleepsNot};
 ghost use Rattle.wait_class.specs.declared.stages.Turn.TheVariants as turn;
 ghost use Rattle.wait_leave.specs.OnTheWay.{IsOnWay, OnTheWay};
-ghost use Rattle.wait_event.specs.Ends.{wait_change};
+ghost use Rattle.wait_event.specs.{Ends.wait_change, Waits.IsFreshWait, Waits.wait_table};
 ghost use Rattle.wait_event.specs.WaitLeaves.{EndsWaitUntil, LeavesWait, wait_exits, wait_until_in};
-ghost use Rattle.wait_event.specs.Waits.{IsFreshWait, wait_table};
 ghost use Rattle.wait_event.specs.declared.waits.WaitStage.TheVariants as stages;
 
 use crate::wait_events::{WaitEnd, begin_wait, end_of};

@@ -2,9 +2,7 @@
 //! holds no head, so each of its events is a stretch.
 
 ghost use Rattle.std.specs.Prelude.{◌≡◌, MatchBool};
-ghost use Rattle.wait_rule.specs.Queues.{IsTold};
-ghost use Rattle.wait_rule.specs.Says.{IsFree, IsUp};
-ghost use Rattle.wait_rule.specs.Stays.{Carries, unchanged};
+ghost use Rattle.wait_rule.specs.{Queues.IsTold, Says.IsFree, Says.IsUp, Stays.Carries, Stays.unchanged};
 ghost use Rattle.wait_event.specs.Entries.{HasWokenEntry, MayRemove};
 ghost use Rattle.wait_event.specs.WokenWaits.{EndsWoken, Hears, IsHearing, IsHearingAsleep};
 ghost use Rattle.wait_event.specs.declared.woken_waits.WokenStage.TheVariants as stage;

@@ -2,14 +2,11 @@
 use Rattle.std.proofs.Common.{◌∙◌, ap, refl}
 use Rattle.std.specs.Prelude.{ℕ, ◌≡◌, Bool}
 use Rattle.wait_model.specs.declared.points.FinishPoint.TheVariants as finishing
-use Rattle.wait_model.specs.declared.points.Next.{Next}
-use Rattle.wait_model.specs.declared.points.Point.{Point}
+use Rattle.wait_model.specs.{declared.points.Next.Next, declared.points.Point.Point, declared.points.Seen.Seen}
 use Rattle.wait_model.specs.declared.points.Point.TheVariants as at
 use Rattle.wait_model.specs.declared.points.PreparePoint.TheVariants as preparing
-use Rattle.wait_model.specs.declared.points.Seen.{Seen}
+use Rattle.wait_class.specs.{Frames.FrameTable, Tables.Plan}
 use Rattle.wait_class.specs.FrameLaws.{frame_given, frame_head, frame_makes, frame_stirs, framed_plan}
-use Rattle.wait_class.specs.Frames.{FrameTable}
-use Rattle.wait_class.specs.Tables.{Plan}
 use Rattle.wait_leave.specs.Leaves.{with_asked}
 
 module _ {W T O : Type 0} (f : FrameTable W T O) (ends : Bool → Next) (p : Plan) (a : Bool) where

@@ -1,20 +1,15 @@
 -- How a table says of each of its stages that the exit there is lawful.
 use Rattle.std.proofs.Common.{◌∙◌, ap, refl, subst, sym}
 use Rattle.std.specs.Prelude.{ℕ, ◌≡◌, Bool, true, false, if◌then◌else◌, is_some, IfSome, Option, Some, None}
-use Rattle.wait_model.specs.declared.points.FinishPoint.{FinishPoint}
+use Rattle.wait_model.specs.{declared.points.FinishPoint.FinishPoint, declared.points.Planned.Planned}
+use Rattle.wait_model.specs.{declared.points.Point.Point, declared.points.Seen.Seen, PointFacts.holds}
 use Rattle.wait_model.specs.declared.points.FinishPoint.TheVariants as finishing
-use Rattle.wait_model.specs.declared.points.Planned.{Planned}
-use Rattle.wait_model.specs.declared.points.Point.{Point}
 use Rattle.wait_model.specs.declared.points.Point.TheVariants as at
-use Rattle.wait_model.specs.declared.points.Seen.{Seen}
-use Rattle.wait_model.specs.PointFacts.{holds}
 use Rattle.wait_model.proofs.WaitLaws.OutsideStages.{either}
-use Rattle.wait_rule.specs.Known.{Known}
-use Rattle.wait_rule.specs.Tickets.{Ticket}
+use Rattle.wait_rule.specs.{Known.Known, Tickets.Ticket}
 use Rattle.wait_class.specs.declared.stages.Doing.TheVariants as doing
-use Rattle.wait_class.specs.declared.stages.Turn.{Turn}
-use Rattle.wait_class.specs.FrameLaws.{IsLawfulFrame, framed_plan}
-use Rattle.wait_class.specs.Frames.{FrameTable, framed}
+use Rattle.wait_class.specs.{declared.stages.Turn.Turn, FrameLaws.IsLawfulFrame, FrameLaws.framed_plan}
+use Rattle.wait_class.specs.{Frames.FrameTable, Frames.framed}
 use Rattle.wait_class.specs.Laws.{Calm, HomeGoes, IsPlainTurn, StateGoes, TurnTrail, turn_post}
 use Rattle.wait_class.specs.Tables.{CallTable, Plan, falls, next_in, post_of, took_in}
 use Rattle.wait_leave.specs.declared.exits.Exit.{Exit}

@@ -4,21 +4,15 @@ use Rattle.std.specs.Prelude.{◌≡◌, Bool, true, false, Some, []}
 use Rattle.wait_model.specs.declared.points.Next.TheVariants as next
 use Rattle.wait_model.specs.declared.steps.Step.TheVariants as step
 use Rattle.wait_rule.specs.declared.journal.Item.TheVariants as item
-use Rattle.wait_rule.specs.Known.{Known}
-use Rattle.wait_rule.specs.Queues.{index}
-use Rattle.wait_rule.specs.Says.{added, told_of}
-use Rattle.wait_rule.specs.Stays.{Carries, state_change}
-use Rattle.wait_class.specs.declared.stages.Run.{Run}
-use Rattle.wait_class.specs.declared.stages.Turn.{Turn}
-use Rattle.wait_class.specs.declared.stages.Turn.TheVariants as turn
+use Rattle.wait_rule.specs.{Known.Known, Queues.index, Says.added, Says.told_of, Stays.Carries, Stays.state_change}
+use Rattle.wait_class.specs.{declared.stages.Run.Run, declared.stages.Turn.Turn, Wholes.HasRested}
 use Rattle.wait_class.specs.Laws.{Calm, IsLawfulCallTable, IsPlainTurn, turn_post}
-use Rattle.wait_class.specs.Tables.{Advances, CallTable, IsAt, IsEnded, Lands, SleepsNot, next_in, plan_program, post_of, watch_in}
-use Rattle.wait_class.specs.Wholes.{HasRested}
-use Rattle.wait_class.proofs.AwakeSteps.{sleeps_not_on, sleeps_not_same}
-use Rattle.wait_class.proofs.CalmSteps.{calm_step}
-use Rattle.wait_class.proofs.Ground.Standing.{state_stands, state_up}
+use Rattle.wait_class.specs.Tables.{Advances, CallTable, IsAt, IsEnded, Lands, SleepsNot, next_in, plan_program}
+use Rattle.wait_class.specs.Tables.{post_of, watch_in}
+use Rattle.wait_class.specs.declared.stages.Turn.TheVariants as turn
+use Rattle.wait_class.proofs.{AwakeSteps.sleeps_not_on, AwakeSteps.sleeps_not_same, CalmSteps.calm_step}
+use Rattle.wait_class.proofs.{Ground.Standing.state_stands, Ground.Standing.state_up, UnderWay.woke_on}
 use Rattle.wait_class.proofs.Turns.{LandsOn, advances_none, advances_on, again, lands_plain, stands_plain, zero_for}
-use Rattle.wait_class.proofs.UnderWay.{woke_on}
 use Rattle.wait_leave.specs.declared.exits.Exit.{Exit}
 use Rattle.wait_leave.specs.ExitLaws.{AreLawfulExits, ExitLaw, rest_steps}
 use Rattle.wait_leave.specs.Leaves.{Exits, GoesOut, Leaves, asked_run, stays_awake}

@@ -1,22 +1,15 @@
 -- Waits under way that may have been asked to leave.
 use Rattle.std.proofs.Common.{◌∙◌, ap, refl, subst, sym}
 use Rattle.std.specs.Prelude.{ℕ, ◌≡◌, ◌≤◌, ◌+◌, Bool, true, false, Some}
-use Rattle.wait_model.specs.declared.layout.TheConstants.{HEADS}
-use Rattle.wait_model.specs.declared.watches.Watch.{Watch}
-use Rattle.wait_rule.specs.Known.{Known}
-use Rattle.wait_rule.specs.Queues.{index}
-use Rattle.wait_class.specs.Handing.{LastGiven}
-use Rattle.wait_class.specs.declared.stages.Run.{Run}
-use Rattle.wait_class.specs.declared.stages.Turn.{Turn}
-use Rattle.wait_class.specs.declared.stages.Turn.TheVariants as turn
-use Rattle.wait_class.specs.Laws.{IsLawfulCallTable}
+use Rattle.wait_model.specs.{declared.layout.TheConstants.HEADS, declared.watches.Watch.Watch}
+use Rattle.wait_rule.specs.{Known.Known, Queues.index}
+use Rattle.wait_class.specs.{Handing.LastGiven, declared.stages.Run.Run, declared.stages.Turn.Turn}
+use Rattle.wait_class.specs.{Laws.IsLawfulCallTable, Wholes.HasRested, UnderWay.IsUnderWay, UnderWay.going}
 use Rattle.wait_class.specs.Tables.{Advances, CallTable, IsAt, Lands, Plan, SleepsNot, took_in, watch_in}
-use Rattle.wait_class.specs.Wholes.{HasRested}
-use Rattle.wait_class.specs.UnderWay.{IsUnderWay, going}
+use Rattle.wait_class.specs.declared.stages.Turn.TheVariants as turn
 use Rattle.wait_class.proofs.Turns.{advances_none, advances_on, again}
 use Rattle.wait_class.proofs.UnderWay.{come_on, woke_on}
-use Rattle.wait_leave.specs.ExitLaws.{AreLawfulExits}
-use Rattle.wait_leave.specs.declared.exits.Exit.{Exit}
+use Rattle.wait_leave.specs.{ExitLaws.AreLawfulExits, declared.exits.Exit.Exit}
 use Rattle.wait_leave.specs.Leaves.{Exits, GoesOut, Leaves, asked_run, stays_awake, with_asked}
 use Rattle.wait_leave.specs.OnTheWay.{IsAwakeSince, IsOnWay, OnTheWay, left_at, straight}
 use Rattle.wait_leave.proofs.Leaving.{leaves_again, leaves_lands, leaves_on, leaves_risen}

@@ -1,22 +1,17 @@
 -- For proofs alone.
 -- What exits have to keep.
 use Rattle.std.specs.Prelude.{ℕ, ◌≡◌, Bool, true, false, if◌then◌else◌, Some, None, List, [], ◌∷◌}
-use Rattle.wait_model.specs.declared.calls.Event.{Event}
-use Rattle.wait_model.specs.declared.calls.Event.TheVariants as event
-use Rattle.wait_model.specs.declared.points.Next.{Next}
-use Rattle.wait_model.specs.declared.points.Next.TheVariants as next
-use Rattle.wait_model.specs.declared.points.Planned.{Planned}
-use Rattle.wait_model.specs.declared.points.Point.{Point}
-use Rattle.wait_model.specs.declared.points.Seen.{Seen}
-use Rattle.wait_model.specs.declared.steps.Step.{Step}
-use Rattle.wait_model.specs.declared.steps.Step.TheVariants as step
+use Rattle.wait_model.specs.{declared.calls.Event.Event, declared.points.Next.Next, declared.points.Planned.Planned}
+use Rattle.wait_model.specs.{declared.points.Point.Point, declared.points.Seen.Seen, declared.steps.Step.Step}
 use Rattle.wait_model.specs.PointFacts.{holds}
+use Rattle.wait_model.specs.declared.calls.Event.TheVariants as event
+use Rattle.wait_model.specs.declared.points.Next.TheVariants as next
+use Rattle.wait_model.specs.declared.steps.Step.TheVariants as step
 use Rattle.wait_rule.specs.Known.{Known}
 use Rattle.wait_class.specs.declared.stages.Doing.TheVariants as doing
 use Rattle.wait_class.specs.Laws.{Calm, HomeGoes, IsPlainTurn, StateGoes, TurnTrail, turn_post}
 use Rattle.wait_class.specs.Tables.{CallTable, falls, post_of, took_in}
-use Rattle.wait_leave.specs.Leaves.{Exits, with_asked}
-use Rattle.wait_leave.specs.declared.exits.Exit.{Exit}
+use Rattle.wait_leave.specs.{Leaves.Exits, Leaves.with_asked, declared.exits.Exit.Exit}
 
 -- the steps that a task makes between a stage and its exit
 abbrev pub rest_steps : Bool → List Step

@@ -2,13 +2,10 @@
 -- A wait that is left: the exits of its stages, and what a task does that was asked to leave at one.
 use Rattle.std.specs.Prelude.{◌≡◌, Bool, true, false, Option, Some}
 use Rattle.wait_model.specs.declared.points.Point.{Point}
-use Rattle.wait_rule.specs.Known.{Known}
-use Rattle.wait_rule.specs.Queues.{index}
-use Rattle.wait_class.specs.declared.stages.Run.{Run}
-use Rattle.wait_class.specs.declared.stages.Turn.{Turn}
-use Rattle.wait_class.specs.declared.stages.Turn.TheVariants as turn
+use Rattle.wait_rule.specs.{Known.Known, Queues.index}
+use Rattle.wait_class.specs.{declared.stages.Run.Run, declared.stages.Turn.Turn, Wholes.HasRested}
 use Rattle.wait_class.specs.Tables.{Advances, CallTable, IsEnded, Plan, SleepsNot, watch_in}
-use Rattle.wait_class.specs.Wholes.{HasRested}
+use Rattle.wait_class.specs.declared.stages.Turn.TheVariants as turn
 use Rattle.wait_leave.specs.declared.exits.Exit.{Exit}
 
 -- The call that has been asked to leave; where it goes on that is asked at a stage, none where it first goes on as it

@@ -2,11 +2,9 @@
 -- A wait under way that may have been asked to leave, more than once.
 use Rattle.std.specs.Prelude.{◌≡◌, Option, Some, None}
 use Rattle.wait_rule.specs.Known.{Known}
-use Rattle.wait_class.specs.declared.stages.Run.{Run}
-use Rattle.wait_class.specs.declared.stages.Turn.{Turn}
-use Rattle.wait_class.specs.declared.stages.Turn.TheVariants as turn
+use Rattle.wait_class.specs.{declared.stages.Run.Run, declared.stages.Turn.Turn, UnderWay.HasCome, UnderWay.going}
 use Rattle.wait_class.specs.Tables.{Advances, CallTable, Plan, SleepsNot}
-use Rattle.wait_class.specs.UnderWay.{HasCome, going}
+use Rattle.wait_class.specs.declared.stages.Turn.TheVariants as turn
 use Rattle.wait_leave.specs.Leaves.{Exits, Leaves}
 
 -- It went straight by its program; or it was on its way to a stage, was asked to leave there, for this cause, and went

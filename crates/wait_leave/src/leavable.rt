@@ -1,11 +1,9 @@
 //! Classes of calls that can be left.
 
 ghost use Rattle.std.specs.Prelude.{◌≡◌};
-ghost use Rattle.wait_class.specs.Frames.{framed};
-ghost use Rattle.wait_class.specs.declared.frame_stages.Framed.{Framed};
+ghost use Rattle.wait_class.specs.{Frames.framed, declared.frame_stages.Framed.Framed};
 ghost use Rattle.wait_class.specs.declared.frame_stages.Stage.{Stage};
-ghost use Rattle.wait_leave.specs.Leaves.{Exits};
-ghost use Rattle.wait_leave.specs.ExitLaws.{AreLawfulExits};
+ghost use Rattle.wait_leave.specs.{Leaves.Exits, ExitLaws.AreLawfulExits};
 
 use crate::exits::Exit;
 use wait_class::frame_stages::{Framed, Stage};

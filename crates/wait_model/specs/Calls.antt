@@ -1,11 +1,11 @@
 -- To be believed.
 -- What each call is about, which calls a task may open by their numbers, and where their programs begin.
 use Rattle.std.specs.Prelude.{ℕ, Bool, true, false, not, ◌&&◌, ◌||◌, nat_lt}
+use Rattle.wait_model.specs.{declared.calls.Call.Call, declared.points.Point.Point, declared.watches.Watch.Watch}
+use Rattle.wait_model.specs.{Queues.is_priority, Watches.page}
 use Rattle.wait_model.specs.declared.layout.TheConstants.{TASKS, PLAIN_CONDITIONS, FIRST_SIMPLE, COMPLETIONS, BIT_WORDS}
 use Rattle.wait_model.specs.declared.layout.TheConstants.{WORD_BITS, VARIABLES, PRIORITY_TASKS}
-use Rattle.wait_model.specs.declared.calls.Call.{Call}
 use Rattle.wait_model.specs.declared.calls.Call.TheVariants as calls
-use Rattle.wait_model.specs.declared.points.Point.{Point}
 use Rattle.wait_model.specs.declared.points.AddPoint.TheVariants as adding
 use Rattle.wait_model.specs.declared.points.AwaitPoint.TheVariants as awaiting
 use Rattle.wait_model.specs.declared.points.BitPoint.TheVariants as biting
@@ -16,10 +16,7 @@ use Rattle.wait_model.specs.declared.points.RemovePoint.TheVariants as removing
 use Rattle.wait_model.specs.declared.points.SelectPoint.TheVariants as selecting
 use Rattle.wait_model.specs.declared.points.WalkPoint.TheVariants as walking
 use Rattle.wait_model.specs.declared.points.WokenPoint.TheVariants as hearing
-use Rattle.wait_model.specs.declared.watches.Watch.{Watch}
 use Rattle.wait_model.specs.declared.watches.Watch.TheVariants as watch
-use Rattle.wait_model.specs.Queues.{is_priority}
-use Rattle.wait_model.specs.Watches.{page}
 
 -- what a call is about
 abbrev pub call_watch : Call → Watch

@@ -1,18 +1,13 @@
 -- To be believed.
 -- Findings: what a task may find at a point of its call, by what it has made of the call so far.
 use Rattle.std.specs.Prelude.{ℕ, ◌≡◌, ◌<◌, ◌≤◌, Bool, true, false, None, is_some}
-use Rattle.wait_model.specs.declared.layout.TheConstants.{BREAK, ALL_DONE}
-use Rattle.wait_model.specs.declared.calls.Call.{Call}
+use Rattle.wait_model.specs.{declared.layout.TheConstants.BREAK, declared.layout.TheConstants.ALL_DONE}
+use Rattle.wait_model.specs.{declared.calls.Call.Call, declared.calls.Event.Event, declared.points.Seen.Seen}
+use Rattle.wait_model.specs.{declared.points.Point.Point, Watches.is_done, Points.call_watch, SentenceWalks.shares_head}
 use Rattle.wait_model.specs.declared.calls.Call.TheVariants as calls
-use Rattle.wait_model.specs.declared.calls.Event.{Event}
 use Rattle.wait_model.specs.declared.calls.Event.TheVariants as event
-use Rattle.wait_model.specs.declared.points.Seen.{Seen}
-use Rattle.wait_model.specs.declared.points.Point.{Point}
 use Rattle.wait_model.specs.declared.points.Point.TheVariants as at
 use Rattle.wait_model.specs.declared.points.WalkPoint.TheVariants as walking
-use Rattle.wait_model.specs.Watches.{is_done}
-use Rattle.wait_model.specs.Points.{call_watch}
-use Rattle.wait_model.specs.SentenceWalks.{shares_head}
 
 -- What the own events of a call tell: whether it queued its entry, whether it holds a lock, and what its last load
 -- found, where only stores of the own state, looks and removals came after it.

@@ -2,18 +2,14 @@
 -- What each step tells its task: a task's view is the fold of its history, with one equation for each step.
 use Rattle.std.specs.Prelude.{ℕ, Bool, true, false, not, ◌&&◌, ◌||◌, ◌==◌, if◌then◌else◌, Option, Some, None, nat_le}
 use Rattle.std.specs.Prelude.{List, [], ◌∷◌}
-use Rattle.wait_model.specs.declared.watches.Watch.{Watch}
-use Rattle.wait_model.specs.declared.watches.Entry.{Entry}
-use Rattle.wait_model.specs.declared.watches.Aim.{Aim}
-use Rattle.wait_model.specs.declared.steps.Step.{Step}
-use Rattle.wait_model.specs.declared.steps.Step.TheVariants as step
-use Rattle.wait_model.specs.Functions.{put}
-use Rattle.wait_model.specs.Tasks.{meets, task_of}
+use Rattle.wait_model.specs.{declared.watches.Watch.Watch, declared.watches.Entry.Entry, declared.watches.Aim.Aim}
+use Rattle.wait_model.specs.{declared.steps.Step.Step, Functions.put, Tasks.meets, Tasks.task_of}
 use Rattle.wait_model.specs.Watches.{same, head_of, is_bit, mask_of, failing, was_clear, owner, stands_at, part_of}
 use Rattle.wait_model.specs.Watches.{is_page, page}
 use Rattle.wait_model.specs.Words.{entry_of, spent_of, flag_of}
 use Rattle.wait_model.specs.Views.{View, Hold, Bits, Walk, Look, off, shown, no_hold, blank, concerns, all_passed}
 use Rattle.wait_model.specs.Views.{all_cleared, look_at, is_trying_for}
+use Rattle.wait_model.specs.declared.steps.Step.TheVariants as step
 
 -- a walk that stops at the own bookmark goes on there, if the book shows all before it as passed
 abbrev pub paused : View → Walk → Option ℕ → Option Walk

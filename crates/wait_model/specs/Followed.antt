@@ -2,29 +2,20 @@
 -- A setter followed through time: it publishes a watch and then wakes whoever waits for it, to the end of the queue.
 -- Whoever the watch was set for all the while does not sleep on it any more.
 use Rattle.std.specs.Prelude.{ℕ, ◌≡◌, ◌≤◌, Bool, true, false, not, List, [], ◌∷◌, ◌++◌}
-use Rattle.wait_model.specs.declared.layout.TheConstants.{EVENTS}
-use Rattle.wait_model.specs.declared.watches.Watch.{Watch}
-use Rattle.wait_model.specs.declared.watches.Entry.{Entry}
+use Rattle.wait_model.specs.{declared.layout.TheConstants.EVENTS, declared.watches.Watch.Watch}
+use Rattle.wait_model.specs.{declared.watches.Entry.Entry, declared.queues.End.End, declared.calls.Call.Call}
+use Rattle.wait_model.specs.{declared.calls.Event.Event, declared.calls.Answer.Answer, declared.calls.Ran.Ran}
+use Rattle.wait_model.specs.{declared.points.Point.Point, Watches.same, Tables.met, Points.call_watch, Wakes.Sleeps}
+use Rattle.wait_model.specs.Runs.{State, given_by, event_steps, planned, happens, state_after, state_of, IsRun, made_in}
 use Rattle.wait_model.specs.declared.watches.Mode.TheVariants as mode
 use Rattle.wait_model.specs.declared.steps.Step.TheVariants as step
-use Rattle.wait_model.specs.declared.queues.End.{End}
 use Rattle.wait_model.specs.declared.queues.End.TheVariants as ends
-use Rattle.wait_model.specs.declared.calls.Call.{Call}
 use Rattle.wait_model.specs.declared.calls.Call.TheVariants as calls
-use Rattle.wait_model.specs.declared.calls.Event.{Event}
 use Rattle.wait_model.specs.declared.calls.Event.TheVariants as event
-use Rattle.wait_model.specs.declared.calls.Answer.{Answer}
 use Rattle.wait_model.specs.declared.calls.Answer.TheVariants as answers
-use Rattle.wait_model.specs.declared.calls.Ran.{Ran}
 use Rattle.wait_model.specs.declared.calls.Ran.TheVariants as ran
-use Rattle.wait_model.specs.declared.points.Point.{Point}
 use Rattle.wait_model.specs.declared.points.Progress.TheVariants as now
 use Rattle.wait_model.specs.declared.points.Next.TheVariants as next
-use Rattle.wait_model.specs.Watches.{same}
-use Rattle.wait_model.specs.Tables.{met}
-use Rattle.wait_model.specs.Points.{call_watch}
-use Rattle.wait_model.specs.Wakes.{Sleeps}
-use Rattle.wait_model.specs.Runs.{State, given_by, event_steps, planned, happens, state_after, state_of, IsRun, made_in}
 
 -- the calls that wake whoever waits for their watch, in whatever state: until the end of the queue, or until a count
 -- is used up

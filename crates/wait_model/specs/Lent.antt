@@ -2,12 +2,11 @@
 -- A page that a walk took for a task is one that the task's open call locks: none is left with a task that does not
 -- wait for it.
 use Rattle.std.specs.Prelude.{ℕ, ◌≡◌, ◌≤◌, List, Some}
-use Rattle.wait_model.specs.declared.layout.TheConstants.{EVENTS}
-use Rattle.wait_model.specs.declared.calls.Call.TheVariants as calls
-use Rattle.wait_model.specs.declared.calls.Ran.{Ran}
+use Rattle.wait_model.specs.{declared.layout.TheConstants.EVENTS, declared.calls.Ran.Ran}
 use Rattle.wait_model.specs.declared.points.Progress.{Progress}
-use Rattle.wait_model.specs.declared.points.Progress.TheVariants as now
 use Rattle.wait_model.specs.Runs.{State, own, IsRun, state_of, made_in}
+use Rattle.wait_model.specs.declared.calls.Call.TheVariants as calls
+use Rattle.wait_model.specs.declared.points.Progress.TheVariants as now
 
 -- the task has a call open that locks this page
 abbrev pub IsLocking : Progress → ℕ → Type 0

@@ -1,19 +1,12 @@
 -- To be believed.
 -- The program of a call makes whatever follows its sentence, for findings that a task may have.
 use Rattle.std.specs.Prelude.{ℕ, ◌≡◌, false, List, [], ◌∷◌}
-use Rattle.wait_model.specs.declared.calls.Call.{Call}
-use Rattle.wait_model.specs.declared.calls.Event.{Event}
-use Rattle.wait_model.specs.declared.calls.Answer.{Answer}
-use Rattle.wait_model.specs.declared.points.Next.{Next}
-use Rattle.wait_model.specs.declared.points.Next.TheVariants as next
-use Rattle.wait_model.specs.declared.points.Seen.{Seen}
-use Rattle.wait_model.specs.declared.points.Point.{Point}
-use Rattle.wait_model.specs.Watches.{is_done}
-use Rattle.wait_model.specs.Points.{call_watch}
-use Rattle.wait_model.specs.Programs.{program, program_start}
-use Rattle.wait_model.specs.Phrases.{Rest, ends}
-use Rattle.wait_model.specs.Sentences.{Follows}
+use Rattle.wait_model.specs.{declared.calls.Call.Call, declared.calls.Event.Event, declared.calls.Answer.Answer}
+use Rattle.wait_model.specs.{declared.points.Next.Next, declared.points.Seen.Seen, declared.points.Point.Point}
+use Rattle.wait_model.specs.{Watches.is_done, Points.call_watch, Programs.program, Programs.program_start, Phrases.Rest}
+use Rattle.wait_model.specs.{Phrases.ends, Sentences.Follows}
 use Rattle.wait_model.specs.Findings.{Noted, none_noted, notes, MayFind}
+use Rattle.wait_model.specs.declared.points.Next.TheVariants as next
 
 abbrev pub goes_to : (Point → Rest) → Next → Rest
 goes_to R (next.Go p) = R p

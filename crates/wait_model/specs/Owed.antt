@@ -1,12 +1,10 @@
 -- To be believed.
 -- Which wakes a task owes, plainly over its history: from its publish until a wake of it has ended.
 use Rattle.std.specs.Prelude.{ℕ, ◌≡◌, ◌<◌, ◌⊎◌, true, List, [], ◌∷◌, ◌++◌}
-use Rattle.wait_model.specs.declared.layout.TheConstants.{ENTRIES}
-use Rattle.wait_model.specs.declared.watches.Watch.{Watch}
-use Rattle.wait_model.specs.declared.steps.Step.{Step}
-use Rattle.wait_model.specs.declared.steps.Step.TheVariants as step
-use Rattle.wait_model.specs.Histories.{Since, publishes}
+use Rattle.wait_model.specs.{declared.layout.TheConstants.ENTRIES, declared.watches.Watch.Watch}
+use Rattle.wait_model.specs.{declared.steps.Step.Step, Histories.Since, Histories.publishes}
 use Rattle.wait_model.specs.Walks.{WalkHold, HasPassed, GoneBy, finds_off_head, looks_anew}
+use Rattle.wait_model.specs.declared.steps.Step.TheVariants as step
 
 -- a step after this history ends a wake of c for tasks of state σ: an unlock of a walk that used up its count
 -- or is past all entry words, or the last load of a look without the lock that found none

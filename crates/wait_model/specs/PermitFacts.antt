@@ -1,18 +1,11 @@
 -- Tied by laws to what is to be believed.
 -- What makes the law of permits inductive.
 use Rattle.std.specs.Prelude.{ℕ, ◌≡◌, ◌<◌, ◌≤◌, ◌+◌, ◌⊎◌, Bool, true, false, not, ◌&&◌, Some, None}
-use Rattle.wait_model.specs.declared.layout.TheConstants.{TASKS}
-use Rattle.wait_model.specs.declared.steps.Step.{Step}
-use Rattle.wait_model.specs.Facts.{Kept}
-use Rattle.wait_model.specs.Fold.{view_of}
-use Rattle.wait_model.specs.Permits.{Dealt, is_in, is_seen, done_head, dealt, HandsOn, PermitsAreHanded}
-use Rattle.wait_model.specs.Rows.{Allowed}
-use Rattle.wait_model.specs.Runs.{own}
-use Rattle.wait_model.specs.Tables.{Table, next, start}
-use Rattle.wait_model.specs.Totals.{sum_below}
-use Rattle.wait_model.specs.Views.{View}
-use Rattle.wait_model.specs.Watches.{owner, stands_at}
+use Rattle.wait_model.specs.{declared.layout.TheConstants.TASKS, declared.steps.Step.Step, Facts.Kept, Fold.view_of}
+use Rattle.wait_model.specs.{Rows.Allowed, Runs.own, Totals.sum_below, Views.View, Watches.owner, Watches.stands_at}
 use Rattle.wait_model.specs.Words.{flag}
+use Rattle.wait_model.specs.Permits.{Dealt, is_in, is_seen, done_head, dealt, HandsOn, PermitsAreHanded}
+use Rattle.wait_model.specs.Tables.{Table, next, start}
 
 -- a hold of the head that has looked at the entry
 abbrev pub is_settled : ℕ → ℕ → View → Bool

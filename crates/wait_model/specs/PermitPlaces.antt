@@ -1,25 +1,19 @@
 -- For proofs alone.
 -- What is known of permits at each place of a program.
 use Rattle.std.specs.Prelude.{ℕ, ◌≡◌, ◌≢◌, ◌≤◌, ◌+◌, ◌⊎◌, Bool, true, false, ◌&&◌, Option, Some, List, [], ◌∷◌}
-use Rattle.wait_model.specs.declared.layout.TheConstants.{ALL_DONE}
-use Rattle.wait_model.specs.declared.calls.Call.{Call}
-use Rattle.wait_model.specs.declared.points.AwaitPoint.TheVariants as awaiting
-use Rattle.wait_model.specs.declared.points.CountPoint.TheVariants as counting
-use Rattle.wait_model.specs.declared.points.Point.{Point}
-use Rattle.wait_model.specs.declared.points.Point.TheVariants as at
-use Rattle.wait_model.specs.declared.points.PreparePoint.TheVariants as preparing
-use Rattle.wait_model.specs.declared.points.Progress.{Progress}
-use Rattle.wait_model.specs.declared.points.Progress.TheVariants as now
-use Rattle.wait_model.specs.declared.points.SelectPoint.TheVariants as selecting
-use Rattle.wait_model.specs.declared.steps.Step.{Step}
-use Rattle.wait_model.specs.declared.watches.Entry.{Entry}
-use Rattle.wait_model.specs.declared.watches.Watch.TheVariants as watch
+use Rattle.wait_model.specs.{declared.layout.TheConstants.ALL_DONE, declared.calls.Call.Call}
+use Rattle.wait_model.specs.{declared.points.Point.Point, declared.points.Progress.Progress, declared.steps.Step.Step}
+use Rattle.wait_model.specs.{declared.watches.Entry.Entry, Runs.State, Runs.own, Tables.Table, Tables.next}
+use Rattle.wait_model.specs.{PermitFacts.dealt_in, Watches.same, Watches.stands_at}
 use Rattle.wait_model.specs.Permits.{Dealt, HandsOnOf, dealt, done_head}
 use Rattle.wait_model.specs.Points.{call_watch, count_of, is_await}
-use Rattle.wait_model.specs.Runs.{State, own}
-use Rattle.wait_model.specs.Tables.{Table, next}
-use Rattle.wait_model.specs.PermitFacts.{dealt_in}
-use Rattle.wait_model.specs.Watches.{same, stands_at}
+use Rattle.wait_model.specs.declared.points.AwaitPoint.TheVariants as awaiting
+use Rattle.wait_model.specs.declared.points.CountPoint.TheVariants as counting
+use Rattle.wait_model.specs.declared.points.Point.TheVariants as at
+use Rattle.wait_model.specs.declared.points.PreparePoint.TheVariants as preparing
+use Rattle.wait_model.specs.declared.points.Progress.TheVariants as now
+use Rattle.wait_model.specs.declared.points.SelectPoint.TheVariants as selecting
+use Rattle.wait_model.specs.declared.watches.Watch.TheVariants as watch
 
 -- the call is about this completion, and waits for it
 abbrev pub is_about : ℕ → Call → Bool

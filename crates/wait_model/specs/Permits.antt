@@ -3,19 +3,14 @@
 -- than what was handed to tasks that have still to take it.
 use Rattle.std.specs.Prelude.{ℕ, ◌≡◌, ◌≢◌, ◌<◌, ◌≤◌, ◌+◌, ◌-◌, ◌⊎◌, Bool, true, false, not, ◌&&◌, ◌||◌, ◌==◌}
 use Rattle.std.specs.Prelude.{if◌then◌else◌, nat_le, Option, Some, None, List, [], ◌∷◌}
+use Rattle.wait_model.specs.{declared.calls.Ran.Ran, declared.watches.Entry.Entry, declared.steps.Step.Step, Fold.after}
+use Rattle.wait_model.specs.{Fold.holding, Tables.Table, Totals.sum_below, Watches.head_of, Watches.stands_at}
+use Rattle.wait_model.specs.{Words.entry_of, Words.flag}
 use Rattle.wait_model.specs.declared.layout.TheConstants.{TASKS, ENTRIES, ALL_DONE, EVENTS}
-use Rattle.wait_model.specs.declared.calls.Ran.{Ran}
-use Rattle.wait_model.specs.declared.watches.Watch.TheVariants as watch
-use Rattle.wait_model.specs.declared.watches.Entry.{Entry}
-use Rattle.wait_model.specs.declared.steps.Step.{Step}
-use Rattle.wait_model.specs.declared.steps.Step.TheVariants as step
-use Rattle.wait_model.specs.Fold.{after, holding}
 use Rattle.wait_model.specs.Runs.{own, IsRun, state_of, made_in}
-use Rattle.wait_model.specs.Tables.{Table}
-use Rattle.wait_model.specs.Totals.{sum_below}
 use Rattle.wait_model.specs.Views.{View, Look, unseen, shown, blank}
-use Rattle.wait_model.specs.Watches.{head_of, stands_at}
-use Rattle.wait_model.specs.Words.{entry_of, flag}
+use Rattle.wait_model.specs.declared.watches.Watch.TheVariants as watch
+use Rattle.wait_model.specs.declared.steps.Step.TheVariants as step
 
 -- the head of a completion
 abbrev pub done_head : ℕ → ℕ

@@ -1,8 +1,7 @@
 -- To be believed.
 -- Phrases: what a call's events say, in the order in which they come.
 use Rattle.std.specs.Prelude.{◌≡◌, ℕ, zero, suc, Bool, true, false, List, [], ◌∷◌}
-use Rattle.wait_model.specs.declared.calls.Event.{Event}
-use Rattle.wait_model.specs.declared.calls.Answer.{Answer}
+use Rattle.wait_model.specs.{declared.calls.Event.Event, declared.calls.Answer.Answer}
 
 -- which lists of events are left of a call, each with the answer that the call gives after it
 abbrev pub Rest : Type 1

@@ -2,12 +2,11 @@
 -- What a point of a call's program says of its task: whether it holds a head, how its own entry is, and where its state
 -- may be another than RUNNING while it is awake.
 use Rattle.std.specs.Prelude.{◌≡◌, ℕ, Bool, true, false, Option, Some, None}
-use Rattle.wait_model.specs.declared.watches.Watch.{Watch}
+use Rattle.wait_model.specs.{declared.watches.Watch.Watch, declared.watches.Entry.Entry, declared.calls.Call.Call}
+use Rattle.wait_model.specs.{declared.points.Point.Point, Watches.bare, Watches.kind_for, Points.is_bit_wait}
+use Rattle.wait_model.specs.Admission.{IsStandingKind}
 use Rattle.wait_model.specs.declared.watches.Watch.TheVariants as watch
 use Rattle.wait_model.specs.declared.watches.Kind.TheVariants as kind
-use Rattle.wait_model.specs.declared.watches.Entry.{Entry}
-use Rattle.wait_model.specs.declared.calls.Call.{Call}
-use Rattle.wait_model.specs.declared.points.Point.{Point}
 use Rattle.wait_model.specs.declared.points.Point.TheVariants as at
 use Rattle.wait_model.specs.declared.points.PreparePoint.TheVariants as preparing
 use Rattle.wait_model.specs.declared.points.LeavePoint.TheVariants as leaving
@@ -21,9 +20,6 @@ use Rattle.wait_model.specs.declared.points.CountPoint.TheVariants as counting
 use Rattle.wait_model.specs.declared.points.WokenPoint.TheVariants as hearing
 use Rattle.wait_model.specs.declared.points.BitPoint.TheVariants as biting
 use Rattle.wait_model.specs.declared.points.PagePoint.TheVariants as paging
-use Rattle.wait_model.specs.Watches.{bare, kind_for}
-use Rattle.wait_model.specs.Points.{is_bit_wait}
-use Rattle.wait_model.specs.Admission.{IsStandingKind}
 
 -- the points inside a hold
 abbrev pub holds : Point → Bool

@@ -2,19 +2,16 @@
 -- Which steps a task may make: a word that it found is what stands there, and each row's condition. Believed for steps
 -- outside of calls; that the steps of runs are such is proved.
 use Rattle.std.specs.Prelude.{ℕ, ◌≡◌, ◌<◌, ◌⊎◌, Bool, true, false, Option, Some, None, List, [], ◌∷◌}
-use Rattle.wait_model.specs.declared.layout.TheConstants.{ENTRIES}
-use Rattle.wait_model.specs.declared.watches.Watch.{Watch}
-use Rattle.wait_model.specs.declared.watches.Watch.TheVariants as watch
-use Rattle.wait_model.specs.declared.watches.Entry.{Entry}
-use Rattle.wait_model.specs.declared.watches.Aim.{Aim}
-use Rattle.wait_model.specs.declared.steps.Step.{Step}
-use Rattle.wait_model.specs.declared.steps.Step.TheVariants as step
+use Rattle.wait_model.specs.{declared.layout.TheConstants.ENTRIES, declared.watches.Watch.Watch}
+use Rattle.wait_model.specs.{declared.watches.Entry.Entry, declared.watches.Aim.Aim, declared.steps.Step.Step}
 use Rattle.wait_model.specs.Tasks.{task_of}
 use Rattle.wait_model.specs.Watches.{head_of, counted, is_done, is_bit, is_woken, is_simple, owner, part_of, is_page}
 use Rattle.wait_model.specs.Watches.{page}
 use Rattle.wait_model.specs.Words.{bit_at, entry_of, spent_of, flag_of}
 use Rattle.wait_model.specs.Views.{View, Walk, off}
 use Rattle.wait_model.specs.Tables.{Words, Table, next}
+use Rattle.wait_model.specs.declared.watches.Watch.TheVariants as watch
+use Rattle.wait_model.specs.declared.steps.Step.TheVariants as step
 
 -- the value is that of the watch's word
 abbrev pub Reads : Words → Watch → ℕ → Type 0

@@ -1,14 +1,10 @@
 -- To be believed.
 -- A look at all member words of a head without the lock.
 use Rattle.std.specs.Prelude.{ℕ, zero, suc, ◌≡◌, ◌≢◌, ◌-◌, Bool, true, false, List, [], ◌∷◌, ◌++◌}
-use Rattle.wait_model.specs.declared.layout.TheConstants.{MEMBER_WORDS}
-use Rattle.wait_model.specs.declared.watches.Watch.{Watch}
+use Rattle.wait_model.specs.{declared.layout.TheConstants.MEMBER_WORDS, declared.watches.Watch.Watch}
+use Rattle.wait_model.specs.{declared.steps.Step.Step, Watches.head_of, Fold.view_of, Owed.Owes}
 use Rattle.wait_model.specs.declared.watches.Watch.TheVariants as watch
-use Rattle.wait_model.specs.declared.steps.Step.{Step}
 use Rattle.wait_model.specs.declared.steps.Step.TheVariants as step
-use Rattle.wait_model.specs.Watches.{head_of}
-use Rattle.wait_model.specs.Fold.{view_of}
-use Rattle.wait_model.specs.Owed.{Owes}
 
 -- loads of the n member words of head h from word i on, in order, each of which finds no bit
 abbrev pub empty_scans : ℕ → ℕ → ℕ → List Step

@@ -2,16 +2,12 @@
 -- Waits for a bit.
 use Rattle.std.specs.Prelude.{ℕ, Bool, true, false, not, ◌&&◌, if◌then◌else◌}
 use Rattle.wait_model.specs.Phrases.{Phrase, ◌>>=◌, ◌>>◌, gives, makes, finds, when◌then◌otherwise◌, Turn, leaves}
-use Rattle.wait_model.specs.Phrases.{repeat, repeats}
+use Rattle.wait_model.specs.{Phrases.repeat, Phrases.repeats, Tasks.state_mask, Watches.page, Words.flag}
+use Rattle.wait_model.specs.{declared.calls.Answer.Answer, declared.tasks.SleepState.SleepState}
+use Rattle.wait_model.specs.declared.watches.Watch.{Watch}
 use Rattle.wait_model.specs.SentenceSteps.{nothing, number, minus_4, locks, unlocks, is_met, looks, sleeps, puts_in}
 use Rattle.wait_model.specs.SentenceSteps.{prepares, finishes, acts}
-use Rattle.wait_model.specs.Tasks.{state_mask}
-use Rattle.wait_model.specs.Watches.{page}
-use Rattle.wait_model.specs.Words.{flag}
-use Rattle.wait_model.specs.declared.calls.Answer.{Answer}
 use Rattle.wait_model.specs.declared.calls.Answer.TheVariants as answer
-use Rattle.wait_model.specs.declared.tasks.SleepState.{SleepState}
-use Rattle.wait_model.specs.declared.watches.Watch.{Watch}
 use Rattle.wait_model.specs.declared.watches.Watch.TheVariants as watch
 use Rattle.wait_model.specs.declared.queues.Form.TheVariants as forms
 use Rattle.wait_model.specs.declared.calls.Event.TheVariants as event

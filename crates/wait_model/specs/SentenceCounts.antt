@@ -1,17 +1,14 @@
 -- To be believed.
 -- Completions: calls that raise a done count, and calls that lower it.
 use Rattle.std.specs.Prelude.{ℕ, ◌+◌, ◌-◌, ◌≤◌, Bool, true, false, not, ◌==◌, if◌then◌else◌}
-use Rattle.wait_model.specs.declared.layout.TheConstants.{ALL_DONE}
-use Rattle.wait_model.specs.Phrases.{Phrase, ◌>>=◌, ◌>>◌, gives, makes, given, when◌then◌otherwise◌, Turn, leaves}
-use Rattle.wait_model.specs.Phrases.{repeat, repeats}
+use Rattle.wait_model.specs.{declared.layout.TheConstants.ALL_DONE, Phrases.repeat, Phrases.repeats}
+use Rattle.wait_model.specs.{SentenceWalks.selects, SentenceWalks.selects_all, Watches.head_of}
+use Rattle.wait_model.specs.{declared.calls.Answer.Answer, declared.tasks.SleepState.SleepState}
+use Rattle.wait_model.specs.declared.watches.Watch.{Watch}
 use Rattle.wait_model.specs.SentenceSteps.{nothing, number, minus_512, locks, unlocks, loads, stores, looks, sleeps}
 use Rattle.wait_model.specs.SentenceSteps.{takes_off, enters}
-use Rattle.wait_model.specs.SentenceWalks.{selects, selects_all}
-use Rattle.wait_model.specs.Watches.{head_of}
-use Rattle.wait_model.specs.declared.calls.Answer.{Answer}
+use Rattle.wait_model.specs.Phrases.{Phrase, ◌>>=◌, ◌>>◌, gives, makes, given, when◌then◌otherwise◌, Turn, leaves}
 use Rattle.wait_model.specs.declared.calls.Answer.TheVariants as answer
-use Rattle.wait_model.specs.declared.tasks.SleepState.{SleepState}
-use Rattle.wait_model.specs.declared.watches.Watch.{Watch}
 use Rattle.wait_model.specs.declared.queues.Form.TheVariants as forms
 use Rattle.wait_model.specs.declared.calls.Event.TheVariants as event
 

@@ -1,14 +1,11 @@
 -- To be believed.
 -- Steps and stretches of events that the sentences of calls share.
 use Rattle.std.specs.Prelude.{ℕ, Bool, true, false, not, if◌then◌else◌, pos}
-use Rattle.wait_model.specs.declared.layout.TheConstants.{RESTART, INTERRUPTED}
-use Rattle.wait_model.specs.Phrases.{any, Phrase, ◌>>=◌, ◌>>◌, gives, makes, finds, maybe, when◌then◌otherwise◌}
-use Rattle.wait_model.specs.Tasks.{state_mask, looks_in}
+use Rattle.wait_model.specs.{declared.layout.TheConstants.RESTART, declared.layout.TheConstants.INTERRUPTED}
+use Rattle.wait_model.specs.{Tasks.state_mask, Tasks.looks_in, declared.calls.Answer.Answer, declared.queues.Form.Form}
+use Rattle.wait_model.specs.{declared.tasks.SleepState.SleepState, declared.watches.Watch.Watch}
 use Rattle.wait_model.specs.Watches.{misses, head_of, number_of}
-use Rattle.wait_model.specs.declared.calls.Answer.{Answer}
-use Rattle.wait_model.specs.declared.queues.Form.{Form}
-use Rattle.wait_model.specs.declared.tasks.SleepState.{SleepState}
-use Rattle.wait_model.specs.declared.watches.Watch.{Watch}
+use Rattle.wait_model.specs.Phrases.{any, Phrase, ◌>>=◌, ◌>>◌, gives, makes, finds, maybe, when◌then◌otherwise◌}
 use Rattle.wait_model.specs.declared.calls.Event.TheVariants as event
 use Rattle.wait_model.specs.declared.calls.Answer.TheVariants as answer
 

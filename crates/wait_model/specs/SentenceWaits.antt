@@ -2,15 +2,12 @@
 -- Waits for a plain condition or a variable, and for a WOKEN flag.
 use Rattle.std.specs.Prelude.{ℕ, Bool, true, false, if◌then◌else◌}
 use Rattle.wait_model.specs.Phrases.{Phrase, ◌>>=◌, ◌>>◌, gives, makes, finds, when◌then◌otherwise◌, Turn, leaves}
-use Rattle.wait_model.specs.Phrases.{repeat, repeats}
+use Rattle.wait_model.specs.{Phrases.repeat, Phrases.repeats, Tasks.state_mask, declared.calls.Answer.Answer}
+use Rattle.wait_model.specs.{declared.queues.Form.Form, declared.tasks.SleepState.SleepState}
+use Rattle.wait_model.specs.declared.watches.Watch.{Watch}
 use Rattle.wait_model.specs.SentenceSteps.{Prepared, is_ready, is_signalled, is_worn, nothing, number, minus_512}
 use Rattle.wait_model.specs.SentenceSteps.{is_met, sleeps, prepares_event, finishes}
-use Rattle.wait_model.specs.Tasks.{state_mask}
-use Rattle.wait_model.specs.declared.calls.Answer.{Answer}
 use Rattle.wait_model.specs.declared.calls.Answer.TheVariants as answer
-use Rattle.wait_model.specs.declared.queues.Form.{Form}
-use Rattle.wait_model.specs.declared.tasks.SleepState.{SleepState}
-use Rattle.wait_model.specs.declared.watches.Watch.{Watch}
 use Rattle.wait_model.specs.declared.calls.Event.TheVariants as event
 
 -- whether the own entry may stand after a hold of this outcome

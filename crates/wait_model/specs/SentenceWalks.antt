@@ -1,17 +1,13 @@
 -- To be believed.
 -- Walks of wake-ups and selections of simple queues.
 use Rattle.std.specs.Prelude.{ℕ, ◌+◌, ◌-◌, ◌<◌, ◌≤◌, Bool, true, false, ◌&&◌, ◌==◌, if◌then◌else◌, not}
-use Rattle.wait_model.specs.declared.layout.TheConstants.{BREAK}
-use Rattle.wait_model.specs.Phrases.{Phrase, ◌>>=◌, ◌>>◌, gives, makes, finds, any, given, when◌then◌otherwise◌, Turn}
+use Rattle.wait_model.specs.{declared.layout.TheConstants.BREAK, Words.flag, Words.bit_at, declared.calls.Answer.Answer}
+use Rattle.wait_model.specs.{declared.queues.CalledEntry.CalledEntry, declared.queues.End.End}
+use Rattle.wait_model.specs.{declared.watches.Kind.Kind, declared.watches.Watch.Watch}
 use Rattle.wait_model.specs.Phrases.{leaves, repeat, repeats}
 use Rattle.wait_model.specs.SentenceSteps.{locks, unlocks, unlocks_spent, is_met}
-use Rattle.wait_model.specs.Words.{flag, bit_at}
 use Rattle.wait_model.specs.Watches.{head_of, word_of, bit_of, is_page, misses}
-use Rattle.wait_model.specs.declared.calls.Answer.{Answer}
-use Rattle.wait_model.specs.declared.queues.CalledEntry.{CalledEntry}
-use Rattle.wait_model.specs.declared.queues.End.{End}
-use Rattle.wait_model.specs.declared.watches.Kind.{Kind}
-use Rattle.wait_model.specs.declared.watches.Watch.{Watch}
+use Rattle.wait_model.specs.Phrases.{Phrase, ◌>>=◌, ◌>>◌, gives, makes, finds, any, given, when◌then◌otherwise◌, Turn}
 use Rattle.wait_model.specs.declared.watches.Watch.TheVariants as watch
 use Rattle.wait_model.specs.declared.watches.Kind.TheVariants as kind
 use Rattle.wait_model.specs.declared.queues.End.TheVariants as end_as

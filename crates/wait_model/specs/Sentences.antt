@@ -4,18 +4,13 @@
 -- SentenceSteps.antt and beside it.
 use Rattle.std.specs.Prelude.{ℕ, Bool, true, false, if◌then◌else◌, List, ◌++◌}
 use Rattle.wait_model.specs.Phrases.{Phrase, ◌>>=◌, ◌>>◌, gives, makes, finds, any, ends}
+use Rattle.wait_model.specs.{SentenceWaits.waits, SentenceWaits.waits_woken, Watches.head_of}
+use Rattle.wait_model.specs.{declared.calls.Answer.Answer, declared.calls.Call.Call, declared.calls.Event.Event}
+use Rattle.wait_model.specs.{declared.queues.Form.Form, declared.tasks.Taken.Taken, declared.watches.Watch.Watch}
 use Rattle.wait_model.specs.SentenceBits.{tries, waits_bit, locks_bit, locks_page}
 use Rattle.wait_model.specs.SentenceCounts.{awaits, tries_await, is_completed, completes, completes_all, resets}
 use Rattle.wait_model.specs.SentenceSteps.{number, yes_or_no, locks, unlocks, loads, stores, puts_in}
-use Rattle.wait_model.specs.SentenceWaits.{waits, waits_woken}
 use Rattle.wait_model.specs.SentenceWalks.{selects, selects_all, wakes, walks, wakes_one}
-use Rattle.wait_model.specs.Watches.{head_of}
-use Rattle.wait_model.specs.declared.calls.Answer.{Answer}
-use Rattle.wait_model.specs.declared.calls.Call.{Call}
-use Rattle.wait_model.specs.declared.calls.Event.{Event}
-use Rattle.wait_model.specs.declared.queues.Form.{Form}
-use Rattle.wait_model.specs.declared.tasks.Taken.{Taken}
-use Rattle.wait_model.specs.declared.watches.Watch.{Watch}
 use Rattle.wait_model.specs.declared.tasks.Taken.TheVariants as taken
 use Rattle.wait_model.specs.declared.watches.Watch.TheVariants as watch
 use Rattle.wait_model.specs.declared.queues.Form.TheVariants as forms

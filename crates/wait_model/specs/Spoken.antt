@@ -2,17 +2,13 @@
 -- In every run, what a task has made since it opened the call that it ends follows the sentence of the call, and the
 -- answer is the one that the sentence gives. What it has made of an open call begins the sentence.
 use Rattle.std.specs.Prelude.{ℕ, ◌≡◌, ◌≤◌, ◌==◌, if◌then◌else◌, List, [], ◌∷◌, ◌++◌}
-use Rattle.wait_model.specs.declared.layout.TheConstants.{EVENTS}
-use Rattle.wait_model.specs.declared.calls.Call.{Call}
-use Rattle.wait_model.specs.declared.calls.Event.{Event}
-use Rattle.wait_model.specs.declared.calls.Answer.{Answer}
-use Rattle.wait_model.specs.declared.calls.Ran.{Ran}
+use Rattle.wait_model.specs.{declared.layout.TheConstants.EVENTS, declared.calls.Call.Call, declared.calls.Event.Event}
+use Rattle.wait_model.specs.{declared.calls.Answer.Answer, declared.calls.Ran.Ran, declared.points.Point.Point}
+use Rattle.wait_model.specs.{Sentences.Follows, Sentences.Begins}
+use Rattle.wait_model.specs.Runs.{planned, state_of, IsItem, IsRun, made_in}
 use Rattle.wait_model.specs.declared.calls.Ran.TheVariants as ran
-use Rattle.wait_model.specs.declared.points.Point.{Point}
 use Rattle.wait_model.specs.declared.points.Progress.TheVariants as now
 use Rattle.wait_model.specs.declared.points.Next.TheVariants as next
-use Rattle.wait_model.specs.Runs.{planned, state_of, IsItem, IsRun, made_in}
-use Rattle.wait_model.specs.Sentences.{Follows, Begins}
 
 -- the events that a task has made since it last opened a call, oldest first
 abbrev pub said_by : ℕ → List Event → Ran → List Event

@@ -2,20 +2,13 @@
 -- The table: what the words are, what each task has done, and what a step changes.
 use Rattle.std.specs.Prelude.{ℕ, ◌+◌, ◌-◌, ◌/◌, ◌%◌, ◌^◌, ◌≡◌, ◌≤◌, Bool, true, false, not, ◌==◌, if◌then◌else◌, Option}
 use Rattle.std.specs.Prelude.{Some, None, List, [], ◌∷◌, ◌++◌}
-use Rattle.wait_model.specs.declared.layout.TheConstants.{WORD_BITS}
-use Rattle.wait_model.specs.declared.tasks.TaskRecord.{TaskRecord}
-use Rattle.wait_model.specs.declared.watches.Watch.{Watch}
-use Rattle.wait_model.specs.declared.watches.Watch.TheVariants as watch
-use Rattle.wait_model.specs.declared.watches.Entry.{Entry}
-use Rattle.wait_model.specs.declared.queues.Mark.{Mark}
-use Rattle.wait_model.specs.declared.steps.Step.{Step}
-use Rattle.wait_model.specs.declared.steps.Step.TheVariants as step
-use Rattle.wait_model.specs.Functions.{put}
+use Rattle.wait_model.specs.{declared.layout.TheConstants.WORD_BITS, declared.tasks.TaskRecord.TaskRecord}
+use Rattle.wait_model.specs.{declared.watches.Watch.Watch, declared.watches.Entry.Entry, declared.queues.Mark.Mark}
+use Rattle.wait_model.specs.{declared.steps.Step.Step, Functions.put, Watches.was_clear, Watches.page, Words.bit_word}
+use Rattle.wait_model.specs.{Views.View, Views.blank, Fold.after}
 use Rattle.wait_model.specs.Tasks.{woken, slept, raised, accepted}
-use Rattle.wait_model.specs.Watches.{was_clear, page}
-use Rattle.wait_model.specs.Words.{bit_word}
-use Rattle.wait_model.specs.Views.{View, blank}
-use Rattle.wait_model.specs.Fold.{after}
+use Rattle.wait_model.specs.declared.watches.Watch.TheVariants as watch
+use Rattle.wait_model.specs.declared.steps.Step.TheVariants as step
 
 -- the condition words
 pub record Words : Type 0 where

@@ -1,23 +1,15 @@
 -- Tied by laws to what is to be believed.
 -- That views tell what the histories do: the law in terms of views says the same as the one in terms of histories.
 use Rattle.std.specs.Prelude.{ℕ, ◌≡◌, ◌⊎◌, Bool, true, false, ◌&&◌, ◌||◌, Option, Some, None, List, [], ◌∷◌, ◌++◌}
-use Rattle.wait_model.specs.declared.watches.Watch.{Watch}
-use Rattle.wait_model.specs.declared.watches.Watch.TheVariants as watch
-use Rattle.wait_model.specs.declared.watches.Entry.{Entry}
-use Rattle.wait_model.specs.declared.steps.Step.{Step}
-use Rattle.wait_model.specs.declared.steps.Step.TheVariants as step
-use Rattle.wait_model.specs.declared.calls.Ran.{Ran}
-use Rattle.wait_model.specs.Watches.{head_of}
-use Rattle.wait_model.specs.Words.{entry_of, spent_of}
-use Rattle.wait_model.specs.Laws.{TryingBy}
+use Rattle.wait_model.specs.{declared.watches.Watch.Watch, declared.watches.Entry.Entry, declared.steps.Step.Step}
+use Rattle.wait_model.specs.{declared.calls.Ran.Ran, Watches.head_of, Words.entry_of, Words.spent_of, Laws.TryingBy}
+use Rattle.wait_model.specs.{Runs.state_of, Readings.FailedLoad, Readings.ZeroLoad, Tryings.IsTrying, Owed.Owes}
+use Rattle.wait_model.specs.Coverings.{Covering}
 use Rattle.wait_model.specs.Views.{View, Walk, all_passed, all_cleared, concerns, covers}
 use Rattle.wait_model.specs.Fold.{after, view_of, peeks, scanned}
-use Rattle.wait_model.specs.Runs.{state_of}
-use Rattle.wait_model.specs.Readings.{FailedLoad, ZeroLoad}
-use Rattle.wait_model.specs.Tryings.{IsTrying}
 use Rattle.wait_model.specs.Histories.{Lacks, UnlocksHeld, is_mark, publishes}
-use Rattle.wait_model.specs.Owed.{Owes}
-use Rattle.wait_model.specs.Coverings.{Covering}
+use Rattle.wait_model.specs.declared.watches.Watch.TheVariants as watch
+use Rattle.wait_model.specs.declared.steps.Step.TheVariants as step
 
 -- the unlock ends the walk that the view is in: the book shows all entries as passed, or the count is used up
 abbrev pub ends_walk : Option Walk → Bool → View → Watch → ℕ → Bool

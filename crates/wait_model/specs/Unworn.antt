@@ -1,15 +1,13 @@
 -- To be believed.
 -- No run meets a head at which no place is left.
 use Rattle.std.specs.Prelude.{ℕ, ◌≡◌, ◌≢◌, ◌≤◌, List}
-use Rattle.wait_model.specs.declared.layout.TheConstants.{EVENTS}
-use Rattle.wait_model.specs.declared.calls.Call.{Call}
-use Rattle.wait_model.specs.declared.calls.Ran.{Ran}
-use Rattle.wait_model.specs.declared.calls.Answer.TheVariants as answer
+use Rattle.wait_model.specs.{declared.layout.TheConstants.EVENTS, declared.calls.Call.Call, declared.calls.Ran.Ran}
 use Rattle.wait_model.specs.declared.points.Point.{Point}
+use Rattle.wait_model.specs.Runs.{planned, IsRun, state_of, made_in}
+use Rattle.wait_model.specs.declared.calls.Answer.TheVariants as answer
 use Rattle.wait_model.specs.declared.points.Point.TheVariants as at
 use Rattle.wait_model.specs.declared.points.Next.TheVariants as next
 use Rattle.wait_model.specs.declared.points.Progress.TheVariants as now
-use Rattle.wait_model.specs.Runs.{planned, IsRun, state_of, made_in}
 
 -- no call stands after a prepare for which no place was left, and none answers `Worn`
 abbrev pub NoRunWears : Type 0

@@ -4,10 +4,8 @@
 -- together.
 use Rattle.std.specs.Prelude.{ℕ, zero, suc, Bool, true, false, not, ◌&&◌, ◌||◌, ◌==◌, if◌then◌else◌, Option, Some, None}
 use Rattle.std.specs.Prelude.{nat_le, nat_lt}
-use Rattle.wait_model.specs.declared.layout.TheConstants.{ENTRIES}
-use Rattle.wait_model.specs.declared.watches.Watch.{Watch}
-use Rattle.wait_model.specs.declared.watches.Entry.{Entry}
-use Rattle.wait_model.specs.Tasks.{meets}
+use Rattle.wait_model.specs.{declared.layout.TheConstants.ENTRIES, declared.watches.Watch.Watch}
+use Rattle.wait_model.specs.{declared.watches.Entry.Entry, Tasks.meets}
 use Rattle.wait_model.specs.Watches.{same, head_of, is_done, is_bit, is_woken, is_page, is_simple, owner}
 
 -- what a hold has seen of an entry word: nothing, no entry, an entry of another head, or one of its head

@@ -2,17 +2,13 @@
 -- Walks, plainly over a task's history: the hold of a walk, the entries that it has called, and looks without the lock.
 use Rattle.std.specs.Prelude.{ℕ, zero, suc, ◌≡◌, ◌<◌, ◌≤◌, ◌⊎◌, Bool, true, false, not, ◌&&◌, ◌==◌, if◌then◌else◌}
 use Rattle.std.specs.Prelude.{Option, Some, None, List, ◌∷◌, ◌++◌}
-use Rattle.wait_model.specs.declared.layout.TheConstants.{ENTRIES}
-use Rattle.wait_model.specs.declared.watches.Watch.{Watch}
-use Rattle.wait_model.specs.declared.watches.Entry.{Entry}
-use Rattle.wait_model.specs.declared.watches.Aim.{Aim}
-use Rattle.wait_model.specs.declared.steps.Step.{Step}
-use Rattle.wait_model.specs.declared.steps.Step.TheVariants as step
-use Rattle.wait_model.specs.Tasks.{meets}
+use Rattle.wait_model.specs.{declared.layout.TheConstants.ENTRIES, declared.watches.Watch.Watch}
+use Rattle.wait_model.specs.{declared.watches.Entry.Entry, declared.watches.Aim.Aim, declared.steps.Step.Step}
+use Rattle.wait_model.specs.{Tasks.meets, Words.entry_of}
 use Rattle.wait_model.specs.Watches.{same, head_of, is_bit, page, is_woken, is_page, is_simple, mask_of, failing, owner}
 use Rattle.wait_model.specs.Watches.{stands_at, part_of}
-use Rattle.wait_model.specs.Words.{entry_of}
 use Rattle.wait_model.specs.Histories.{Lacks, Since, turns_lock, is_publish, is_mark, marks}
+use Rattle.wait_model.specs.declared.steps.Step.TheVariants as step
 
 -- the task is in a hold whose lock it took for a walk of the watch that meets the state; `inside` is what
 -- it has done in the hold

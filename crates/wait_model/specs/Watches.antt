@@ -2,18 +2,15 @@
 -- What tasks wait for, the heads at which they queue, and when a test fails.
 use Rattle.std.specs.Prelude.{ℕ, ◌+◌, ◌*◌, ◌/◌, ◌%◌, ◌^◌, ◌<◌, nat_lt, Bool, true, false, not, ◌&&◌, ◌==◌}
 use Rattle.std.specs.Prelude.{if◌then◌else◌, Option, Some, None}
+use Rattle.wait_model.specs.{declared.watches.Watch.Watch, declared.watches.Entry.Entry, declared.watches.Kind.Kind}
+use Rattle.wait_model.specs.{declared.watches.Mode.Mode, Words.bit_at}
 use Rattle.wait_model.specs.declared.layout.TheConstants.{SLOTS, PLAIN_CONDITIONS, FIRST_SIMPLE, COMPLETIONS, BIT_WORDS}
 use Rattle.wait_model.specs.declared.layout.TheConstants.{WORD_BITS, VARIABLES, FIRST_DONE, FIRST_BIT_WORD}
 use Rattle.wait_model.specs.declared.layout.TheConstants.{FIRST_VARIABLE, FIRST_PLAIN_HEAD, FIRST_DONE_HEAD}
 use Rattle.wait_model.specs.declared.layout.TheConstants.{INTERRUPTIBLE, NORMAL}
-use Rattle.wait_model.specs.declared.watches.Watch.{Watch}
 use Rattle.wait_model.specs.declared.watches.Watch.TheVariants as watch
-use Rattle.wait_model.specs.declared.watches.Entry.{Entry}
-use Rattle.wait_model.specs.declared.watches.Kind.{Kind}
 use Rattle.wait_model.specs.declared.watches.Kind.TheVariants as kind
-use Rattle.wait_model.specs.declared.watches.Mode.{Mode}
 use Rattle.wait_model.specs.declared.watches.Mode.TheVariants as mode
-use Rattle.wait_model.specs.Words.{bit_at}
 
 -- the bit of a page
 abbrev pub page : ℕ → Watch

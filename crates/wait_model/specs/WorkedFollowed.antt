@@ -1,21 +1,19 @@
 -- A check of the definitions.
 -- Worked scripts of setters that are followed through time: that the law speaks of them.
 use Rattle.std.specs.Prelude.{◌≡◌, ◌+◌, true, false, Some, List, [], ◌∷◌, ◌++◌}
+use Rattle.wait_model.specs.{declared.calls.Ran.Ran, declared.watches.Entry.Entry, Followed.IsFollowed}
+use Rattle.wait_model.specs.Words.{entry_word}
 use Rattle.wait_model.specs.declared.layout.TheConstants.{FIRST_PLACE, FIRST_PLAIN_HEAD, UNINTERRUPTIBLE, RUNNABLE}
+use Rattle.wait_model.specs.Worked.{Line, opens, runs, replay, plainly}
 use Rattle.wait_model.specs.declared.calls.Call.TheVariants as calls
 use Rattle.wait_model.specs.declared.calls.Event.TheVariants as event
-use Rattle.wait_model.specs.declared.calls.Ran.{Ran}
 use Rattle.wait_model.specs.declared.calls.Ran.TheVariants as ran
 use Rattle.wait_model.specs.declared.queues.Form.TheVariants as forms
 use Rattle.wait_model.specs.declared.tasks.Sleep.TheVariants as sleeps
 use Rattle.wait_model.specs.declared.tasks.SleepState.TheVariants as states
-use Rattle.wait_model.specs.declared.watches.Entry.{Entry}
 use Rattle.wait_model.specs.declared.watches.Kind.TheVariants as kind
 use Rattle.wait_model.specs.declared.watches.Watch.TheVariants as watch
 use Rattle.wait_model.specs.declared.watches.Mode.TheVariants as modes
-use Rattle.wait_model.specs.Followed.{IsFollowed}
-use Rattle.wait_model.specs.Words.{entry_word}
-use Rattle.wait_model.specs.Worked.{Line, opens, runs, replay, plainly}
 
 -- task 1 keeps bit 0 of word 0 and clears it; nobody waits, so its look for members finds none
 abbrev pub cleared_alone : List Line

@@ -2,17 +2,13 @@
 -- Permits in small histories: two tasks wait for a completion, a third raises its count and takes the first of them
 -- off, and the first takes the permit.
 use Rattle.std.specs.Prelude.{ℕ, ◌≡◌, ◌+◌, ◌^◌, true, false, None, List, [], ◌∷◌}
-use Rattle.wait_model.specs.declared.layout.TheConstants.{ALL_DONE}
-use Rattle.wait_model.specs.declared.steps.Step.{Step}
+use Rattle.wait_model.specs.{declared.layout.TheConstants.ALL_DONE, declared.steps.Step.Step}
+use Rattle.wait_model.specs.{declared.watches.Entry.Entry, Runs.own, Watches.stands_at, Words.entry_word}
+use Rattle.wait_model.specs.Permits.{dealt, done_head, handed_to, is_handed}
+use Rattle.wait_model.specs.Tables.{Table, start, steps}
 use Rattle.wait_model.specs.declared.steps.Step.TheVariants as step
-use Rattle.wait_model.specs.declared.watches.Entry.{Entry}
 use Rattle.wait_model.specs.declared.watches.Kind.TheVariants as kind
 use Rattle.wait_model.specs.declared.watches.Watch.TheVariants as watch
-use Rattle.wait_model.specs.Permits.{dealt, done_head, handed_to, is_handed}
-use Rattle.wait_model.specs.Runs.{own}
-use Rattle.wait_model.specs.Tables.{Table, start, steps}
-use Rattle.wait_model.specs.Watches.{stands_at}
-use Rattle.wait_model.specs.Words.{entry_word}
 
 abbrev pub entry_at : ℕ → Entry
 entry_at place = record {

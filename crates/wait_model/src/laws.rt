@@ -1,29 +1,19 @@
 //! The laws of wait queues: of single steps over tables, and of whole runs.
 
-ghost use Rattle.wait_model.specs.BitKeepers.{KeepsTold, BitsStartKept, BitsStayKept, EveryRunKeepsBits};
-ghost use Rattle.wait_model.specs.Completions.{NoRunMiscounts};
-ghost use Rattle.wait_model.specs.DoneCounts.{CountsStartBalanced, CountsStayBalanced, TakesAreCompleted};
-ghost use Rattle.wait_model.specs.Facts.{StepKeeps, StartKept};
-ghost use Rattle.wait_model.specs.Followed.{SettersLeaveNobody};
-ghost use Rattle.wait_model.specs.Lent.{NoRunLeavesPage};
-ghost use Rattle.wait_model.specs.Making.{SentencesAreMade, ProgramsFollow};
-ghost use Rattle.wait_model.specs.Openings.{FreshTold};
-ghost use Rattle.wait_model.specs.PermitFacts.{AccountedAreHanded, PermitsStartAccounted, PermitsStayAccounted};
-ghost use Rattle.wait_model.specs.Permits.{EveryRunHandsPermitsOn};
-ghost use Rattle.wait_model.specs.Programs.{WalksGoByAims};
-ghost use Rattle.wait_model.specs.Scans.{EmptyLooksEnd, FoundBitsEndNothing, WorkedScans};
-ghost use Rattle.wait_model.specs.Selections.{RunsAreOrderly};
-ghost use Rattle.wait_model.specs.SignalCounts.{SignalsStartRaised, SignalsStayRaised, NoRunInventsSignals};
-ghost use Rattle.wait_model.specs.Spoken.{CallsFollowSentences, OpenCallsBegin};
-ghost use Rattle.wait_model.specs.Told.{CoveringTold, FailedTold, OwesTold, OwingTold, TryingTold, ViewsTold, ZeroTold};
-ghost use Rattle.wait_model.specs.Unworn.{NoRunWears};
-ghost use Rattle.wait_model.specs.Waiters.{NoRunLosesWaiter};
-ghost use Rattle.wait_model.specs.Wakes.{NoRunLosesWake};
-ghost use Rattle.wait_model.specs.Worked.{ReplaysRun, WorkedScripts};
-ghost use Rattle.wait_model.specs.WorkedBits.{WorkedBits};
-ghost use Rattle.wait_model.specs.WorkedFollowed.{WorkedFollowed};
-ghost use Rattle.wait_model.specs.WorkedForms.{WorkedForms};
+ghost use Rattle.wait_model.specs.{Completions.NoRunMiscounts, Facts.StepKeeps, Facts.StartKept};
+ghost use Rattle.wait_model.specs.{Followed.SettersLeaveNobody, Lent.NoRunLeavesPage, Making.SentencesAreMade};
+ghost use Rattle.wait_model.specs.{Making.ProgramsFollow, Openings.FreshTold, Permits.EveryRunHandsPermitsOn};
+ghost use Rattle.wait_model.specs.{Programs.WalksGoByAims, Selections.RunsAreOrderly, Spoken.CallsFollowSentences};
+ghost use Rattle.wait_model.specs.{Spoken.OpenCallsBegin, Unworn.NoRunWears, Waiters.NoRunLosesWaiter};
+ghost use Rattle.wait_model.specs.{Wakes.NoRunLosesWake, Worked.ReplaysRun, Worked.WorkedScripts};
+ghost use Rattle.wait_model.specs.{WorkedBits.WorkedBits, WorkedFollowed.WorkedFollowed, WorkedForms.WorkedForms};
 ghost use Rattle.wait_model.specs.WorkedPermits.{WorkedPermits};
+ghost use Rattle.wait_model.specs.BitKeepers.{KeepsTold, BitsStartKept, BitsStayKept, EveryRunKeepsBits};
+ghost use Rattle.wait_model.specs.DoneCounts.{CountsStartBalanced, CountsStayBalanced, TakesAreCompleted};
+ghost use Rattle.wait_model.specs.PermitFacts.{AccountedAreHanded, PermitsStartAccounted, PermitsStayAccounted};
+ghost use Rattle.wait_model.specs.Scans.{EmptyLooksEnd, FoundBitsEndNothing, WorkedScans};
+ghost use Rattle.wait_model.specs.SignalCounts.{SignalsStartRaised, SignalsStayRaised, NoRunInventsSignals};
+ghost use Rattle.wait_model.specs.Told.{CoveringTold, FailedTold, OwesTold, OwingTold, TryingTold, ViewsTold, ZeroTold};
 
 /// Each step that a task may make leads from a table that meets the laws to such a table again.
 pub fn step_keeps()

@@ -2,39 +2,31 @@
 use Rattle.std.proofs.Common.{refl, sym, ◌∙◌, ap, subst, arith, inl, inr, append-nil, append_assoc}
 use Rattle.std.specs.Prelude.{ℕ, ◌≡◌, ◌<◌, ◌+◌, ◌++◌, ◌==◌, if◌then◌else◌}
 use Rattle.std.specs.Prelude.{Bool, true, false, None, List, [], ◌∷◌, Result}
-use Rattle.wait_model.specs.declared.layout.TheConstants.{BIT_WORDS, FIRST_DONE_HEAD}
+use Rattle.wait_model.specs.{declared.layout.TheConstants.BIT_WORDS, declared.layout.TheConstants.FIRST_DONE_HEAD}
+use Rattle.wait_model.specs.{declared.queues.Walked.Walked, declared.tasks.SleepState.SleepState, Watches.head_of}
 use Rattle.wait_model.specs.declared.calls.Call.TheVariants as calls
 use Rattle.wait_model.specs.declared.calls.Answer.TheVariants as answer
 use Rattle.wait_model.specs.declared.points.Next.TheVariants as next
 use Rattle.wait_model.specs.declared.points.Point.TheVariants as at
 use Rattle.wait_model.specs.declared.points.WalkPoint.TheVariants as walking
-use Rattle.wait_model.specs.declared.queues.Walked.{Walked}
 use Rattle.wait_model.specs.declared.steps.Step.TheVariants as step
-use Rattle.wait_model.specs.declared.tasks.SleepState.{SleepState}
 use Rattle.wait_model.specs.declared.watches.Watch.TheVariants as watch
-use Rattle.wait_model.specs.Watches.{head_of}
 use Rattle.wait_rule.specs.declared.journal.EndAct.TheVariants as act
-use Rattle.wait_rule.specs.declared.journal.Item.{Item}
-use Rattle.wait_rule.specs.declared.journal.Item.TheVariants as item
+use Rattle.wait_rule.specs.{declared.journal.Item.Item, Known.Known, PipeSays.end_at, Tallies.amount_of}
 use Rattle.wait_rule.specs.Aside.{IsAsideItem, raised_by, signals_of}
-use Rattle.wait_rule.specs.Known.{Known}
 use Rattle.wait_rule.specs.Pipes.{End, end_item, no_end, with_cell}
-use Rattle.wait_rule.specs.PipeSays.{end_at}
 use Rattle.wait_rule.specs.Says.{added, grown, told_of}
-use Rattle.wait_rule.specs.Tallies.{amount_of}
 use Rattle.wait_rule.specs.Transitions.{AreScansOf, call_program, walk_program}
+use Rattle.wait_rule.specs.declared.journal.Item.TheVariants as item
+use Rattle.wait_rule.proofs.{KnownLaws.OtherCalls.others_stay_off, KnownLaws.PipeItems.end_append}
+use Rattle.wait_rule.proofs.{KnownLaws.TallySteps.amounts_append, KnownLaws.Transitions.grown_more}
+use Rattle.wait_rule.proofs.KnownLaws.Transitions.{grown_none}
 use Rattle.wait_rule.proofs.KnownLaws.AsideCalls.{aside_join, calls_grow_aside, items_stay_off, step_mine}
 use Rattle.wait_rule.proofs.KnownLaws.AsideCalls.{walks_grow_aside}
-use Rattle.wait_rule.proofs.KnownLaws.OtherCalls.{others_stay_off}
-use Rattle.wait_rule.proofs.KnownLaws.PipeItems.{end_append}
-use Rattle.wait_rule.proofs.KnownLaws.TallySteps.{amounts_append}
-use Rattle.wait_rule.proofs.KnownLaws.Transitions.{grown_more, grown_none}
 use Rattle.wait_event.specs.declared.wait_events.WaitEnd.{WaitEnd}
 use Rattle.wq_head.proofs.FullHeads.{hashed_low}
-use Rattle.wq_head.specs.Scanned.{HasScanned}
-use Rattle.wq_head.specs.Walks.{HasWoken}
-use Rattle.var_wait.specs.VarPublishes.{aim_of}
-use Rattle.var_wait.specs.VarWaits.{EndsVarWait, answer_of_var_end}
+use Rattle.wq_head.specs.{Scanned.HasScanned, Walks.HasWoken}
+use Rattle.var_wait.specs.{VarPublishes.aim_of, VarWaits.EndsVarWait, VarWaits.answer_of_var_end}
 use Rattle.wait_pipe.specs.Pieces.{LeavesAside}
 
 pub quiet_on : (x y z : Known) → LeavesAside x y → LeavesAside y z → LeavesAside x z

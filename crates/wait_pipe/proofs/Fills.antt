@@ -11,14 +11,12 @@ use Rattle.wait_model.specs.declared.queues.Walked.{Walked}
 use Rattle.wait_model.specs.declared.steps.Step.TheVariants as step
 use Rattle.wait_model.specs.declared.watches.Watch.TheVariants as watch
 use Rattle.wait_rule.specs.declared.journal.EndAct.TheVariants as act
-use Rattle.wait_rule.specs.declared.journal.Item.{Item}
-use Rattle.wait_rule.specs.declared.journal.Item.TheVariants as item
-use Rattle.wait_rule.specs.Known.{Known}
-use Rattle.wait_rule.specs.Says.{added, grown}
+use Rattle.wait_rule.specs.{declared.journal.Item.Item, Known.Known, Says.added, Says.grown, Stays.Carries}
+use Rattle.wait_rule.specs.Stays.{unchanged}
 use Rattle.wait_rule.specs.Pipes.{End, bytes_in, cell_bytes, end_word, moved_bytes, with_all_passed, read_end}
 use Rattle.wait_rule.specs.Pipes.{with_cell, word_counts, write_end}
 use Rattle.wait_rule.specs.PipeSays.{EndBecomes, IsOpen, KeepsEnd, end_at, reading, writing}
-use Rattle.wait_rule.specs.Stays.{Carries, unchanged}
+use Rattle.wait_rule.specs.declared.journal.Item.TheVariants as item
 use Rattle.wait_rule.proofs.KnownLaws.CarriedTasks.{unchanged_none, unchanged_on}
 use Rattle.var_wait.specs.VarPublishes.{HasPublished}
 use Rattle.wait_pipe.specs.Pieces.{HasSeen, IsAtEnd, IsSettled, Moved, OtherPipesStay, LeavesAside, ShowsNoCell}

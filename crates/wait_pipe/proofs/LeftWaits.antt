@@ -1,66 +1,46 @@
 -- Waits for the other end of a pipe that their task leaves: what stays of the task, whatever way it went.
 use Rattle.std.proofs.Common.{refl, sym, ◌∙◌, ap, subst, append-nil, append_assoc}
 use Rattle.std.specs.Prelude.{ℕ, ◌≡◌, ◌≢◌, ◌<◌, ◌/◌, ◌++◌, Bool, true, false, None, Result, Ok, Err, List, [], ◌∷◌}
-use Rattle.wait_model.specs.declared.layout.TheConstants.{FIRST_DONE_HEAD, PIPE_ENDS}
-use Rattle.wait_model.specs.declared.calls.Event.{Event}
+use Rattle.wait_model.specs.{declared.layout.TheConstants.FIRST_DONE_HEAD, declared.layout.TheConstants.PIPE_ENDS}
+use Rattle.wait_model.specs.{declared.calls.Event.Event, declared.points.Next.Next, declared.points.Point.Point}
+use Rattle.wait_model.specs.{declared.steps.Step.Step, declared.tasks.How.How, declared.tasks.SleepState.SleepState}
+use Rattle.wait_model.specs.{declared.watches.Entry.Entry, declared.watches.Watch.Watch, Watches.bare, Watches.head_of}
 use Rattle.wait_model.specs.declared.calls.Event.TheVariants as event
-use Rattle.wait_model.specs.declared.points.Next.{Next}
 use Rattle.wait_model.specs.declared.points.Next.TheVariants as next
-use Rattle.wait_model.specs.declared.points.Point.{Point}
 use Rattle.wait_model.specs.declared.points.Point.TheVariants as at
-use Rattle.wait_model.specs.declared.steps.Step.{Step}
 use Rattle.wait_model.specs.declared.steps.Step.TheVariants as step
-use Rattle.wait_model.specs.declared.tasks.How.{How}
-use Rattle.wait_model.specs.declared.tasks.SleepState.{SleepState}
 use Rattle.wait_model.specs.declared.tasks.SleepState.TheVariants as state
-use Rattle.wait_model.specs.declared.watches.Entry.{Entry}
-use Rattle.wait_model.specs.declared.watches.Watch.{Watch}
 use Rattle.wait_model.specs.declared.watches.Watch.TheVariants as watch
-use Rattle.wait_model.specs.Watches.{bare, head_of}
-use Rattle.wait_rule.specs.declared.journal.Item.{Item}
-use Rattle.wait_rule.specs.declared.journal.Item.TheVariants as item
-use Rattle.wait_rule.specs.Aside.{GrowsAside, raises_none}
-use Rattle.wait_rule.specs.Known.{Known}
-use Rattle.wait_rule.specs.Pipes.{no_end, other_end}
+use Rattle.wait_rule.specs.{declared.journal.Item.Item, Aside.GrowsAside, Aside.raises_none, Known.Known, Pipes.no_end}
+use Rattle.wait_rule.specs.{Pipes.other_end, Queues.IsIdle, Queues.index, Stays.Carries}
 use Rattle.wait_rule.specs.PipeSays.{EndsKept, KeepsEnd, end_at}
-use Rattle.wait_rule.specs.Queues.{IsIdle, index}
 use Rattle.wait_rule.specs.Says.{IsUp, added, history_of, told_of}
-use Rattle.wait_rule.specs.Stays.{Carries}
 use Rattle.wait_rule.specs.Transitions.{Goes, IsStepFor, Program, Transition}
+use Rattle.wait_rule.specs.declared.journal.Item.TheVariants as item
+use Rattle.wait_rule.proofs.{KnownLaws.CalledPermits.left_on, KnownLaws.CarriedEnds.programs_keep_ends}
+use Rattle.wait_rule.proofs.{KnownLaws.HandedSteps.AddsLow, KnownLaws.HandedSteps.AllAddLow}
+use Rattle.wait_rule.proofs.{KnownLaws.PipeItems.end_append, KnownLaws.TaskHistories.history_after}
 use Rattle.wait_rule.proofs.KnownLaws.AsideCalls.{aside_join, calls_grow_aside, more_aside}
-use Rattle.wait_rule.proofs.KnownLaws.CalledPermits.{left_on}
-use Rattle.wait_rule.proofs.KnownLaws.CarriedEnds.{programs_keep_ends}
-use Rattle.wait_rule.proofs.KnownLaws.HandedSteps.{AddsLow, AllAddLow}
 use Rattle.wait_rule.proofs.KnownLaws.OtherCalls.{Adding, AddsBy, AllAddBy, goes_adding}
-use Rattle.wait_rule.proofs.KnownLaws.PipeItems.{end_append}
-use Rattle.wait_rule.proofs.KnownLaws.TaskHistories.{history_after}
-use Rattle.wait_class.specs.Posts.{IsOut}
-use Rattle.wait_class.specs.Tables.{next_in, plan_program}
-use Rattle.wait_class.specs.Wholes.{HasRested}
-use Rattle.wait_class.specs.declared.stages.Run.{Run}
-use Rattle.wait_class.specs.declared.stages.Turn.{Turn}
+use Rattle.wait_class.specs.{Posts.IsOut, Tables.next_in, Tables.plan_program, Wholes.HasRested}
+use Rattle.wait_class.specs.{declared.stages.Run.Run, declared.stages.Turn.Turn}
 use Rattle.wait_class.specs.declared.stages.Turn.TheVariants as turn
 use Rattle.wait_leave.specs.Leaves.{GoesOut, asked_run}
 use Rattle.wait_leave.specs.OnTheWay.{OnTheWay, left_at, straight}
-use Rattle.wait_event.specs.Ends.{wait_change}
-use Rattle.wait_event.specs.WaitLeaves.{FoundUnset, IsAskedWait, IsWaitCause, wait_exits}
-use Rattle.wait_event.specs.WaitPlans.{IsWaitFor, call_for}
-use Rattle.wait_event.specs.Waits.{SameCall, wait_point_at, wait_table}
-use Rattle.wait_event.specs.declared.wait_events.WaitEnd.{WaitEnd}
-use Rattle.wait_event.specs.declared.wait_leaves.WaitUntil.{WaitUntil}
-use Rattle.wait_event.specs.declared.wait_leaves.WaitUntil.TheVariants as wait_until
-use Rattle.wait_event.specs.declared.waits.WaitCall.{WaitCall}
-use Rattle.wait_event.specs.declared.waits.WaitOutcome.{WaitOutcome}
+use Rattle.wait_event.specs.{Ends.wait_change, WaitPlans.IsWaitFor, WaitPlans.call_for}
+use Rattle.wait_event.specs.{declared.wait_events.WaitEnd.WaitEnd, declared.wait_leaves.WaitUntil.WaitUntil}
+use Rattle.wait_event.specs.{declared.waits.WaitCall.WaitCall, declared.waits.WaitOutcome.WaitOutcome}
 use Rattle.wait_event.specs.declared.waits.WaitStage.{WaitStage}
+use Rattle.wait_event.specs.WaitLeaves.{FoundUnset, IsAskedWait, IsWaitCause, wait_exits}
+use Rattle.wait_event.specs.Waits.{SameCall, wait_point_at, wait_table}
+use Rattle.wait_event.specs.declared.wait_leaves.WaitUntil.TheVariants as wait_until
 use Rattle.wait_event.specs.declared.waits.WaitStage.TheVariants as stage
-use Rattle.wait_event.proofs.Plans.{program_is}
-use Rattle.var_wait.specs.VarLeaves.{EndsVarUntil, until_loaded}
-use Rattle.var_wait.specs.VarWaits.{shared_in}
+use Rattle.wait_event.proofs.{Plans.program_is, Changes.keeps_join, Changes.keeps_same}
+use Rattle.var_wait.specs.{VarLeaves.EndsVarUntil, VarLeaves.until_loaded, VarWaits.shared_in}
 use Rattle.wait_pipe.specs.PieceLeaves.{AwaitsUntil, IsPieceUntil, end_of_until}
 use Rattle.wait_pipe.specs.Pieces.{ShowsNoCell, WaitsAtPipe}
 use Rattle.wait_pipe.proofs.Asides.{quiet_none, var_low}
 use Rattle.wait_pipe.proofs.Looking.{end_cause, none_kept, waits_by}
-use Rattle.wait_event.proofs.Changes.{keeps_join, keeps_same}
 
 -- An entry at no completion, and steps that queue no other.
 abbrev IsLow : Entry → Type 0

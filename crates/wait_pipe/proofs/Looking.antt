@@ -13,31 +13,26 @@ use Rattle.wait_model.specs.declared.tasks.SleepState.{SleepState}
 use Rattle.wait_model.specs.declared.tasks.SleepState.TheVariants as state
 use Rattle.wait_model.specs.declared.steps.Step.TheVariants as step
 use Rattle.wait_model.specs.declared.watches.Watch.TheVariants as watch
-use Rattle.wait_rule.specs.declared.journal.Item.{Item}
-use Rattle.wait_rule.specs.declared.journal.Item.TheVariants as item
-use Rattle.wait_rule.specs.Known.{Known}
+use Rattle.wait_rule.specs.{declared.journal.Item.Item, Known.Known, Stays.Carries, Stays.unchanged}
+use Rattle.wait_rule.specs.{Transitions.call_program, Transitions.Transition}
 use Rattle.wait_rule.specs.Pipes.{End, after_end_look, count_on, end_item, end_word, if_unclosed, no_end, other_end}
 use Rattle.wait_rule.specs.Pipes.{read_end, word_counts, write_end}
 use Rattle.wait_rule.specs.PipeSays.{EndsKept, IsOpen, IsSoundEnd, KeepsEnd, end_at}
 use Rattle.wait_rule.specs.Queues.{IsAgreedHold, IsIdle, index}
 use Rattle.wait_rule.specs.Says.{IsFree, IsUp, added, told_of}
-use Rattle.wait_rule.specs.Stays.{Carries, unchanged}
-use Rattle.wait_rule.specs.Transitions.{call_program}
+use Rattle.wait_rule.specs.declared.journal.Item.TheVariants as item
 use Rattle.wait_rule.proofs.KnownLaws.PipeWords.{test_off, test_on}
 use Rattle.wait_rule.proofs.KnownLaws.PipeItems.{end_append, other_r, other_w}
 use Rattle.wait_rule.proofs.KnownLaws.CarriedEnds.{programs_keep_ends}
 use Rattle.wait_class.specs.Posts.{IsOut}
+use Rattle.wait_event.specs.{Waits.has_queued_in, declared.wait_events.WaitEnd.WaitEnd}
 use Rattle.wait_event.specs.Ends.{IsEndCause, WasSignalled, wait_change}
-use Rattle.wait_event.specs.Waits.{has_queued_in}
-use Rattle.wait_event.specs.declared.wait_events.WaitEnd.{WaitEnd}
 use Rattle.wait_event.specs.declared.wait_events.WaitEnd.TheVariants as wait_end
 use Rattle.var_wait.specs.VarWaits.{EndsVarWait, IsVarCause, answer_of_var_end, shared_in}
-use Rattle.wait_rule.specs.Transitions.{Transition}
-use Rattle.wait_pipe.specs.Pieces.{HasSeen, IsReadCause, OtherPipesStay, LeavesAside, ShowsNoCell, WaitsAtPipe, end_of_wait}
-use Rattle.wait_pipe.specs.PipeStates.{OnlyLooked}
-use Rattle.wait_pipe.specs.Trails.{AwaitsOther, LoadsOther}
-use Rattle.wait_pipe.specs.declared.pieces.PipeEnd.{PipeEnd}
-use Rattle.wait_pipe.specs.declared.looks.Look.{Look}
+use Rattle.wait_pipe.specs.{PipeStates.OnlyLooked, Trails.AwaitsOther, Trails.LoadsOther}
+use Rattle.wait_pipe.specs.{declared.pieces.PipeEnd.PipeEnd, declared.looks.Look.Look}
+use Rattle.wait_pipe.specs.Pieces.{HasSeen, IsReadCause, OtherPipesStay, LeavesAside, ShowsNoCell, WaitsAtPipe}
+use Rattle.wait_pipe.specs.Pieces.{end_of_wait}
 use Rattle.wait_pipe.proofs.Asides.{quiet_load, waited_quiet}
 use Rattle.wait_pipe.proofs.PieceChanges.{free_still, idle_still, of_wait, out_still, rests_still, settled_still}
 

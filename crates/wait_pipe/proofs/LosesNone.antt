@@ -3,24 +3,18 @@ use Rattle.std.proofs.Common.{◌∙◌, ap, arith, inl, inr, refl, subst, sym}
 use Rattle.std.proofs.lemmas.Bool.Decides.{nat_tests}
 use Rattle.std.specs.Prelude.{ℕ, ◌≡◌, ◌≢◌, ◌<◌, ◌≤◌, ◌+◌, ◌/◌, ◌%◌, ◌==◌, ◌⊎◌, not, if◌then◌else◌, Bool, true, false}
 use Rattle.std.specs.Prelude.{List}
+use Rattle.wait_model.specs.{declared.watches.Entry.Entry, Tables.met, Watches.owner}
 use Rattle.wait_model.specs.declared.layout.TheConstants.{CLAIMS, PIPES, PIPE_CELLS, PIPE_ENDS}
-use Rattle.wait_model.specs.declared.watches.Entry.{Entry}
+use Rattle.wait_model.specs.Wakes.{IsCovered, IsTried, UsedUp}
 use Rattle.wait_model.specs.declared.watches.Mode.TheVariants as mode
 use Rattle.wait_model.specs.declared.watches.Watch.TheVariants as watch
-use Rattle.wait_model.specs.Tables.{met}
-use Rattle.wait_model.specs.Wakes.{IsCovered, IsTried, UsedUp}
-use Rattle.wait_model.specs.Watches.{owner}
 use Rattle.wait_model.specs.Locations as place
-use Rattle.wait_rule.specs.declared.journal.Item.{Item}
-use Rattle.wait_rule.specs.Journals.{Scene}
-use Rattle.wait_rule.specs.Known.{Known}
-use Rattle.wait_rule.specs.LosesNone.{IsCoveredByOther, LeavesNoneAsleep}
+use Rattle.wait_rule.specs.{declared.journal.Item.Item, Journals.Scene, Known.Known, LosesNone.IsCoveredByOther}
+use Rattle.wait_rule.specs.{LosesNone.LeavesNoneAsleep, Rule.Law}
 use Rattle.wait_rule.specs.Pipes.{End, IsFlow, IsPipe, end_of, end_word, other_end, read_end, word_counts, write_end}
-use Rattle.wait_rule.specs.Rule.{Law}
-use Rattle.wait_rule.proofs.KnownLaws.PipeEnds.{by_side, own_r, own_w}
-use Rattle.wait_rule.proofs.KnownLaws.PipeItems.{other_r, other_w}
-use Rattle.wait_rule.proofs.KnownLaws.PipeWords.{test_on}
+use Rattle.wait_rule.proofs.{KnownLaws.PipeItems.other_r, KnownLaws.PipeItems.other_w, KnownLaws.PipeWords.test_on}
 use Rattle.wait_rule.proofs.KnownLaws.TableLaws.{rule_loses_none}
+use Rattle.wait_rule.proofs.KnownLaws.PipeEnds.{by_side, own_r, own_w}
 use Rattle.var_wait.proofs.LosesNone.{publishes_lose_none}
 use Rattle.wait_pipe.specs.Pieces.{ShowsNoCell}
 use Rattle.wait_pipe.specs.LosesNone.{ClosesLoseNone, HasCell, LeavesNoneAtOther, PassesLoseNone, PipesLoseNone}

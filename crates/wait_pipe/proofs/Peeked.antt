@@ -2,14 +2,9 @@
 use Rattle.std.proofs.Common.{arith, refl, sym}
 use Rattle.std.specs.Prelude.{ℕ, ◌≡◌, ◌≤◌, ◌+◌, ◌-◌, ◌%◌}
 use Rattle.wait_model.specs.declared.layout.TheConstants.{PIPE_CELLS}
-use Rattle.wait_rule.specs.Known.{Known}
-use Rattle.wait_rule.specs.Pipes.{read_end, word_counts}
-use Rattle.wait_rule.specs.PipeSays.{reading}
-use Rattle.wait_pipe.specs.declared.looks.Look.{Look}
-use Rattle.wait_pipe.specs.declared.peeks.PipeState.{PipeState}
-use Rattle.wait_pipe.specs.Pieces.{HasSeen, IsSettled}
-use Rattle.wait_pipe.specs.PipeStates.{PeeksRead, TellsOfPipe}
-use Rattle.wait_pipe.specs.Trails.{LoadsOther}
+use Rattle.wait_rule.specs.{Known.Known, Pipes.read_end, Pipes.word_counts, PipeSays.reading}
+use Rattle.wait_pipe.specs.{declared.looks.Look.Look, declared.peeks.PipeState.PipeState, Pieces.HasSeen}
+use Rattle.wait_pipe.specs.{Pieces.IsSettled, PipeStates.PeeksRead, PipeStates.TellsOfPipe, Trails.LoadsOther}
 use Rattle.wait_pipe.proofs.Fills.{at_end, look_shows, none_there, there_is}
 
 module _ (p : ℕ) (old new : Known) (l : Look) (seen : HasSeen (read_end p) new l) (settled : IsSettled (reading p new))

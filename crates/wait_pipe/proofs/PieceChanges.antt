@@ -4,10 +4,8 @@ use Rattle.std.specs.Prelude.{ℕ, ◌≡◌, ◌/◌, if◌then◌else◌, Bool
 use Rattle.wait_model.specs.declared.layout.TheConstants.{PIPE_ENDS}
 use Rattle.wait_model.specs.declared.watches.Mode.TheVariants as mode
 use Rattle.wait_model.specs.declared.watches.Watch.TheVariants as watch
-use Rattle.wait_rule.specs.Known.{Known}
-use Rattle.wait_rule.specs.Pipes.{End, new_end}
+use Rattle.wait_rule.specs.{Known.Known, Pipes.End, Pipes.new_end, Queues.IsIdle, Queues.index}
 use Rattle.wait_rule.specs.PipeSays.{EndBecomes, KeepsEnd, end_at}
-use Rattle.wait_rule.specs.Queues.{IsIdle, index}
 use Rattle.wait_rule.specs.Says.{Excuse, IsFree, IsUp, told_of}
 use Rattle.wait_rule.specs.Stays.{Carries, Change, publish_change, unchanged, wake_all_change}
 use Rattle.wait_rule.proofs.KnownLaws.CarriedTasks.{unchanged_none}

@@ -2,8 +2,8 @@
 use Rattle.std.proofs.Common.{refl, sym, ◌∙◌, ap, subst, arith}
 use Rattle.std.specs.Prelude.{ℕ, zero, suc, ◌≡◌, ◌<◌, ◌≤◌, ◌+◌, ◌/◌, ◌%◌, ◌==◌, ◌&&◌, not, if◌then◌else◌, Bool, true}
 use Rattle.std.specs.Prelude.{false, Result, Ok, Err, List, [], ◌∷◌, ◌++◌, length, take}
-use Rattle.wait_model.specs.declared.layout.TheConstants.{PIPE_CELLS}
-use Rattle.wait_model.specs.declared.calls.Answer.{Answer}
+use Rattle.wait_model.specs.{declared.layout.TheConstants.PIPE_CELLS, declared.calls.Answer.Answer, Programs.signalled}
+use Rattle.wait_model.specs.{Programs.zero_answer, Sentences.Follows}
 use Rattle.wait_model.specs.declared.calls.Answer.TheVariants as answer
 use Rattle.wait_model.specs.declared.calls.Call.TheVariants as calls
 use Rattle.wait_model.specs.declared.points.Point.TheVariants as at
@@ -11,36 +11,26 @@ use Rattle.wait_model.specs.declared.points.Next.TheVariants as next
 use Rattle.wait_model.specs.declared.steps.Step.TheVariants as step
 use Rattle.wait_model.specs.declared.tasks.SleepState.TheVariants as state
 use Rattle.wait_model.specs.declared.watches.Watch.TheVariants as watch
-use Rattle.wait_model.specs.Programs.{signalled, zero_answer}
-use Rattle.wait_model.specs.Sentences.{Follows}
 use Rattle.wait_rule.specs.declared.journal.EndAct.TheVariants as act
 use Rattle.wait_rule.specs.declared.journal.Item.TheVariants as item
-use Rattle.wait_rule.specs.declared.journal.Journal.{Journal}
-use Rattle.wait_rule.specs.Aside.{Grows, GrowsAside}
-use Rattle.wait_rule.specs.Heeding.{EndsSignalled, trail_of}
-use Rattle.wait_rule.specs.Known.{Known}
+use Rattle.wait_rule.specs.{declared.journal.Journal.Journal, Aside.Grows, Aside.GrowsAside, Heeding.EndsSignalled}
+use Rattle.wait_rule.specs.{Heeding.trail_of, Known.Known, PipeSays.KeepsEnd, PipeSays.end_at, Transitions.call_program}
 use Rattle.wait_rule.specs.Pipes.{End, after_end_look, end_word, if_unclosed, no_end, other_end, word_counts}
-use Rattle.wait_rule.specs.PipeSays.{KeepsEnd, end_at}
 use Rattle.wait_rule.specs.Says.{MeetsLaw, added, grown}
-use Rattle.wait_rule.specs.Transitions.{call_program}
-use Rattle.wait_rule.proofs.KnownLaws.AsideCalls.{aside_join, calls_grow_aside}
-use Rattle.wait_rule.proofs.KnownLaws.CarriedEnds.{programs_keep_ends}
-use Rattle.wait_rule.proofs.KnownLaws.PipeItems.{end_append}
-use Rattle.wait_rule.proofs.SaidEvents.FollowedRuns.{runs_follow}
-use Rattle.wait_rule.proofs.SaidEvents.Fronts.{number_stays}
-use Rattle.wait_event.specs.declared.wait_events.WaitEnd.{WaitEnd}
+use Rattle.wait_rule.proofs.{KnownLaws.AsideCalls.aside_join, KnownLaws.AsideCalls.calls_grow_aside}
+use Rattle.wait_rule.proofs.{KnownLaws.CarriedEnds.programs_keep_ends, KnownLaws.PipeItems.end_append}
+use Rattle.wait_rule.proofs.{SaidEvents.FollowedRuns.runs_follow, SaidEvents.Fronts.number_stays}
+use Rattle.wait_rule.proofs.{KnownLaws.Transitions.grown_more, KnownLaws.Transitions.grown_none}
+use Rattle.wait_event.specs.{declared.wait_events.WaitEnd.WaitEnd, Words.call_says}
 use Rattle.wait_event.specs.declared.wait_events.WaitEnd.TheVariants as wait_end
-use Rattle.wait_event.specs.Words.{call_says}
 use Rattle.var_wait.specs.VarWaits.{EndsVarWait, answer_of_var_end}
 use Rattle.var_wait.proofs.VarWords.{publishes_follow, var_waits_heed}
-use Rattle.wait_pipe.specs.declared.pieces.PipeEnd.{PipeEnd}
-use Rattle.wait_pipe.specs.declared.pieces.PipeEnd.TheVariants as pipe_end
-use Rattle.wait_pipe.specs.Pieces.{end_of_wait}
+use Rattle.wait_pipe.specs.{declared.pieces.PipeEnd.PipeEnd, Pieces.end_of_wait}
 use Rattle.wait_pipe.specs.Trails.{LooksOver, PassesCells, ReadEnds, WaitingTurn, WaitingTurns, WriteEnds, cell_items}
 use Rattle.wait_pipe.specs.PipeWords.{ClosesFollow, Deed, LastReads, LastWrites, PeeksFollow, ReadsFollow, TurnPasses}
 use Rattle.wait_pipe.specs.PipeWords.{TurnWaits, TurnsHeed, TurnsWait, WritesFollow, all_cells, all_events, loads_other}
 use Rattle.wait_pipe.specs.PipeWords.{read_said, turn_said, turns_said, wait_answer, write_said}
-use Rattle.wait_rule.proofs.KnownLaws.Transitions.{grown_more, grown_none}
+use Rattle.wait_pipe.specs.declared.pieces.PipeEnd.TheVariants as pipe_end
 use Rattle.wait_pipe.proofs.Asides.{quiet_cell, quiet_load, quiet_none}
 use Rattle.wait_pipe.proofs.Looking.{none_kept, other_apart}
 use Rattle.wait_event.proofs.Changes.{keeps_join, keeps_same}

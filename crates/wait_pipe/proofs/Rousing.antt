@@ -5,26 +5,19 @@ use Rattle.wait_model.specs.declared.points.Point.TheVariants as at
 use Rattle.wait_model.specs.declared.points.Next.TheVariants as next
 use Rattle.wait_model.specs.declared.points.WalkPoint.TheVariants as walking
 use Rattle.wait_model.specs.declared.calls.Answer.TheVariants as answer
-use Rattle.wait_model.specs.declared.queues.Walked.{Walked}
+use Rattle.wait_model.specs.{declared.queues.Walked.Walked, Watches.head_of}
 use Rattle.wait_model.specs.declared.watches.Mode.TheVariants as mode
 use Rattle.wait_model.specs.declared.watches.Watch.TheVariants as watch
-use Rattle.wait_model.specs.Watches.{head_of}
-use Rattle.wait_rule.specs.Known.{Known}
-use Rattle.wait_rule.specs.Pipes.{no_end}
-use Rattle.wait_rule.specs.PipeSays.{end_at}
-use Rattle.wait_rule.specs.Queues.{IsIdle}
-use Rattle.wait_rule.specs.Says.{IsUp, told_of}
-use Rattle.wait_rule.specs.Stays.{Carries, unchanged, wake_all_change}
+use Rattle.wait_rule.specs.{Known.Known, Pipes.no_end, PipeSays.end_at, Queues.IsIdle, Says.IsUp, Says.told_of}
 use Rattle.wait_rule.specs.Transitions.{walk_program}
-use Rattle.wait_rule.proofs.KnownLaws.CarriedTasks.{unchanged_first}
-use Rattle.wait_rule.proofs.KnownLaws.PipeItems.{end_append}
+use Rattle.wait_rule.specs.Stays.{Carries, unchanged, wake_all_change}
+use Rattle.wait_rule.proofs.{KnownLaws.CarriedTasks.unchanged_first, KnownLaws.PipeItems.end_append}
 use Rattle.wait_rule.proofs.KnownLaws.CarriedEnds.{programs_keep_ends, scans_ends, walks_keep_ends}
 use Rattle.wq_head.specs.Scanned.{HasEndedAt, HasScanned, unmade}
 use Rattle.wq_head.specs.Walks.{HasEnded, HasWoken}
 use Rattle.var_wait.specs.VarPublishes.{aim_of}
 use Rattle.var_wait.proofs.Publishing.{silent, silent_carries, still_idle, walked_on}
-use Rattle.wait_pipe.specs.PassedOn.{WokeWaiters}
-use Rattle.wait_pipe.specs.Pieces.{OtherPipesStay}
+use Rattle.wait_pipe.specs.{PassedOn.WokeWaiters, Pieces.OtherPipesStay}
 use Rattle.wait_pipe.proofs.Asides.{quiet_on, scanned_quiet, woken_quiet}
 use Rattle.wait_pipe.proofs.PieceChanges.{others_on}
 

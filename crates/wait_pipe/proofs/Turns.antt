@@ -2,17 +2,13 @@
 use Rattle.std.proofs.Common.{◌∙◌, ap, arith, refl, subst}
 use Rattle.std.specs.Prelude.{ℕ, zero, suc, ◌≡◌, ◌<◌, ◌≤◌, ◌+◌, ◌/◌, ◌%◌, true, false, List, [], ◌∷◌, ◌++◌, length}
 use Rattle.std.specs.Prelude.{take, Result, Ok, Err, MatchResult}
-use Rattle.wait_rule.specs.Known.{Known}
-use Rattle.wait_rule.specs.Pipes.{read_end, write_end}
-use Rattle.wait_rule.specs.PipeSays.{reading, writing}
-use Rattle.wait_pipe.specs.declared.pieces.PipeEnd.{PipeEnd}
+use Rattle.wait_rule.specs.{Known.Known, Pipes.read_end, Pipes.write_end, PipeSays.reading, PipeSays.writing}
+use Rattle.wait_pipe.specs.{declared.pieces.PipeEnd.PipeEnd, PassedOn.Drained, PassedOn.Filled, PieceLeaves.SeesNoCell}
+use Rattle.wait_pipe.specs.Pieces.{Got, GotNone, IsAtEnd, IsPipeCause, IsReadCause, IsReadyAtPipe, IsSettled, Put}
+use Rattle.wait_pipe.specs.Pieces.{PutNone, RestsBehindPiece, WaitsAtPipe}
+use Rattle.wait_pipe.specs.Trails.{AwaitsOther, FillsCells, LoadsCells, LooksOver, ReadEnds, ReadsPiece, StoresCells}
+use Rattle.wait_pipe.specs.Trails.{WaitingTurn, WaitingTurns, WriteEnds, WritesPiece}
 use Rattle.wait_pipe.specs.declared.pieces.PipeEnd.TheVariants as pipe_end
-use Rattle.wait_pipe.specs.PassedOn.{Drained, Filled}
-use Rattle.wait_pipe.specs.Pieces.{Got, GotNone, IsAtEnd, IsPipeCause, IsReadCause, IsReadyAtPipe, IsSettled, Put, PutNone}
-use Rattle.wait_pipe.specs.PieceLeaves.{SeesNoCell}
-use Rattle.wait_pipe.specs.Pieces.{RestsBehindPiece, WaitsAtPipe}
-use Rattle.wait_pipe.specs.Trails.{AwaitsOther, FillsCells, LoadsCells, LooksOver, ReadEnds, ReadsPiece}
-use Rattle.wait_pipe.specs.Trails.{StoresCells, WaitingTurn, WaitingTurns, WriteEnds, WritesPiece}
 use Rattle.wait_pipe.proofs.PieceChanges.{rests_on, waits_none, waits_on}
 use Rattle.wait_pipe.proofs.Fills.{waited_none, waited_then}
 

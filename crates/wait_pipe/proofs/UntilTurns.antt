@@ -1,8 +1,7 @@
 -- The turns of a task that writes a piece or reads one, and may leave its wait.
 use Rattle.std.proofs.Common.{refl, subst}
 use Rattle.std.specs.Prelude.{ℕ, ◌++◌, Result, Err, List, [], ◌∷◌}
-use Rattle.wait_rule.specs.Known.{Known}
-use Rattle.wait_rule.specs.Pipes.{read_end, write_end}
+use Rattle.wait_rule.specs.{Known.Known, Pipes.read_end, Pipes.write_end}
 use Rattle.wait_rule.specs.PipeSays.{end_at, reading, writing}
 use Rattle.wait_leave.specs.declared.exits.Until.{Until}
 use Rattle.wait_leave.specs.declared.exits.Until.TheVariants as until
@@ -12,9 +11,8 @@ use Rattle.wait_pipe.specs.PieceLeaves.{AwaitsUntil, GotUntil, LeftNone, PutUnti
 use Rattle.wait_pipe.specs.PieceLeaves.{SeesNoCell, TurnGoesOn, UntilTurn, UntilTurns, WasPieceLeft, WriteEndsUntil}
 use Rattle.wait_pipe.specs.PieceLeaves.{WritesUntil}
 use Rattle.wait_pipe.specs.Pieces.{IsReadCause, IsReadyAtPipe, IsSettled, WaitsAtPipe}
-use Rattle.wait_pipe.proofs.Fills.{waited_none, waited_then}
-use Rattle.wait_pipe.proofs.PieceChanges.{waits_none, waits_on}
-use Rattle.wait_pipe.proofs.Turns.{got_then, put_then}
+use Rattle.wait_pipe.proofs.{Fills.waited_none, Fills.waited_then, PieceChanges.waits_none, PieceChanges.waits_on}
+use Rattle.wait_pipe.proofs.{Turns.got_then, Turns.put_then}
 
 -- over turns that only wait
 pub put_until_then : (A : Type 0) (p : ℕ) {old now : Known} → WaitsAtPipe (write_end p) old now → IsSettled (writing p old)

@@ -1,22 +1,15 @@
 -- To be believed.
 -- Nobody is left asleep at a pipe that has a cell for it.
 use Rattle.std.specs.Prelude.{ℕ, ◌≡◌, ◌<◌, ◌+◌, ◌%◌, ◌==◌, ◌⊎◌, if◌then◌else◌, true, List}
+use Rattle.wait_model.specs.{declared.watches.Entry.Entry, Tables.Table, Tasks.meets, Wakes.IsCovered, Wakes.Sleeps}
+use Rattle.wait_model.specs.{Watches.mask_of, Watches.owner}
 use Rattle.wait_model.specs.declared.layout.TheConstants.{CLAIMS, PIPE_CELLS, PIPE_ENDS}
-use Rattle.wait_model.specs.declared.watches.Entry.{Entry}
 use Rattle.wait_model.specs.declared.watches.Mode.TheVariants as mode
 use Rattle.wait_model.specs.declared.watches.Watch.TheVariants as watch
-use Rattle.wait_model.specs.Tables.{Table}
-use Rattle.wait_model.specs.Tasks.{meets}
-use Rattle.wait_model.specs.Wakes.{IsCovered, Sleeps}
-use Rattle.wait_model.specs.Watches.{mask_of, owner}
-use Rattle.wait_rule.specs.declared.journal.Item.{Item}
-use Rattle.wait_rule.specs.Journals.{Scene}
-use Rattle.wait_rule.specs.Known.{Known}
-use Rattle.wait_rule.specs.LosesNone.{IsCoveredByOther}
-use Rattle.wait_rule.specs.Pipes.{End, end_of, other_end}
+use Rattle.wait_rule.specs.{declared.journal.Item.Item, Journals.Scene, Known.Known, LosesNone.IsCoveredByOther}
 use Rattle.wait_rule.specs.Rule.{Law}
-use Rattle.wait_pipe.specs.Pieces.{ShowsNoCell}
-use Rattle.wait_pipe.specs.Trails.{ClosesEnd, PassesCells}
+use Rattle.wait_rule.specs.Pipes.{End, end_of, other_end}
+use Rattle.wait_pipe.specs.{Pieces.ShowsNoCell, Trails.ClosesEnd, Trails.PassesCells}
 
 -- The owner of entry x has end k, and sleeps for a cell: for the word of the other end to be another than one that
 -- showed it none, as each wait of `write_piece` and `read_piece` is (`AwaitsOther`).

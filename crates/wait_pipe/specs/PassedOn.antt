@@ -1,16 +1,12 @@
 -- To be believed.
 -- Cells that were passed on, and the wake behind them of those who wait for that.
 use Rattle.std.specs.Prelude.{ℕ, ◌≡◌, ◌<◌, ◌≤◌, ◌+◌, ◌/◌, List, length, take}
-use Rattle.wait_model.specs.declared.layout.TheConstants.{PIPE_CELLS}
-use Rattle.wait_model.specs.declared.queues.Walked.{Walked}
+use Rattle.wait_model.specs.{declared.layout.TheConstants.PIPE_CELLS, declared.queues.Walked.Walked}
 use Rattle.wait_model.specs.declared.watches.Mode.TheVariants as mode
 use Rattle.wait_model.specs.declared.watches.Watch.TheVariants as watch
-use Rattle.wait_rule.specs.Known.{Known}
-use Rattle.wait_rule.specs.Pipes.{read_end, write_end}
+use Rattle.wait_rule.specs.{Known.Known, Pipes.read_end, Pipes.write_end, Queues.IsIdle, Says.IsUp, Stays.Carries}
+use Rattle.wait_rule.specs.Stays.{wake_all_change}
 use Rattle.wait_rule.specs.PipeSays.{end_at, reading, writing}
-use Rattle.wait_rule.specs.Queues.{IsIdle}
-use Rattle.wait_rule.specs.Says.{IsUp}
-use Rattle.wait_rule.specs.Stays.{Carries, wake_all_change}
 use Rattle.wait_pipe.specs.Pieces.{LeavesAside, Moved, OtherPipesStay, RestsBehindPiece}
 use Rattle.wait_pipe.specs.Trails.{LoadsCells, StoresCells, WakesAfter}
 

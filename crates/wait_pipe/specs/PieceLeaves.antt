@@ -3,14 +3,12 @@
 use Rattle.std.specs.Prelude.{ℕ, ◌≡◌, Bool, Result, Ok, Err, IfErr, MatchResult, List, [], ◌∷◌}
 use Rattle.wait_model.specs.declared.tasks.SleepState.TheVariants as state
 use Rattle.wait_model.specs.declared.watches.Watch.TheVariants as watch
-use Rattle.wait_rule.specs.Known.{Known}
+use Rattle.wait_rule.specs.{Known.Known, PipeSays.end_at}
 use Rattle.wait_rule.specs.Pipes.{other_end, read_end, write_end}
-use Rattle.wait_rule.specs.PipeSays.{end_at}
 use Rattle.wait_class.specs.Posts.{IsOut}
 use Rattle.wait_leave.specs.declared.exits.Until.{Until}
 use Rattle.wait_leave.specs.declared.exits.Until.TheVariants as until
-use Rattle.wait_event.specs.WaitLeaves.{FoundUnset}
-use Rattle.wait_event.specs.declared.wait_events.WaitEnd.{WaitEnd}
+use Rattle.wait_event.specs.{WaitLeaves.FoundUnset, declared.wait_events.WaitEnd.WaitEnd}
 use Rattle.wait_event.specs.declared.wait_leaves.WaitUntil.{WaitUntil}
 use Rattle.wait_event.specs.declared.wait_leaves.WaitUntil.TheVariants as wait_until
 use Rattle.var_wait.specs.VarLeaves.{EndsVarUntil}

@@ -6,22 +6,17 @@ use Rattle.wait_model.specs.declared.layout.TheConstants.{PIPE_CELLS, PIPE_ENDS}
 use Rattle.wait_model.specs.declared.tasks.SleepState.TheVariants as state
 use Rattle.wait_model.specs.declared.watches.Watch.TheVariants as watch
 use Rattle.wait_model.specs.Watches.{same}
-use Rattle.wait_rule.specs.Aside.{GrowsAside}
-use Rattle.wait_rule.specs.HandedPermits.{StaysOff}
-use Rattle.wait_rule.specs.Known.{Known}
+use Rattle.wait_rule.specs.{Aside.GrowsAside, HandedPermits.StaysOff, Known.Known, Queues.IsIdle, Queues.index}
+use Rattle.wait_rule.specs.Says.{IsUp}
 use Rattle.wait_rule.specs.Pipes.{End, moved_bytes, other_end, read_end, word_counts, write_end}
 use Rattle.wait_rule.specs.PipeSays.{IsOpen, IsSoundEnd, KeepsEnd, end_at, reading, writing}
-use Rattle.wait_rule.specs.Queues.{IsIdle, index}
-use Rattle.wait_rule.specs.Says.{IsUp}
 use Rattle.wait_rule.specs.Stays.{Carries, Change, only, unchanged, with_end}
-use Rattle.wait_event.specs.Ends.{FoundNoPlace, WasSignalled}
+use Rattle.wait_event.specs.{Ends.FoundNoPlace, Ends.WasSignalled, declared.wait_events.WaitEnd.WaitEnd}
 use Rattle.wait_class.specs.Posts.{IsOut}
-use Rattle.wait_event.specs.declared.wait_events.WaitEnd.{WaitEnd}
 use Rattle.wait_event.specs.declared.wait_events.WaitEnd.TheVariants as wait_end
 use Rattle.var_wait.specs.VarWaits.{shared_in}
-use Rattle.wait_pipe.specs.declared.pieces.PipeEnd.{PipeEnd}
+use Rattle.wait_pipe.specs.{declared.pieces.PipeEnd.PipeEnd, declared.looks.Look.Look}
 use Rattle.wait_pipe.specs.declared.pieces.PipeEnd.TheVariants as pipe_end
-use Rattle.wait_pipe.specs.declared.looks.Look.{Look}
 
 -- A task of this Domain is ready for a call: it is awake and idle, with no entry queued.
 pub record IsReadyAtPipe (domain : _) (k : Known) : Type 0 where

@@ -2,18 +2,12 @@
 -- What a look at a pipe from its read end tells, with nothing taken, and what it makes.
 use Rattle.std.specs.Prelude.{ℕ, ◌≡◌, ◌≤◌, ◌+◌, ◌%◌, ◌==◌, true, false}
 use Rattle.wait_model.specs.declared.layout.TheConstants.{PIPE_CELLS}
-use Rattle.wait_rule.specs.Aside.{GrowsAside}
-use Rattle.wait_rule.specs.HandedPermits.{StaysOff}
-use Rattle.wait_rule.specs.Known.{Known}
-use Rattle.wait_rule.specs.Pipes.{read_end}
+use Rattle.wait_rule.specs.{Aside.GrowsAside, HandedPermits.StaysOff, Known.Known, Pipes.read_end, Queues.IsIdle}
+use Rattle.wait_rule.specs.{Says.IsFree, Says.IsUp, Stays.Carries, Stays.unchanged}
 use Rattle.wait_rule.specs.PipeSays.{KeepsEnd, end_at, reading}
-use Rattle.wait_rule.specs.Queues.{IsIdle}
-use Rattle.wait_rule.specs.Says.{IsFree, IsUp}
-use Rattle.wait_rule.specs.Stays.{Carries, unchanged}
 use Rattle.wait_class.specs.Posts.{IsOut}
-use Rattle.wait_pipe.specs.declared.peeks.PipeState.{PipeState}
+use Rattle.wait_pipe.specs.{declared.peeks.PipeState.PipeState, Trails.LooksOver}
 use Rattle.wait_pipe.specs.Pieces.{IsAtEnd, IsSettled, OtherPipesStay, ShowsNoCell}
-use Rattle.wait_pipe.specs.Trails.{LooksOver}
 
 -- A task only looked at the other end of end k: of that end it may know more, and all else stays. What it owes is carried
 -- on; it is idle, and has no entry queued, where that was so before; it adds to no tally, raises no signal and claims no

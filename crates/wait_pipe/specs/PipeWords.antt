@@ -3,30 +3,21 @@
 -- that the sentence gives.
 use Rattle.std.specs.Prelude.{ℕ, zero, suc, ◌≡◌, ◌<◌, ◌≤◌, ◌+◌, ◌/◌, ◌%◌, ◌++◌, true, false, ◌==◌, Result, Ok, Err}
 use Rattle.std.specs.Prelude.{List, [], ◌∷◌, length, take}
-use Rattle.wait_model.specs.declared.layout.TheConstants.{PIPE_CELLS}
-use Rattle.wait_model.specs.declared.calls.Answer.{Answer}
+use Rattle.wait_model.specs.{declared.layout.TheConstants.PIPE_CELLS, declared.calls.Answer.Answer}
+use Rattle.wait_model.specs.{declared.calls.Event.Event, declared.queues.Walked.Walked, Programs.signalled}
+use Rattle.wait_model.specs.{Programs.zero_answer, Sentences.Follows, Watches.number_of}
 use Rattle.wait_model.specs.declared.calls.Answer.TheVariants as answer
 use Rattle.wait_model.specs.declared.calls.Call.TheVariants as calls
-use Rattle.wait_model.specs.declared.calls.Event.{Event}
 use Rattle.wait_model.specs.declared.calls.Event.TheVariants as event
-use Rattle.wait_model.specs.declared.queues.Walked.{Walked}
 use Rattle.wait_model.specs.declared.tasks.SleepState.TheVariants as state
 use Rattle.wait_model.specs.declared.watches.Watch.TheVariants as watch
-use Rattle.wait_model.specs.Programs.{signalled, zero_answer}
-use Rattle.wait_model.specs.Sentences.{Follows}
-use Rattle.wait_model.specs.Watches.{number_of}
-use Rattle.wait_rule.specs.Heeding.{EndsSignalled, trail_of}
-use Rattle.wait_rule.specs.Known.{Known}
+use Rattle.wait_rule.specs.{Heeding.EndsSignalled, Heeding.trail_of, Known.Known, PipeSays.end_at, Says.MeetsLaw}
 use Rattle.wait_rule.specs.Pipes.{End, bytes_in, end_word, other_end, word_counts}
-use Rattle.wait_rule.specs.PipeSays.{end_at}
-use Rattle.wait_rule.specs.Says.{MeetsLaw}
 use Rattle.wait_event.specs.Words.{call_says}
-use Rattle.wait_pipe.specs.declared.pieces.PipeEnd.{PipeEnd}
-use Rattle.wait_pipe.specs.declared.pieces.PipeEnd.TheVariants as pipe_end
-use Rattle.wait_pipe.specs.declared.peeks.PipeState.{PipeState}
-use Rattle.wait_pipe.specs.Pieces.{ShowsNoCell}
+use Rattle.wait_pipe.specs.{declared.pieces.PipeEnd.PipeEnd, declared.peeks.PipeState.PipeState, Pieces.ShowsNoCell}
 use Rattle.wait_pipe.specs.PipeStates.{PeeksRead}
 use Rattle.wait_pipe.specs.Trails.{ClosesEnd, ReadEnds, ReadsPiece, WaitingTurn, WaitingTurns, WriteEnds, WritesPiece}
+use Rattle.wait_pipe.specs.declared.pieces.PipeEnd.TheVariants as pipe_end
 
 -- What a task makes at an end of a pipe, in the order in which it comes: events of the model; and cells, which it stores
 -- at a write end and loads at a read end, and which are none.

@@ -3,25 +3,19 @@
 -- or cells that are passed on with a wake.
 use Rattle.std.specs.Prelude.{ℕ, zero, suc, ◌≡◌, ◌<◌, ◌≤◌, ◌+◌, ◌/◌, ◌%◌, true, false, Result, Ok, Err, List, [], ◌∷◌}
 use Rattle.std.specs.Prelude.{length, take}
-use Rattle.wait_model.specs.declared.layout.TheConstants.{PIPE_CELLS}
-use Rattle.wait_model.specs.declared.queues.Walked.{Walked}
+use Rattle.wait_model.specs.{declared.layout.TheConstants.PIPE_CELLS, declared.queues.Walked.Walked}
 use Rattle.wait_model.specs.declared.steps.Step.TheVariants as step
 use Rattle.wait_model.specs.declared.tasks.SleepState.TheVariants as state
 use Rattle.wait_model.specs.declared.watches.Watch.TheVariants as watch
 use Rattle.wait_rule.specs.declared.journal.EndAct.TheVariants as act
-use Rattle.wait_rule.specs.declared.journal.Item.{Item}
-use Rattle.wait_rule.specs.declared.journal.Item.TheVariants as item
-use Rattle.wait_rule.specs.Known.{Known}
+use Rattle.wait_rule.specs.{declared.journal.Item.Item, Known.Known, PipeSays.end_at, Says.added, Says.grown}
 use Rattle.wait_rule.specs.Pipes.{bytes_in, end_word, other_end, word_counts}
-use Rattle.wait_rule.specs.PipeSays.{end_at}
-use Rattle.wait_rule.specs.Says.{added, grown}
+use Rattle.wait_rule.specs.declared.journal.Item.TheVariants as item
 use Rattle.wait_class.specs.Posts.{IsOut}
 use Rattle.wait_event.specs.declared.wait_events.WaitEnd.{WaitEnd}
-use Rattle.var_wait.specs.VarPublishes.{HasPublished}
-use Rattle.var_wait.specs.VarWaits.{EndsVarWait}
-use Rattle.wait_pipe.specs.declared.pieces.PipeEnd.{PipeEnd}
+use Rattle.var_wait.specs.{VarPublishes.HasPublished, VarWaits.EndsVarWait}
+use Rattle.wait_pipe.specs.{declared.pieces.PipeEnd.PipeEnd, Pieces.ShowsNoCell, Pieces.end_of_wait}
 use Rattle.wait_pipe.specs.declared.pieces.PipeEnd.TheVariants as pipe_end
-use Rattle.wait_pipe.specs.Pieces.{ShowsNoCell, end_of_wait}
 
 -- the task loaded the word of the other end of end k, and found w
 abbrev pub LoadsOther : ℕ → ℕ → Known → Known → Type 0

@@ -4,19 +4,17 @@ ghost use Rattle.std.specs.Prelude.{◌≡◌, ◌<◌, ◌+◌, ◌*◌, ◌==�
 ghost use Rattle.wait_model.specs.declared.layout.TheConstants.{CLAIMS, PIPES, PIPE_ENDS};
 ghost use Rattle.wait_rule.specs.declared.journal.EndAct.TheVariants as act;
 ghost use Rattle.wait_rule.specs.declared.journal.Item.TheVariants as item;
+ghost use Rattle.wait_rule.specs.{Queues.IsIdle, Says.IsUp, Says.added};
 ghost use Rattle.wait_rule.specs.Pipes.{closed, new_end, read_end, write_end};
 ghost use Rattle.wait_rule.specs.PipeSays.{EndBecomes, IsOpen, end_at, reading, writing};
-ghost use Rattle.wait_rule.specs.Queues.{IsIdle};
-ghost use Rattle.wait_rule.specs.Says.{IsUp, added};
 ghost use Rattle.wait_rule.specs.Stays.{Carries, claim_change, wake_all_change};
 ghost use Rattle.wait_model.specs.declared.watches.Mode.TheVariants as mode;
 ghost use Rattle.wait_model.specs.declared.watches.Watch.TheVariants as watch;
 ghost use Rattle.wait_class.specs.Posts.{IsOut};
 ghost use Rattle.wq_head.specs.Walks.{HasEnded, HasWoken};
 ghost use Rattle.var_wait.specs.VarPublishes.{aim_of};
-ghost use Rattle.wait_pipe.specs.PassedOn.{WokeWaiters};
+ghost use Rattle.wait_pipe.specs.{PassedOn.WokeWaiters, Trails.ClosesEnd};
 ghost use Rattle.wait_pipe.specs.Pieces.{EndsPipe, IsPipeOpened, IsReadyAtPipe, OtherPipesStay};
-ghost use Rattle.wait_pipe.specs.Trails.{ClosesEnd};
 
 use std::sync::Wait;
 use wait_model::heads::head_of;

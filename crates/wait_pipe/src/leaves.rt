@@ -3,9 +3,7 @@
 ghost use Rattle.std.specs.Prelude.{◌≡◌, ◌<◌, ◌≤◌, length, true};
 ghost use Rattle.std.specs.Prelude.{MatchOption};
 ghost use Rattle.wait_model.specs.declared.layout.TheConstants.{PIPES};
-ghost use Rattle.wait_rule.specs.Pipes.{read_end, write_end};
-ghost use Rattle.wait_rule.specs.PipeSays.{reading, writing};
-ghost use Rattle.wait_rule.specs.Queues.{IsIdle};
+ghost use Rattle.wait_rule.specs.{Pipes.read_end, Pipes.write_end, PipeSays.reading, PipeSays.writing, Queues.IsIdle};
 ghost use Rattle.wait_rule.specs.Says.{IsUp};
 ghost use Rattle.wait_class.specs.Posts.{IsOut};
 ghost use Rattle.wait_pipe.specs.PieceLeaves.{

@@ -6,10 +6,9 @@ ghost use Rattle.wait_model.specs.declared.layout.TheConstants.{CLAIMS, PIPES, P
 ghost use Rattle.wait_rule.specs.Pipes.{other_end, word_counts, write_end};
 ghost use Rattle.wait_rule.specs.PipeSays.{IsOpen, end_at, writing};
 ghost use Rattle.wait_rule.specs.Says.{IsFree, IsUp};
+ghost use Rattle.wait_pipe.specs.{PipeStates.OnlyLooked, Trails.AwaitsOther, Trails.LoadsOther};
 ghost use Rattle.wait_pipe.specs.PieceLeaves.{AwaitsUntil, IsPieceUntil, end_of_until};
 ghost use Rattle.wait_pipe.specs.Pieces.{HasSeen, IsReadCause, IsReadyAtPipe, ShowsNoCell, WaitsAtPipe, end_of_wait};
-ghost use Rattle.wait_pipe.specs.PipeStates.{OnlyLooked};
-ghost use Rattle.wait_pipe.specs.Trails.{AwaitsOther, LoadsOther};
 
 use crate::ends::WRITE;
 use crate::pieces::PipeEnd;

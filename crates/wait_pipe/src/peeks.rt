@@ -2,9 +2,7 @@
 
 ghost use Rattle.std.specs.Prelude.{◌≡◌, ◌<◌};
 ghost use Rattle.wait_model.specs.declared.layout.TheConstants.{PIPES};
-ghost use Rattle.wait_rule.specs.Pipes.{read_end};
-ghost use Rattle.wait_rule.specs.PipeSays.{reading};
-ghost use Rattle.wait_rule.specs.Says.{IsFree, IsUp};
+ghost use Rattle.wait_rule.specs.{Pipes.read_end, PipeSays.reading, Says.IsFree, Says.IsUp};
 ghost use Rattle.wait_pipe.specs.Pieces.{IsSettled};
 ghost use Rattle.wait_pipe.specs.PipeStates.{OnlyLooked, PeeksRead, TellsOfPipe};
 

@@ -3,11 +3,8 @@
 ghost use Rattle.std.specs.Prelude.{◌≡◌, ◌<◌, ◌≤◌, ◌+◌, ◌%◌, length};
 ghost use Rattle.std.specs.Prelude.{IfOk, MatchOption, MatchResult, Ok};
 ghost use Rattle.wait_model.specs.declared.layout.TheConstants.{PIPES, PIPE_CELLS};
+ghost use Rattle.wait_rule.specs.{PipeSays.reading, PipeSays.writing, Known.Known, Queues.IsIdle, Says.IsUp};
 ghost use Rattle.wait_rule.specs.Pipes.{read_end, word_counts, write_end};
-ghost use Rattle.wait_rule.specs.PipeSays.{reading, writing};
-ghost use Rattle.wait_rule.specs.Known.{Known};
-ghost use Rattle.wait_rule.specs.Queues.{IsIdle};
-ghost use Rattle.wait_rule.specs.Says.{IsUp};
 ghost use Rattle.wait_class.specs.Posts.{IsOut};
 ghost use Rattle.wait_pipe.specs.PassedOn.{Drained, Filled, WokeWaiters};
 ghost use Rattle.wait_pipe.specs.Pieces.{Got, GotNone, IsReadyAtPipe, IsSettled, Put, PutNone, RestsBehindPiece, WaitsAtPipe};

@@ -3,25 +3,17 @@
 -- these add to no tally and raise no signal; its ends of pipes are as they were, and it leaves no entry at a
 -- completion.
 use Rattle.std.specs.Prelude.{ℕ, ◌≡◌, ◌≢◌, ◌++◌, Bool, List, [], ◌∷◌}
-use Rattle.wait_model.specs.declared.calls.Call.{Call}
+use Rattle.wait_model.specs.{declared.calls.Call.Call, declared.points.Next.Next, declared.points.Point.Point}
+use Rattle.wait_model.specs.{declared.steps.Step.Step, declared.watches.Aim.Aim}
 use Rattle.wait_model.specs.declared.calls.Call.TheVariants as calls
-use Rattle.wait_model.specs.declared.points.Next.{Next}
 use Rattle.wait_model.specs.declared.points.Next.TheVariants as next
-use Rattle.wait_model.specs.declared.points.Point.{Point}
 use Rattle.wait_model.specs.declared.points.Point.TheVariants as at
-use Rattle.wait_model.specs.declared.steps.Step.{Step}
 use Rattle.wait_model.specs.declared.steps.Step.TheVariants as step
-use Rattle.wait_model.specs.declared.watches.Aim.{Aim}
 use Rattle.wait_model.specs.declared.watches.Watch.TheVariants as watch
-use Rattle.wait_rule.specs.declared.journal.Item.{Item}
-use Rattle.wait_rule.specs.declared.journal.Item.TheVariants as item
-use Rattle.wait_rule.specs.HandedPermits.{StaysOff}
-use Rattle.wait_rule.specs.Journals.{pushed}
-use Rattle.wait_rule.specs.Known.{Known}
-use Rattle.wait_rule.specs.PipeSays.{EndsStay, end_at}
-use Rattle.wait_rule.specs.Says.{added}
-use Rattle.wait_rule.specs.Tallies.{amounts_of}
+use Rattle.wait_rule.specs.{declared.journal.Item.Item, HandedPermits.StaysOff, Journals.pushed, Known.Known}
+use Rattle.wait_rule.specs.{PipeSays.EndsStay, PipeSays.end_at, Says.added, Tallies.amounts_of}
 use Rattle.wait_rule.specs.Transitions.{Goes, Program, Transition, call_program, walk_program}
+use Rattle.wait_rule.specs.declared.journal.Item.TheVariants as item
 
 -- a signal that a task raised: at whom, and whether it was a fatal one
 pub record Raised : Type 0 where

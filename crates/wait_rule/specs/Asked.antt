@@ -2,11 +2,9 @@
 -- What a task's own list tells of the page that it waits for: that its entry for the page is queued, and that a walk
 -- has taken the page for it.
 use Rattle.std.specs.Prelude.{ℕ, Bool, true, false, ◌==◌, if◌then◌else◌, Option, Some, None, List, [], ◌∷◌}
-use Rattle.wait_model.specs.declared.steps.Step.{Step}
-use Rattle.wait_model.specs.declared.steps.Step.TheVariants as step
+use Rattle.wait_model.specs.{declared.steps.Step.Step, Words.entry_of, Fold.is_off}
 use Rattle.wait_model.specs.Watches.{was_clear, word_of, is_page, page}
-use Rattle.wait_model.specs.Words.{entry_of}
-use Rattle.wait_model.specs.Fold.{is_off}
+use Rattle.wait_model.specs.declared.steps.Step.TheVariants as step
 use Rattle.wait_rule.specs.declared.journal.Item.{Item}
 use Rattle.wait_rule.specs.declared.journal.Item.TheVariants as item
 

@@ -1,15 +1,11 @@
 -- To be believed.
 -- Bits that a task keeps as locks, and what stays of it while it takes them and gives them back.
 use Rattle.std.specs.Prelude.{ℕ, ◌≡◌, ◌<◌, ◌&&◌, Bool, true, false, Some, None}
-use Rattle.wait_model.specs.declared.layout.TheConstants.{SLOTS}
-use Rattle.wait_model.specs.declared.watches.Watch.{Watch}
-use Rattle.wait_model.specs.declared.watches.Entry.{Entry}
+use Rattle.wait_model.specs.{declared.layout.TheConstants.SLOTS, declared.watches.Watch.Watch}
+use Rattle.wait_model.specs.{declared.watches.Entry.Entry, Watches.page, Watches.same}
 use Rattle.wait_model.specs.declared.watches.Mode.TheVariants as mode
-use Rattle.wait_model.specs.Watches.{page, same}
-use Rattle.wait_rule.specs.Known.{Known}
-use Rattle.wait_rule.specs.Members.{IsOwnKind}
+use Rattle.wait_rule.specs.{Known.Known, Members.IsOwnKind, Queues.index}
 use Rattle.wait_rule.specs.Says.{Excuse, OwesBut, told_of}
-use Rattle.wait_rule.specs.Queues.{index}
 use Rattle.wait_rule.specs.Stays.{with_bit, with_bits, with_page, with_wakes}
 
 -- its history tells that it keeps the bit: it set it, found it clear, and has not cleared it since

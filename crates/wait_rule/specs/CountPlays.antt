@@ -7,9 +7,7 @@ use Rattle.wait_model.specs.declared.watches.Watch.TheVariants as watch
 use Rattle.wait_model.specs.declared.steps.Step.TheVariants as step
 use Rattle.wait_model.specs.Runs.{set_step}
 use Rattle.wait_rule.specs.declared.journal.Item.TheVariants as item
-use Rattle.wait_rule.specs.Counts.{FindsCount}
-use Rattle.wait_rule.specs.Known.{known}
-use Rattle.wait_rule.specs.Plays.{Play, seat_with}
+use Rattle.wait_rule.specs.{Counts.FindsCount, Known.known, Plays.Play, Plays.seat_with}
 
 -- the completion whose count this is
 abbrev pub cell_of_place : ℕ → ℕ

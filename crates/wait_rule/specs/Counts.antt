@@ -1,15 +1,11 @@
 -- To be believed.
 -- What contracts say of the done counts of completions.
 use Rattle.std.specs.Prelude.{ℕ, ◌≡◌, ◌≤◌, ◌⊎◌, false, Option, Some}
-use Rattle.wait_model.specs.declared.layout.TheConstants.{ALL_DONE}
-use Rattle.wait_model.specs.declared.watches.Watch.TheVariants as watch
-use Rattle.wait_model.specs.Watches.{head_of}
-use Rattle.wait_model.specs.Runs.{is_publishing, set_step}
+use Rattle.wait_model.specs.{declared.layout.TheConstants.ALL_DONE, Watches.head_of, Runs.is_publishing, Runs.set_step}
 use Rattle.wait_model.specs.DoneCounts.{IsStored}
+use Rattle.wait_model.specs.declared.watches.Watch.TheVariants as watch
 use Rattle.wait_rule.specs.declared.journal.Item.TheVariants as item
-use Rattle.wait_rule.specs.HeldValues.{count_in}
-use Rattle.wait_rule.specs.Known.{Known}
-use Rattle.wait_rule.specs.Says.{added, history_of}
+use Rattle.wait_rule.specs.{HeldValues.count_in, Known.Known, Says.added, Says.history_of}
 use Rattle.wait_rule.specs.Stays.{Carries, unchanged, publish_change}
 
 -- the task holds the head of the completion

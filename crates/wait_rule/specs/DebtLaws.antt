@@ -2,15 +2,10 @@
 -- The wakes that a task owes: contracts name those that are computed from its history, and these are the ones that the
 -- history says plainly that it owes, also where a walk broke and went on from its bookmark.
 use Rattle.std.specs.Prelude.{ℕ, ◌≡◌, true, List}
-use Rattle.wait_model.specs.declared.watches.Watch.{Watch}
-use Rattle.wait_model.specs.declared.watches.Mode.TheVariants as mode
-use Rattle.wait_model.specs.Tasks.{meets}
-use Rattle.wait_model.specs.Watches.{mask_of}
-use Rattle.wait_model.specs.Tables.{Table}
+use Rattle.wait_model.specs.{declared.watches.Watch.Watch, Tasks.meets, Watches.mask_of, Tables.Table}
 use Rattle.wait_model.specs.Owed.{Owes as OwesWake}
-use Rattle.wait_rule.specs.declared.journal.Item.{Item}
-use Rattle.wait_rule.specs.Known.{Known}
-use Rattle.wait_rule.specs.Rule.{IsRuled}
+use Rattle.wait_model.specs.declared.watches.Mode.TheVariants as mode
+use Rattle.wait_rule.specs.{declared.journal.Item.Item, Known.Known, Rule.IsRuled}
 use Rattle.wait_rule.specs.Says.{IsClean, history_of, told_of}
 
 -- the wakes that the task owes by what is computed are those that it owes by its history

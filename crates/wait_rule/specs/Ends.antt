@@ -2,12 +2,10 @@
 -- Where the members of a head stand in a hold, and at which places no place is left for an add.
 use Rattle.std.specs.Prelude.{◌/◌, ℕ, ◌≡◌, ◌-◌, ◌<◌, ◌≤◌, ◌⊎◌, Bool, true, false, nat_lt, if◌then◌else◌, Option, Some}
 use Rattle.std.specs.Prelude.{None, List, ◌++◌}
+use Rattle.wait_model.specs.{Views.View as Told, Fold.view_of}
 use Rattle.wait_model.specs.declared.layout.TheConstants.{ENTRIES, MEMBERS, PLACES, MIDDLE, FIRST_PLACE}
 use Rattle.wait_model.specs.Places.{front_for, tail_for, priority_for}
-use Rattle.wait_model.specs.Views.{View as Told}
-use Rattle.wait_model.specs.Fold.{view_of}
-use Rattle.wait_rule.specs.declared.journal.Item.{Item}
-use Rattle.wait_rule.specs.Items.{steps_of}
+use Rattle.wait_rule.specs.{declared.journal.Item.Item, Items.steps_of}
 use Rattle.wait_rule.specs.Notes.{Notes, notes_of, look_place, glance_place}
 
 -- Members by number: entries by their index, and the bookmark of task t by `ENTRIES` + t. The place at which the hold

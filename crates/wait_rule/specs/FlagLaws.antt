@@ -1,17 +1,13 @@
 -- To be believed.
 -- The flags of entries of kind Woken on a Domain: who waits by one is told of each wake.
 use Rattle.std.specs.Prelude.{ℕ, ◌≡◌, Bool, true, false, Some, List, [], ◌∷◌}
+use Rattle.wait_model.specs.{declared.steps.Step.Step, Fold.view_of, Laws.NoLostFlag, Tables.Table}
 use Rattle.wait_model.specs.declared.layout.TheConstants.{FIRST_PLAIN_HEAD, NORMAL, UNINTERRUPTIBLE}
-use Rattle.wait_model.specs.declared.steps.Step.{Step}
 use Rattle.wait_model.specs.declared.steps.Step.TheVariants as step
 use Rattle.wait_model.specs.declared.watches.Mode.TheVariants as mode
 use Rattle.wait_model.specs.declared.watches.Watch.TheVariants as watch
-use Rattle.wait_model.specs.Fold.{view_of}
-use Rattle.wait_model.specs.Laws.{NoLostFlag}
-use Rattle.wait_model.specs.Tables.{Table}
-use Rattle.wait_rule.specs.declared.journal.Item.{Item}
+use Rattle.wait_rule.specs.{declared.journal.Item.Item, Rule.IsRuled}
 use Rattle.wait_rule.specs.Interleavings.{AreAllowed, TaskStep, table_of}
-use Rattle.wait_rule.specs.Rule.{IsRuled}
 
 -- A task has queued an entry of kind Woken, and since it did so and cleared the flag it has loaded the entry's watch
 -- and the test failed. Where the watch is set and the flag is not, some task owes a wake of the watch, for tasks in

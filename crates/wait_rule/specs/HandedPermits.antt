@@ -3,22 +3,14 @@
 -- queues at a completion's head and before it gives that back, and the law.
 use Rattle.std.specs.Prelude.{ℕ, ◌≡◌, ◌<◌, ◌-◌, ◌⊎◌, Some, None, List}
 use Rattle.atomic_table.specs.Seated.{TableId}
-use Rattle.wait_model.specs.declared.layout.TheConstants.{TASKS, FIRST_DONE_HEAD}
-use Rattle.wait_model.specs.declared.points.Next.{Next}
-use Rattle.wait_model.specs.declared.points.Point.{Point}
-use Rattle.wait_model.specs.Permits.{MayGiveBack, PermitsAreHanded}
-use Rattle.wait_model.specs.Runs.{own}
-use Rattle.wait_model.specs.Tables.{Table}
-use Rattle.wait_model.specs.Watches.{head_of}
-use Rattle.wait_rule.specs.declared.journal.Item.{Item}
-use Rattle.wait_rule.specs.declared.journal.Journal.{Journal}
-use Rattle.wait_rule.specs.HeldValues.{count_in}
+use Rattle.wait_model.specs.{declared.layout.TheConstants.TASKS, declared.layout.TheConstants.FIRST_DONE_HEAD}
+use Rattle.wait_model.specs.{declared.points.Next.Next, declared.points.Point.Point, Permits.MayGiveBack}
+use Rattle.wait_model.specs.{Permits.PermitsAreHanded, Runs.own, Tables.Table, Watches.head_of}
+use Rattle.wait_rule.specs.{declared.journal.Item.Item, declared.journal.Journal.Journal, HeldValues.count_in}
+use Rattle.wait_rule.specs.{Known.Known, Rule.IsRuled, TableLaws.HasAll, TableLaws.histories_in}
 use Rattle.wait_rule.specs.Interleavings.{AreAllowed, AreHanded, TaskStep, table_of}
-use Rattle.wait_rule.specs.Known.{Known}
 use Rattle.wait_rule.specs.LeftEntries.{HasLeftNone, LeftOff, OrderOf, dealt_of}
-use Rattle.wait_rule.specs.Rule.{IsRuled}
 use Rattle.wait_rule.specs.Says.{IsShown, history_of, newcomer, told_of}
-use Rattle.wait_rule.specs.TableLaws.{HasAll, histories_in}
 use Rattle.wait_rule.specs.Transitions.{Goes, Program, Transition}
 
 -- the completion of the head that it took last, where that is one's

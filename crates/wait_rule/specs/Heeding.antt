@@ -1,17 +1,12 @@
 -- To be believed.
 -- What a wait that answers for a signal has found: the law on signals, by its events.
 use Rattle.std.specs.Prelude.{ℕ, ◌≡◌, Bool, true, false, List, [], ◌∷◌}
-use Rattle.wait_model.specs.declared.calls.Call.{Call}
-use Rattle.wait_model.specs.declared.calls.Call.TheVariants as calls
-use Rattle.wait_model.specs.declared.calls.Event.{Event}
-use Rattle.wait_model.specs.declared.calls.Event.TheVariants as event
-use Rattle.wait_model.specs.Watches.{misses}
+use Rattle.wait_model.specs.{declared.calls.Call.Call, declared.calls.Event.Event, Watches.misses, Programs.signalled}
+use Rattle.wait_model.specs.{Selections.IsSignalledTurn, Sentences.Follows}
 use Rattle.wait_model.specs.Points.{call_watch, call_number, call_head}
-use Rattle.wait_model.specs.Programs.{signalled}
-use Rattle.wait_model.specs.Selections.{IsSignalledTurn}
-use Rattle.wait_model.specs.Sentences.{Follows}
-use Rattle.wait_rule.specs.Known.{Known}
-use Rattle.wait_rule.specs.SaidEvents.{HasMade, call_said}
+use Rattle.wait_model.specs.declared.calls.Call.TheVariants as calls
+use Rattle.wait_model.specs.declared.calls.Event.TheVariants as event
+use Rattle.wait_rule.specs.{Known.Known, SaidEvents.HasMade, SaidEvents.call_said}
 
 -- The trail of a list of events: the latest first, before those of an older trail.
 abbrev pub trail_of : List Event → List Event → List Event

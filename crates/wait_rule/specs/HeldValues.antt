@@ -1,12 +1,10 @@
 -- To be believed.
 -- What a hold has found or left in the word of a condition; a done count stands so while its head is held.
 use Rattle.std.specs.Prelude.{ℕ, ◌≡◌, if◌then◌else◌, Option, Some, None, List, [], ◌∷◌}
-use Rattle.wait_model.specs.declared.watches.Watch.{Watch}
-use Rattle.wait_model.specs.declared.watches.Watch.TheVariants as watch
-use Rattle.wait_model.specs.declared.steps.Step.{Step}
-use Rattle.wait_model.specs.declared.steps.Step.TheVariants as step
-use Rattle.wait_model.specs.Watches.{same, head_of}
+use Rattle.wait_model.specs.{declared.watches.Watch.Watch, declared.steps.Step.Step, Watches.same, Watches.head_of}
 use Rattle.wait_model.specs.Tables.{Table}
+use Rattle.wait_model.specs.declared.watches.Watch.TheVariants as watch
+use Rattle.wait_model.specs.declared.steps.Step.TheVariants as step
 
 -- the value of a condition, where this hold has loaded or stored it
 abbrev pub value_after : Watch → Step → Option ℕ → Option ℕ

@@ -1,11 +1,9 @@
 -- To be believed.
 -- Tables to which steps of the tasks lead, one after another from the start, each allowed where it is made.
 use Rattle.std.specs.Prelude.{ℕ, ◌≡◌, ◌<◌, List, [], ◌∷◌}
-use Rattle.wait_model.specs.declared.layout.TheConstants.{TASKS}
-use Rattle.wait_model.specs.declared.steps.Step.{Step}
-use Rattle.wait_model.specs.Permits.{HandsOn}
-use Rattle.wait_model.specs.Tables.{Table, next, start}
+use Rattle.wait_model.specs.{declared.layout.TheConstants.TASKS, declared.steps.Step.Step, Permits.HandsOn}
 use Rattle.wait_model.specs.Rows.{Allowed}
+use Rattle.wait_model.specs.Tables.{Table, next, start}
 
 -- one step, and whose it is
 pub record TaskStep : Type 0 where

@@ -1,11 +1,8 @@
 -- To be believed.
 -- What the words and the journals of all tasks show: the words, and each number's list of items.
 use Rattle.std.specs.Prelude.{ℕ, ◌+◌, ◌-◌, cond, eqb, ltb, leb, ◌&&◌, true, false, List, [], ◌∷◌, ◌++◌, slice_set}
-use Rattle.wait_model.specs.Functions.{put}
-use Rattle.wait_model.specs.Words.{flag}
-use Rattle.wait_rule.specs.declared.journal.Item.{Item}
-use Rattle.wait_rule.specs.declared.journal.Part.{Part}
-use Rattle.wait_rule.specs.declared.journal.Journal.{Journal}
+use Rattle.wait_model.specs.{Functions.put, Words.flag}
+use Rattle.wait_rule.specs.{declared.journal.Item.Item, declared.journal.Part.Part, declared.journal.Journal.Journal}
 
 -- t lies from a on and below b
 abbrev pub one_within : ℕ → ℕ → ℕ → ℕ

@@ -1,13 +1,10 @@
 -- To be believed.
 -- Entries that a task left queued at completions: what is known of them by its own history.
 use Rattle.std.specs.Prelude.{ℕ, ◌≡◌, false, List}
-use Rattle.wait_model.specs.declared.steps.Step.{Step}
-use Rattle.wait_model.specs.Fold.{view_of}
+use Rattle.wait_model.specs.{declared.steps.Step.Step, Fold.view_of, Runs.own}
 use Rattle.wait_model.specs.Permits.{Dealt, dealt, done_head, shows_at}
-use Rattle.wait_model.specs.Runs.{own}
+use Rattle.wait_rule.specs.{Items.steps_of, Known.Known}
 use Rattle.wait_rule.specs.Interleavings.{AreAllowed, AreHanded, TaskStep, table_of}
-use Rattle.wait_rule.specs.Items.{steps_of}
-use Rattle.wait_rule.specs.Known.{Known}
 
 -- Steps of all tasks that are allowed and hand permits on, after which a task's history is this one. The rule says that
 -- there are some for each history, so what is said of a task need only hold where there are.

@@ -1,12 +1,10 @@
 -- To be believed.
 -- How often a task has loaded words of entries, bookmarks and members, by its list.
 use Rattle.std.specs.Prelude.{ℕ, ◌≡◌, ◌+◌, ◌-◌, ◌≤◌, List, [], ◌∷◌}
-use Rattle.wait_model.specs.declared.layout.TheConstants.{WORD_BITS}
-use Rattle.wait_model.specs.declared.steps.Step.{Step}
+use Rattle.wait_model.specs.{declared.layout.TheConstants.WORD_BITS, declared.steps.Step.Step}
 use Rattle.wait_model.specs.declared.steps.Step.TheVariants as step
-use Rattle.wait_rule.specs.declared.journal.Item.{Item}
+use Rattle.wait_rule.specs.{declared.journal.Item.Item, Known.Known}
 use Rattle.wait_rule.specs.declared.journal.Item.TheVariants as item
-use Rattle.wait_rule.specs.Known.{Known}
 
 -- The number of looks after one more step: a load of an entry word is one, and one of a member word without a lock.
 abbrev pub looks_after : Step → ℕ → ℕ

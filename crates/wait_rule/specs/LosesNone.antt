@@ -1,18 +1,12 @@
 -- To be believed.
 -- What a task that has woken leaves to others: whoever still sleeps on a watch that is set needs no wake of this task.
 use Rattle.std.specs.Prelude.{ℕ, ◌≡◌, ◌≢◌, ◌⊎◌, true, false, List}
-use Rattle.wait_model.specs.declared.watches.Watch.{Watch}
-use Rattle.wait_model.specs.declared.watches.Entry.{Entry}
-use Rattle.wait_model.specs.declared.watches.Mode.{Mode}
-use Rattle.wait_model.specs.declared.watches.Mode.TheVariants as mode
-use Rattle.wait_model.specs.Tasks.{meets}
+use Rattle.wait_model.specs.{declared.watches.Watch.Watch, declared.watches.Entry.Entry, declared.watches.Mode.Mode}
+use Rattle.wait_model.specs.{Tasks.meets, Tables.Table, Tables.met, Coverings.Covering}
 use Rattle.wait_model.specs.Watches.{same, mask_of, owner}
-use Rattle.wait_model.specs.Tables.{Table, met}
-use Rattle.wait_model.specs.Coverings.{Covering}
 use Rattle.wait_model.specs.Wakes.{IsTried, Sleeps, UsedUp}
-use Rattle.wait_rule.specs.declared.journal.Item.{Item}
-use Rattle.wait_rule.specs.Known.{Known}
-use Rattle.wait_rule.specs.Rule.{IsRuled}
+use Rattle.wait_model.specs.declared.watches.Mode.TheVariants as mode
+use Rattle.wait_rule.specs.{declared.journal.Item.Item, Known.Known, Rule.IsRuled}
 use Rattle.wait_rule.specs.Says.{Excuse, OwesBut, told_of}
 
 -- some task other than t owes a wake of the entry's watch for its owner's state, and has not yet passed the entry

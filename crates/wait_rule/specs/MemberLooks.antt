@@ -2,17 +2,12 @@
 -- What a load of a member word tells in a hold: it stands for looks at the words of all its indexes, and each of these
 -- names the head exactly where its bit is set.
 use Rattle.std.specs.Prelude.{ℕ, zero, suc, ◌≡◌, ◌+◌, ◌-◌, ◌*◌, Bool, true, false, nat_lt}
-use Rattle.wait_model.specs.declared.layout.TheConstants.{ENTRIES, WORD_BITS}
+use Rattle.wait_model.specs.{declared.layout.TheConstants.ENTRIES, declared.layout.TheConstants.WORD_BITS}
+use Rattle.wait_model.specs.{Watches.stands_at, Words.bit_at, Words.entry_of, Tables.mark_of}
 use Rattle.wait_model.specs.declared.steps.Step.TheVariants as step
-use Rattle.wait_model.specs.Watches.{stands_at}
-use Rattle.wait_model.specs.Words.{bit_at, entry_of}
-use Rattle.wait_model.specs.Tables.{mark_of}
 use Rattle.wait_rule.specs.declared.journal.Item.TheVariants as item
-use Rattle.wait_rule.specs.Notes.{is_at}
-use Rattle.wait_rule.specs.Members.{IsEntryWord, IsMarkWord}
-use Rattle.wait_rule.specs.Known.{Known}
-use Rattle.wait_rule.specs.Says.{added}
-use Rattle.wait_rule.specs.Queues.{KnewEntry, KnewMark}
+use Rattle.wait_rule.specs.{Notes.is_at, Members.IsEntryWord, Members.IsMarkWord, Known.Known, Says.added}
+use Rattle.wait_rule.specs.{Queues.KnewEntry, Queues.KnewMark}
 
 -- a look at an entry word, or at a bookmark word, that found it naming head h exactly where the bit is set
 pub record SawEntry (bit : Bool) (h x : ℕ) (old new : Known) : Type 0 where

@@ -3,16 +3,12 @@
 -- claims and cells of pipes.
 use Rattle.std.specs.Prelude.{ℕ, ◌≡◌, ◌≢◌, ◌+◌, ◌-◌, ◌*◌, ◌<◌, Bool, true, false, nat_lt, if◌then◌else◌, Option, Some}
 use Rattle.std.specs.Prelude.{None, List, length, slice_index}
+use Rattle.wait_model.specs.{Watches.owner, Watches.stands_at, Words.bit_word, Tables.Table, Rows.IsUntested}
 use Rattle.wait_model.specs.declared.layout.TheConstants.{ENTRIES, WORD_BITS, MEMBER_WORDS, WORDS}
-use Rattle.wait_model.specs.Watches.{owner, stands_at}
-use Rattle.wait_model.specs.Words.{bit_word}
-use Rattle.wait_model.specs.Tables.{Table}
-use Rattle.wait_model.specs.Rows.{IsUntested}
-use Rattle.wait_model.specs.Locations as place
 use Rattle.wait_model.specs.Locations.{IsLocation, position_of, word_in}
-use Rattle.wait_rule.specs.declared.journal.Item.{Item}
+use Rattle.wait_model.specs.Locations as place
+use Rattle.wait_rule.specs.{declared.journal.Item.Item, Notes.is_at}
 use Rattle.wait_rule.specs.Items.{Difference, nothing, at_entry, at_mark, page_taken, page_told, book_of}
-use Rattle.wait_rule.specs.Notes.{is_at}
 
 -- member words, tickets, tallies, claims and cells, which no step of the model is about
 abbrev pub is_beside : place.Location → Bool

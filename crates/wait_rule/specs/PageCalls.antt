@@ -2,22 +2,16 @@
 -- What contracts say of pages that are handed over, and what each such step tells its task.
 use Rattle.std.specs.Prelude.{ℕ, Bool, ◌≡◌, ◌⊎◌, ◌+◌, ◌-◌, true, false, Some}
 use Rattle.atomic_table.specs.Seated.{TableId}
+use Rattle.wait_model.specs.{declared.watches.Entry.Entry, Fold.met_task, Tasks.IsLawfulWord}
 use Rattle.wait_model.specs.declared.layout.TheConstants.{CONDITION_AT, FIRST_BIT_WORD, FLAG_AT, WOKEN, HANDED}
-use Rattle.wait_model.specs.declared.watches.Entry.{Entry}
+use Rattle.wait_model.specs.Watches.{is_page, mask_of, page}
 use Rattle.wait_model.specs.declared.steps.Step.TheVariants as step
 use Rattle.wait_model.specs.declared.watches.Mode.TheVariants as mode
-use Rattle.wait_model.specs.Fold.{met_task}
-use Rattle.wait_model.specs.Tasks.{IsLawfulWord}
-use Rattle.wait_model.specs.Watches.{is_page, mask_of, page}
 use Rattle.wait_rule.specs.declared.journal.Item.TheVariants as item
-use Rattle.wait_rule.specs.Known.{Known, known}
-use Rattle.wait_rule.specs.Items.{page_taken, page_told}
-use Rattle.wait_rule.specs.Asked.{was_given_at, nothing_asked}
-use Rattle.wait_rule.specs.Pages.{IsPageless}
-use Rattle.wait_rule.specs.Quiet.{is_quiet_at, is_told}
+use Rattle.wait_rule.specs.{Known.Known, Known.known, Items.page_taken, Items.page_told, Asked.was_given_at}
+use Rattle.wait_rule.specs.{Asked.nothing_asked, Pages.IsPageless, Quiet.is_quiet_at, Quiet.is_told, Queues.ShowsEntry}
+use Rattle.wait_rule.specs.{Queues.index, Plays.Play, Plays.seat_with}
 use Rattle.wait_rule.specs.Says.{added, asks_for, history_of, noted, stored_with, told_of}
-use Rattle.wait_rule.specs.Queues.{ShowsEntry, index}
-use Rattle.wait_rule.specs.Plays.{Play, seat_with}
 
 -- the hold shows an entry for this page there
 pub record MayTryFor (k : Known) (who slot word : ℕ) : Type 0 where

@@ -1,18 +1,15 @@
 -- To be believed.
 -- Pages that are handed over, in each table that meets the rule.
 use Rattle.std.specs.Prelude.{ℕ, ◌≡◌, true, false, Some, None, List, [], ◌∷◌}
-use Rattle.wait_model.specs.declared.watches.Entry.{Entry}
+use Rattle.wait_model.specs.{declared.watches.Entry.Entry, Tables.Table, BitKeepers.HoldsBit}
+use Rattle.wait_model.specs.Watches.{head_of, owner, page}
 use Rattle.wait_model.specs.declared.watches.Kind.TheVariants as kind
 use Rattle.wait_model.specs.declared.steps.Step.TheVariants as step
-use Rattle.wait_model.specs.Watches.{head_of, owner, page}
-use Rattle.wait_model.specs.Tables.{Table}
-use Rattle.wait_model.specs.BitKeepers.{HoldsBit}
-use Rattle.wait_rule.specs.declared.journal.Item.{Item}
-use Rattle.wait_rule.specs.declared.journal.Item.TheVariants as item
+use Rattle.wait_rule.specs.{declared.journal.Item.Item, Rule.IsRuled}
 use Rattle.wait_rule.specs.Items.{nothing, at_entry, page_taken, page_told, book_of}
 use Rattle.wait_rule.specs.Asked.{nothing_asked, waits_for, was_given, asked_by_items, all_asked}
 use Rattle.wait_rule.specs.Pages.{uses_flag, IsAskedAt, IsPageless}
-use Rattle.wait_rule.specs.Rule.{IsRuled}
+use Rattle.wait_rule.specs.declared.journal.Item.TheVariants as item
 
 -- A page that a walk took for the task of an entry is one for which the task's list tells that it waits, or that it was
 -- given. That task holds the page, also while it sleeps, and no other one does.

@@ -2,10 +2,8 @@
 -- How pages are handed over: what stands in the words of an entry that waits for a page, and what its task and a walk
 -- that calls it know.
 use Rattle.std.specs.Prelude.{ℕ, ◌≡◌, ◌⊎◌, ◌||◌, Bool, true, false, Option, Some, None}
-use Rattle.wait_model.specs.declared.watches.Entry.{Entry}
-use Rattle.wait_model.specs.declared.watches.Kind.{Kind}
+use Rattle.wait_model.specs.{declared.watches.Entry.Entry, declared.watches.Kind.Kind, Tables.Table}
 use Rattle.wait_model.specs.Watches.{head_of, is_page, is_woken, owner, page}
-use Rattle.wait_model.specs.Tables.{Table}
 use Rattle.wait_rule.specs.Items.{Difference, page_taken, page_told}
 use Rattle.wait_rule.specs.Asked.{Asked, waits_at, was_given_at}
 

@@ -2,10 +2,7 @@
 -- A task that passes cells by an end of a pipe, one at a time.
 use Rattle.std.specs.Prelude.{ℕ, ◌≡◌, ◌≢◌, length}
 use Rattle.atomic_table.specs.Seated.{TableId}
-use Rattle.wait_rule.specs.Known.{Known}
-use Rattle.wait_rule.specs.PipeSays.{IsOpen, end_at}
-use Rattle.wait_rule.specs.Queues.{IsIdle}
-use Rattle.wait_rule.specs.Says.{IsUp}
+use Rattle.wait_rule.specs.{Known.Known, PipeSays.IsOpen, PipeSays.end_at, Queues.IsIdle, Says.IsUp}
 
 -- it is an idle task of this Domain
 pub record IsReady (domain : TableId) (k : Known) : Type 0 where

@@ -2,19 +2,13 @@
 -- The law of pipes: what was got is a front of what was sent, with the cells in between; in each scene that meets the
 -- rule, and by the lists of a task that has those of the two whose the ends are.
 use Rattle.std.specs.Prelude.{ℕ, ◌≡◌, ◌<◌, ◌≤◌, true, List}
+use Rattle.wait_model.specs.{declared.points.Next.Next, declared.points.Point.Point, declared.watches.Aim.Aim}
 use Rattle.wait_model.specs.declared.layout.TheConstants.{CLAIMS, PIPES, TASKS}
-use Rattle.wait_model.specs.declared.points.Next.{Next}
-use Rattle.wait_model.specs.declared.points.Point.{Point}
-use Rattle.wait_model.specs.declared.watches.Aim.{Aim}
 use Rattle.wait_model.specs.declared.watches.Watch.TheVariants as watch
-use Rattle.wait_rule.specs.declared.journal.Journal.{Journal}
-use Rattle.wait_rule.specs.Known.{Known}
-use Rattle.wait_rule.specs.PipeSays.{EndsKept, end_at}
+use Rattle.wait_rule.specs.{declared.journal.Journal.Journal, Known.Known, PipeSays.EndsKept, PipeSays.end_at, Rule.Law}
+use Rattle.wait_rule.specs.{Says.IsShown, TableLaws.HasAll}
 use Rattle.wait_rule.specs.Transitions.{Goes, Program, Transition, walk_program}
 use Rattle.wait_rule.specs.Journals.{Scene, owns, has_of}
-use Rattle.wait_rule.specs.Rule.{Law}
-use Rattle.wait_rule.specs.Says.{IsShown}
-use Rattle.wait_rule.specs.TableLaws.{HasAll}
 use Rattle.wait_rule.specs.Pipes.{Delivers, end_of, read_end, was_refused, write_end}
 
 -- t has the write end of pipe p, and u its read end

@@ -6,9 +6,8 @@ use Rattle.wait_model.specs.declared.watches.Watch.TheVariants as watch
 use Rattle.wait_model.specs.declared.steps.Step.TheVariants as step
 use Rattle.wait_rule.specs.declared.journal.EndAct.TheVariants as act
 use Rattle.wait_rule.specs.declared.journal.Item.TheVariants as item
+use Rattle.wait_rule.specs.{PipeSays.IsSoundEnd, Plays.Play, Plays.seat_with}
 use Rattle.wait_rule.specs.Pipes.{IsCell, end_of, end_word, write_end, read_end}
-use Rattle.wait_rule.specs.PipeSays.{IsSoundEnd}
-use Rattle.wait_rule.specs.Plays.{Play, seat_with}
 
 -- the end of a claim, the pipe of a cell, and the end of a variable
 abbrev pub claim_end : ℕ → ℕ

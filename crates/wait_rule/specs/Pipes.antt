@@ -3,16 +3,13 @@
 use Rattle.std.specs.Prelude.{ℕ, ◌≡◌, ◌+◌, ◌-◌, ◌*◌, ◌/◌, ◌%◌, ◌<◌, ◌≤◌, ◌==◌, ◌&&◌, ◌||◌, not, if◌then◌else◌, Bool}
 use Rattle.std.specs.Prelude.{true, false, List, [], ◌∷◌, ◌++◌, length, take, drop, replicate, flat_map, get_or}
 use Rattle.std.specs.Int.{w64, to_le_bytes}
+use Rattle.wait_model.specs.{declared.steps.Step.Step, Functions.put, Words.flag}
 use Rattle.wait_model.specs.declared.layout.TheConstants.{PIPES, PIPE_ENDS, PIPE_CELLS, TASKS}
 use Rattle.wait_model.specs.declared.watches.Watch.TheVariants as watch
-use Rattle.wait_model.specs.declared.steps.Step.{Step}
 use Rattle.wait_model.specs.declared.steps.Step.TheVariants as step
-use Rattle.wait_model.specs.Functions.{put}
-use Rattle.wait_model.specs.Words.{flag}
 use Rattle.wait_model.specs.Locations as place
-use Rattle.wait_rule.specs.declared.journal.EndAct.{EndAct}
+use Rattle.wait_rule.specs.{declared.journal.EndAct.EndAct, declared.journal.Item.Item}
 use Rattle.wait_rule.specs.declared.journal.EndAct.TheVariants as act
-use Rattle.wait_rule.specs.declared.journal.Item.{Item}
 use Rattle.wait_rule.specs.declared.journal.Item.TheVariants as item
 
 -- The ends of pipes are numbered as their claims and as the variables that are their words. A cell of a pipe has its

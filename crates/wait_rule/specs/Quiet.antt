@@ -3,13 +3,9 @@
 -- word with no entry there, and has queued none of kind Woken there since. So only a page that was taken for the task
 -- sets the flag then.
 use Rattle.std.specs.Prelude.{ℕ, ◌≡◌, ◌&&◌, ◌||◌, ◌==◌, not, Bool, true, false, if◌then◌else◌, List, [], ◌∷◌}
-use Rattle.wait_model.specs.declared.steps.Step.{Step}
+use Rattle.wait_model.specs.{declared.steps.Step.Step, Fold.after, Fold.is_off, Tables.Table, Views.View, Views.blank}
+use Rattle.wait_model.specs.{Watches.is_woken, Watches.owner, Words.flag_of}
 use Rattle.wait_model.specs.declared.steps.Step.TheVariants as step
-use Rattle.wait_model.specs.Fold.{after, is_off}
-use Rattle.wait_model.specs.Tables.{Table}
-use Rattle.wait_model.specs.Views.{View, blank}
-use Rattle.wait_model.specs.Watches.{is_woken, owner}
-use Rattle.wait_model.specs.Words.{flag_of}
 
 -- after one step of a task that knew this view
 abbrev pub quiet_after : ℕ → View → Step → Bool → Bool

@@ -1,30 +1,17 @@
 -- To be believed.
 -- Whole runs of calls, as the model's sentences say them: the events that the transitions of a call are.
 use Rattle.std.specs.Prelude.{ℕ, ◌≡◌, ◌<◌, Bool, true, false, None, List, [], ◌∷◌, ◌++◌}
-use Rattle.wait_model.specs.declared.layout.TheConstants.{SLOTS, PLAIN_CONDITIONS}
-use Rattle.wait_model.specs.declared.calls.Call.{Call}
+use Rattle.wait_model.specs.{declared.layout.TheConstants.SLOTS, declared.layout.TheConstants.PLAIN_CONDITIONS}
+use Rattle.wait_model.specs.{declared.calls.Call.Call, declared.calls.Event.Event, declared.calls.Answer.Answer}
+use Rattle.wait_model.specs.{declared.points.Point.Point, declared.points.Next.Next, declared.watches.Aim.Aim}
+use Rattle.wait_model.specs.{declared.watches.Mode.Mode, Watches.is_done, Points.call_watch, Programs.program_start}
+use Rattle.wait_model.specs.{Findings.is_waiting, Sentences.Follows, Sentences.Begins, Tables.Table}
 use Rattle.wait_model.specs.declared.calls.Call.TheVariants as calls
-use Rattle.wait_model.specs.declared.calls.Event.{Event}
-use Rattle.wait_model.specs.declared.calls.Answer.{Answer}
-use Rattle.wait_model.specs.declared.points.Point.{Point}
 use Rattle.wait_model.specs.declared.points.Point.TheVariants as at
 use Rattle.wait_model.specs.declared.points.WalkPoint.TheVariants as walking
-use Rattle.wait_model.specs.declared.points.Next.{Next}
 use Rattle.wait_model.specs.declared.points.Next.TheVariants as next
-use Rattle.wait_model.specs.declared.watches.Aim.{Aim}
-use Rattle.wait_model.specs.declared.watches.Mode.{Mode}
 use Rattle.wait_model.specs.declared.watches.Watch.TheVariants as watch
-use Rattle.wait_model.specs.Watches.{is_done}
-use Rattle.wait_model.specs.Points.{call_watch}
-use Rattle.wait_model.specs.Programs.{program_start}
-use Rattle.wait_model.specs.Findings.{is_waiting}
-use Rattle.wait_model.specs.Sentences.{Follows, Begins}
-use Rattle.wait_model.specs.Tables.{Table}
-use Rattle.wait_rule.specs.declared.journal.Item.{Item}
-use Rattle.wait_rule.specs.Known.{Known}
-use Rattle.wait_rule.specs.Rule.{IsRuled}
-use Rattle.wait_rule.specs.Says.{told_of}
-use Rattle.wait_rule.specs.Queues.{index}
+use Rattle.wait_rule.specs.{declared.journal.Item.Item, Known.Known, Rule.IsRuled, Says.told_of, Queues.index}
 use Rattle.wait_rule.specs.Transitions.{Program, Transition, Goes, call_program, walk_program}
 
 -- the events of the program at the places through which the transitions go, oldest first

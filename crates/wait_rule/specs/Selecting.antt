@@ -3,27 +3,20 @@
 use Rattle.std.specs.Prelude.{ℕ, ◌≡◌, ◌+◌, ◌<◌, ◌≤◌, Bool, true, false, if◌then◌else◌, Option, Some, None, List, []}
 use Rattle.std.specs.Prelude.{◌∷◌}
 use Rattle.wait_model.specs.declared.calls.Call.TheVariants as calls
-use Rattle.wait_model.specs.declared.calls.Event.{Event}
+use Rattle.wait_model.specs.{declared.calls.Event.Event, declared.points.Point.Point}
+use Rattle.wait_model.specs.{declared.points.WalkPoint.WalkPoint, declared.points.Next.Next, declared.points.Seen.Seen}
+use Rattle.wait_model.specs.{declared.queues.CalledEntry.CalledEntry, declared.queues.Walked.Walked}
+use Rattle.wait_model.specs.{declared.watches.Aim.Aim, declared.watches.Mode.Mode, Programs.walk_event}
+use Rattle.wait_model.specs.Sentences.{Follows}
 use Rattle.wait_model.specs.declared.calls.Event.TheVariants as event
 use Rattle.wait_model.specs.declared.calls.Answer.TheVariants as answer
-use Rattle.wait_model.specs.declared.points.Point.{Point}
 use Rattle.wait_model.specs.declared.points.Point.TheVariants as at
-use Rattle.wait_model.specs.declared.points.WalkPoint.{WalkPoint}
 use Rattle.wait_model.specs.declared.points.WalkPoint.TheVariants as walking
 use Rattle.wait_model.specs.declared.points.PageStage.TheVariants as staging
-use Rattle.wait_model.specs.declared.points.Next.{Next}
 use Rattle.wait_model.specs.declared.points.Next.TheVariants as next
-use Rattle.wait_model.specs.declared.points.Seen.{Seen}
-use Rattle.wait_model.specs.declared.queues.CalledEntry.{CalledEntry}
-use Rattle.wait_model.specs.declared.queues.Walked.{Walked}
 use Rattle.wait_model.specs.declared.queues.End.TheVariants as end_as
-use Rattle.wait_model.specs.declared.watches.Aim.{Aim}
-use Rattle.wait_model.specs.declared.watches.Mode.{Mode}
-use Rattle.wait_model.specs.Programs.{walk_event}
-use Rattle.wait_model.specs.Sentences.{Follows}
-use Rattle.wait_rule.specs.Known.{Known}
-use Rattle.wait_rule.specs.SaidEvents.{HasWalked, said}
-use Rattle.wait_rule.specs.Transitions.{Transition, walk_program}
+use Rattle.wait_rule.specs.{Known.Known, SaidEvents.HasWalked, SaidEvents.said, Transitions.Transition}
+use Rattle.wait_rule.specs.Transitions.{walk_program}
 
 -- How many functions of entries answered yes, by the events of a walk: those whose wakes met their tasks, and those of
 -- pages that told their tasks, whatever the wake after that answered. `told` is that the last event told a task.

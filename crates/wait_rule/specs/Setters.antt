@@ -2,23 +2,14 @@
 -- A setter followed through an order of steps: it publishes a watch, and by a later step of it a wake of the watch ends
 -- that used up no count. Whoever the watch was set for all the while does not sleep on it any more.
 use Rattle.std.specs.Prelude.{ℕ, ◌≡◌, ◌≢◌, ◌<◌, Bool, true, false, List, [], ◌∷◌, ◌++◌}
-use Rattle.wait_model.specs.declared.layout.TheConstants.{TASKS}
-use Rattle.wait_model.specs.declared.watches.Watch.{Watch}
-use Rattle.wait_model.specs.declared.watches.Entry.{Entry}
-use Rattle.wait_model.specs.declared.steps.Step.{Step}
-use Rattle.wait_model.specs.declared.steps.Step.TheVariants as step
-use Rattle.wait_model.specs.Watches.{same, owner}
-use Rattle.wait_model.specs.Fold.{view_of}
+use Rattle.wait_model.specs.{declared.layout.TheConstants.TASKS, declared.watches.Watch.Watch}
+use Rattle.wait_model.specs.{declared.watches.Entry.Entry, declared.steps.Step.Step, Watches.same, Watches.owner}
+use Rattle.wait_model.specs.{Fold.view_of, Histories.Lacks, Histories.publishes, Owed.EndsWake, Wakes.Sleeps}
 use Rattle.wait_model.specs.Tables.{Table, met, next}
-use Rattle.wait_model.specs.Histories.{Lacks, publishes}
-use Rattle.wait_model.specs.Owed.{EndsWake}
-use Rattle.wait_model.specs.Wakes.{Sleeps}
-use Rattle.wait_rule.specs.declared.journal.Item.{Item}
-use Rattle.wait_rule.specs.declared.journal.Journal.{Journal}
+use Rattle.wait_model.specs.declared.steps.Step.TheVariants as step
+use Rattle.wait_rule.specs.{declared.journal.Item.Item, declared.journal.Journal.Journal, Rule.IsRuled, Says.IsShown}
+use Rattle.wait_rule.specs.{TableLaws.HasAll, TableLaws.histories_in}
 use Rattle.wait_rule.specs.Interleavings.{TaskStep, table_of, AreAllowed}
-use Rattle.wait_rule.specs.Rule.{IsRuled}
-use Rattle.wait_rule.specs.Says.{IsShown}
-use Rattle.wait_rule.specs.TableLaws.{HasAll, histories_in}
 
 abbrev pub step_by : ℕ → Step → TaskStep
 step_by t e = record { task = t; made = e }

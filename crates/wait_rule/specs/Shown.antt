@@ -1,14 +1,10 @@
 -- To be believed.
 -- The entries and the queue of a head, as a hold of it shows them.
 use Rattle.std.specs.Prelude.{ℕ, zero, suc, Option, Some, None, List, []}
-use Rattle.wait_model.specs.declared.layout.TheConstants.{MEMBERS}
-use Rattle.wait_model.specs.declared.watches.Entry.{Entry}
-use Rattle.wait_model.specs.declared.queues.Member.{Member}
-use Rattle.wait_model.specs.Queues.{mark_add}
+use Rattle.wait_model.specs.{declared.layout.TheConstants.MEMBERS, declared.watches.Entry.Entry}
+use Rattle.wait_model.specs.{declared.queues.Member.Member, Queues.mark_add}
 use Rattle.wait_model.specs.Views.{Look, unseen, off, elsewhere, shown}
-use Rattle.wait_rule.specs.Known.{Known}
-use Rattle.wait_rule.specs.Says.{told_of}
-use Rattle.wait_rule.specs.Queues.{place_by}
+use Rattle.wait_rule.specs.{Known.Known, Says.told_of, Queues.place_by}
 
 -- the entry that the hold shows at an index
 abbrev pub look_entry : Look → Option Entry

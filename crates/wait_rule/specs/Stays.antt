@@ -2,22 +2,16 @@
 -- What stays of a task while it looks, holds heads, queues and wakes.
 use Rattle.std.specs.Prelude.{ℕ, ◌≡◌, ◌<◌, ◌⊎◌, ◌&&◌, ◌||◌, ◌==◌, if◌then◌else◌, Bool, true, false}
 use Rattle.std.specs.Prelude.{Option, Some, None}
-use Rattle.wait_model.specs.declared.layout.TheConstants.{SLOTS}
-use Rattle.wait_model.specs.declared.watches.Watch.{Watch}
-use Rattle.wait_model.specs.declared.watches.Watch.TheVariants as watch
-use Rattle.wait_model.specs.declared.watches.Entry.{Entry}
-use Rattle.wait_model.specs.declared.watches.Mode.{Mode}
-use Rattle.wait_model.specs.declared.watches.Mode.TheVariants as mode
-use Rattle.wait_model.specs.declared.tasks.Sleep.{Sleep}
-use Rattle.wait_model.specs.declared.tasks.Sleep.TheVariants as sleep
-use Rattle.wait_model.specs.Tasks.{meets}
+use Rattle.wait_model.specs.{declared.layout.TheConstants.SLOTS, declared.watches.Watch.Watch}
+use Rattle.wait_model.specs.{declared.watches.Entry.Entry, declared.watches.Mode.Mode, declared.tasks.Sleep.Sleep}
+use Rattle.wait_model.specs.{Tasks.meets, Words.entry_of}
 use Rattle.wait_model.specs.Watches.{same, mask_of, head_of}
-use Rattle.wait_model.specs.Words.{entry_of}
-use Rattle.wait_rule.specs.Known.{Known}
+use Rattle.wait_model.specs.declared.watches.Watch.TheVariants as watch
+use Rattle.wait_model.specs.declared.watches.Mode.TheVariants as mode
+use Rattle.wait_model.specs.declared.tasks.Sleep.TheVariants as sleep
+use Rattle.wait_rule.specs.{Known.Known, Members.IsOwnKind, Queues.MayUnqueue, Queues.index}
 use Rattle.wait_rule.specs.Tickets.{Ticket, given, no_ticket, taken}
-use Rattle.wait_rule.specs.Members.{IsOwnKind}
 use Rattle.wait_rule.specs.Says.{Debts, Excuse, OwesBut, TriesNone, told_of}
-use Rattle.wait_rule.specs.Queues.{MayUnqueue, index}
 
 -- no entry word, and one
 abbrev pub no_entries : ℕ → Bool

@@ -2,12 +2,9 @@
 -- What a task carries on over a store of an own word in a hold: of an entry, or of its bookmark. The member bit that is
 -- still to be stored then is no debt: the lock can't be given back before.
 use Rattle.std.specs.Prelude.{ℕ, ◌≡◌, ◌≢◌, ◌<◌, true, false, Option, Some, None}
-use Rattle.wait_model.specs.declared.layout.TheConstants.{FIRST_DONE_HEAD}
-use Rattle.wait_model.specs.declared.watches.Watch.{Watch}
-use Rattle.wait_model.specs.declared.watches.Entry.{Entry}
-use Rattle.wait_model.specs.declared.queues.Mark.{Mark}
-use Rattle.wait_model.specs.Views.{is_trying_for}
-use Rattle.wait_model.specs.Watches.{head_of, is_page}
+use Rattle.wait_model.specs.{declared.layout.TheConstants.FIRST_DONE_HEAD, declared.watches.Watch.Watch}
+use Rattle.wait_model.specs.{declared.watches.Entry.Entry, declared.queues.Mark.Mark, Views.is_trying_for}
+use Rattle.wait_model.specs.{Watches.head_of, Watches.is_page}
 use Rattle.wait_rule.specs.Known.{Known}
 use Rattle.wait_rule.specs.Says.{Debts, Excuse, told_of}
 use Rattle.wait_rule.specs.Stays.{Carries, put_cell_change, put_change, put_page_change}

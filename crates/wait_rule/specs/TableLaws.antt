@@ -2,24 +2,14 @@
 -- The laws of the model on a Domain: wakeups, signals, bits and completions, in each table that meets the rule, at each
 -- moment before, and by the lists of a task that has joined all others.
 use Rattle.std.specs.Prelude.{ℕ, ◌≡◌, ◌+◌, ◌-◌, ◌^◌, ◌<◌, ◌≤◌, ◌⊎◌, ◌==◌, ◌&&◌, List}
-use Rattle.wait_model.specs.declared.layout.TheConstants.{TASKS}
-use Rattle.wait_model.specs.declared.steps.Step.{Step}
-use Rattle.wait_model.specs.declared.steps.Step.TheVariants as step
-use Rattle.wait_model.specs.Words.{flag}
-use Rattle.wait_model.specs.Tables.{Table}
-use Rattle.wait_model.specs.Totals.{total, total_below}
-use Rattle.wait_model.specs.Wakes.{NoWakeIsLost}
+use Rattle.wait_model.specs.{declared.layout.TheConstants.TASKS, declared.steps.Step.Step, Words.flag, Tables.Table}
+use Rattle.wait_model.specs.{Totals.total, Totals.total_below, Wakes.NoWakeIsLost, BitKeepers.AreKept, Histories.Lacks}
 use Rattle.wait_model.specs.SignalCounts.{AreRaised, takes_fatal, takes_any, raises_fatal, raises_any}
-use Rattle.wait_model.specs.BitKeepers.{AreKept}
 use Rattle.wait_model.specs.DoneCounts.{IsBalanced, of_store, raises_by_one, lowers_by_one, grants, throws, ends_count}
-use Rattle.wait_model.specs.Histories.{Lacks}
-use Rattle.wait_rule.specs.declared.journal.Item.{Item}
-use Rattle.wait_rule.specs.declared.journal.Journal.{Journal}
+use Rattle.wait_model.specs.declared.steps.Step.TheVariants as step
+use Rattle.wait_rule.specs.{declared.journal.Item.Item, declared.journal.Journal.Journal, Items.steps_of, Journals.owns}
+use Rattle.wait_rule.specs.{Journals.has_of, Rule.IsRuled, Says.IsShown}
 use Rattle.wait_rule.specs.Interleavings.{TaskStep, table_of, AreAllowed}
-use Rattle.wait_rule.specs.Items.{steps_of}
-use Rattle.wait_rule.specs.Journals.{owns, has_of}
-use Rattle.wait_rule.specs.Rule.{IsRuled}
-use Rattle.wait_rule.specs.Says.{IsShown}
 
 -- Whoever sleeps on a watch that is set is covered by a task that owes the wake; or, at a plain condition or a
 -- completion, wakes have used up their count at its head since; or, at a bit, some task is trying it.

@@ -1,8 +1,7 @@
 -- To be believed.
 -- The tallies of pages: what the lists of tasks add to each, and what its word shows.
 use Rattle.std.specs.Prelude.{ℕ, ◌≡◌, ◌+◌, ◌%◌, ◌^◌, ◌==◌, if◌then◌else◌, List, [], ◌∷◌}
-use Rattle.wait_model.specs.declared.layout.TheConstants.{TASKS}
-use Rattle.wait_model.specs.Totals.{sum_below}
+use Rattle.wait_model.specs.{declared.layout.TheConstants.TASKS, Totals.sum_below}
 use Rattle.wait_model.specs.Locations as place
 use Rattle.wait_rule.specs.declared.journal.Item.{Item}
 use Rattle.wait_rule.specs.declared.journal.Item.TheVariants as item

@@ -2,18 +2,12 @@
 -- What a tally tells: the sum of all amounts that tasks added to it, in each scene that meets the rule, and by the
 -- lists of a task that has joined all others; and how that sum is counted.
 use Rattle.std.specs.Prelude.{ℕ, ◌≡◌, ◌+◌, ◌%◌, ◌^◌, ◌<◌, true, List, slice_index}
-use Rattle.wait_model.specs.declared.layout.TheConstants.{PAGES, TASKS}
+use Rattle.wait_model.specs.{declared.layout.TheConstants.PAGES, declared.layout.TheConstants.TASKS}
+use Rattle.wait_model.specs.{Locations.position_of, declared.points.Next.Next}
 use Rattle.wait_model.specs.Locations as place
-use Rattle.wait_model.specs.Locations.{position_of}
-use Rattle.wait_model.specs.declared.points.Next.{Next}
-use Rattle.wait_rule.specs.declared.journal.Item.{Item}
-use Rattle.wait_rule.specs.declared.journal.Journal.{Journal}
+use Rattle.wait_rule.specs.{declared.journal.Item.Item, declared.journal.Journal.Journal, Known.Known}
+use Rattle.wait_rule.specs.{Tallies.amounts_of, Tallies.tally_of, Rule.Law, Says.FindsTally, TableLaws.HasAll}
 use Rattle.wait_rule.specs.Journals.{Scene, owns, has_of, pushed, fresh, left_with, joined_with}
-use Rattle.wait_rule.specs.Known.{Known}
-use Rattle.wait_rule.specs.Tallies.{amounts_of, tally_of}
-use Rattle.wait_rule.specs.Rule.{Law}
-use Rattle.wait_rule.specs.Says.{FindsTally}
-use Rattle.wait_rule.specs.TableLaws.{HasAll}
 use Rattle.wait_rule.specs.Transitions.{Program, Transition, Goes}
 
 -- The word of a page's tally is the sum of all amounts in the lists of all tasks, modulo 2^64.

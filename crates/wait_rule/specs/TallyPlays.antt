@@ -3,8 +3,7 @@
 use Rattle.std.specs.Prelude.{◌≡◌, ◌-◌}
 use Rattle.wait_model.specs.declared.layout.TheConstants.{TALLY_AT}
 use Rattle.wait_rule.specs.declared.journal.Item.TheVariants as item
-use Rattle.wait_rule.specs.Says.{FindsTally}
-use Rattle.wait_rule.specs.Plays.{Play, seat_with}
+use Rattle.wait_rule.specs.{Says.FindsTally, Plays.Play, Plays.seat_with}
 
 -- an add of the amount that the step is given, with the number found
 abbrev pub tally_added_play : Play

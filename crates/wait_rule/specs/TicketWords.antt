@@ -1,15 +1,11 @@
 -- To be believed.
 -- The tickets of heads: which are out, which is served, and what the two words of a head show.
 use Rattle.std.specs.Prelude.{ℕ, ◌≡◌, ◌+◌, ◌%◌, ◌^◌, ◌<◌, ◌≤◌, ◌==◌, true, Some, List}
-use Rattle.wait_model.specs.declared.layout.TheConstants.{TASKS}
-use Rattle.wait_model.specs.declared.steps.Step.{Step}
+use Rattle.wait_model.specs.{declared.layout.TheConstants.TASKS, declared.steps.Step.Step, Words.flag, Totals.sum_below}
+use Rattle.wait_model.specs.{Totals.total_below, Tables.Table}
 use Rattle.wait_model.specs.declared.steps.Step.TheVariants as step
-use Rattle.wait_model.specs.Words.{flag}
-use Rattle.wait_model.specs.Totals.{sum_below, total_below}
-use Rattle.wait_model.specs.Tables.{Table}
 use Rattle.wait_model.specs.Locations as place
-use Rattle.wait_rule.specs.declared.journal.Item.{Item}
-use Rattle.wait_rule.specs.Items.{book_of}
+use Rattle.wait_rule.specs.{declared.journal.Item.Item, Items.book_of}
 use Rattle.wait_rule.specs.Tickets.{Ticket, taken, is_ticket_of, is_served, is_given, ShowsNumber, out_below}
 
 -- what each task has out, by its list

@@ -4,54 +4,38 @@
 -- task looks at words.
 use Rattle.std.specs.Prelude.{ℕ, ◌+◌, ◌≡◌, ◌<◌, ◌⊎◌, ◌==◌, ◌||◌, not, Bool, true, false}
 use Rattle.std.specs.Prelude.{Option, Some, None, List, [], ◌∷◌}
+use Rattle.wait_model.specs.{declared.watches.Watch.Watch, declared.watches.Entry.Entry, declared.watches.Aim.Aim}
+use Rattle.wait_model.specs.{declared.queues.Form.Form, declared.queues.CalledEntry.CalledEntry}
+use Rattle.wait_model.specs.{declared.queues.Member.Member, declared.calls.Call.Call, declared.calls.Event.Event}
+use Rattle.wait_model.specs.{declared.points.Point.Point, declared.points.WalkPoint.WalkPoint}
+use Rattle.wait_model.specs.{declared.points.Given.Given, declared.points.Seen.Seen, declared.points.Planned.Planned}
+use Rattle.wait_model.specs.{declared.points.Next.Next, declared.steps.Step.Step, Tasks.task_of, Watches.owner}
+use Rattle.wait_model.specs.{Words.entry_of, Words.flag_of, Programs.walk_event}
 use Rattle.wait_model.specs.declared.layout.TheConstants.{MEMBER_WORDS, PLACES, MIDDLE}
-use Rattle.wait_model.specs.declared.watches.Watch.{Watch}
-use Rattle.wait_model.specs.declared.watches.Entry.{Entry}
-use Rattle.wait_model.specs.declared.watches.Aim.{Aim}
-use Rattle.wait_model.specs.declared.queues.Form.{Form}
+use Rattle.wait_model.specs.Views.{Look, unseen, off, elsewhere, shown}
+use Rattle.wait_model.specs.Queues.{Arrival, is_within, place_for, entry_from}
+use Rattle.wait_model.specs.Points.{form_of, given_at, walk_given}
+use Rattle.wait_model.specs.Runs.{entry_for, is_publishing, arrives_from, called_of, called_member, called_by, mark_for}
 use Rattle.wait_model.specs.declared.queues.Form.TheVariants as forms
-use Rattle.wait_model.specs.declared.queues.CalledEntry.{CalledEntry}
-use Rattle.wait_model.specs.declared.queues.Member.{Member}
-use Rattle.wait_model.specs.declared.calls.Call.{Call}
-use Rattle.wait_model.specs.declared.calls.Event.{Event}
 use Rattle.wait_model.specs.declared.calls.Event.TheVariants as event
-use Rattle.wait_model.specs.declared.points.Point.{Point}
 use Rattle.wait_model.specs.declared.points.Point.TheVariants as at
 use Rattle.wait_model.specs.declared.points.PreparePoint.TheVariants as preparing
 use Rattle.wait_model.specs.declared.points.LeavePoint.TheVariants as leaving
 use Rattle.wait_model.specs.declared.points.FinishPoint.TheVariants as finishing
-use Rattle.wait_model.specs.declared.points.WalkPoint.{WalkPoint}
 use Rattle.wait_model.specs.declared.points.WalkPoint.TheVariants as walking
 use Rattle.wait_model.specs.declared.points.AddPoint.TheVariants as adding
 use Rattle.wait_model.specs.declared.points.RemovePoint.TheVariants as removing
 use Rattle.wait_model.specs.declared.points.SelectPoint.TheVariants as selecting
 use Rattle.wait_model.specs.declared.points.AwaitPoint.TheVariants as awaiting
 use Rattle.wait_model.specs.declared.points.PagePoint.TheVariants as paging
-use Rattle.wait_model.specs.declared.points.Given.{Given}
-use Rattle.wait_model.specs.declared.points.Seen.{Seen}
-use Rattle.wait_model.specs.declared.points.Planned.{Planned}
-use Rattle.wait_model.specs.declared.points.Next.{Next}
 use Rattle.wait_model.specs.declared.points.Next.TheVariants as next
-use Rattle.wait_model.specs.declared.steps.Step.{Step}
 use Rattle.wait_model.specs.declared.steps.Step.TheVariants as step
-use Rattle.wait_model.specs.Tasks.{task_of}
-use Rattle.wait_model.specs.Watches.{owner}
-use Rattle.wait_model.specs.Words.{entry_of, flag_of}
-use Rattle.wait_model.specs.Views.{Look, unseen, off, elsewhere, shown}
-use Rattle.wait_model.specs.Queues.{Arrival, is_within, place_for, entry_from}
-use Rattle.wait_model.specs.Points.{form_of, given_at, walk_given}
-use Rattle.wait_model.specs.Programs.{walk_event}
 use Rattle.wait_model.specs.Programs as programs
-use Rattle.wait_model.specs.Runs.{entry_for, is_publishing, arrives_from, called_of, called_member, called_by, mark_for}
-use Rattle.wait_rule.specs.declared.journal.Item.{Item}
-use Rattle.wait_rule.specs.declared.journal.Item.TheVariants as item
-use Rattle.wait_rule.specs.Items.{book_from}
-use Rattle.wait_rule.specs.HeldValues.{value_from}
-use Rattle.wait_rule.specs.Known.{Known}
-use Rattle.wait_rule.specs.Asked.{was_given_at as page_at}
+use Rattle.wait_rule.specs.{declared.journal.Item.Item, Items.book_from, HeldValues.value_from, Known.Known}
+use Rattle.wait_rule.specs.{Asked.was_given_at as page_at, Shown.shown_entry, Shown.shown_queue}
 use Rattle.wait_rule.specs.Says.{told_of, history_of, noted, added, asks_for, grown}
 use Rattle.wait_rule.specs.Queues.{IsWholeBook, IsWalkOfCall, at_head, index}
-use Rattle.wait_rule.specs.Shown.{shown_entry, shown_queue}
+use Rattle.wait_rule.specs.declared.journal.Item.TheVariants as item
 
 -- What is no event: loads in a hold, the steps on tickets by which a task waits for a lock and passes it on, and the
 -- loads by which a task that sleeps sees whether it was woken. An add to a tally, a claim of an end of a pipe and a

@@ -2,13 +2,9 @@
 -- What the try of a wake that was made answers, and what is counted of tries that failed, of wakes and of sleeps.
 use Rattle.std.specs.Prelude.{ℕ, ◌+◌, ◌-◌, ◌^◌, ◌≡◌, ◌&&◌, Bool, not, min, Option, Some, None}
 use Rattle.wait_model.specs.declared.steps.Step.TheVariants as step
-use Rattle.wait_model.specs.Fold.{met_task}
-use Rattle.wait_model.specs.Tasks.{task_of}
-use Rattle.wait_rule.specs.declared.tries.FailedTries.{FailedTries}
-use Rattle.wait_rule.specs.declared.tries.Met.{Met}
-use Rattle.wait_rule.specs.declared.tries.TheConstants.{TRIES}
-use Rattle.wait_rule.specs.Known.{Known}
-use Rattle.wait_rule.specs.Says.{AddsOf}
+use Rattle.wait_model.specs.{Fold.met_task, Tasks.task_of}
+use Rattle.wait_rule.specs.{declared.tries.FailedTries.FailedTries, declared.tries.Met.Met}
+use Rattle.wait_rule.specs.{declared.tries.TheConstants.TRIES, Known.Known, Says.AddsOf}
 
 -- whether a wake found the task in a state that its mask meets, and not runnable: its thread is to be woken
 abbrev pub rouses : ℕ → ℕ → Bool

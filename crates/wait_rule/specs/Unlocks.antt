@@ -2,11 +2,9 @@
 -- What the served number of a head tells a task that has the histories of all.
 use Rattle.std.specs.Prelude.{ℕ, ◌≡◌, ◌+◌, ◌%◌, ◌^◌, ◌<◌, ◌≤◌}
 use Rattle.wait_model.specs.declared.layout.TheConstants.{TASKS}
-use Rattle.wait_rule.specs.declared.journal.Journal.{Journal}
-use Rattle.wait_rule.specs.Items.{steps_of}
-use Rattle.wait_rule.specs.Journals.{owns, has_of}
-use Rattle.wait_rule.specs.TicketWords.{all_tickets, unlocked_at, unserved}
+use Rattle.wait_rule.specs.{declared.journal.Journal.Journal, Items.steps_of, Journals.owns, Journals.has_of}
 use Rattle.wait_rule.specs.Says.{ServesUnlocks}
+use Rattle.wait_rule.specs.TicketWords.{all_tickets, unlocked_at, unserved}
 
 -- how often the lock of a head was given back, and how many serves are still to come, by the lists of a journal
 abbrev pub unlocks_told : ℕ → Journal → ℕ

@@ -2,15 +2,12 @@
 -- What the definitions of events and of interleaved steps say of small lists.
 use Rattle.std.specs.Prelude.{◌≡◌, true, false, List, [], ◌∷◌}
 use Rattle.wait_model.specs.declared.calls.Call.TheVariants as calls
-use Rattle.wait_model.specs.declared.calls.Event.{Event}
+use Rattle.wait_model.specs.{declared.calls.Event.Event, declared.tasks.How.How, Tables.met}
 use Rattle.wait_model.specs.declared.calls.Event.TheVariants as event
 use Rattle.wait_model.specs.declared.steps.Step.TheVariants as step
 use Rattle.wait_model.specs.declared.watches.Watch.TheVariants as watch
-use Rattle.wait_model.specs.declared.tasks.How.{How}
 use Rattle.wait_model.specs.declared.tasks.SleepState.TheVariants as states
-use Rattle.wait_model.specs.Tables.{met}
-use Rattle.wait_rule.specs.Heeding.{EndsSignalled, trail_of}
-use Rattle.wait_rule.specs.Interleavings.{TaskStep, table_of}
+use Rattle.wait_rule.specs.{Heeding.EndsSignalled, Heeding.trail_of, Interleavings.TaskStep, Interleavings.table_of}
 use Rattle.wait_rule.specs.Selecting.{yes_in}
 
 -- a walk of head 256 that meets task 3, and then task 4 running

@@ -2,26 +2,18 @@
 -- Worked histories of holds: what the definitions say of small ones.
 use Rattle.std.specs.Prelude.{◌+◌, ◌-◌, ℕ, zero, suc, ◌≡◌, Bool, true, false, Option, Some, None, List, [], ◌∷◌, ◌++◌}
 use Rattle.atomic_table.specs.Seated.{TableId}
+use Rattle.wait_model.specs.{declared.watches.Watch.Watch, declared.watches.Aim.Aim, declared.watches.Entry.Entry}
+use Rattle.wait_model.specs.{declared.steps.Step.Step, Tasks.meets, Words.entry_word, Fold.view_of}
 use Rattle.wait_model.specs.declared.layout.TheConstants.{TASKS, ENTRIES, FIRST_SIMPLE, COMPLETIONS, FIRST_PLAIN_HEAD}
 use Rattle.wait_model.specs.declared.layout.TheConstants.{FIRST_SIMPLE_HEAD, HEADS, FIRST_PLACE, UNINTERRUPTIBLE}
 use Rattle.wait_model.specs.declared.layout.TheConstants.{NORMAL, RUNNABLE}
-use Rattle.wait_model.specs.declared.watches.Watch.{Watch}
 use Rattle.wait_model.specs.declared.watches.Watch.TheVariants as watch
 use Rattle.wait_model.specs.declared.watches.Mode.TheVariants as mode
 use Rattle.wait_model.specs.declared.watches.Kind.TheVariants as kind
-use Rattle.wait_model.specs.declared.watches.Aim.{Aim}
-use Rattle.wait_model.specs.declared.watches.Entry.{Entry}
-use Rattle.wait_model.specs.declared.steps.Step.{Step}
 use Rattle.wait_model.specs.declared.steps.Step.TheVariants as step
-use Rattle.wait_model.specs.Tasks.{meets}
-use Rattle.wait_model.specs.Words.{entry_word}
-use Rattle.wait_model.specs.Fold.{view_of}
-use Rattle.wait_rule.specs.declared.journal.Item.{Item}
+use Rattle.wait_rule.specs.{declared.journal.Item.Item, Notes.notes_of, Journals.pushed, Journals.fresh, Known.Known}
+use Rattle.wait_rule.specs.{Known.known, Queues.Resumes, Queues.walk_of_hold}
 use Rattle.wait_rule.specs.declared.journal.Item.TheVariants as item
-use Rattle.wait_rule.specs.Notes.{notes_of}
-use Rattle.wait_rule.specs.Journals.{pushed, fresh}
-use Rattle.wait_rule.specs.Known.{Known, known}
-use Rattle.wait_rule.specs.Queues.{Resumes, walk_of_hold}
 
 -- the first n entry words are looked at, and each is off
 abbrev pub sees_none : ℕ → List Step

@@ -1,14 +1,11 @@
 -- A check of the definitions.
 -- Worked orders of steps of setters that are followed through time: that the laws speak of them.
 use Rattle.std.specs.Prelude.{ℕ, zero, suc, ◌≡◌, ◌+◌, ◌-◌, true, false, Some, None, List, [], ◌∷◌, ◌++◌}
+use Rattle.wait_model.specs.{declared.watches.Watch.Watch, declared.watches.Entry.Entry, Fold.view_of, Wakes.Sleeps}
 use Rattle.wait_model.specs.declared.layout.TheConstants.{ENTRIES, MEMBER_WORDS, FIRST_PLACE, FIRST_PLAIN_HEAD, NORMAL}
 use Rattle.wait_model.specs.declared.layout.TheConstants.{RUNNABLE, UNINTERRUPTIBLE}
-use Rattle.wait_model.specs.declared.watches.Watch.{Watch}
 use Rattle.wait_model.specs.declared.watches.Watch.TheVariants as watch
-use Rattle.wait_model.specs.declared.watches.Entry.{Entry}
 use Rattle.wait_model.specs.declared.steps.Step.TheVariants as step
-use Rattle.wait_model.specs.Fold.{view_of}
-use Rattle.wait_model.specs.Wakes.{Sleeps}
 use Rattle.wait_rule.specs.Interleavings.{TaskStep, table_of, AreAllowed}
 use Rattle.wait_rule.specs.Setters.{step_by, EndsItsWake, OwesNoMore, SetForGood}
 use Rattle.wait_rule.specs.WorkedHolds.{aim_for, worked_entry}

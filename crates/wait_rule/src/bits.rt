@@ -7,10 +7,9 @@ ghost use Rattle.wait_model.specs.declared.steps.Step.TheVariants as step;
 ghost use Rattle.wait_model.specs.declared.watches.Watch.TheVariants as watch;
 ghost use Rattle.wait_model.specs.Watches.{was_clear};
 ghost use Rattle.wait_rule.specs.declared.journal.Item.TheVariants as item;
+ghost use Rattle.wait_rule.specs.{BitPlays.bit_cleared_play, BitPlays.bit_set_play, Queues.IsAgreedHold, Queues.IsIdle};
+ghost use Rattle.wait_rule.specs.{Says.IsUp, Says.added};
 ghost use Rattle.wait_rule.specs.Bits.{ClearsBit, KeepsBitOf, SetsBit};
-ghost use Rattle.wait_rule.specs.BitPlays.{bit_cleared_play, bit_set_play};
-ghost use Rattle.wait_rule.specs.Queues.{IsAgreedHold, IsIdle};
-ghost use Rattle.wait_rule.specs.Says.{IsUp, added};
 
 use crate::domain::{Domain, Task};
 use crate::journal::{Ask, Journal};

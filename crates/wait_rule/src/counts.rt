@@ -5,11 +5,9 @@ ghost use Rattle.wait_model.specs.declared.layout.TheConstants.{COMPLETIONS};
 ghost use Rattle.wait_model.specs.declared.steps.Step.TheVariants as step;
 ghost use Rattle.wait_model.specs.declared.watches.Watch.TheVariants as watch;
 ghost use Rattle.wait_rule.specs.declared.journal.Item.TheVariants as item;
-ghost use Rattle.wait_rule.specs.CountPlays.{count_loaded_play, count_stored_play};
+ghost use Rattle.wait_rule.specs.{CountPlays.count_loaded_play, CountPlays.count_stored_play, Says.IsUp, Says.added};
+ghost use Rattle.wait_rule.specs.{Queues.IsAgreedHold, Stays.Carries, Stays.unchanged};
 ghost use Rattle.wait_rule.specs.Counts.{FindsCount, MayStoreCount, StoresCount};
-ghost use Rattle.wait_rule.specs.Says.{IsUp, added};
-ghost use Rattle.wait_rule.specs.Queues.{IsAgreedHold};
-ghost use Rattle.wait_rule.specs.Stays.{Carries, unchanged};
 
 use crate::domain::{Domain, Task};
 use crate::journal::{Ask, Journal};

@@ -1,33 +1,29 @@
 //! What the rule of a Domain says of its tables.
 
 ghost use Rattle.std.specs.Prelude.{◌≡◌};
-ghost use Rattle.wait_rule.specs.Says.{IsUp, MeetsLaw};
+ghost use Rattle.wait_rule.specs.{Says.IsUp, Says.MeetsLaw, WorkedEvents.WorkedEvents, WorkedSetters.WorkedSetters};
+ghost use Rattle.wait_rule.specs.{Heeding.RunsHeed, Heeding.WordsHeed, DebtLaws.CleanOwesNothing};
+ghost use Rattle.wait_rule.specs.{DebtLaws.RuleTellsDebts, LosesNone.OwersLeaveNone, LosesNone.SettledLeaveNone};
+ghost use Rattle.wait_rule.specs.Unlocks.{AllUnlocksCount};
 ghost use Rattle.wait_rule.specs.Worn.{EntriesWearLate, MarksWearLate, HoldsWearLate, OwnWearsLate, JoinedWearsLate};
 ghost use Rattle.wait_rule.specs.Worn.{HoldsNote, NotesStay, JoinKeepsNotes};
-ghost use Rattle.wait_rule.specs.WorkedEvents.{WorkedEvents};
-ghost use Rattle.wait_rule.specs.WorkedSetters.{WorkedSetters};
 ghost use Rattle.wait_rule.specs.WorkedHolds.{SimpleHolds, CallsRightly, PausesRightly};
 ghost use Rattle.wait_rule.specs.HandedPermits.{AllHandPermitsOn, NewcomersLeaveNone, OthersStayOff};
 ghost use Rattle.wait_rule.specs.HandedPermits.{RuleHandsPermitsOn, StepsHandPermitsOn};
-ghost use Rattle.wait_rule.specs.Heeding.{RunsHeed, WordsHeed};
 ghost use Rattle.wait_rule.specs.FlagLaws.{FlagsComeFirst, RuleLosesNoFlag, StepsLoseNoFlag, WorkedFlags};
 ghost use Rattle.wait_rule.specs.PageLaws.{RuleHandsWhole, RuleLeavesNone, RuleTakesForWaiters, WorkedPages};
 ghost use Rattle.wait_rule.specs.SaidEvents.{RunsBegin, RunsFollow, WakesFollow, WalksFollow};
 ghost use Rattle.wait_rule.specs.Selecting.{RunsSelect, RunsTell, WordsSelect};
-ghost use Rattle.wait_rule.specs.Setters.{AllSetForGood, RuleSetsForGood};
-ghost use Rattle.wait_rule.specs.Setters.{RuleSettlesAll, RuleWakesAll, StepsSettleAll, StepsWakeAll};
-ghost use Rattle.wait_rule.specs.TableLaws.{RuleLosesNoWake, StepsLoseNoWake, AllLoseNoWake};
-ghost use Rattle.wait_rule.specs.TableLaws.{RuleCountsSpent, AllCountSpent};
-ghost use Rattle.wait_rule.specs.TableLaws.{RuleInventsNoSignal, AllTookRaised, RuleKeepsBits, RuleBalances};
-ghost use Rattle.wait_rule.specs.TableLaws.{AllBalance, RuleTakesMade, AllTakeMade};
+ghost use Rattle.wait_rule.specs.Setters.{AllSetForGood, RuleSetsForGood, RuleSettlesAll, RuleWakesAll, StepsSettleAll};
+ghost use Rattle.wait_rule.specs.Setters.{StepsWakeAll};
+ghost use Rattle.wait_rule.specs.TableLaws.{RuleLosesNoWake, StepsLoseNoWake, AllLoseNoWake, RuleCountsSpent};
+ghost use Rattle.wait_rule.specs.TableLaws.{AllCountSpent, RuleInventsNoSignal, AllTookRaised, RuleKeepsBits};
+ghost use Rattle.wait_rule.specs.TableLaws.{RuleBalances, AllBalance, RuleTakesMade, AllTakeMade};
 ghost use Rattle.wait_rule.specs.Aside.{CallsGrowAside, ItemsStayOff, ProgramsLeaveEnds, WalksGrowAside};
 ghost use Rattle.wait_rule.specs.PipeLaws.{RuleDelivers, JoinedDeliver, JoinedRefuse, ProgramsKeepEnds, RuleRefuses};
 ghost use Rattle.wait_rule.specs.PipeLaws.{WalksKeepEnds};
-ghost use Rattle.wait_rule.specs.DebtLaws.{CleanOwesNothing, RuleTellsDebts};
-ghost use Rattle.wait_rule.specs.LosesNone.{OwersLeaveNone, SettledLeaveNone};
-ghost use Rattle.wait_rule.specs.TallyLaws.{RuleSumsTallies, AllSumTallies, AddsCount, JoinsCount};
-ghost use Rattle.wait_rule.specs.TallyLaws.{NewcomersCountNone, ForksCountNone, ProgramsAddNone, ProgramsKeepNumbers};
-ghost use Rattle.wait_rule.specs.Unlocks.{AllUnlocksCount};
+ghost use Rattle.wait_rule.specs.TallyLaws.{RuleSumsTallies, AllSumTallies, AddsCount, JoinsCount, NewcomersCountNone};
+ghost use Rattle.wait_rule.specs.TallyLaws.{ForksCountNone, ProgramsAddNone, ProgramsKeepNumbers};
 
 use crate::domain::{Domain, Task};
 use crate::rule::Witness;

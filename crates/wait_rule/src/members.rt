@@ -1,20 +1,15 @@
 //! The steps on the words by which a head knows its members.
 
 ghost use Rattle.std.specs.Prelude.{◌≡◌, ◌<◌, Some, None};
-ghost use Rattle.wait_model.specs.Tables.{mark_of};
-ghost use Rattle.wait_model.specs.Words.{entry_of, entry_word};
-ghost use Rattle.wait_model.specs.declared.layout.TheConstants.{SLOTS};
-ghost use Rattle.wait_model.specs.declared.layout.TheConstants.{WORD_BITS, HEADS, MEMBERS, MEMBER_WORDS};
+ghost use Rattle.wait_model.specs.{Tables.mark_of, Words.entry_of, Words.entry_word, declared.watches.Entry.Entry};
+ghost use Rattle.wait_model.specs.declared.layout.TheConstants.{SLOTS, WORD_BITS, HEADS, MEMBERS, MEMBER_WORDS};
 ghost use Rattle.wait_model.specs.declared.steps.Step.TheVariants as step;
-ghost use Rattle.wait_model.specs.declared.watches.Entry.{Entry};
-ghost use Rattle.wait_rule.specs.HandedPermits.{FoundNoPermit};
-ghost use Rattle.wait_rule.specs.LookCounts.{Looked};
-ghost use Rattle.wait_rule.specs.MemberLooks.{SawWord};
-ghost use Rattle.wait_rule.specs.Queues.{IsLocked, IsAgreed, index, marked, MayQueue, MayUnqueue};
-ghost use Rattle.wait_rule.specs.Queues.{MayStoreMark, MayStoreMember};
+ghost use Rattle.wait_rule.specs.{HandedPermits.FoundNoPermit, LookCounts.Looked, MemberLooks.SawWord};
+ghost use Rattle.wait_rule.specs.{Stores.StoresEntry, Stores.StoresMark};
+ghost use Rattle.wait_rule.specs.Queues.{IsLocked, IsAgreed, index, marked, MayQueue, MayUnqueue, MayStoreMark};
+ghost use Rattle.wait_rule.specs.Queues.{MayStoreMember};
 ghost use Rattle.wait_rule.specs.Says.{IsUp, added, stored_with};
 ghost use Rattle.wait_rule.specs.Stays.{Carries, take_off_change, unchanged};
-ghost use Rattle.wait_rule.specs.Stores.{StoresEntry, StoresMark};
 ghost use Rattle.wait_rule.specs.declared.journal.Item.TheVariants as item;
 
 use crate::domain::{Domain, Task};

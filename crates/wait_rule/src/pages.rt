@@ -3,16 +3,13 @@
 //! mm/filemap.c that who unlocks a page takes it for a waiter.
 
 ghost use Rattle.std.specs.Prelude.{◌≡◌, ◌<◌, ℕ, Some};
-ghost use Rattle.wait_model.specs.declared.watches.Entry.{Entry};
-ghost use Rattle.wait_model.specs.declared.layout.TheConstants.{BIT_WORDS, SLOTS};
+ghost use Rattle.wait_model.specs.{declared.watches.Entry.Entry, declared.layout.TheConstants.BIT_WORDS};
+ghost use Rattle.wait_model.specs.{declared.layout.TheConstants.SLOTS, Watches.page};
 ghost use Rattle.wait_model.specs.declared.steps.Step.TheVariants as step;
-ghost use Rattle.wait_model.specs.Watches.{page};
 ghost use Rattle.wait_rule.specs.declared.journal.Item.TheVariants as item;
-ghost use Rattle.wait_rule.specs.Asked.{was_given_at};
-ghost use Rattle.wait_rule.specs.Bits.{KeepsBitOf, NotesPage};
-ghost use Rattle.wait_rule.specs.PageCalls.{tried_for_play, told_play, flag_word_play, noted_play};
-ghost use Rattle.wait_rule.specs.PageCalls.{HandsOver, HasTaken, HasTold, IsFlagWord, MayTryFor};
-ghost use Rattle.wait_rule.specs.PageCalls.{QueuesNoPage, ShowsGiven, ShowsNoFlag};
+ghost use Rattle.wait_rule.specs.{Asked.was_given_at, Bits.KeepsBitOf, Bits.NotesPage};
+ghost use Rattle.wait_rule.specs.PageCalls.{tried_for_play, told_play, flag_word_play, noted_play, HandsOver, HasTaken};
+ghost use Rattle.wait_rule.specs.PageCalls.{HasTold, IsFlagWord, MayTryFor, QueuesNoPage, ShowsGiven, ShowsNoFlag};
 ghost use Rattle.wait_rule.specs.Queues.{IsAgreed, IsLocked, ShowsEntry, index};
 ghost use Rattle.wait_rule.specs.Says.{IsUp, added, asks_for, stored_with};
 ghost use Rattle.wait_rule.specs.Stays.{Carries, take_off_change, unchanged};

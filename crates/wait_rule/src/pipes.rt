@@ -9,13 +9,12 @@ ghost use Rattle.wait_model.specs.declared.steps.Step.TheVariants as step;
 ghost use Rattle.wait_model.specs.declared.watches.Watch.TheVariants as watch;
 ghost use Rattle.wait_rule.specs.declared.journal.EndAct.TheVariants as act;
 ghost use Rattle.wait_rule.specs.declared.journal.Item.TheVariants as item;
-ghost use Rattle.wait_rule.specs.LookCounts.{Looked};
+ghost use Rattle.wait_rule.specs.{LookCounts.Looked, Queues.IsIdle};
 ghost use Rattle.wait_rule.specs.Pipes.{IsCell, closed, end_word, new_end, with_all_passed, read_end, with_cell};
 ghost use Rattle.wait_rule.specs.Pipes.{word_counts, write_end};
-ghost use Rattle.wait_rule.specs.PipePlays.{cell_loaded_play, cell_stored_play, claimed_play};
-ghost use Rattle.wait_rule.specs.PipePlays.{end_load_play, end_published_play};
+ghost use Rattle.wait_rule.specs.PipePlays.{cell_loaded_play, cell_stored_play, claimed_play, end_load_play};
+ghost use Rattle.wait_rule.specs.PipePlays.{end_published_play};
 ghost use Rattle.wait_rule.specs.PipeSays.{EndBecomes, IsOpen, IsSoundEnd, end_at, reading, writing};
-ghost use Rattle.wait_rule.specs.Queues.{IsIdle};
 ghost use Rattle.wait_rule.specs.Says.{IsUp, added, told_of};
 ghost use Rattle.wait_rule.specs.Stays.{Carries, claim_change, close_change, publish_change, unchanged};
 

@@ -4,9 +4,8 @@
 ghost use Rattle.std.specs.Prelude.{◌≡◌, ◌<◌};
 ghost use Rattle.wait_model.specs.declared.layout.TheConstants.{HEADS};
 ghost use Rattle.wait_rule.specs.declared.journal.Item.TheVariants as item;
+ghost use Rattle.wait_rule.specs.{Queues.HasGiven, Stays.Carries, Stays.ticket_change};
 ghost use Rattle.wait_rule.specs.Says.{IsFree, IsUp, ServesUnlocks, added};
-ghost use Rattle.wait_rule.specs.Queues.{HasGiven};
-ghost use Rattle.wait_rule.specs.Stays.{Carries, ticket_change};
 ghost use Rattle.wait_rule.specs.Tickets.{after_serving, drawn, no_ticket};
 
 use crate::domain::{Domain, Task};

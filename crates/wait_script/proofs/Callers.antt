@@ -2,15 +2,12 @@
 use Rattle.std.proofs.Common.{◌≡◌, ℕ, ◌≤◌, Bool, true, false, List, [], ◌∷◌, nat_le, nat_lt, refl, sym, ◌∙◌, arith}
 use mathlib.Core.Bool.{◌&&◌}
 use Rattle.std.proofs.lemmas.Bool.Decides.{nat_tests}
-use Rattle.wait_model.specs.declared.calls.Call.{Call}
+use Rattle.wait_model.specs.{declared.calls.Call.Call, declared.layout.TheConstants.FIRST_SIMPLE}
+use Rattle.wait_model.specs.{declared.layout.TheConstants.PRIORITY_TASKS, Admission.is_in_range}
 use Rattle.wait_model.specs.declared.calls.Call.TheVariants as call
 use Rattle.wait_model.specs.declared.queues.Form.TheVariants as form
-use Rattle.wait_model.specs.declared.layout.TheConstants.{FIRST_SIMPLE, PRIORITY_TASKS}
-use Rattle.wait_model.specs.Admission.{is_in_range}
-use Rattle.wait_script.specs.declared.version.Version.{Version}
-use Rattle.wait_script.specs.Fields.{last_priority_task}
-use Rattle.wait_script.specs.Forms.{last_of, call_words}
-use Rattle.wait_script.specs.Versions.{last_task}
+use Rattle.wait_script.specs.{declared.version.Version.Version, Fields.last_priority_task, Forms.last_of}
+use Rattle.wait_script.specs.{Forms.call_words, Versions.last_task}
 use Rattle.wait_script.proofs.Truths.{both_true, parts_true}
 
 -- the last task that may make a call

@@ -1,11 +1,8 @@
 -- Lines that were read before others.
 use Rattle.std.proofs.Common.{◌≡◌, ℕ, ◌+◌, List, [], ◌∷◌, ◌++◌, Result, Ok, Err, refl, ap, sym, ◌∙◌, append_assoc}
-use Rattle.wait_script.specs.declared.line.Line.{Line}
-use Rattle.wait_script.specs.declared.reason.Reason.{Reason}
-use Rattle.wait_script.specs.declared.version.Version.{Version}
-use Rattle.wait_script.specs.Lines.{line_at}
+use Rattle.wait_script.specs.{declared.line.Line.Line, declared.reason.Reason.Reason, declared.version.Version.Version}
+use Rattle.wait_script.specs.{Lines.line_at, Reading.IsFirstLine}
 use Rattle.wait_script.specs.Script.{parts_of, lines_from, and_lines}
-use Rattle.wait_script.specs.Reading.{IsFirstLine}
 use Rattle.wait_script.proofs.LineParts.{lines_from-step}
 
 abbrev pub carried : List Line → Result (List Line) (ℕ × Reason) → Result (List Line) (ℕ × Reason)

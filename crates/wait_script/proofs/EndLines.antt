@@ -5,9 +5,8 @@ use Rattle.std.proofs.Common.{decimal}
 use Rattle.std.proofs.lemmas.Bool.Decides.{nat_tests}
 use Rattle.std.specs.List.{flat_map}
 use Rattle.edge_io.specs.Text.{Midway}
-use Rattle.wait_model.specs.declared.queues.Member.{Member}
+use Rattle.wait_model.specs.{declared.queues.Member.Member, Tables.Table}
 use Rattle.wait_model.specs.Queues.{member_from, rank, IsRisingFrom, IsInOrder}
-use Rattle.wait_model.specs.Tables.{Table}
 use Rattle.wait_model.specs.declared.layout.TheConstants.{CONDITION_AT, CONDITIONS, MEMBERS, PLACES}
 use Rattle.wait_model.specs.Locations.{Location, IsLocation, position_of, word_in, cond_at}
 use Rattle.wait_script.specs.Ending.{texts_from, member_text, members_text, head_text, word_text}

@@ -9,9 +9,7 @@ use Rattle.std.specs.List.{list_all, onto_first, position_or_len}
 use denote.Ref.{Bor}
 use mathlib.Core.Bool.{◌&&◌}
 use Rattle.wait_model.specs.declared.layout.TheConstants.{LINE_BYTES}
-use Rattle.wait_script.specs.declared.reason.Reason.{Reason}
-use Rattle.wait_script.specs.Lines.{is_printable, plain_at}
-use Rattle.wait_script.specs.Words.{words_of}
+use Rattle.wait_script.specs.{declared.reason.Reason.Reason, Lines.is_printable, Lines.plain_at, Words.words_of}
 use Rattle.wait_script.specs.Reading.{is_stop}
 use Rattle.wait_script.proofs.Truths.{some_by, none_by}
 

@@ -4,12 +4,10 @@ use Rattle.std.proofs.Common.{length, take, drop, refl, ap, sym, ◌∙◌, arit
 use Rattle.std.proofs.lemmas.Bool.Decides.{nat_tests}
 use Rattle.std.proofs.lemmas.List.Splits.{slice_split_first, length-slice_split}
 use Rattle.std.specs.List.{onto_first, position_or_len}
-use Rattle.wait_script.specs.declared.reason.Reason.{Reason}
-use Rattle.wait_script.specs.declared.version.Version.{Version}
-use Rattle.wait_script.specs.Lines.{header_at, line_at}
+use Rattle.wait_script.specs.{declared.reason.Reason.Reason, declared.version.Version.Version, Lines.header_at}
+use Rattle.wait_script.specs.Lines.{line_at}
 use Rattle.wait_script.specs.Script.{is_end, parts_of, lines_from, and_lines, versioned, under, headed, script_of}
-use Rattle.wait_script.proofs.LineCuts.{rest_from}
-use Rattle.wait_script.proofs.Truths.{some_by, none_by}
+use Rattle.wait_script.proofs.{LineCuts.rest_from, Truths.some_by, Truths.none_by}
 
 pub parts-at : (bytes : List ℕ) (n : ℕ) → position is_end bytes ≡ Some n
     → parts_of bytes ≡ take n bytes ∷ parts_of (take (length bytes - (n + 1)) (drop (n + 1) bytes))

@@ -9,11 +9,9 @@ use Rattle.std.specs.Str.Parse.{digits_value}
 use Rattle.std.proofs.lemmas.List.{drop_more, take_more, take-append-drop}
 use Rattle.std.proofs.lemmas.Int.Digits.{digits_value_more}
 use Rattle.std.proofs.lemmas.Bool.Decides.{nat_tests}
-use Rattle.wait_script.specs.Number.{numeral_value, is_plain}
+use Rattle.wait_script.specs.{Number.numeral_value, Number.is_plain, Spelling.line_text}
 use Rattle.wait_script.specs.declared.line.Line.TheVariants as line
-use Rattle.wait_script.specs.Spelling.{line_text}
-use Rattle.wait_script.proofs.ReadNumbers.{number_is}
-use Rattle.wait_script.proofs.ReadDigits.{value_is}
+use Rattle.wait_script.proofs.{ReadNumbers.number_is, ReadDigits.value_is}
 
 all_push : (xs : List ℕ) (c : ℕ) → all_ascii_digits xs ≡ true → is_ascii_digit c ≡ true
     → all_ascii_digits (xs ++ c ∷ []) ≡ true

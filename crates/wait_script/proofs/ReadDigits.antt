@@ -7,8 +7,7 @@ use Rattle.std.specs.Str.{all_ascii_digits}
 use Rattle.std.specs.Str.Parse.{digits_value_after, digits_value}
 use Rattle.std.proofs.lemmas.List.{drop_more, at_drop_all}
 use Rattle.std.proofs.lemmas.Bool.Decides.{nat_tests}
-use Rattle.wait_script.specs.Number.{numeral_value, is_plain}
-use Rattle.wait_script.specs.Reading.{fitting, digits_of}
+use Rattle.wait_script.specs.{Number.numeral_value, Number.is_plain, Reading.fitting, Reading.digits_of}
 
 -- what digits say after those of a number
 abbrev pub reads_on : ℕ → List ℕ → Option ℕ

@@ -10,31 +10,23 @@ use Rattle.std.proofs.lemmas.List.Sums.{split_at_first, passes_at_first}
 use Rattle.std.specs.List.{position_or_len, before_first, after_first}
 use Rattle.std.specs.Str.{bytes_eq}
 use Rattle.std.specs.Cmp.Lexicographic.{same_text}
-use Rattle.wait_model.specs.declared.tasks.How.{How}
-use Rattle.wait_model.specs.declared.tasks.SleepState.{SleepState}
-use Rattle.wait_model.specs.declared.watches.Mode.{Mode}
-use Rattle.wait_model.specs.declared.watches.Kind.{Kind}
-use Rattle.wait_model.specs.declared.queues.Form.{Form}
-use Rattle.wait_model.specs.Tasks.{looks_in, is_killable}
+use Rattle.wait_model.specs.{declared.tasks.How.How, declared.tasks.SleepState.SleepState, declared.watches.Mode.Mode}
+use Rattle.wait_model.specs.{declared.watches.Kind.Kind, declared.queues.Form.Form, Tasks.looks_in, Tasks.is_killable}
 use Rattle.wait_model.specs.Admission.{IsStandingKind}
 use Rattle.wait_model.specs.declared.layout.TheConstants.{BIT_WORDS, COMPLETIONS, FIRST_SIMPLE, PLAIN_CONDITIONS}
 use Rattle.wait_model.specs.declared.layout.TheConstants.{VARIABLES, WORD_BITS}
-use Rattle.wait_script.specs.declared.reason.Reason.{Reason}
-use Rattle.wait_script.specs.declared.reason.Reason.TheVariants.{BadNumber, BadCondition}
-use Rattle.wait_script.specs.Number.{numeral_value}
-use Rattle.wait_script.specs.Words.{both_of, made_of}
+use Rattle.wait_script.specs.{declared.reason.Reason.Reason, declared.reason.Reason.TheVariants.BadNumber}
+use Rattle.wait_script.specs.{declared.reason.Reason.TheVariants.BadCondition, Number.numeral_value, Words.both_of}
+use Rattle.wait_script.specs.{Words.made_of, Text.form_text, Text.bit_text}
 use Rattle.wait_script.specs.Fields.{last_cond, last_cell, last_var, last_word, last_bit, number_within, number_at}
 use Rattle.wait_script.specs.Fields.{value_at, numbered_at, cond_field, cell_at, page_at, var_at, is_dot, bit_at}
 use Rattle.wait_script.specs.Fields.{keyword_at, hows, states, simple_states, modes, kinds, forms, signal_words}
 use Rattle.wait_script.specs.Fields.{extents, how_at, state_at, simple_state_at, mode_at, kind_field, form_at, fatal_at}
 use Rattle.wait_script.specs.Fields.{all_at}
-use Rattle.wait_script.specs.Text.{form_text, bit_text}
 use Rattle.wait_script.specs.Spelling.{cond_word, cell_word, page_word, var_word, how_word, state_word, mode_word}
 use Rattle.wait_script.specs.Spelling.{kind_word, fatal_word, extent_word}
-use Rattle.wait_script.proofs.ReadNumbers.{number_is}
-use Rattle.wait_script.proofs.Truths.{some_by}
+use Rattle.wait_script.proofs.{ReadNumbers.number_is, Truths.some_by, WordCounts.two}
 pub use Rattle.wait_script.proofs.Truths.{both_true}
-use Rattle.wait_script.proofs.WordCounts.{two}
 
 pub chosen : {A : Type 0} (b : Bool) (x y z : A) → cond b x y ≡ z → ((b ≡ true) × (x ≡ z))
     ⊎ ((b ≡ false) × (y ≡ z))

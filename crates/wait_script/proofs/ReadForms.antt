@@ -4,16 +4,14 @@ use Rattle.std.proofs.Common.{Result, Ok, codes, refl, sym, subst, arith}
 use mathlib.Core.Bool.{◌||◌, not}
 use Rattle.std.specs.Str.{bytes_eq}
 use Rattle.std.specs.Cmp.Lexicographic.{same_text}
-use Rattle.wait_model.specs.declared.calls.Call.{Call}
-use Rattle.wait_model.specs.declared.calls.Call.TheVariants as call
-use Rattle.wait_model.specs.declared.queues.Form.{Form}
-use Rattle.wait_model.specs.declared.queues.Form.TheVariants as form
-use Rattle.wait_model.specs.Queues.{is_priority}
+use Rattle.wait_model.specs.{declared.calls.Call.Call, declared.queues.Form.Form, Queues.is_priority}
 use Rattle.wait_model.specs.declared.layout.TheConstants.{FIRST_SIMPLE, PRIORITY_TASKS, TASKS}
-use Rattle.wait_script.specs.declared.reason.Reason.{Reason}
-use Rattle.wait_script.specs.declared.version.Version.{Version}
-use Rattle.wait_script.specs.declared.version.Version.TheVariants.{One, Two}
-use Rattle.wait_script.specs.Words.{both_of}
+use Rattle.wait_model.specs.declared.calls.Call.TheVariants as call
+use Rattle.wait_model.specs.declared.queues.Form.TheVariants as form
+use Rattle.wait_script.specs.{declared.reason.Reason.Reason, declared.version.Version.Version}
+use Rattle.wait_script.specs.{declared.version.Version.TheVariants.One, declared.version.Version.TheVariants.Two}
+use Rattle.wait_script.specs.{Words.both_of, Versions.last_task, Versions.most_selected, Spelling.call_words}
+use Rattle.wait_script.specs.Spelling.{IsFitCall}
 use Rattle.wait_script.specs.Fields.{number_at, value_at, cond_field, cell_at, var_at, bit_at, page_at, how_at}
 use Rattle.wait_script.specs.Fields.{state_at, simple_state_at, mode_at, kind_field, form_at, fatal_at, all_at}
 use Rattle.wait_script.specs.Fields.{last_full, last_cond}
@@ -22,8 +20,6 @@ use Rattle.wait_script.specs.Forms.{remove_at, woken_at, signal_at, accept_at, k
 use Rattle.wait_script.specs.Forms.{complete_at, complete_all_at, reinit_at, wait_for_at, try_wait_at, is_done_at}
 use Rattle.wait_script.specs.Forms.{try_bit_at, wait_bit_at, lock_bit_at, clear_bit_at, wait_var_at, set_var_at}
 use Rattle.wait_script.specs.Forms.{lock_page_at, further_forms, call_forms, call_in, named_at}
-use Rattle.wait_script.specs.Versions.{last_task, most_selected}
-use Rattle.wait_script.specs.Spelling.{call_words, IsFitCall}
 use Rattle.wait_script.proofs.Versions.{few_tasks, few_selected}
 use Rattle.wait_script.proofs.ReadFields.{chosen, made_ok, both_ok, both_true, number_ok, number_fits, number_below}
 use Rattle.wait_script.proofs.ReadFields.{value_ok, value_below, cond_ok, cond_below, simple_between, cell_ok}

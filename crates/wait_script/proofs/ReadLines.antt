@@ -8,24 +8,19 @@ use Rattle.std.specs.List.{join_with_byte, flat_map, list_all}
 use Rattle.std.specs.Str.{bytes_eq}
 use Rattle.std.specs.Cmp.Lexicographic.{same_text}
 use Rattle.wait_model.specs.declared.layout.TheConstants.{EVENTS, LINE_BYTES}
-use Rattle.wait_script.specs.declared.line.Line.{Line}
-use Rattle.wait_script.specs.declared.reason.Reason.{Reason}
+use Rattle.wait_script.specs.{declared.line.Line.Line, declared.reason.Reason.Reason, declared.version.Version.Version}
+use Rattle.wait_script.specs.{declared.version.Version.TheVariants.One, declared.version.Version.TheVariants.Two}
+use Rattle.wait_script.specs.{Words.words_of, Words.both_of, Fields.number_at, Fields.last_priority_task}
+use Rattle.wait_script.specs.{Versions.header_of, Versions.last_task}
 use Rattle.wait_script.specs.declared.reason.Reason.TheVariants.{CutLine, LongLine, BadByte, NoHeader, UnknownWord}
-use Rattle.wait_script.specs.declared.line.Line.TheVariants as line
-use Rattle.wait_script.specs.declared.version.Version.{Version}
-use Rattle.wait_script.specs.declared.version.Version.TheVariants.{One, Two}
-use Rattle.wait_script.specs.Words.{words_of, both_of}
-use Rattle.wait_script.specs.Fields.{number_at, last_priority_task}
 use Rattle.wait_script.specs.Forms.{named_at, is_priority_add, last_of}
 use Rattle.wait_script.specs.Lines.{VersionedLines, step_at, call_at, words_at, plain_at, version_at, header_at}
 use Rattle.wait_script.specs.Lines.{line_at, is_printable}
 use Rattle.wait_script.specs.Script.{parts_of, and_lines, lines_from, versioned, under, headed, script_of}
 use Rattle.wait_script.specs.Spelling.{line_words, line_text, script_text, IsFit, IsFitScript}
-use Rattle.wait_script.specs.Versions.{header_of, last_task}
-use Rattle.wait_script.proofs.Callers.{last_by, for_task}
+use Rattle.wait_script.specs.declared.line.Line.TheVariants as line
+use Rattle.wait_script.proofs.{Callers.last_by, Callers.for_task, ReadForms.named_ok, Versions.first_tasks}
 use Rattle.wait_script.proofs.ReadFields.{chosen, made_ok, both_ok, number_ok, number_fits}
-use Rattle.wait_script.proofs.ReadForms.{named_ok}
-use Rattle.wait_script.proofs.Versions.{first_tasks}
 
 -- the words of a line, and the line that they say
 abbrev IsLineReadAs : Version → List (List ℕ) → Line → Type 0

@@ -1,15 +1,12 @@
 -- What an answer to bytes says of their spelling, and of what a core asks.
 use Rattle.std.proofs.Common.{◌≡◌, ℕ, List, Result, Ok, Err, IfOk, All, refl, ap, ◌∙◌}
-use Rattle.wait_script.specs.declared.line.Line.{Line}
-use Rattle.wait_script.specs.declared.line.Line.TheVariants as line
-use Rattle.wait_script.specs.declared.version.Version.{Version}
-use Rattle.wait_script.specs.declared.script.ReadScript.{ReadScript}
-use Rattle.wait_script.specs.declared.script.ReadScript.TheVariants.{Bad, OutOfMemory}
-use Rattle.wait_script.specs.Lines.{VersionedLines}
+use Rattle.wait_script.specs.{declared.line.Line.Line, declared.version.Version.Version}
+use Rattle.wait_script.specs.{declared.script.ReadScript.ReadScript, declared.script.ReadScript.TheVariants.Bad}
+use Rattle.wait_script.specs.{declared.script.ReadScript.TheVariants.OutOfMemory, Lines.VersionedLines}
 use Rattle.wait_script.specs.Script.{script_of, AnswersAs, IsReadAs}
 use Rattle.wait_script.specs.Spelling.{script_text, IsFit, IsFitScript, IsPlayable}
-use Rattle.wait_script.proofs.ReadLines.{script_ok}
-use Rattle.wait_script.proofs.SpelledLines.{script_read}
+use Rattle.wait_script.specs.declared.line.Line.TheVariants as line
+use Rattle.wait_script.proofs.{ReadLines.script_ok, SpelledLines.script_read}
 
 line_plays : (v : Version) (l : Line) → IsFit v l → IsPlayable l
 line_plays v (line.Call task c) h = h.1.1

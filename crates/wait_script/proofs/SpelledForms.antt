@@ -3,30 +3,22 @@ use Rattle.std.proofs.Common.{◌≡◌, ℕ, ◌+◌, ◌≤◌, Bool, true, fa
 use Rattle.std.proofs.Common.{refl, sym, subst, arith, nat_lt}
 use mathlib.Core.Bool.{◌&&◌, ◌||◌, not}
 use Rattle.std.proofs.lemmas.Bool.Decides.{nat_tests}
-use Rattle.wait_model.specs.declared.calls.Call.{Call}
-use Rattle.wait_model.specs.declared.calls.Call.TheVariants as call
-use Rattle.wait_model.specs.declared.tasks.SleepState.{SleepState}
-use Rattle.wait_model.specs.Queues.{is_priority}
+use Rattle.wait_model.specs.{declared.calls.Call.Call, declared.tasks.SleepState.SleepState, Queues.is_priority}
 use Rattle.wait_model.specs.declared.layout.TheConstants.{BIT_WORDS, EVENTS, FIRST_SIMPLE, PLAIN_CONDITIONS}
 use Rattle.wait_model.specs.declared.layout.TheConstants.{PRIORITY_TASKS, TASKS, WORD_BITS}
-use Rattle.wait_script.specs.declared.reason.Reason.{Reason}
-use Rattle.wait_script.specs.declared.line.Line.{Line}
-use Rattle.wait_script.specs.declared.line.Line.TheVariants as line
-use Rattle.wait_script.specs.declared.version.Version.{Version}
-use Rattle.wait_script.specs.declared.version.Version.TheVariants.{Two}
-use Rattle.wait_script.specs.Words.{both_of, made_of}
+use Rattle.wait_model.specs.declared.calls.Call.TheVariants as call
+use Rattle.wait_script.specs.{declared.reason.Reason.Reason, declared.line.Line.Line, declared.version.Version.Version}
+use Rattle.wait_script.specs.{declared.version.Version.TheVariants.Two, Words.both_of, Words.made_of, Forms.named_at}
+use Rattle.wait_script.specs.{Forms.last_of, Lines.words_at, Versions.last_task, Versions.most_selected}
 use Rattle.wait_script.specs.Fields.{last_full, last_cond, last_cell, last_var, last_word, last_bit}
-use Rattle.wait_script.specs.Forms.{named_at, last_of}
-use Rattle.wait_script.specs.Lines.{words_at}
 use Rattle.wait_script.specs.Spelling.{call_words, line_words, IsFitCall, IsFit}
-use Rattle.wait_script.specs.Versions.{last_task, most_selected}
-use Rattle.wait_script.proofs.Callers.{last_by, is_caller}
+use Rattle.wait_script.specs.declared.line.Line.TheVariants as line
+use Rattle.wait_script.proofs.{Callers.last_by, Callers.is_caller, Versions.few_tasks, Versions.few_selected}
 use Rattle.wait_script.proofs.SpelledWords.{parts_true, IsWord, AreWords, number_word, letter_word, bit_word}
 use Rattle.wait_script.proofs.SpelledWords.{number_read, value_read, numbered_read, bit_read, state_is_word, state_read}
 use Rattle.wait_script.proofs.SpelledWords.{simple_state_read, how_is_word, how_read, mode_is_word, mode_read}
 use Rattle.wait_script.proofs.SpelledWords.{kind_is_word, kind_read, form_is_word, form_read, fatal_is_word, fatal_read}
 use Rattle.wait_script.proofs.SpelledWords.{all_is_word, all_read}
-use Rattle.wait_script.proofs.Versions.{few_tasks, few_selected}
 
 -- fields that are read make their call
 made1 : {A B : Type 0} (f : A → B) (r : Result A Reason) (x : A) → r ≡ Ok x → made_of f r ≡ Ok (f x)

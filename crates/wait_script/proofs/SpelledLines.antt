@@ -7,19 +7,15 @@ use Rattle.std.proofs.lemmas.List.Folds.{list_all-append}
 use Rattle.std.proofs.lemmas.List.Elements.{All-nil, All-cons, All-head, All-tail}
 use Rattle.std.specs.List.{join_with_byte, flat_map, list_all}
 use Rattle.wait_model.specs.declared.layout.TheConstants.{LINE_BYTES}
-use Rattle.wait_script.specs.declared.line.Line.{Line}
-use Rattle.wait_script.specs.declared.reason.Reason.TheVariants.{LongLine, BadByte}
-use Rattle.wait_script.specs.declared.version.Version.{Version}
-use Rattle.wait_script.specs.declared.version.Version.TheVariants.{One, Two}
-use Rattle.wait_script.specs.Words.{words_of}
+use Rattle.wait_script.specs.{declared.line.Line.Line, declared.reason.Reason.TheVariants.LongLine}
+use Rattle.wait_script.specs.{declared.reason.Reason.TheVariants.BadByte, declared.version.Version.Version}
+use Rattle.wait_script.specs.{declared.version.Version.TheVariants.One, declared.version.Version.TheVariants.Two}
+use Rattle.wait_script.specs.{Words.words_of, Reading.IsFirstLine, Versions.header_of}
 use Rattle.wait_script.specs.Lines.{VersionedLines, words_at, header_at, line_at, is_printable}
 use Rattle.wait_script.specs.Script.{is_end, parts_of, and_lines, lines_from, versioned, script_of}
-use Rattle.wait_script.specs.Reading.{IsFirstLine}
 use Rattle.wait_script.specs.Spelling.{line_words, line_text, script_text, IsFit, IsFitScript}
-use Rattle.wait_script.specs.Versions.{header_of}
-use Rattle.wait_script.proofs.LineParts.{lines_from-step, good_header}
+use Rattle.wait_script.proofs.{LineParts.lines_from-step, LineParts.good_header, SpelledForms.line_said}
 use Rattle.wait_script.proofs.SpelledWords.{both_true, parts_true, in_word, IsWord, AreWords}
-use Rattle.wait_script.proofs.SpelledForms.{line_said}
 
 no_space : (x : ℕ) → in_word x ≡ true → eqb x 32 ≡ false
 no_space x h = grind (arith, nat_tests)

@@ -10,25 +10,19 @@ use Rattle.std.proofs.Math.Seq.{take-append_seam, drop-append-add}
 use Rattle.std.specs.List.{list_all, position_or_len, before_first, after_first}
 use Rattle.std.specs.Str.{all_ascii_digits}
 use Rattle.std.specs.Char.{is_ascii_digit}
-use Rattle.wait_model.specs.declared.tasks.How.{How}
-use Rattle.wait_model.specs.declared.tasks.SleepState.{SleepState}
-use Rattle.wait_model.specs.declared.tasks.SleepState.TheVariants.{Uninterruptible, Interruptible, Killable}
-use Rattle.wait_model.specs.declared.watches.Mode.{Mode}
-use Rattle.wait_model.specs.declared.watches.Mode.TheVariants as mode
-use Rattle.wait_model.specs.declared.watches.Kind.{Kind}
-use Rattle.wait_model.specs.declared.watches.Kind.TheVariants as kind
-use Rattle.wait_model.specs.declared.queues.Form.{Form}
-use Rattle.wait_model.specs.declared.queues.Form.TheVariants as form
-use Rattle.wait_model.specs.Tasks.{looks_in, is_killable}
+use Rattle.wait_model.specs.{declared.tasks.How.How, declared.tasks.SleepState.SleepState, declared.watches.Mode.Mode}
+use Rattle.wait_model.specs.{declared.watches.Kind.Kind, declared.queues.Form.Form, Tasks.looks_in, Tasks.is_killable}
 use Rattle.wait_model.specs.Admission.{is_standing}
-use Rattle.wait_script.specs.declared.reason.Reason.{Reason}
-use Rattle.wait_script.specs.declared.reason.Reason.TheVariants.{BadNumber, BadCondition}
-use Rattle.wait_script.specs.Number.{numeral_value}
-use Rattle.wait_script.specs.Words.{both_of}
+use Rattle.wait_model.specs.declared.tasks.SleepState.TheVariants.{Uninterruptible, Interruptible, Killable}
+use Rattle.wait_model.specs.declared.watches.Mode.TheVariants as mode
+use Rattle.wait_model.specs.declared.watches.Kind.TheVariants as kind
+use Rattle.wait_model.specs.declared.queues.Form.TheVariants as form
+use Rattle.wait_script.specs.{declared.reason.Reason.Reason, declared.reason.Reason.TheVariants.BadNumber}
+use Rattle.wait_script.specs.{declared.reason.Reason.TheVariants.BadCondition, Number.numeral_value, Words.both_of}
+use Rattle.wait_script.specs.{Text.form_text, Text.bit_text}
 use Rattle.wait_script.specs.Fields.{last_word, last_bit, number_within, number_at, value_at, numbered_at, is_dot}
 use Rattle.wait_script.specs.Fields.{bit_at, how_at, state_at, simple_state_at, mode_at, kind_field, form_at, fatal_at}
 use Rattle.wait_script.specs.Fields.{all_at}
-use Rattle.wait_script.specs.Text.{form_text, bit_text}
 use Rattle.wait_script.specs.Spelling.{how_word, state_word, mode_word, kind_word, fatal_word, extent_word}
 use Rattle.wait_script.proofs.ReadNumbers.{number_again, decimal_digits}
 pub use Rattle.wait_script.proofs.Truths.{both_true, parts_true}

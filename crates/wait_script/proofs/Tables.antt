@@ -4,13 +4,10 @@ use Rattle.std.proofs.Common.{Err, map, refl, ap, ◌∙◌}
 use Rattle.std.specs.Option.{ok_or}
 use Rattle.std.specs.Str.{bytes_eq}
 use Rattle.wait_model.specs.declared.calls.Call.{Call}
-use Rattle.wait_script.specs.declared.names.Name.{Name}
-use Rattle.wait_script.specs.declared.reason.Reason.{Reason}
-use Rattle.wait_script.specs.declared.reason.Reason.TheVariants.{UnknownWord, BadForm}
-use Rattle.wait_script.specs.declared.version.Version.{Version}
-use Rattle.wait_script.specs.Fields.{keyword_at}
-use Rattle.wait_script.specs.Forms.{call_in, shared_forms}
-use Rattle.wait_script.specs.Words.{made_of}
+use Rattle.wait_script.specs.{declared.names.Name.Name, declared.reason.Reason.Reason}
+use Rattle.wait_script.specs.declared.reason.Reason.TheVariants.{UnknownWord}
+use Rattle.wait_script.specs.{declared.reason.Reason.TheVariants.BadForm, declared.version.Version.Version}
+use Rattle.wait_script.specs.{Fields.keyword_at, Forms.call_in, Forms.shared_forms, Words.made_of}
 use Rattle.wait_script.specs.Names.{value_in, spelled_names, form_of}
 
 -- what the words say after a word that is this name, or none

@@ -1,10 +1,9 @@
 -- What holds of the numbers of every version.
 use Rattle.std.proofs.Common.{◌<◌, ◌≤◌, arith}
 use Rattle.wait_model.specs.declared.layout.TheConstants.{TASKS}
-use Rattle.wait_script.specs.declared.version.Version.{Version}
-use Rattle.wait_script.specs.declared.version.Version.TheVariants.{One, Two}
-use Rattle.wait_script.specs.Fields.{last_priority_task}
-use Rattle.wait_script.specs.Versions.{last_task, most_selected}
+use Rattle.wait_script.specs.{declared.version.Version.Version, declared.version.Version.TheVariants.One}
+use Rattle.wait_script.specs.{declared.version.Version.TheVariants.Two, Fields.last_priority_task, Versions.last_task}
+use Rattle.wait_script.specs.Versions.{most_selected}
 
 pub few_tasks : (v : Version) → last_task v < TASKS
 few_tasks One = omega arith

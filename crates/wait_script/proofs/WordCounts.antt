@@ -3,18 +3,13 @@ use Rattle.std.proofs.Common.{◌≡◌, ℕ, ◌<◌, ◌≤◌, List, [], ◌�
 use Rattle.std.proofs.Common.{ap, ◌∙◌}
 use Rattle.std.specs.Result.{IsErrAnd}
 use denote.Ref.{Bor}
-use Rattle.wait_model.specs.declared.calls.Call.{Call}
-use Rattle.wait_model.specs.declared.layout.TheConstants.{EVENTS}
-use Rattle.wait_script.specs.declared.line.Line.{Line}
-use Rattle.wait_script.specs.declared.line.Line.TheVariants as line
-use Rattle.wait_script.specs.declared.reason.Reason.{Reason}
-use Rattle.wait_script.specs.declared.reason.Reason.TheVariants.{WordCount}
-use Rattle.wait_script.specs.declared.version.Version.{Version}
-use Rattle.wait_script.specs.Versions.{last_task}
-use Rattle.wait_script.specs.Words.{both_of, made_of}
-use Rattle.wait_script.specs.Fields.{number_at}
+use Rattle.wait_model.specs.{declared.calls.Call.Call, declared.layout.TheConstants.EVENTS}
+use Rattle.wait_script.specs.{declared.line.Line.Line, declared.reason.Reason.Reason}
+use Rattle.wait_script.specs.{declared.reason.Reason.TheVariants.WordCount, declared.version.Version.Version}
+use Rattle.wait_script.specs.{Versions.last_task, Words.both_of, Words.made_of, Fields.number_at, Lines.step_at}
+use Rattle.wait_script.specs.Lines.{call_at}
 use Rattle.wait_script.specs.Forms.{form1, form2, form3, last_of, named_at}
-use Rattle.wait_script.specs.Lines.{step_at, call_at}
+use Rattle.wait_script.specs.declared.line.Line.TheVariants as line
 
 -- an error that is passed on
 pub passed : {A B : Type 0} (make : A → B) (fields : Result A Reason) (e : Reason) → Err e ≡ fields

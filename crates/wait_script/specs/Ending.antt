@@ -5,14 +5,11 @@ use Rattle.std.specs.Prelude.{ℕ, zero, suc, ◌+◌, ◌-◌, List, [], ◌∷
 use Rattle.std.specs.List.{flat_map}
 use Rattle.std.specs.declared.option.Option.{Option}
 use Rattle.std.specs.declared.option.Option.TheVariants.{Some, None}
-use Rattle.wait_model.specs.declared.calls.Ran.{Ran}
+use Rattle.wait_model.specs.{declared.calls.Ran.Ran, declared.queues.Member.Member}
+use Rattle.wait_model.specs.{declared.tasks.TaskRecord.TaskRecord, Queues.is_entry, Watches.owner, Locations.word_in}
+use Rattle.wait_model.specs.Locations.{cond_at}
 use Rattle.wait_model.specs.declared.layout.TheConstants.{CONDITIONS, ENTRIES, HEADS, TASKS}
-use Rattle.wait_model.specs.declared.queues.Member.{Member}
-use Rattle.wait_model.specs.declared.tasks.TaskRecord.{TaskRecord}
 use Rattle.wait_model.specs.Runs.{State, state_of, made_in}
-use Rattle.wait_model.specs.Queues.{is_entry}
-use Rattle.wait_model.specs.Watches.{owner}
-use Rattle.wait_model.specs.Locations.{word_in, cond_at}
 use Rattle.wait_core.specs.Stepped.{call_shown}
 use Rattle.wait_script.specs.Text.{state_text, cond_text}
 

@@ -4,21 +4,16 @@ use Rattle.std.specs.Prelude.{ℕ, ◌-◌, ◌^◌, List, [], ◌∷◌, Option
 use Rattle.std.specs.Prelude.{nat_le, if◌then◌else◌, ◌==◌, codes}
 use Rattle.std.specs.List.{before_first, after_first}
 use Rattle.std.specs.Str.{bytes_eq}
-use Rattle.wait_model.specs.declared.tasks.How.{How}
-use Rattle.wait_model.specs.declared.tasks.SleepState.{SleepState}
+use Rattle.wait_model.specs.{declared.tasks.How.How, declared.tasks.SleepState.SleepState, declared.watches.Mode.Mode}
+use Rattle.wait_model.specs.{declared.watches.Kind.Kind, declared.queues.Form.Form}
 use Rattle.wait_model.specs.declared.tasks.SleepState.TheVariants.{Uninterruptible, Interruptible, Killable}
-use Rattle.wait_model.specs.declared.watches.Mode.{Mode}
-use Rattle.wait_model.specs.declared.watches.Mode.TheVariants as mode
-use Rattle.wait_model.specs.declared.watches.Kind.{Kind}
-use Rattle.wait_model.specs.declared.watches.Kind.TheVariants as kind
-use Rattle.wait_model.specs.declared.queues.Form.{Form}
-use Rattle.wait_model.specs.declared.queues.Form.TheVariants as form
 use Rattle.wait_model.specs.declared.layout.TheConstants.{BIT_WORDS, COMPLETIONS, FIRST_SIMPLE, PLAIN_CONDITIONS}
 use Rattle.wait_model.specs.declared.layout.TheConstants.{PRIORITY_TASKS, VARIABLES, WORD_BITS}
-use Rattle.wait_script.specs.declared.reason.Reason.{Reason}
+use Rattle.wait_model.specs.declared.watches.Mode.TheVariants as mode
+use Rattle.wait_model.specs.declared.watches.Kind.TheVariants as kind
+use Rattle.wait_model.specs.declared.queues.Form.TheVariants as form
+use Rattle.wait_script.specs.{declared.reason.Reason.Reason, Number.numeral_value, Words.both_of}
 use Rattle.wait_script.specs.declared.reason.Reason.TheVariants.{BadNumber, BadForm, BadCondition}
-use Rattle.wait_script.specs.Number.{numeral_value}
-use Rattle.wait_script.specs.Words.{both_of}
 
 -- the last task that adds with priority
 abbrev pub last_priority_task : ℕ

@@ -3,23 +3,18 @@
 use Rattle.std.specs.Prelude.{ℕ, List, [], ◌∷◌, ◌++◌, Result, Ok, Err, Bool, true, false, ◌&&◌, if◌then◌else◌, codes}
 use Rattle.std.specs.Prelude.{decimal}
 use Rattle.std.specs.Str.{bytes_eq}
-use Rattle.wait_model.specs.declared.calls.Call.{Call}
-use Rattle.wait_model.specs.declared.calls.Call.TheVariants as call
-use Rattle.wait_model.specs.declared.tasks.How.{How}
-use Rattle.wait_model.specs.declared.tasks.SleepState.{SleepState}
-use Rattle.wait_model.specs.declared.tasks.SleepState.TheVariants.{Uninterruptible, Interruptible, Killable}
-use Rattle.wait_model.specs.declared.watches.Mode.{Mode}
-use Rattle.wait_model.specs.declared.watches.Mode.TheVariants as mode
-use Rattle.wait_model.specs.declared.watches.Kind.{Kind}
-use Rattle.wait_model.specs.declared.watches.Kind.TheVariants as kind
+use Rattle.wait_model.specs.{declared.calls.Call.Call, declared.tasks.How.How, declared.tasks.SleepState.SleepState}
+use Rattle.wait_model.specs.{declared.watches.Mode.Mode, declared.watches.Kind.Kind}
 use Rattle.wait_model.specs.declared.layout.TheConstants.{FIRST_SIMPLE}
-use Rattle.wait_script.specs.declared.reason.Reason.{Reason}
-use Rattle.wait_script.specs.declared.reason.Reason.TheVariants.{UnknownWord, WordCount}
-use Rattle.wait_script.specs.declared.version.Version.{Version}
-use Rattle.wait_script.specs.declared.version.Version.TheVariants.{One, Two}
-use Rattle.wait_script.specs.Text.{form_text, bit_text}
-use Rattle.wait_script.specs.Versions.{last_task, most_selected}
-use Rattle.wait_script.specs.Words.{both_of, made_of}
+use Rattle.wait_model.specs.declared.tasks.SleepState.TheVariants.{Uninterruptible, Interruptible, Killable}
+use Rattle.wait_model.specs.declared.calls.Call.TheVariants as call
+use Rattle.wait_model.specs.declared.watches.Mode.TheVariants as mode
+use Rattle.wait_model.specs.declared.watches.Kind.TheVariants as kind
+use Rattle.wait_script.specs.{declared.reason.Reason.Reason, declared.reason.Reason.TheVariants.UnknownWord}
+use Rattle.wait_script.specs.{declared.reason.Reason.TheVariants.WordCount, declared.version.Version.Version}
+use Rattle.wait_script.specs.{declared.version.Version.TheVariants.One, declared.version.Version.TheVariants.Two}
+use Rattle.wait_script.specs.{Text.form_text, Text.bit_text, Versions.last_task, Versions.most_selected, Words.both_of}
+use Rattle.wait_script.specs.Words.{made_of}
 use Rattle.wait_script.specs.Fields.{number_at, value_at, cond_field, cell_at, var_at, bit_at, page_at, how_at}
 use Rattle.wait_script.specs.Fields.{state_at, simple_state_at, mode_at, kind_field, form_at, fatal_at, all_at}
 use Rattle.wait_script.specs.Fields.{last_priority_task, last_full, last_cond}

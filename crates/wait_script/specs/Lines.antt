@@ -5,16 +5,12 @@ use Rattle.std.specs.Prelude.{codes}
 use Rattle.std.specs.List.{list_all}
 use Rattle.std.specs.Str.{bytes_eq}
 use Rattle.wait_model.specs.declared.layout.TheConstants.{EVENTS, LINE_BYTES}
-use Rattle.wait_script.specs.declared.line.Line.{Line}
-use Rattle.wait_script.specs.declared.line.Line.TheVariants as line
-use Rattle.wait_script.specs.declared.reason.Reason.{Reason}
+use Rattle.wait_script.specs.{declared.line.Line.Line, declared.reason.Reason.Reason, declared.version.Version.Version}
+use Rattle.wait_script.specs.{declared.version.Version.TheVariants.One, declared.version.Version.TheVariants.Two}
+use Rattle.wait_script.specs.{Fields.number_at, Forms.named_at, Forms.last_of, Versions.header_of, Versions.last_task}
 use Rattle.wait_script.specs.declared.reason.Reason.TheVariants.{LongLine, BadByte, NoHeader, UnknownWord, WordCount}
-use Rattle.wait_script.specs.declared.version.Version.{Version}
-use Rattle.wait_script.specs.declared.version.Version.TheVariants.{One, Two}
-use Rattle.wait_script.specs.Fields.{number_at}
-use Rattle.wait_script.specs.Forms.{named_at, last_of}
-use Rattle.wait_script.specs.Versions.{header_of, last_task}
 use Rattle.wait_script.specs.Words.{words_of, both_of, made_of}
+use Rattle.wait_script.specs.declared.line.Line.TheVariants as line
 
 -- a script: the version of its grammar, and the lines after its header
 pub record VersionedLines : Type 0 where

@@ -3,14 +3,12 @@
 use Rattle.std.specs.Prelude.{ℕ, List, [], ◌∷◌, Option, Some, None, Result, if◌then◌else◌, codes}
 use Rattle.std.specs.Str.{bytes_eq}
 use Rattle.wait_model.specs.declared.calls.Call.{Call}
-use Rattle.wait_script.specs.declared.names.Name.{Name}
-use Rattle.wait_script.specs.declared.names.Name.TheVariants as name
-use Rattle.wait_script.specs.declared.reason.Reason.{Reason}
-use Rattle.wait_script.specs.declared.version.Version.{Version}
+use Rattle.wait_script.specs.{declared.names.Name.Name, declared.reason.Reason.Reason, declared.version.Version.Version}
 use Rattle.wait_script.specs.Forms.{wait_at, set_at, take_at, read_at, wake_at, add_at, remove_at, woken_at, signal_at}
 use Rattle.wait_script.specs.Forms.{accept_at, kick_at, simple_wait_at, simple_wake_at, complete_at, complete_all_at}
 use Rattle.wait_script.specs.Forms.{reinit_at, wait_for_at, try_wait_at, is_done_at, try_bit_at, wait_bit_at}
 use Rattle.wait_script.specs.Forms.{lock_bit_at, clear_bit_at, wait_var_at, set_var_at}
+use Rattle.wait_script.specs.declared.names.Name.TheVariants as name
 
 -- the value that a table has at a word
 abbrev pub value_in : {A : Type 0} → List (List ℕ × A) → List ℕ → Option A

@@ -5,20 +5,15 @@ use Rattle.std.specs.Prelude.{ℕ, zero, suc, List, [], ◌∷◌, ◌++◌, Boo
 use Rattle.std.specs.declared.option.Option.TheVariants.{Some, None}
 use Rattle.std.specs.declared.result.Result.{Result}
 use Rattle.std.specs.declared.result.Result.TheVariants.{Ok, Err}
-use Rattle.wait_model.specs.declared.calls.Call.{Call}
-use Rattle.wait_model.specs.declared.calls.Event.{Event}
+use Rattle.wait_model.specs.{declared.calls.Call.Call, declared.calls.Event.Event, declared.calls.Ran.Ran}
+use Rattle.wait_model.specs.{Runs.state_of, Runs.made_in}
 use Rattle.wait_model.specs.declared.calls.Event.TheVariants as event
-use Rattle.wait_model.specs.declared.calls.Ran.{Ran}
 use Rattle.wait_model.specs.declared.tasks.Sleep.TheVariants as sleep
-use Rattle.wait_model.specs.Runs.{state_of, made_in}
-use Rattle.wait_core.specs.declared.engine.Stepped.{Stepped}
-use Rattle.wait_core.specs.declared.engine.Stepped.TheVariants.{Made}
+use Rattle.wait_core.specs.{declared.engine.Stepped.Stepped, declared.engine.Stepped.TheVariants.Made}
 use Rattle.wait_core.specs.declared.engine.StartFault.{StartFault}
 use Rattle.wait_core.specs.Stepped.{stepped, items_of, started, opened_by}
-use Rattle.wait_script.specs.declared.line.Line.{Line}
+use Rattle.wait_script.specs.{declared.line.Line.Line, Text.step_text, Text.refused_text, Ending.ending_text}
 use Rattle.wait_script.specs.declared.line.Line.TheVariants as line
-use Rattle.wait_script.specs.Text.{step_text, refused_text}
-use Rattle.wait_script.specs.Ending.{ending_text}
 
 -- what a task's next step answers after a run, and the run after that step
 abbrev pub answer_at : List Ran → ℕ → Stepped

@@ -2,11 +2,10 @@
 -- What bytes say as a script, or the first bad line and its first reason.
 use Rattle.std.specs.Prelude.{◌≡◌, ℕ, ◌+◌, List, [], ◌∷◌, Result, Ok, Err, Bool, if◌then◌else◌, ◌==◌, length}
 use Rattle.std.specs.List.{slice_split}
-use Rattle.wait_script.specs.declared.line.Line.{Line}
-use Rattle.wait_script.specs.declared.script.ReadScript.{ReadScript}
-use Rattle.wait_script.specs.declared.script.ReadScript.TheVariants.{Bad, OutOfMemory}
-use Rattle.wait_script.specs.declared.reason.Reason.{Reason}
-use Rattle.wait_script.specs.declared.reason.Reason.TheVariants.{CutLine, NoHeader}
+use Rattle.wait_script.specs.{declared.line.Line.Line, declared.script.ReadScript.ReadScript}
+use Rattle.wait_script.specs.declared.script.ReadScript.TheVariants.{Bad}
+use Rattle.wait_script.specs.{declared.script.ReadScript.TheVariants.OutOfMemory, declared.reason.Reason.Reason}
+use Rattle.wait_script.specs.{declared.reason.Reason.TheVariants.CutLine, declared.reason.Reason.TheVariants.NoHeader}
 use Rattle.wait_script.specs.declared.version.Version.{Version}
 use Rattle.wait_script.specs.Lines.{VersionedLines, header_at, line_at}
 

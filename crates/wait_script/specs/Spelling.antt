@@ -2,18 +2,15 @@
 -- How a script is spelled, and which lines there are.
 use Rattle.std.specs.Prelude.{◌≡◌, ℕ, ◌^◌, ◌<◌, ◌≤◌, List, [], ◌∷◌, ◌++◌, All, true, codes, decimal}
 use Rattle.std.specs.List.{flat_map, join_with_byte}
-use Rattle.wait_model.specs.declared.calls.Call.{Call}
-use Rattle.wait_model.specs.declared.calls.Call.TheVariants as call
-use Rattle.wait_model.specs.Admission.{is_in_range, IsListed}
+use Rattle.wait_model.specs.{declared.calls.Call.Call, Admission.is_in_range, Admission.IsListed}
 use Rattle.wait_model.specs.declared.layout.TheConstants.{EVENTS}
+use Rattle.wait_model.specs.declared.calls.Call.TheVariants as call
 pub use Rattle.wait_script.specs.Forms.{cond_word, cell_word, var_word, page_word, state_word, how_word, mode_word}
 pub use Rattle.wait_script.specs.Forms.{kind_word, fatal_word, extent_word, call_words}
-use Rattle.wait_script.specs.declared.line.Line.{Line}
-use Rattle.wait_script.specs.declared.line.Line.TheVariants as line
-use Rattle.wait_script.specs.declared.version.Version.{Version}
-use Rattle.wait_script.specs.declared.version.Version.TheVariants.{Two}
-use Rattle.wait_script.specs.Lines.{VersionedLines}
+use Rattle.wait_script.specs.{declared.line.Line.Line, declared.version.Version.Version}
+use Rattle.wait_script.specs.{declared.version.Version.TheVariants.Two, Lines.VersionedLines}
 use Rattle.wait_script.specs.Versions.{header_of, last_task, most_selected}
+use Rattle.wait_script.specs.declared.line.Line.TheVariants as line
 
 abbrev pub line_words : Line → List (List ℕ)
 line_words (line.Call task call) = codes "call" ∷ decimal task ∷ call_words call

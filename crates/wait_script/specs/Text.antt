@@ -3,23 +3,18 @@
 use Rattle.std.specs.Prelude.{ℕ, ◌-◌, List, [], ◌∷◌, ◌++◌, Option, Some, None, Bool, true, false, nat_lt, if◌then◌else◌}
 use Rattle.std.specs.Prelude.{◌==◌, codes, decimal}
 use Rattle.std.specs.Fmt.{signed_decimal}
+use Rattle.wait_model.specs.{declared.tasks.Sleep.Sleep, declared.tasks.Taken.Taken, declared.queues.Form.Form}
+use Rattle.wait_model.specs.{declared.calls.Event.Event, declared.queues.End.End, declared.calls.Answer.Answer}
 use Rattle.wait_model.specs.declared.layout.TheConstants.{FIRST_BIT_WORD, FIRST_DONE, FIRST_VARIABLE, INTERRUPTIBLE}
 use Rattle.wait_model.specs.declared.layout.TheConstants.{RUNNING, UNINTERRUPTIBLE}
-use Rattle.wait_model.specs.declared.tasks.Sleep.{Sleep}
-use Rattle.wait_model.specs.declared.tasks.Sleep.TheVariants as sleep
-use Rattle.wait_model.specs.declared.tasks.Taken.{Taken}
-use Rattle.wait_model.specs.declared.tasks.Taken.TheVariants as taken
-use Rattle.wait_model.specs.declared.queues.Form.{Form}
 use Rattle.wait_model.specs.declared.queues.Form.TheVariants.{Front, Tail, Priority}
-use Rattle.wait_model.specs.declared.calls.Event.{Event}
-use Rattle.wait_model.specs.declared.calls.Event.TheVariants as event
-use Rattle.wait_model.specs.declared.queues.End.{End}
-use Rattle.wait_model.specs.declared.queues.End.TheVariants as end
-use Rattle.wait_model.specs.declared.calls.Answer.{Answer}
 use Rattle.wait_model.specs.declared.calls.Answer.TheVariants.{Number, Value, Walk, Worn}
-use Rattle.wait_core.specs.declared.engine.Stepped.{Stepped}
+use Rattle.wait_model.specs.declared.tasks.Sleep.TheVariants as sleep
+use Rattle.wait_model.specs.declared.tasks.Taken.TheVariants as taken
+use Rattle.wait_model.specs.declared.calls.Event.TheVariants as event
+use Rattle.wait_model.specs.declared.queues.End.TheVariants as end
+use Rattle.wait_core.specs.{declared.engine.Stepped.Stepped, declared.engine.StartFault.StartFault}
 use Rattle.wait_core.specs.declared.engine.Stepped.TheVariants.{Made, NoCall, Asleep, Busy, Full}
-use Rattle.wait_core.specs.declared.engine.StartFault.{StartFault}
 use Rattle.wait_core.specs.declared.engine.StartFault.TheVariants.{CallOpen, NoSuchCond, NotHeld, EntryQueued, NoEntry}
 
 -- the name of a task's state

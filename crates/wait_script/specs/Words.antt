@@ -2,8 +2,7 @@
 -- The words of a line, and what several fields say together.
 use Rattle.std.specs.Prelude.{ℕ, List, Result, Ok, Err, ◌==◌}
 use Rattle.std.specs.List.{slice_split}
-use Rattle.wait_script.specs.declared.reason.Reason.{Reason}
-use Rattle.wait_script.specs.Reasons.{first_reason}
+use Rattle.wait_script.specs.{declared.reason.Reason.Reason, Reasons.first_reason}
 
 -- what stands between single spaces
 abbrev pub words_of : List ℕ → List (List ℕ)

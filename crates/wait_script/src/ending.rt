@@ -1,8 +1,7 @@
 //! The end lines of a text.
 
 ghost use Rattle.std.specs.Prelude.{◌≤◌, ◌<◌, ◌++◌, IsErrOf, codes, decimal};
-ghost use Rattle.edge_io.specs.Faults.{HasRisen};
-ghost use Rattle.edge_io.specs.Text.{WritesText};
+ghost use Rattle.edge_io.specs.{Faults.HasRisen, Text.WritesText};
 ghost use Rattle.wait_model.specs.Runs.{state_of};
 ghost use Rattle.wait_script.specs.Ending.{events_text, member_text, tasks_text, heads_text, words_text, ending_text};
 ghost use Rattle.wait_script.specs.Ending.{line_of_task, line_of_head, line_of_word};

@@ -2,8 +2,7 @@
 
 ghost use Rattle.std.specs.Prelude.{◌≡◌, map, position};
 ghost use Rattle.wait_script.specs.Fields as spec;
-ghost use Rattle.wait_script.specs.Fields.{number_within};
-ghost use Rattle.wait_script.specs.Number.{numeral_value};
+ghost use Rattle.wait_script.specs.{Fields.number_within, Number.numeral_value};
 ghost use Rattle.wait_script.specs.declared.reason.Reason.TheVariants.{BadCondition};
 
 use crate::names::value_in;

@@ -1,8 +1,7 @@
 //! Numbers as a script spells them.
 
 ghost use Rattle.std.specs.Prelude.{◌≡◌, ◌+◌, ◌-◌, ◌*◌, ◌≤◌};
-ghost use Rattle.wait_script.specs.Number.{numeral_value, is_plain};
-ghost use Rattle.wait_script.specs.Reading.{fitting, digits_of};
+ghost use Rattle.wait_script.specs.{Number.numeral_value, Number.is_plain, Reading.fitting, Reading.digits_of};
 
 /// No sign, and no zero in front of more digits.
 pub fn plain(word: &[u8]) -> bool

@@ -2,10 +2,9 @@
 
 ghost use Rattle.std.specs.Prelude.{◌≡◌, ◌<◌, ◌≤◌, ◌∷◌, [], length, position, sum_by};
 ghost use Rattle.std.specs.Prelude.{IfSome, IfNone, IfOk, All};
-ghost use Rattle.wait_script.specs.Lines.{VersionedLines, events_asked};
+ghost use Rattle.wait_script.specs.{Lines.VersionedLines, Lines.events_asked, Reading.IsFirstLine};
 ghost use Rattle.wait_script.specs.Spelling.{script_text, IsFitScript, IsPlayable};
 ghost use Rattle.wait_script.specs.Script.{is_end, parts_of, lines_from, script_of, AnswersAs, IsReadAs};
-ghost use Rattle.wait_script.specs.Reading.{IsFirstLine};
 
 use crate::line::{Line, read_header, read_line};
 use crate::reason::Reason;

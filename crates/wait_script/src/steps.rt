@@ -1,8 +1,7 @@
 //! Lines of steps, of which a script has most: each is read in one pass over its bytes.
 
 ghost use Rattle.std.specs.Prelude.{◌≡◌, ◌∷◌, ◌++◌, ◌&&◌, nat_lt, length, IfSome, codes, decimal};
-ghost use Rattle.wait_script.specs.Number.{is_plain};
-ghost use Rattle.wait_script.specs.Spelling.{line_text, IsFit};
+ghost use Rattle.wait_script.specs.{Number.is_plain, Spelling.line_text, Spelling.IsFit};
 
 use crate::line::Line;
 use crate::number::plain;

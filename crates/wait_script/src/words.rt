@@ -2,9 +2,7 @@
 
 ghost use Rattle.std.specs.Prelude.{◌≡◌, ◌<◌, length, map, IfOk, IfSome, IsTrue, position};
 ghost use Rattle.std.specs.List.{list_all};
-ghost use Rattle.wait_script.specs.Lines.{is_printable};
-ghost use Rattle.wait_script.specs.Words.{words_of, both_of};
-ghost use Rattle.wait_script.specs.Reading.{is_stop};
+ghost use Rattle.wait_script.specs.{Lines.is_printable, Words.words_of, Words.both_of, Reading.is_stop};
 
 use crate::reason::Reason;
 use std::alloc::AllocError;

@@ -1,8 +1,7 @@
 //! Texts on their way to a sink. A whole text is made first, so that of what a fault breaks off a front was written.
 
 ghost use Rattle.std.specs.Prelude.{◌≤◌, IsErrOf};
-ghost use Rattle.edge_io.specs.Faults.{HasRisen};
-ghost use Rattle.edge_io.specs.Text.{WritesText};
+ghost use Rattle.edge_io.specs.{Faults.HasRisen, Text.WritesText};
 ghost use Rattle.wait_script.specs.Text.{step_text, refused_text};
 
 use crate::pieces::LineText;

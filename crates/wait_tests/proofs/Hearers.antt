@@ -2,9 +2,8 @@
 use Rattle.std.proofs.Common.{◌∙◌, ap, sym, refl, subst, inr, arith}
 use Rattle.std.specs.Prelude.{ℕ, ◌≡◌, false}
 use Rattle.wait_model.specs.declared.tasks.SleepState.TheVariants as states
-use Rattle.wait_rule.specs.Known.{Known}
+use Rattle.wait_rule.specs.{Known.Known, Queues.index}
 use Rattle.wait_rule.specs.Says.{IsClean, IsFree, IsUp, OwesBut, no_excuse, told_of}
-use Rattle.wait_rule.specs.Queues.{index}
 use Rattle.wait_rule.specs.Stays.{Carries, Change, unchanged, with_entry}
 use Rattle.wait_event.specs.Entries.{HasWokenEntry, MayRemove, add_change, hold_change, remove_change}
 use Rattle.wait_tests.specs.EventTasks.{IsCleanHearer, IsHearer}

@@ -2,13 +2,10 @@
 -- Tasks of tests: what they know between two turns.
 use Rattle.std.specs.Prelude.{◌≡◌, Option, Some, None}
 use Rattle.wait_model.specs.declared.tasks.SleepState.TheVariants as states
-use Rattle.wait_rule.specs.Known.{Known}
+use Rattle.wait_rule.specs.{Known.Known, Stays.with_entry}
 use Rattle.wait_rule.specs.Says.{IsFree, IsUp, OwesBut, no_excuse}
-use Rattle.wait_rule.specs.Stays.{with_entry}
 use Rattle.wait_class.specs.Posts.{own_of}
-use Rattle.wait_event.specs.Entries.{HasWokenEntry}
-use Rattle.wait_event.specs.WokenWaits.{LandsHearing}
-use Rattle.wait_event.specs.declared.woken_waits.WokenTurn.{WokenTurn}
+use Rattle.wait_event.specs.{Entries.HasWokenEntry, WokenWaits.LandsHearing, declared.woken_waits.WokenTurn.WokenTurn}
 
 -- A task with an entry of kind Woken between two waits for its flag, and one that owes nothing but that entry.
 pub record IsHearer (k : Known) : Type 0 where

@@ -2,12 +2,9 @@
 -- Tasks of a Domain between two turns.
 use Rattle.std.specs.Prelude.{◌≡◌}
 use Rattle.atomic_table.specs.Seated.{TableId}
-use Rattle.wait_rule.specs.Known.{Known}
-use Rattle.wait_rule.specs.Says.{IsUp}
+use Rattle.wait_rule.specs.{Known.Known, Says.IsUp}
 use Rattle.wq_head.specs.Readied.{IsUpAndIdle}
-use Rattle.wait_class.specs.Tables.{CallTable, Lands}
-use Rattle.wait_class.specs.declared.stages.Run.{Run}
-use Rattle.wait_class.specs.declared.stages.Turn.{Turn}
+use Rattle.wait_class.specs.{Tables.CallTable, Tables.Lands, declared.stages.Run.Run, declared.stages.Turn.Turn}
 
 -- one whose wait stands where its last turn left it
 pub record StandsIn {C S O : Type 0} (domain : TableId) (t : CallTable C S O) (k : Known) (r : Run C) (last : Turn S O) :

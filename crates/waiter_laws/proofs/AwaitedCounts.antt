@@ -2,37 +2,25 @@
 use Rattle.std.proofs.lemmas.Bool.Decides.{nat_tests}
 use Rattle.std.proofs.Common.{refl, sym, ◌∙◌, ap, subst, arith}
 use Rattle.std.specs.Prelude.{ℕ, ◌≡◌, ◌==◌, Bool, true, false, is_some, Option, Some}
-use Rattle.wait_model.specs.declared.calls.Call.{Call}
-use Rattle.wait_model.specs.declared.calls.Call.TheVariants as calls
-use Rattle.wait_model.specs.declared.calls.Event.{Event}
-use Rattle.wait_model.specs.declared.calls.Event.TheVariants as event
-use Rattle.wait_model.specs.declared.points.AwaitPoint.TheVariants as awaiting
-use Rattle.wait_model.specs.declared.points.Planned.{Planned}
-use Rattle.wait_model.specs.declared.points.Point.{Point}
-use Rattle.wait_model.specs.declared.points.Point.TheVariants as at
-use Rattle.wait_model.specs.declared.points.PreparePoint.TheVariants as preparing
-use Rattle.wait_model.specs.declared.points.Seen.{Seen}
-use Rattle.wait_model.specs.declared.queues.Form.{Form}
-use Rattle.wait_model.specs.declared.queues.Form.TheVariants as forms
-use Rattle.wait_model.specs.declared.steps.Step.{Step}
-use Rattle.wait_model.specs.declared.steps.Step.TheVariants as step
-use Rattle.wait_model.specs.declared.tasks.Sleep.{Sleep}
-use Rattle.wait_model.specs.declared.tasks.SleepState.{SleepState}
-use Rattle.wait_model.specs.declared.watches.Kind.TheVariants as kind
-use Rattle.wait_model.specs.declared.watches.Watch.{Watch}
-use Rattle.wait_model.specs.declared.watches.Watch.TheVariants as watch
-use Rattle.wait_model.specs.Fold.{after, holding}
-use Rattle.wait_model.specs.Points.{given_at}
+use Rattle.wait_model.specs.{declared.calls.Call.Call, declared.calls.Event.Event, declared.points.Planned.Planned}
+use Rattle.wait_model.specs.{declared.points.Point.Point, declared.points.Seen.Seen, declared.queues.Form.Form}
+use Rattle.wait_model.specs.{declared.steps.Step.Step, declared.tasks.Sleep.Sleep, declared.tasks.SleepState.SleepState}
+use Rattle.wait_model.specs.{declared.watches.Watch.Watch, Fold.after, Fold.holding, Points.given_at, Views.Checks}
+use Rattle.wait_model.specs.{Views.View, Watches.failing, Watches.head_of}
 use Rattle.wait_model.specs.Programs.{await_after, await_ends, is_at_end, load, look_event, program}
 use Rattle.wait_model.specs.Tasks.{looks_in, pending, sleep_of, state_mask}
-use Rattle.wait_model.specs.Views.{Checks, View}
-use Rattle.wait_model.specs.Watches.{failing, head_of}
-use Rattle.wait_model.proofs.StepLaws.UnlockSteps.{unlock_checks}
-use Rattle.wait_model.proofs.WaitLaws.NextStages.{misses_fails}
+use Rattle.wait_model.specs.declared.calls.Call.TheVariants as calls
+use Rattle.wait_model.specs.declared.calls.Event.TheVariants as event
+use Rattle.wait_model.specs.declared.points.AwaitPoint.TheVariants as awaiting
+use Rattle.wait_model.specs.declared.points.Point.TheVariants as at
+use Rattle.wait_model.specs.declared.points.PreparePoint.TheVariants as preparing
+use Rattle.wait_model.specs.declared.queues.Form.TheVariants as forms
+use Rattle.wait_model.specs.declared.steps.Step.TheVariants as step
+use Rattle.wait_model.specs.declared.watches.Kind.TheVariants as kind
+use Rattle.wait_model.specs.declared.watches.Watch.TheVariants as watch
+use Rattle.wait_model.proofs.{StepLaws.UnlockSteps.unlock_checks, WaitLaws.NextStages.misses_fails}
 use Rattle.wait_model.proofs.WaitLaws.OutsideStages.{either}
-use Rattle.wait_rule.specs.Known.{Known}
-use Rattle.wait_rule.specs.Queues.{index}
-use Rattle.wait_rule.specs.Says.{told_of}
+use Rattle.wait_rule.specs.{Known.Known, Queues.index, Says.told_of}
 use Rattle.wait_rule.specs.Transitions.{FindsStep, IsStepFor, call_program}
 use Rattle.waiter_laws.proofs.PointRuns.{IsLed, Leads}
 

@@ -1,25 +1,20 @@
 -- The waits for bits sleep at one point alone.
 use Rattle.std.proofs.Common.{refl, sym, ◌∙◌}
 use Rattle.std.specs.Prelude.{ℕ, ◌≡◌, Bool, true, false, not, ◌&&◌, is_some}
-use Rattle.wait_model.specs.declared.calls.Call.{Call}
+use Rattle.wait_model.specs.{declared.calls.Call.Call, declared.calls.Event.Event, declared.points.Planned.Planned}
+use Rattle.wait_model.specs.{declared.points.Point.Point, declared.points.Seen.Seen, Tasks.pending, Tasks.state_mask}
+use Rattle.wait_model.specs.Points.{call_head, is_bit_wait, is_lock, state_in}
+use Rattle.wait_model.specs.Programs.{ask, call_fails, finished, go, look_event, prepared_at, program, signalled_at}
+use Rattle.wait_model.specs.Programs.{worn_next}
 use Rattle.wait_model.specs.declared.calls.Call.TheVariants as calls
-use Rattle.wait_model.specs.declared.calls.Event.{Event}
 use Rattle.wait_model.specs.declared.calls.Event.TheVariants as event
 use Rattle.wait_model.specs.declared.points.BitPoint.TheVariants as biting
 use Rattle.wait_model.specs.declared.points.FinishPoint.TheVariants as finishing
 use Rattle.wait_model.specs.declared.points.LeavePoint.TheVariants as leaving
-use Rattle.wait_model.specs.declared.points.Planned.{Planned}
-use Rattle.wait_model.specs.declared.points.Point.{Point}
 use Rattle.wait_model.specs.declared.points.Point.TheVariants as at
 use Rattle.wait_model.specs.declared.points.PreparePoint.TheVariants as preparing
-use Rattle.wait_model.specs.declared.points.Seen.{Seen}
-use Rattle.wait_model.specs.Points.{call_head, is_bit_wait, is_lock, state_in}
-use Rattle.wait_model.specs.Programs.{ask, call_fails, finished, go, look_event, prepared_at, program, signalled_at}
-use Rattle.wait_model.specs.Programs.{worn_next}
-use Rattle.wait_model.specs.Tasks.{pending, state_mask}
 use Rattle.wait_model.proofs.WaitLaws.OutsideStages.{either}
-use Rattle.waiter_laws.proofs.LastSleeps.{Stays, goes_within}
-use Rattle.waiter_laws.proofs.PointRuns.{is_active, is_sleep_event}
+use Rattle.waiter_laws.proofs.{LastSleeps.Stays, LastSleeps.goes_within, PointRuns.is_active, PointRuns.is_sleep_event}
 
 -- the points of such a wait, and some more
 abbrev pub is_biting : Point → Bool

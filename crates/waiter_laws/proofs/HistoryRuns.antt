@@ -1,21 +1,15 @@
 -- What the points of a program say of the history, kept over transitions and looks.
 use Rattle.std.proofs.Common.{refl, sym, ◌∙◌, subst, append-nil, append_assoc}
 use Rattle.std.specs.Prelude.{ℕ, ◌≡◌, false, List, [], ◌∷◌, ◌++◌}
-use Rattle.wait_model.specs.declared.points.Next.{Next}
+use Rattle.wait_model.specs.{declared.points.Next.Next, declared.points.Planned.Planned, declared.points.Point.Point}
+use Rattle.wait_model.specs.{declared.points.Seen.Seen, declared.steps.Step.Step}
 use Rattle.wait_model.specs.declared.points.Next.TheVariants as next
-use Rattle.wait_model.specs.declared.points.Planned.{Planned}
-use Rattle.wait_model.specs.declared.points.Point.{Point}
-use Rattle.wait_model.specs.declared.points.Seen.{Seen}
-use Rattle.wait_model.specs.declared.steps.Step.{Step}
 use Rattle.wait_model.specs.declared.steps.Step.TheVariants as step
-use Rattle.wait_rule.specs.declared.journal.Item.{Item}
-use Rattle.wait_rule.specs.declared.journal.Item.TheVariants as item
-use Rattle.wait_rule.specs.Items.{steps_of}
-use Rattle.wait_rule.specs.Known.{Known}
-use Rattle.wait_rule.specs.Says.{added, history_of}
+use Rattle.wait_rule.specs.{declared.journal.Item.Item, Items.steps_of, Known.Known, Says.added, Says.history_of}
 use Rattle.wait_rule.specs.Transitions.{AreLooks, Finds, Goes, IsMadeFor, IsStepFor, IsTransition, OnlyLooks, Program}
 use Rattle.wait_rule.specs.Transitions.{StepOrLook, Transition, after_step_or_look, after_transition, by_look, by_step}
 use Rattle.wait_rule.specs.Transitions.{with_lock}
+use Rattle.wait_rule.specs.declared.journal.Item.TheVariants as item
 use Rattle.wait_rule.proofs.TableSteps.ItemLists.{steps_append}
 use Rattle.wait_class.proofs.Turns.{looks_history}
 use Rattle.waiter_laws.proofs.PointRuns.{is_active, no_look}

@@ -2,37 +2,22 @@
 use Rattle.std.proofs.lemmas.Bool.Decides.{nat_tests}
 use Rattle.std.proofs.Common.{refl, sym, ◌∙◌, ap, subst, append_assoc, arith, inr}
 use Rattle.std.specs.Prelude.{ℕ, ◌≡◌, ◌≢◌, ◌<◌, ◌==◌, Bool, true, false, if◌then◌else◌, Some, List, [], ◌∷◌, ◌++◌}
-use Rattle.wait_model.specs.declared.layout.TheConstants.{SLOTS}
+use Rattle.wait_model.specs.{declared.layout.TheConstants.SLOTS, declared.points.Next.Next, declared.points.Point.Point}
+use Rattle.wait_model.specs.{declared.points.Seen.Seen, declared.steps.Step.Step, declared.tasks.SleepState.SleepState}
+use Rattle.wait_model.specs.{declared.watches.Kind.Kind, declared.watches.Watch.Watch, Histories.Since, Points.given_at}
+use Rattle.wait_model.specs.{Programs.program, Programs.zero_answer, Tasks.sleep_of, Tasks.state_mask, Views.View}
+use Rattle.wait_model.specs.{Fold.view_of, Wakes.Sleeps, Words.flag_of}
+use Rattle.wait_model.specs.Readings.{FailedBy, HasTestedUnheard, UnheardLoad, clears_flag, fails, outdates, reads_no}
+use Rattle.wait_model.specs.Watches.{is_done, is_page, is_woken, owner}
 use Rattle.wait_model.specs.declared.calls.Call.TheVariants as calls
 use Rattle.wait_model.specs.declared.calls.Event.TheVariants as event
-use Rattle.wait_model.specs.declared.points.Next.{Next}
 use Rattle.wait_model.specs.declared.points.Next.TheVariants as next
-use Rattle.wait_model.specs.declared.points.Point.{Point}
 use Rattle.wait_model.specs.declared.points.Point.TheVariants as at
-use Rattle.wait_model.specs.declared.points.Seen.{Seen}
 use Rattle.wait_model.specs.declared.points.WokenPoint.TheVariants as hearing
-use Rattle.wait_model.specs.declared.steps.Step.{Step}
 use Rattle.wait_model.specs.declared.steps.Step.TheVariants as step
-use Rattle.wait_model.specs.declared.tasks.SleepState.{SleepState}
-use Rattle.wait_model.specs.declared.watches.Kind.{Kind}
 use Rattle.wait_model.specs.declared.watches.Kind.TheVariants as kind
-use Rattle.wait_model.specs.declared.watches.Watch.{Watch}
-use Rattle.wait_model.specs.Histories.{Since}
-use Rattle.wait_model.specs.Points.{given_at}
-use Rattle.wait_model.specs.Programs.{program, zero_answer}
-use Rattle.wait_model.specs.Readings.{FailedBy, HasTestedUnheard, UnheardLoad, clears_flag, fails, outdates, reads_no}
-use Rattle.wait_model.specs.Tasks.{sleep_of, state_mask}
-use Rattle.wait_model.specs.Views.{View}
-use Rattle.wait_model.specs.Fold.{view_of}
-use Rattle.wait_model.specs.Wakes.{Sleeps}
-use Rattle.wait_model.specs.Watches.{is_done, is_page, is_woken, owner}
-use Rattle.wait_model.specs.Words.{flag_of}
-use Rattle.wait_model.proofs.HistoryLaws.NoLostWake.{no_wake_is_lost}
-use Rattle.wait_model.proofs.HistoryLaws.Stretches.{lacks_append}
-use Rattle.wait_rule.specs.Items.{steps_of}
-use Rattle.wait_rule.specs.Known.{Known}
-use Rattle.wait_rule.specs.Queues.{index}
-use Rattle.wait_rule.specs.Says.{history_of, told_of}
+use Rattle.wait_model.proofs.{HistoryLaws.NoLostWake.no_wake_is_lost, HistoryLaws.Stretches.lacks_append}
+use Rattle.wait_rule.specs.{Items.steps_of, Known.Known, Queues.index, Says.history_of, Says.told_of}
 use Rattle.wait_rule.specs.Transitions.{FindsStep, Goes, IsMadeFor, IsStepFor, IsTransition, OnlyLooks, Program}
 use Rattle.wait_rule.specs.Transitions.{StepOrLook, Transition, after_step_or_look, after_transition, by_look, by_step}
 use Rattle.wait_rule.specs.Transitions.{call_program}
@@ -40,8 +25,7 @@ use Rattle.wait_event.specs.WokenWaits.{woken_program}
 use Rattle.wait_event.proofs.Hearing.Endings.{hears_on}
 use Rattle.wait_rule.proofs.TableSteps.MemberMoves.{own_index}
 use Rattle.waiter_laws.proofs.HistoryRuns.{IsLed, Leads, only_still, run, step_history}
-use Rattle.waiter_laws.specs.Listening.{EndsListening, HearingsAreOne, ListenersAreKept}
-use Rattle.waiter_laws.specs.Listening.{StretchesEndListening}
+use Rattle.waiter_laws.specs.Listening.{EndsListening, HearingsAreOne, ListenersAreKept, StretchesEndListening}
 
 -- a step after which the test is still unheard, and one after which the flag is still read as not set
 tested_on : (es : List Step) (x : ℕ) (c : Watch) (e : Step) → clears_flag x e ≡ false → fails e c ≡ false

@@ -2,36 +2,22 @@
 -- history has stored it, is one of the call.
 use Rattle.std.proofs.Common.{refl, sym, ◌∙◌, ap, subst, append-nil, append_assoc}
 use Rattle.std.specs.Prelude.{ℕ, ◌≡◌, Bool, true, false, if◌then◌else◌, Option, Some, None, List, [], ◌∷◌, ◌++◌}
-use Rattle.wait_model.specs.declared.calls.Event.{Event}
-use Rattle.wait_model.specs.declared.calls.Event.TheVariants as event
-use Rattle.wait_model.specs.declared.points.Given.{Given}
-use Rattle.wait_model.specs.declared.points.Next.{Next}
-use Rattle.wait_model.specs.declared.points.Next.TheVariants as next
-use Rattle.wait_model.specs.declared.points.Planned.{Planned}
-use Rattle.wait_model.specs.declared.points.Point.{Point}
-use Rattle.wait_model.specs.declared.points.Seen.{Seen}
-use Rattle.wait_model.specs.declared.steps.Step.{Step}
-use Rattle.wait_model.specs.declared.steps.Step.TheVariants as step
-use Rattle.wait_model.specs.declared.watches.Entry.{Entry}
-use Rattle.wait_model.specs.declared.watches.Kind.{Kind}
-use Rattle.wait_model.specs.declared.watches.Watch.{Watch}
+use Rattle.wait_model.specs.{declared.calls.Event.Event, declared.points.Given.Given, declared.points.Next.Next}
+use Rattle.wait_model.specs.{declared.points.Planned.Planned, declared.points.Point.Point, declared.points.Seen.Seen}
+use Rattle.wait_model.specs.{declared.steps.Step.Step, declared.watches.Entry.Entry, declared.watches.Kind.Kind}
+use Rattle.wait_model.specs.{declared.watches.Watch.Watch, Functions.put, Tasks.task_of, Views.View, Views.Bits}
+use Rattle.wait_model.specs.{Watches.bare, Words.entry_of}
 use Rattle.wait_model.specs.Fold.{after, forgotten, is_off, view_of}
-use Rattle.wait_model.specs.Functions.{put}
-use Rattle.wait_model.specs.Tasks.{task_of}
-use Rattle.wait_model.specs.Views.{View, Bits}
-use Rattle.wait_model.specs.Watches.{bare}
-use Rattle.wait_model.specs.Words.{entry_of}
-use Rattle.wait_model.proofs.Functions.{put_at}
-use Rattle.wait_model.proofs.StepLaws.UnlockSteps.{unlock_bits}
-use Rattle.wait_rule.specs.declared.journal.Item.{Item}
-use Rattle.wait_rule.specs.declared.journal.Item.TheVariants as item
+use Rattle.wait_model.specs.declared.calls.Event.TheVariants as event
+use Rattle.wait_model.specs.declared.points.Next.TheVariants as next
+use Rattle.wait_model.specs.declared.steps.Step.TheVariants as step
+use Rattle.wait_model.proofs.{Functions.put_at, StepLaws.UnlockSteps.unlock_bits}
+use Rattle.wait_rule.specs.{declared.journal.Item.Item, Known.Known, Notes.tell, Says.added, Says.told_of}
 use Rattle.wait_rule.specs.Items.{Book, after_awake, book_from, learn, learn_step, steps_of}
-use Rattle.wait_rule.specs.Known.{Known}
-use Rattle.wait_rule.specs.Notes.{tell}
-use Rattle.wait_rule.specs.Says.{added, told_of}
 use Rattle.wait_rule.specs.Transitions.{AreLooks, Finds, FindsStep, Goes, IsLook, IsMadeFor, IsStepFor, IsTransition}
 use Rattle.wait_rule.specs.Transitions.{OnlyLooks, Program, StepOrLook, Transition, after_step_or_look}
 use Rattle.wait_rule.specs.Transitions.{after_transition, by_look, by_step, with_lock}
+use Rattle.wait_rule.specs.declared.journal.Item.TheVariants as item
 use Rattle.wait_rule.proofs.KnownLaws.AfterSteps.{told_after}
 
 -- what looks leave

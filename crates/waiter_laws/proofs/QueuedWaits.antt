@@ -2,50 +2,37 @@
 use Rattle.std.proofs.Common.{refl, sym, ◌∙◌, ap, subst}
 use Rattle.std.specs.Prelude.{ℕ, ◌≡◌, ◌==◌, ◌&&◌, not, Bool, true, false, if◌then◌else◌, is_some, Option, Some, List}
 use Rattle.std.specs.Prelude.{[], ◌∷◌, ◌++◌}
-use Rattle.wait_model.specs.declared.calls.Call.{Call}
+use Rattle.wait_model.specs.{declared.calls.Call.Call, declared.calls.Event.Event, declared.points.Planned.Planned}
+use Rattle.wait_model.specs.{declared.points.Point.Point, declared.points.Seen.Seen, declared.queues.Form.Form}
+use Rattle.wait_model.specs.{declared.steps.Step.Step, declared.watches.Entry.Entry, declared.watches.Watch.Watch}
+use Rattle.wait_model.specs.{Calls.call_watch, Calls.program_start, Fold.after, Fold.view_of, Selections.is_page_lock}
+use Rattle.wait_model.specs.{Findings.is_waiting, Watches.bare, Watches.head_of}
+use Rattle.wait_model.specs.Points.{form_of, given_at, is_bit_wait, is_lock, state_in}
+use Rattle.wait_model.specs.Programs.{ask, await_after, await_ends, call_fails, finished, is_at_end, load, look_event}
+use Rattle.wait_model.specs.Programs.{prepared_at, program, queue_event, signalled_at, slept_at, worn_next}
+use Rattle.wait_model.specs.Tasks.{looks_in, pending, state_mask}
+use Rattle.wait_model.specs.Views.{Look, View, blank, elsewhere, off, shown, unseen}
 use Rattle.wait_model.specs.declared.calls.Call.TheVariants as calls
-use Rattle.wait_model.specs.declared.calls.Event.{Event}
 use Rattle.wait_model.specs.declared.calls.Event.TheVariants as event
 use Rattle.wait_model.specs.declared.points.AwaitPoint.TheVariants as awaiting
 use Rattle.wait_model.specs.declared.points.BitPoint.TheVariants as biting
 use Rattle.wait_model.specs.declared.points.FinishPoint.TheVariants as finishing
 use Rattle.wait_model.specs.declared.points.LeavePoint.TheVariants as leaving
 use Rattle.wait_model.specs.declared.points.Next.TheVariants as next
-use Rattle.wait_model.specs.declared.points.Planned.{Planned}
-use Rattle.wait_model.specs.declared.points.Point.{Point}
 use Rattle.wait_model.specs.declared.points.Point.TheVariants as at
 use Rattle.wait_model.specs.declared.points.PreparePoint.TheVariants as preparing
-use Rattle.wait_model.specs.declared.points.Seen.{Seen}
-use Rattle.wait_model.specs.declared.queues.Form.{Form}
-use Rattle.wait_model.specs.declared.steps.Step.{Step}
 use Rattle.wait_model.specs.declared.steps.Step.TheVariants as step
-use Rattle.wait_model.specs.declared.watches.Entry.{Entry}
-use Rattle.wait_model.specs.declared.watches.Watch.{Watch}
 use Rattle.wait_model.specs.declared.watches.Watch.TheVariants as watch
-use Rattle.wait_model.specs.Calls.{call_watch, program_start}
-use Rattle.wait_model.specs.Fold.{after, view_of}
-use Rattle.wait_model.specs.Points.{form_of, given_at, is_bit_wait, is_lock, state_in}
-use Rattle.wait_model.specs.Programs.{ask, await_after, await_ends, call_fails, finished, is_at_end, load, look_event}
-use Rattle.wait_model.specs.Programs.{prepared_at, program, queue_event, signalled_at, slept_at, worn_next}
-use Rattle.wait_model.specs.Selections.{is_page_lock}
-use Rattle.wait_model.specs.Tasks.{looks_in, pending, state_mask}
-use Rattle.wait_model.specs.Views.{Look, View, blank, elsewhere, off, shown, unseen}
-use Rattle.wait_model.specs.Findings.{is_waiting}
-use Rattle.wait_model.specs.Watches.{bare, head_of}
-use Rattle.wait_model.proofs.HistoryLaws.HoldLooks.{after_snoc}
-use Rattle.wait_model.proofs.HistoryLaws.Stretches.{lacks_append}
-use Rattle.std.proofs.Common.{append_assoc, arith}
+use Rattle.wait_model.proofs.{HistoryLaws.HoldLooks.after_snoc, HistoryLaws.Stretches.lacks_append}
 use Rattle.wait_model.proofs.WaitLaws.OutsideStages.{either}
-use Rattle.wait_rule.specs.Known.{Known}
-use Rattle.wait_rule.specs.Queues.{index}
-use Rattle.wait_rule.specs.Says.{history_of, told_of}
+use Rattle.std.proofs.Common.{append_assoc, arith}
+use Rattle.wait_rule.specs.{Known.Known, Queues.index, Says.history_of, Says.told_of}
 use Rattle.wait_rule.specs.Transitions.{IsMadeFor, IsSeenAs, IsStepFor, StepOrLook, after_step_or_look}
 use Rattle.wait_rule.specs.Transitions.{after_transition, by_look, by_step, call_program}
 use Rattle.wait_rule.proofs.TableSteps.MemberMoves.{own_index}
 use Rattle.order_laws.specs.TakenOff.{IsGripped, IsLeftQueued, frees, is_mild}
 use Rattle.order_laws.proofs.QueuedOrders.{still_queued}
-use Rattle.waiter_laws.specs.Asleep.{EndsAsleep, sleep_point}
-use Rattle.waiter_laws.specs.Queued.{SleepersAreQueued}
+use Rattle.waiter_laws.specs.{Asleep.EndsAsleep, Asleep.sleep_point, Queued.SleepersAreQueued}
 use Rattle.waiter_laws.proofs.HistoryRuns.{AtNext, IsLed, Leads, only_still, run, step_history}
 use Rattle.waiter_laws.proofs.PointRuns.{is_active}
 use Rattle.waiter_laws.proofs.Sleepers.{has_slept, kept_by, sleep_by}

@@ -1,29 +1,20 @@
 -- Who owes no wake of a watch any more has woken all for whom it was.
 use Rattle.std.proofs.Common.{◌∙◌, ap, refl, sym}
 use Rattle.std.specs.Prelude.{ℕ, ◌≡◌, Bool, true, false, not, ◌&&◌, List}
-use Rattle.wait_model.specs.declared.steps.Step.{Step}
-use Rattle.wait_model.specs.declared.watches.Aim.{Aim}
-use Rattle.wait_model.specs.declared.watches.Mode.{Mode}
+use Rattle.wait_model.specs.{declared.steps.Step.Step, declared.watches.Aim.Aim, declared.watches.Mode.Mode}
+use Rattle.wait_model.specs.{declared.watches.Watch.Watch, Fold.view_of, Tables.Table, Tasks.meets, Watches.same}
+use Rattle.wait_model.specs.Watches.{mask_of}
 use Rattle.wait_model.specs.declared.watches.Mode.TheVariants as mode
-use Rattle.wait_model.specs.declared.watches.Watch.{Watch}
 use Rattle.wait_model.specs.declared.watches.Watch.TheVariants as watch
-use Rattle.wait_model.specs.Fold.{view_of}
-use Rattle.wait_model.specs.Tables.{Table}
-use Rattle.wait_model.specs.Tasks.{meets}
-use Rattle.wait_model.specs.Watches.{same, mask_of}
 use Rattle.wait_model.proofs.Sameness.{same_refl}
-use Rattle.wait_rule.specs.Items.{steps_of}
-use Rattle.wait_rule.specs.Known.{Known}
-use Rattle.wait_rule.specs.LosesNone.{OwesBeside, OwesNoneOf}
-use Rattle.wait_rule.specs.Says.{Excuse, told_of}
-use Rattle.wait_rule.specs.Stays.{Carries}
+use Rattle.wait_rule.specs.{Items.steps_of, Known.Known, LosesNone.OwesBeside, LosesNone.OwesNoneOf, Says.Excuse}
+use Rattle.wait_rule.specs.{Says.told_of, Stays.Carries}
 use Rattle.wait_rule.proofs.KnownLaws.LosesNone.{owes_no_wake, settled_leave_none}
 use Rattle.wait_rule.proofs.KnownLaws.Setters.{rule_settles_all}
 use Rattle.wq_head.specs.Walks.{HasEnded}
 use Rattle.wait_event.specs.Conds.{set_change}
-use Rattle.completion_cell.specs.declared.cell_turns.CellCall.{CellCall}
+use Rattle.completion_cell.specs.{declared.cell_turns.CellCall.CellCall, CellTurns.change_of}
 use Rattle.completion_cell.specs.declared.cell_turns.CellCall.TheVariants as cell_call
-use Rattle.completion_cell.specs.CellTurns.{change_of}
 use Rattle.waiter_laws.specs.Settled.{CellsSettle, SettledWakeAll, SettlesAll, SwakesSettle, WakesAll, WakesSettle}
 use Rattle.waiter_laws.specs.Settled.{makes_done}
 

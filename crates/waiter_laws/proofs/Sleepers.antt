@@ -1,53 +1,32 @@
 -- Whoever such a wait has put asleep sleeps on its watch.
 use Rattle.std.proofs.Common.{refl, sym, ◌∙◌, ap, subst, arith}
 use Rattle.std.specs.Prelude.{ℕ, ◌≡◌, ◌≢◌, Bool, true, false, if◌then◌else◌, Option, Some, None, List}
-use Rattle.wait_model.specs.declared.calls.Call.{Call}
+use Rattle.wait_model.specs.{declared.calls.Call.Call, declared.calls.Event.Event, declared.points.Planned.Planned}
+use Rattle.wait_model.specs.{declared.points.Point.Point, declared.points.Given.Given, declared.steps.Step.Step}
+use Rattle.wait_model.specs.{declared.points.Seen.Seen, declared.tasks.Sleep.Sleep}
+use Rattle.wait_model.specs.{declared.tasks.SleepState.SleepState, declared.watches.Entry.Entry}
+use Rattle.wait_model.specs.{declared.watches.Kind.Kind, declared.watches.Watch.Watch, Calls.call_watch}
+use Rattle.wait_model.specs.{Calls.program_start, Facts.Kept, Fold.after, Fold.view_of, Points.is_bit_wait}
+use Rattle.wait_model.specs.{Programs.program, Readings.FailedBy, Tables.Table, Tasks.sleep_of, Views.View}
+use Rattle.wait_model.specs.{Findings.is_waiting, Wakes.NoWakeIsLost, Wakes.Sleeps}
+use Rattle.wait_model.specs.Watches.{is_done, is_page, is_woken, kind_for, owner, page}
 use Rattle.wait_model.specs.declared.calls.Call.TheVariants as calls
-use Rattle.wait_model.specs.declared.calls.Event.{Event}
 use Rattle.wait_model.specs.declared.calls.Event.TheVariants as event
 use Rattle.wait_model.specs.declared.points.Next.TheVariants as next
 use Rattle.wait_model.specs.declared.points.PagePoint.TheVariants as paging
-use Rattle.wait_model.specs.declared.points.Planned.{Planned}
-use Rattle.wait_model.specs.declared.points.Point.{Point}
 use Rattle.wait_model.specs.declared.points.Point.TheVariants as at
-use Rattle.wait_model.specs.declared.points.Given.{Given}
-use Rattle.wait_model.specs.declared.steps.Step.{Step}
 use Rattle.wait_model.specs.declared.steps.Step.TheVariants as step
-use Rattle.wait_model.specs.declared.points.Seen.{Seen}
-use Rattle.wait_model.specs.declared.tasks.Sleep.{Sleep}
-use Rattle.wait_model.specs.declared.tasks.SleepState.{SleepState}
-use Rattle.wait_model.specs.declared.watches.Entry.{Entry}
-use Rattle.wait_model.specs.declared.watches.Kind.{Kind}
 use Rattle.wait_model.specs.declared.watches.Kind.TheVariants as kind
-use Rattle.wait_model.specs.declared.watches.Watch.{Watch}
 use Rattle.wait_model.specs.declared.watches.Watch.TheVariants as watch
-use Rattle.wait_model.specs.Calls.{call_watch, program_start}
-use Rattle.wait_model.specs.Facts.{Kept}
-use Rattle.wait_model.specs.Fold.{after, view_of}
-use Rattle.wait_model.specs.Points.{is_bit_wait}
-use Rattle.wait_model.specs.Programs.{program}
-use Rattle.wait_model.specs.Readings.{FailedBy}
-use Rattle.wait_model.specs.Tables.{Table}
-use Rattle.wait_model.specs.Tasks.{sleep_of}
-use Rattle.wait_model.specs.Views.{View}
-use Rattle.wait_model.specs.Findings.{is_waiting}
-use Rattle.wait_model.specs.Wakes.{NoWakeIsLost, Sleeps}
-use Rattle.wait_model.specs.Watches.{is_done, is_page, is_woken, kind_for, owner, page}
-use Rattle.wait_model.proofs.HistoryLaws.HoldLooks.{IsLookTold}
-use Rattle.wait_model.proofs.HistoryLaws.NoLostWake.{no_wake_is_lost, tas_told}
-use Rattle.wait_model.proofs.HistoryLaws.PlainReadings.{failed_told}
-use Rattle.wait_model.proofs.HistoryLaws.ZeroLoads.{zero_told}
-use Rattle.wait_model.proofs.RunLaws.PagesHanded.{kind_plain}
-use Rattle.wait_model.proofs.WaitLaws.Sleepers.{never_woken, same_bare}
-use Rattle.wait_rule.specs.Interleavings.{table_of}
-use Rattle.wait_rule.specs.Items.{steps_of}
-use Rattle.wait_rule.specs.Known.{Known}
-use Rattle.wait_rule.specs.Queues.{index}
-use Rattle.wait_rule.specs.Says.{history_of, told_of}
+use Rattle.wait_model.proofs.{HistoryLaws.HoldLooks.IsLookTold, HistoryLaws.NoLostWake.no_wake_is_lost}
+use Rattle.wait_model.proofs.{HistoryLaws.NoLostWake.tas_told, HistoryLaws.PlainReadings.failed_told}
+use Rattle.wait_model.proofs.{HistoryLaws.ZeroLoads.zero_told, RunLaws.PagesHanded.kind_plain}
+use Rattle.wait_model.proofs.{WaitLaws.Sleepers.never_woken, WaitLaws.Sleepers.same_bare}
+use Rattle.wait_rule.specs.{Interleavings.table_of, Items.steps_of, Known.Known, Queues.index, Says.history_of}
+use Rattle.wait_rule.specs.Says.{told_of}
 use Rattle.wait_rule.specs.Transitions.{IsMadeFor, IsStepFor, Program, StepOrLook, after_step_or_look, after_transition}
 use Rattle.wait_rule.specs.Transitions.{by_look, by_step, call_program}
-use Rattle.wait_rule.proofs.KnownLaws.Moments.{kept_of, views_of}
-use Rattle.wait_rule.proofs.TableSteps.MemberMoves.{own_index}
+use Rattle.wait_rule.proofs.{KnownLaws.Moments.kept_of, KnownLaws.Moments.views_of, TableSteps.MemberMoves.own_index}
 use Rattle.order_laws.specs.SafeSleep.{SleepsSafely}
 use Rattle.waiter_laws.specs.Asleep.{EndsAsleep, IsKept, SleepersAreKept, sleep_point}
 use Rattle.waiter_laws.proofs.PointRuns.{HasOwn, Here, IsLed, IsOwnEntry, all, looked, step_told}

@@ -1,58 +1,42 @@
 -- Whoever stretches of a wait have put asleep has slept in its call.
 use Rattle.std.proofs.Common.{refl, sym, ◌∙◌, subst}
 use Rattle.std.specs.Prelude.{ℕ, ◌≡◌, Bool, true, false, None, Some}
-use Rattle.wait_model.specs.declared.calls.Call.{Call}
+use Rattle.wait_model.specs.{declared.calls.Call.Call, declared.points.Point.Point, declared.tasks.How.How}
+use Rattle.wait_model.specs.{declared.watches.Kind.Kind, declared.watches.Watch.Watch, Calls.call_watch}
+use Rattle.wait_model.specs.{Points.is_bit_wait, Views.View, Watches.kind_for, Watches.page}
 use Rattle.wait_model.specs.declared.points.AwaitPoint.TheVariants as awaiting
 use Rattle.wait_model.specs.declared.points.Next.TheVariants as next
 use Rattle.wait_model.specs.declared.points.PagePoint.TheVariants as paging
-use Rattle.wait_model.specs.declared.points.Point.{Point}
 use Rattle.wait_model.specs.declared.points.Point.TheVariants as at
 use Rattle.wait_model.specs.declared.points.PreparePoint.TheVariants as preparing
-use Rattle.wait_model.specs.declared.tasks.How.{How}
-use Rattle.wait_model.specs.declared.watches.Kind.{Kind}
 use Rattle.wait_model.specs.declared.watches.Kind.TheVariants as kind
-use Rattle.wait_model.specs.declared.watches.Watch.{Watch}
 use Rattle.wait_model.specs.declared.watches.Watch.TheVariants as watch
-use Rattle.wait_model.specs.Calls.{call_watch}
-use Rattle.wait_model.specs.Points.{is_bit_wait}
-use Rattle.wait_model.specs.Views.{View}
-use Rattle.wait_model.specs.Watches.{kind_for, page}
-use Rattle.wait_rule.specs.Known.{Known}
-use Rattle.wait_rule.specs.Queues.{index}
-use Rattle.wait_rule.specs.Says.{told_of}
-use Rattle.wait_rule.specs.Transitions.{Program, call_program}
-use Rattle.wait_class.specs.declared.stages.Run.{Run}
-use Rattle.wait_class.specs.declared.stages.Turn.TheVariants as turn
-use Rattle.wait_class.specs.Laws.{IsLawfulCallTable}
-use Rattle.wait_class.specs.Posts.{IsOut, Runs}
+use Rattle.wait_rule.specs.{Known.Known, Queues.index, Says.told_of, Transitions.Program, Transitions.call_program}
+use Rattle.wait_class.specs.{declared.stages.Run.Run, Laws.IsLawfulCallTable, Posts.IsOut, Posts.Runs}
 use Rattle.wait_class.specs.Tables.{CallTable, next_in, plan_program}
+use Rattle.wait_class.specs.declared.stages.Turn.TheVariants as turn
 use Rattle.wait_class.proofs.Turns.{advances_on}
-use Rattle.wait_event.specs.declared.waits.WaitCall.{WaitCall}
-use Rattle.wait_event.specs.declared.waits.WaitStage.{WaitStage}
-use Rattle.wait_event.specs.declared.waits.WaitStage.TheVariants as wait_stage
-use Rattle.wait_event.specs.WaitPlans.{call_for}
+use Rattle.wait_event.specs.{declared.waits.WaitCall.WaitCall, declared.waits.WaitStage.WaitStage, WaitPlans.call_for}
 use Rattle.wait_event.specs.Waits.{is_slept, wait_point_at, wait_table}
+use Rattle.wait_event.specs.declared.waits.WaitStage.TheVariants as wait_stage
 use Rattle.wait_event.proofs.Plans.{runs_program}
-use Rattle.completion_cell.specs.declared.awaits.AwaitCall.{AwaitCall}
-use Rattle.completion_cell.specs.declared.awaits.AwaitStage.{AwaitStage}
-use Rattle.completion_cell.specs.declared.awaits.AwaitStage.TheVariants as await_stage
+use Rattle.completion_cell.specs.{declared.awaits.AwaitCall.AwaitCall, declared.awaits.AwaitStage.AwaitStage}
 use Rattle.completion_cell.specs.Awaits.{await_call, await_table, is_await_slept, await_point_at}
+use Rattle.completion_cell.specs.declared.awaits.AwaitStage.TheVariants as await_stage
 use Rattle.bit_wait.specs.BitTables.{bit_table, wait_bit_call as bit_call}
 use Rattle.bit_wait.specs.LockTables.{lock_bit_call as lock_call, lock_table}
-use Rattle.page_lock.specs.declared.waits.LockPage.{LockPage}
-use Rattle.page_lock.specs.declared.waits.PageStage.{PageStage}
-use Rattle.page_lock.specs.declared.waits.PageStage.TheVariants as page_stage
+use Rattle.page_lock.specs.{declared.waits.LockPage.LockPage, declared.waits.PageStage.PageStage}
 use Rattle.page_lock.specs.PageTables.{is_behind_sleep, page_call, page_table, page_point_at}
+use Rattle.page_lock.specs.declared.waits.PageStage.TheVariants as page_stage
 use Rattle.waiter_laws.specs.Stretches.{AwaitersAreKept, BitLockersAreKept, BitWaitersAreKept, PageWaitersAreKept}
 use Rattle.waiter_laws.specs.Stretches.{SleepIsLastOfAll, StretchesAreOne, WaitersAreKept, WasPutAsleep}
-use Rattle.waiter_laws.proofs.BitSleeps.{bit_stays, is_biting}
-use Rattle.waiter_laws.proofs.LastSleeps.{ends_asleep, last_behind}
+use Rattle.waiter_laws.proofs.{BitSleeps.bit_stays, BitSleeps.is_biting, LastSleeps.ends_asleep, LastSleeps.last_behind}
+use Rattle.waiter_laws.proofs.{AwaitedCounts.AwaitedAt, AwaitedCounts.awaited_led, TriedPages.TriedAt}
+use Rattle.waiter_laws.proofs.TriedPages.{tried_led}
 use Rattle.waiter_laws.proofs.PointRuns.{Here, IsLed, all}
 use Rattle.waiter_laws.proofs.Sleepers.{HasSlept, kept_by, sleepers_are_kept, slept_by_count, slept_by_load}
 use Rattle.waiter_laws.proofs.Sleepers.{slept_by_try}
-use Rattle.waiter_laws.proofs.AwaitedCounts.{AwaitedAt, awaited_led}
 use Rattle.waiter_laws.proofs.TestedWaits.{TestedAt, is_tested, tested_led}
-use Rattle.waiter_laws.proofs.TriedPages.{TriedAt, tried_led}
 
 pub stretches_are_one : {C S O : Type 0} (t : CallTable C S O) → IsLawfulCallTable t → StretchesAreOne t
 stretches_are_one t lawful old mid new r q w s n u one two =

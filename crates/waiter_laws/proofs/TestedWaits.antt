@@ -1,37 +1,25 @@
 -- A wait that tests its condition outside of its holds sleeps behind a load that found it not set.
 use Rattle.std.proofs.Common.{refl, sym, ◌∙◌, ap}
 use Rattle.std.specs.Prelude.{ℕ, ◌≡◌, Bool, true, false, not, ◌&&◌, if◌then◌else◌, is_some, Some}
-use Rattle.wait_model.specs.declared.calls.Call.{Call}
-use Rattle.wait_model.specs.declared.calls.Call.TheVariants as calls
-use Rattle.wait_model.specs.declared.calls.Event.{Event}
-use Rattle.wait_model.specs.declared.calls.Event.TheVariants as event
-use Rattle.wait_model.specs.declared.points.BitPoint.TheVariants as biting
-use Rattle.wait_model.specs.declared.points.FinishPoint.TheVariants as finishing
-use Rattle.wait_model.specs.declared.points.LeavePoint.TheVariants as leaving
-use Rattle.wait_model.specs.declared.points.Next.{Next}
-use Rattle.wait_model.specs.declared.points.Planned.{Planned}
-use Rattle.wait_model.specs.declared.points.Point.{Point}
-use Rattle.wait_model.specs.declared.points.Point.TheVariants as at
-use Rattle.wait_model.specs.declared.points.PreparePoint.TheVariants as preparing
-use Rattle.wait_model.specs.declared.points.Seen.{Seen}
-use Rattle.wait_model.specs.declared.steps.Step.{Step}
-use Rattle.wait_model.specs.declared.steps.Step.TheVariants as step
-use Rattle.wait_model.specs.declared.tasks.Sleep.{Sleep}
-use Rattle.wait_model.specs.declared.watches.Watch.{Watch}
-use Rattle.wait_model.specs.Calls.{call_watch, program_start}
-use Rattle.wait_model.specs.Fold.{after}
+use Rattle.wait_model.specs.{declared.calls.Call.Call, declared.calls.Event.Event, declared.points.Next.Next}
+use Rattle.wait_model.specs.{declared.points.Planned.Planned, declared.points.Point.Point, declared.points.Seen.Seen}
+use Rattle.wait_model.specs.{declared.steps.Step.Step, declared.tasks.Sleep.Sleep, declared.watches.Watch.Watch}
+use Rattle.wait_model.specs.{Calls.call_watch, Calls.program_start, Fold.after, Views.View}
 use Rattle.wait_model.specs.Points.{given_at, is_bit_wait, is_lock, state_in}
 use Rattle.wait_model.specs.Programs.{ask, call_fails, finished, load, look_event, prepared_at, program, signalled_at}
 use Rattle.wait_model.specs.Programs.{slept_at, worn_next}
 use Rattle.wait_model.specs.Tasks.{looks_in, pending, sleep_of, state_mask}
-use Rattle.wait_model.specs.Views.{View}
 use Rattle.wait_model.specs.Watches.{failing, head_of, kind_for, misses}
-use Rattle.wait_model.proofs.WaitLaws.NextStages.{misses_fails}
-use Rattle.wait_model.proofs.WaitLaws.OutsideStages.{either}
-use Rattle.wait_rule.specs.Items.{learn_step}
-use Rattle.wait_rule.specs.Known.{Known}
-use Rattle.wait_rule.specs.Queues.{index}
-use Rattle.wait_rule.specs.Says.{told_of}
+use Rattle.wait_model.specs.declared.calls.Call.TheVariants as calls
+use Rattle.wait_model.specs.declared.calls.Event.TheVariants as event
+use Rattle.wait_model.specs.declared.points.BitPoint.TheVariants as biting
+use Rattle.wait_model.specs.declared.points.FinishPoint.TheVariants as finishing
+use Rattle.wait_model.specs.declared.points.LeavePoint.TheVariants as leaving
+use Rattle.wait_model.specs.declared.points.Point.TheVariants as at
+use Rattle.wait_model.specs.declared.points.PreparePoint.TheVariants as preparing
+use Rattle.wait_model.specs.declared.steps.Step.TheVariants as step
+use Rattle.wait_model.proofs.{WaitLaws.NextStages.misses_fails, WaitLaws.OutsideStages.either}
+use Rattle.wait_rule.specs.{Items.learn_step, Known.Known, Queues.index, Says.told_of}
 use Rattle.wait_rule.specs.Transitions.{FindsStep, IsStepFor, call_program}
 use Rattle.waiter_laws.proofs.PointRuns.{AtNext, IsLed, Leads, awake_kept, is_active, is_sleep_event}
 

@@ -2,35 +2,23 @@
 use Rattle.std.proofs.lemmas.Bool.Decides.{nat_tests}
 use Rattle.std.proofs.Common.{refl, sym, ◌∙◌, ap, arith}
 use Rattle.std.specs.Prelude.{ℕ, ◌≡◌, ◌||◌, ◌==◌, Bool, true, false, if◌then◌else◌, is_some, Some}
-use Rattle.wait_model.specs.declared.calls.Call.{Call}
-use Rattle.wait_model.specs.declared.calls.Call.TheVariants as calls
-use Rattle.wait_model.specs.declared.calls.Event.{Event}
-use Rattle.wait_model.specs.declared.calls.Event.TheVariants as event
-use Rattle.wait_model.specs.declared.points.FinishPoint.{FinishPoint}
-use Rattle.wait_model.specs.declared.points.FinishPoint.TheVariants as finishing
-use Rattle.wait_model.specs.declared.points.PagePoint.TheVariants as paging
-use Rattle.wait_model.specs.declared.points.Planned.{Planned}
-use Rattle.wait_model.specs.declared.points.Point.{Point}
-use Rattle.wait_model.specs.declared.points.Point.TheVariants as at
-use Rattle.wait_model.specs.declared.points.Seen.{Seen}
-use Rattle.wait_model.specs.declared.steps.Step.{Step}
-use Rattle.wait_model.specs.declared.steps.Step.TheVariants as step
-use Rattle.wait_model.specs.declared.tasks.Sleep.{Sleep}
-use Rattle.wait_model.specs.declared.tasks.SleepState.{SleepState}
-use Rattle.wait_model.specs.declared.watches.Kind.TheVariants as kind
-use Rattle.wait_model.specs.declared.watches.Watch.{Watch}
-use Rattle.wait_model.specs.Fold.{after, found_set}
-use Rattle.wait_model.specs.Points.{given_at}
+use Rattle.wait_model.specs.{declared.calls.Call.Call, declared.calls.Event.Event}
+use Rattle.wait_model.specs.{declared.points.FinishPoint.FinishPoint, declared.points.Planned.Planned}
+use Rattle.wait_model.specs.{declared.points.Point.Point, declared.points.Seen.Seen, declared.steps.Step.Step}
+use Rattle.wait_model.specs.{declared.tasks.Sleep.Sleep, declared.tasks.SleepState.SleepState}
+use Rattle.wait_model.specs.{declared.watches.Watch.Watch, Fold.after, Fold.found_set, Points.given_at, Views.Checks}
+use Rattle.wait_model.specs.{Views.View, Watches.head_of, Watches.page, Words.bit_at}
 use Rattle.wait_model.specs.Programs.{call_fails, exchange, flag_read, page_last, program}
 use Rattle.wait_model.specs.Tasks.{looks_in, pending, sleep_of, state_mask}
-use Rattle.wait_model.specs.Views.{Checks, View}
-use Rattle.wait_model.specs.Watches.{head_of, page}
-use Rattle.wait_model.specs.Words.{bit_at}
-use Rattle.wait_model.proofs.StepLaws.UnlockSteps.{unlock_checks}
-use Rattle.wait_model.proofs.WaitLaws.OutsideStages.{either}
-use Rattle.wait_rule.specs.Known.{Known}
-use Rattle.wait_rule.specs.Queues.{index}
-use Rattle.wait_rule.specs.Says.{told_of}
+use Rattle.wait_model.specs.declared.calls.Call.TheVariants as calls
+use Rattle.wait_model.specs.declared.calls.Event.TheVariants as event
+use Rattle.wait_model.specs.declared.points.FinishPoint.TheVariants as finishing
+use Rattle.wait_model.specs.declared.points.PagePoint.TheVariants as paging
+use Rattle.wait_model.specs.declared.points.Point.TheVariants as at
+use Rattle.wait_model.specs.declared.steps.Step.TheVariants as step
+use Rattle.wait_model.specs.declared.watches.Kind.TheVariants as kind
+use Rattle.wait_model.proofs.{StepLaws.UnlockSteps.unlock_checks, WaitLaws.OutsideStages.either}
+use Rattle.wait_rule.specs.{Known.Known, Queues.index, Says.told_of}
 use Rattle.wait_rule.specs.Transitions.{FindsStep, IsStepFor, call_program}
 use Rattle.waiter_laws.proofs.PointRuns.{IsLed, Leads, is_queue_event}
 

@@ -1,26 +1,16 @@
 -- The worked list of a wait, computed.
 use Rattle.std.proofs.Common.{refl, sym, ◌∙◌, ap, subst, arith}
 use Rattle.std.specs.Prelude.{ℕ, zero, suc, ◌≡◌, ◌+◌, ◌<◌, Option, None, Some, List, [], ◌∷◌, false}
+use Rattle.wait_model.specs.{declared.points.Seen.Seen, declared.queues.Member.Member, declared.steps.Step.Step}
+use Rattle.wait_model.specs.{Fold.view_of, Points.form_of, Points.given_at, Queues.place_for, Readings.FailedLoad}
+use Rattle.wait_model.specs.{Runs.entry_for, Tasks.task_of, Views.Look, Watches.head_of}
 use Rattle.wait_model.specs.declared.layout.TheConstants.{FIRST_PLAIN_HEAD, MEMBERS, RUNNABLE, UNINTERRUPTIBLE}
 use Rattle.wait_model.specs.declared.points.Point.TheVariants as at
 use Rattle.wait_model.specs.declared.points.PreparePoint.TheVariants as preparing
-use Rattle.wait_model.specs.declared.points.Seen.{Seen}
-use Rattle.wait_model.specs.declared.queues.Member.{Member}
-use Rattle.wait_model.specs.declared.steps.Step.{Step}
 use Rattle.wait_model.specs.declared.steps.Step.TheVariants as step
-use Rattle.wait_model.specs.Fold.{view_of}
-use Rattle.wait_model.specs.Points.{form_of, given_at}
-use Rattle.wait_model.specs.Queues.{place_for}
-use Rattle.wait_model.specs.Readings.{FailedLoad}
-use Rattle.wait_model.specs.Runs.{entry_for}
-use Rattle.wait_model.specs.Tasks.{task_of}
-use Rattle.wait_model.specs.Views.{Look}
-use Rattle.wait_model.specs.Watches.{head_of}
 use Rattle.wait_model.proofs.HistoryLaws.PlainReadings.{failed_told}
-use Rattle.wait_rule.specs.Known.{Known}
-use Rattle.wait_rule.specs.Looking.{ShowsEmpty}
-use Rattle.wait_rule.specs.Queues.{IsWholeBook, place_by}
-use Rattle.wait_rule.specs.Says.{newcomer, told_of}
+use Rattle.wait_rule.specs.{Known.Known, Looking.ShowsEmpty, Queues.IsWholeBook, Queues.place_by, Says.newcomer}
+use Rattle.wait_rule.specs.Says.{told_of}
 use Rattle.wait_rule.specs.Shown.{queue_below, queue_with, shown_queue}
 use Rattle.wait_rule.specs.Transitions.{IsSeenAs, IsTransition, OnlyLooks, Transition, after_transition, by_step}
 use Rattle.wait_rule.specs.Transitions.{call_program, is_worn}

@@ -2,22 +2,15 @@
 -- Whoever a call that waits has put asleep is a waiter of the law on lost wakes: it sleeps on the watch of its
 -- call, and where that is set its wakeup is not lost.
 use Rattle.std.specs.Prelude.{ℕ, ◌≡◌, ◌≢◌, true, false, None, Some, List}
-use Rattle.wait_model.specs.declared.calls.Call.{Call}
+use Rattle.wait_model.specs.{declared.calls.Call.Call, declared.points.Point.Point, declared.watches.Entry.Entry}
+use Rattle.wait_model.specs.{Calls.call_watch, Calls.program_start, Tables.Table, Findings.is_waiting}
 use Rattle.wait_model.specs.declared.calls.Call.TheVariants as calls
 use Rattle.wait_model.specs.declared.points.BitPoint.TheVariants as biting
 use Rattle.wait_model.specs.declared.points.Next.TheVariants as next
 use Rattle.wait_model.specs.declared.points.PagePoint.TheVariants as paging
-use Rattle.wait_model.specs.declared.points.Point.{Point}
 use Rattle.wait_model.specs.declared.points.Point.TheVariants as at
-use Rattle.wait_model.specs.declared.watches.Entry.{Entry}
-use Rattle.wait_model.specs.Calls.{call_watch, program_start}
-use Rattle.wait_model.specs.Tables.{Table}
-use Rattle.wait_model.specs.Findings.{is_waiting}
-use Rattle.wait_rule.specs.declared.journal.Item.{Item}
+use Rattle.wait_rule.specs.{declared.journal.Item.Item, Known.Known, Queues.index, Rule.IsRuled}
 use Rattle.wait_rule.specs.Interleavings.{AreAllowed, TaskStep, table_of}
-use Rattle.wait_rule.specs.Known.{Known}
-use Rattle.wait_rule.specs.Queues.{index}
-use Rattle.wait_rule.specs.Rule.{IsRuled}
 use Rattle.wait_rule.specs.Says.{IsUp, history_of, told_of}
 use Rattle.wait_rule.specs.Transitions.{Goes, IsTransition, OnlyLooks, Transition, after_transition, call_program}
 use Rattle.order_laws.specs.SafeSleep.{SleepsSafely}

@@ -1,29 +1,21 @@
 -- To be believed.
 -- Whoever a wait for a flag has put asleep sleeps on each watch that it tested since its flag was cleared.
 use Rattle.std.specs.Prelude.{ℕ, ◌≡◌, ◌<◌, true, false, Some, List, ◌∷◌, ◌++◌}
-use Rattle.wait_model.specs.declared.layout.TheConstants.{SLOTS}
+use Rattle.wait_model.specs.{declared.layout.TheConstants.SLOTS, declared.tasks.SleepState.SleepState}
+use Rattle.wait_model.specs.{declared.watches.Entry.Entry, declared.watches.Watch.Watch, Readings.HasTestedUnheard}
+use Rattle.wait_model.specs.{Tables.Table, Watches.same}
 use Rattle.wait_model.specs.declared.calls.Call.TheVariants as calls
 use Rattle.wait_model.specs.declared.points.Next.TheVariants as next
 use Rattle.wait_model.specs.declared.points.Point.TheVariants as at
 use Rattle.wait_model.specs.declared.points.WokenPoint.TheVariants as hearing
-use Rattle.wait_model.specs.declared.tasks.SleepState.{SleepState}
-use Rattle.wait_model.specs.declared.watches.Entry.{Entry}
 use Rattle.wait_model.specs.declared.watches.Kind.TheVariants as kind
-use Rattle.wait_model.specs.declared.watches.Watch.{Watch}
-use Rattle.wait_model.specs.Readings.{HasTestedUnheard}
-use Rattle.wait_model.specs.Tables.{Table}
-use Rattle.wait_model.specs.Watches.{same}
-use Rattle.wait_rule.specs.declared.journal.Item.{Item}
-use Rattle.wait_rule.specs.Known.{Known}
-use Rattle.wait_rule.specs.Queues.{index}
-use Rattle.wait_rule.specs.Rule.{IsRuled}
-use Rattle.wait_rule.specs.Says.{history_of, told_of}
+use Rattle.wait_rule.specs.{declared.journal.Item.Item, Known.Known, Queues.index, Rule.IsRuled, Says.history_of}
+use Rattle.wait_rule.specs.Says.{told_of}
 use Rattle.wait_rule.specs.Transitions.{Goes, IsTransition, OnlyLooks, Transition, after_transition, call_program}
-use Rattle.wait_event.specs.declared.woken_waits.WokenStage.{WokenStage}
-use Rattle.wait_event.specs.declared.woken_waits.WokenStage.TheVariants as stage
-use Rattle.wait_event.specs.declared.woken_waits.WokenTurn.{WokenTurn}
-use Rattle.wait_event.specs.declared.woken_waits.WokenTurn.TheVariants as turn
+use Rattle.wait_event.specs.{declared.woken_waits.WokenStage.WokenStage, declared.woken_waits.WokenTurn.WokenTurn}
 use Rattle.wait_event.specs.WokenWaits.{Hears}
+use Rattle.wait_event.specs.declared.woken_waits.WokenStage.TheVariants as stage
+use Rattle.wait_event.specs.declared.woken_waits.WokenTurn.TheVariants as turn
 use Rattle.order_laws.specs.SafeSleep.{SleepsSafely}
 
 -- The task went through the wait up to its sleep, and made that; since then it has looked at words alone.

@@ -2,17 +2,11 @@
 -- Orders of steps in which entries of others are taken off only of who was woken: there a task that is asleep in a call
 -- has its entry queued.
 use Rattle.std.specs.Prelude.{◌≡◌, ◌≢◌, true, false, Some, List}
-use Rattle.wait_model.specs.declared.calls.Call.{Call}
-use Rattle.wait_model.specs.declared.watches.Entry.{Entry}
-use Rattle.wait_model.specs.Calls.{call_watch}
-use Rattle.wait_model.specs.Selections.{is_page_lock}
-use Rattle.wait_model.specs.Findings.{is_waiting}
+use Rattle.wait_model.specs.{declared.calls.Call.Call, declared.watches.Entry.Entry, Calls.call_watch}
+use Rattle.wait_model.specs.{Selections.is_page_lock, Findings.is_waiting}
+use Rattle.wait_rule.specs.{Known.Known, Queues.index, Says.history_of}
 use Rattle.wait_rule.specs.Interleavings.{AreAllowed, TaskStep, table_of}
-use Rattle.wait_rule.specs.Known.{Known}
-use Rattle.wait_rule.specs.Queues.{index}
-use Rattle.wait_rule.specs.Says.{history_of}
-use Rattle.order_laws.specs.SafeSleep.{SleepsSafely}
-use Rattle.order_laws.specs.TakenOff.{AllTakeOffWoken}
+use Rattle.order_laws.specs.{SafeSleep.SleepsSafely, TakenOff.AllTakeOffWoken}
 use Rattle.waiter_laws.specs.Asleep.{EndsAsleep}
 
 -- After each step of each such order of allowed steps the entry of a task stands that a call has put asleep and

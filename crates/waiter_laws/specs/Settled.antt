@@ -2,35 +2,23 @@
 -- Whom wakes leave that are made by stretches: once such a wake is over its task leaves nobody asleep for whom it
 -- was, and where no count was used up nobody sleeps on.
 use Rattle.std.specs.Prelude.{ℕ, ◌≡◌, Bool, true, false, List, ◌∷◌, ◌++◌}
-use Rattle.wait_model.specs.declared.steps.Step.{Step}
-use Rattle.wait_model.specs.declared.queues.Walked.{Walked}
-use Rattle.wait_model.specs.declared.watches.Mode.{Mode}
+use Rattle.wait_model.specs.{declared.steps.Step.Step, declared.queues.Walked.Walked, declared.watches.Mode.Mode}
+use Rattle.wait_model.specs.{declared.watches.Watch.Watch, Histories.publishes, Tables.Table, Tasks.meets}
+use Rattle.wait_model.specs.{Watches.mask_of, Watches.same}
 use Rattle.wait_model.specs.declared.watches.Mode.TheVariants as mode
-use Rattle.wait_model.specs.declared.watches.Watch.{Watch}
 use Rattle.wait_model.specs.declared.watches.Watch.TheVariants as watch
-use Rattle.wait_model.specs.Histories.{publishes}
-use Rattle.wait_model.specs.Tables.{Table}
-use Rattle.wait_model.specs.Tasks.{meets}
-use Rattle.wait_model.specs.Watches.{mask_of, same}
-use Rattle.wait_rule.specs.declared.journal.Item.{Item}
-use Rattle.wait_rule.specs.Interleavings.{TaskStep}
-use Rattle.wait_rule.specs.Known.{Known}
+use Rattle.wait_rule.specs.{declared.journal.Item.Item, Interleavings.TaskStep, Known.Known, Rule.IsRuled, Says.Excuse}
+use Rattle.wait_rule.specs.{Says.OwesBut, Stays.with_wakes}
 use Rattle.wait_rule.specs.LosesNone.{HasNoWakeOf, LeavesNoneAsleep, OwesBeside, OwesNoneOf}
-use Rattle.wait_rule.specs.Rule.{IsRuled}
-use Rattle.wait_rule.specs.Says.{Excuse, OwesBut}
 use Rattle.wait_rule.specs.Setters.{NobodySleeps, StaysSet, UsesUpNone, step_by}
-use Rattle.wait_rule.specs.Stays.{with_wakes}
-use Rattle.wq_head.specs.declared.wakes.WakeRun.{WakeRun}
+use Rattle.wq_head.specs.{declared.wakes.WakeRun.WakeRun, Turns.HasTurned}
 use Rattle.wq_head.specs.declared.wakes.WakeTurn.TheVariants as wake_turn
-use Rattle.wq_head.specs.Turns.{HasTurned}
-use Rattle.swait_queue.specs.declared.swake_turns.SwakeRun.{SwakeRun}
+use Rattle.swait_queue.specs.{declared.swake_turns.SwakeRun.SwakeRun, SwakeTurns.HasSwakeTurned as SwakeTurned}
 use Rattle.swait_queue.specs.declared.swake_turns.SwakeTurn.TheVariants as swake_turn
-use Rattle.swait_queue.specs.SwakeTurns.{HasSwakeTurned as SwakeTurned}
-use Rattle.completion_cell.specs.declared.cell_turns.CellCall.{CellCall}
-use Rattle.completion_cell.specs.declared.cell_turns.CellCall.TheVariants as cell_call
-use Rattle.completion_cell.specs.declared.cell_turns.CellRun.{CellRun}
-use Rattle.completion_cell.specs.declared.cell_turns.CellTurn.TheVariants as cell_turn
+use Rattle.completion_cell.specs.{declared.cell_turns.CellCall.CellCall, declared.cell_turns.CellRun.CellRun}
 use Rattle.completion_cell.specs.CellTurns.{HasCellTurned as CellTurned}
+use Rattle.completion_cell.specs.declared.cell_turns.CellCall.TheVariants as cell_call
+use Rattle.completion_cell.specs.declared.cell_turns.CellTurn.TheVariants as cell_turn
 
 -- In this order of steps a task published c, and used up no count since; and since then the watch `on` is set, whose
 -- waiters a wake of c wakes: c itself or, for a variable, one with any old value.

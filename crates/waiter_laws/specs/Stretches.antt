@@ -1,29 +1,22 @@
 -- To be believed.
 -- Whoever stretches of a wait have put asleep is a waiter of the law on lost wakes.
 use Rattle.wait_rule.specs.Known.{Known}
-use Rattle.wait_class.specs.declared.frame_stages.Framed.{Framed}
-use Rattle.wait_class.specs.declared.frame_stages.Stage.TheVariants as stage
-use Rattle.wait_class.specs.declared.stages.Run.{Run}
-use Rattle.wait_class.specs.declared.stages.Turn.{Turn}
-use Rattle.wait_class.specs.declared.stages.Turn.TheVariants as turn
+use Rattle.wait_class.specs.{declared.frame_stages.Framed.Framed, declared.stages.Run.Run, declared.stages.Turn.Turn}
 use Rattle.wait_class.specs.Posts.{IsOut}
 use Rattle.wait_class.specs.Tables.{Advances, CallTable, IsAt, SleptLast}
-use Rattle.wait_event.specs.declared.waits.WaitCall.{WaitCall}
+use Rattle.wait_class.specs.declared.frame_stages.Stage.TheVariants as stage
+use Rattle.wait_class.specs.declared.stages.Turn.TheVariants as turn
+use Rattle.wait_event.specs.{declared.waits.WaitCall.WaitCall, WaitPlans.call_for, Waits.wait_table}
 use Rattle.wait_event.specs.declared.waits.WaitStage.TheVariants as wait_stage
-use Rattle.wait_event.specs.WaitPlans.{call_for}
-use Rattle.wait_event.specs.Waits.{wait_table}
-use Rattle.completion_cell.specs.declared.awaits.AwaitCall.{AwaitCall}
+use Rattle.completion_cell.specs.{declared.awaits.AwaitCall.AwaitCall, Awaits.await_call, Awaits.await_table}
 use Rattle.completion_cell.specs.declared.awaits.AwaitStage.TheVariants as await_stage
-use Rattle.completion_cell.specs.Awaits.{await_call, await_table}
-use Rattle.bit_wait.specs.BitTables.{bit_table, wait_bit_call as bit_call}
-use Rattle.bit_wait.specs.LockTables.{lock_bit_call as lock_call, lock_table}
-use Rattle.bit_wait.specs.declared.lock_runs.LockBit.{LockBit}
+use Rattle.bit_wait.specs.{BitTables.bit_table, BitTables.wait_bit_call as bit_call}
+use Rattle.bit_wait.specs.{LockTables.lock_bit_call as lock_call, LockTables.lock_table}
+use Rattle.bit_wait.specs.{declared.lock_runs.LockBit.LockBit, declared.waits.WaitBit.WaitBit}
 use Rattle.bit_wait.specs.declared.lock_runs.LockTest.TheVariants as lock_test
 use Rattle.bit_wait.specs.declared.waits.BitTest.TheVariants as bit_test
-use Rattle.bit_wait.specs.declared.waits.WaitBit.{WaitBit}
-use Rattle.page_lock.specs.declared.waits.LockPage.{LockPage}
+use Rattle.page_lock.specs.{declared.waits.LockPage.LockPage, PageTables.page_call, PageTables.page_table}
 use Rattle.page_lock.specs.declared.waits.PageStage.TheVariants as page_stage
-use Rattle.page_lock.specs.PageTables.{page_call, page_table}
 use Rattle.waiter_laws.specs.Asleep.{IsKept}
 
 -- The task stood at the first stage of such a call, with its entry off, and went on by stretches to one that put it

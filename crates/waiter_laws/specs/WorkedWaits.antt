@@ -1,24 +1,17 @@
 -- A check of the definitions.
 -- A worked list of one task that waited and sleeps, of which the laws speak, and one of a task that has tested nothing.
 use Rattle.std.specs.Prelude.{◌+◌, false, None, List, [], ◌∷◌}
+use Rattle.wait_model.specs.{declared.calls.Call.Call, declared.steps.Step.Step, declared.watches.Entry.Entry}
+use Rattle.wait_model.specs.{declared.watches.Watch.Watch, Points.form_of, Points.given_at, Queues.place_for}
+use Rattle.wait_model.specs.{Readings.FailedLoad, Runs.entry_for}
 use Rattle.wait_model.specs.declared.layout.TheConstants.{FIRST_PLAIN_HEAD, RUNNABLE, UNINTERRUPTIBLE}
-use Rattle.wait_model.specs.declared.calls.Call.{Call}
 use Rattle.wait_model.specs.declared.calls.Call.TheVariants as calls
 use Rattle.wait_model.specs.declared.points.PreparePoint.TheVariants as preparing
 use Rattle.wait_model.specs.declared.points.Point.TheVariants as at
-use Rattle.wait_model.specs.declared.steps.Step.{Step}
 use Rattle.wait_model.specs.declared.steps.Step.TheVariants as step
 use Rattle.wait_model.specs.declared.tasks.SleepState.TheVariants as states
-use Rattle.wait_model.specs.declared.watches.Entry.{Entry}
-use Rattle.wait_model.specs.declared.watches.Watch.{Watch}
 use Rattle.wait_model.specs.declared.watches.Watch.TheVariants as watch
-use Rattle.wait_model.specs.Points.{form_of, given_at}
-use Rattle.wait_model.specs.Queues.{place_for}
-use Rattle.wait_model.specs.Readings.{FailedLoad}
-use Rattle.wait_model.specs.Runs.{entry_for}
-use Rattle.wait_rule.specs.Known.{Known}
-use Rattle.wait_rule.specs.Looking.{ShowsEmpty}
-use Rattle.wait_rule.specs.Says.{newcomer}
+use Rattle.wait_rule.specs.{Known.Known, Looking.ShowsEmpty, Says.newcomer}
 use Rattle.wait_rule.specs.Transitions.{OnlyLooks, after_step_or_look, by_step}
 use Rattle.waiter_laws.specs.Asleep.{EndsAsleep}
 

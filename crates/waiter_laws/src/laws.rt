@@ -1,17 +1,14 @@
 //! What the rule of a Domain says of tasks that calls have put asleep.
 
-ghost use Rattle.bit_wait.specs.BitTables.{bit_table};
-ghost use Rattle.bit_wait.specs.LockTables.{lock_table};
+ghost use Rattle.bit_wait.specs.{BitTables.bit_table, LockTables.lock_table};
 ghost use Rattle.completion_cell.specs.Awaits.{await_table};
 ghost use Rattle.page_lock.specs.PageTables.{page_table};
 ghost use Rattle.wait_event.specs.Waits.{wait_table};
-ghost use Rattle.waiter_laws.specs.Asleep.{SleepersAreKept};
+ghost use Rattle.waiter_laws.specs.{Asleep.SleepersAreKept, Queued.SleepersAreQueued, WorkedWaits.WorkedWaits};
 ghost use Rattle.waiter_laws.specs.Listening.{HearingsAreOne, ListenersAreKept, StretchesEndListening};
-ghost use Rattle.waiter_laws.specs.Queued.{SleepersAreQueued};
 ghost use Rattle.waiter_laws.specs.Settled.{CellsSettle, SettledWakeAll, SwakesSettle, WakesSettle};
 ghost use Rattle.waiter_laws.specs.Stretches.{AwaitersAreKept, BitLockersAreKept, BitWaitersAreKept};
 ghost use Rattle.waiter_laws.specs.Stretches.{PageWaitersAreKept, SleepIsLastOfAll, StretchesAreOne, WaitersAreKept};
-ghost use Rattle.waiter_laws.specs.WorkedWaits.{WorkedWaits};
 
 /// No waiter is lost on a Domain. A task whose last event is the sleep of a call that waits (`wait_event`,
 /// `swait_event`, `wait_for`, `wait_on_bit`, `wait_on_bit_lock`, `lock_page`, `wait_var`), and that was not woken

@@ -3,22 +3,18 @@ use Rattle.std.proofs.Common.{◌⊎◌, ◌≡◌, ℕ, ◌<◌, ◌≤◌, Lis
 use Rattle.std.proofs.Common.{IfSome, refl, ap, sym, ◌∙◌, subst, arith, sum_by}
 use Rattle.std.proofs.lemmas.Bool.{false≢true}
 use Rattle.std.proofs.lemmas.Bool.Decides.{nat_tests}
-use Rattle.edge_io.specs.Text.{HoldsPrefix}
-use Rattle.edge_io.specs.declared.sink.SinkFault.{SinkFault}
+use Rattle.edge_io.specs.{Text.HoldsPrefix, declared.sink.SinkFault.SinkFault}
 use Rattle.edge_io.specs.declared.sink.SinkFault.TheVariants as sink
 use Rattle.wait_model.specs.declared.layout.TheConstants.{EVENTS, INPUT_BYTES}
-use Rattle.wait_script.specs.Lines.{VersionedLines, events_asked}
-use Rattle.wait_script.specs.Script.{script_of}
+use Rattle.wait_script.specs.{Lines.VersionedLines, Lines.events_asked, Script.script_of, Replay.replay_text}
+use Rattle.wait_script.specs.declared.script.ReadScript.{ReadScript}
+use Rattle.waitq_alone.specs.{Alone.exit_status, Alone.is_quiet, declared.fault.Fault.Fault}
 use Rattle.waitq_alone.specs.Fault.{sink_fault, script_fault, status_of}
-use Rattle.wait_script.specs.Replay.{replay_text}
 use Rattle.waitq_alone.specs.Outcome.{Verdict, TooLong, BadLine, Text, script_verdict, verdict_of, IsFaultOf, Answers}
 use Rattle.waitq_alone.specs.Outcome.{Writes, LeavesUnwritten, IsBad, IsLong, IsNoCopyEnd}
 use Rattle.waitq_alone.specs.Commands.{Request, Replay, Drill, Copy, Merge, may_end_with}
-use Rattle.waitq_alone.specs.Alone.{exit_status, is_quiet}
-use Rattle.waitq_alone.specs.declared.fault.Fault.{Fault}
 use Rattle.waitq_alone.specs.declared.fault.Fault.TheVariants as fault
 use Rattle.wait_script.specs.Script as script
-use Rattle.wait_script.specs.declared.script.ReadScript.{ReadScript}
 use Rattle.wait_script.specs.declared.script.ReadScript.TheVariants as read
 use Rattle.edge_io.proofs.Prefix.{nothing}
 

@@ -5,18 +5,16 @@ use Rattle.std.specs.Prelude.{not}
 use Rattle.std.proofs.lemmas.List.{append-nil}
 use Rattle.std.proofs.lemmas.Bool.Decides.{nat_tests}
 use Rattle.clap.specs.Words.{App, Row, Rule, Shape, Text, Kinds, is_simple, fault_of, is_simple_and_free, subcommand_of}
-use Rattle.clap.specs.Words.{built}
+use Rattle.clap.specs.Words.{built, reading_of}
 use Rattle.clap.specs.Walk.{Held, Names, Walk, Waiting, subcommand_met, idle, positional, value, walk, walked}
 use Rattle.clap.specs.Walk.{to_positional, arg_by_index, walk_from, nothing_held, finished, rows_after}
 use Rattle.clap.specs.Simple.{built_leaf, inherited, marked_built, names_of, rows_at, with_leaf_noted}
 use Rattle.clap.specs.Kinds.{or_else, values_kinds, range_kinds}
-use Rattle.clap.specs.Faults.{walk_fault, turn_fault, step_fault, level_fault}
-use Rattle.clap.specs.declared.builder.value_parser.ValueParser.TheVariants as parser
-use Rattle.std.specs.Str.{bytes_eq}
-use Rattle.clap.specs.Words.{reading_of}
-use Rattle.clap.specs.Faults.{defaults_fault}
+use Rattle.clap.specs.Faults.{walk_fault, turn_fault, step_fault, level_fault, defaults_fault}
 use Rattle.clap.specs.declared.error.kind.ErrorKind.TheVariants.{UnknownArgument}
 use Rattle.clap.specs.declared.parser.matches.ValueSource.TheVariants.{CommandLine}
+use Rattle.clap.specs.declared.builder.value_parser.ValueParser.TheVariants as parser
+use Rattle.std.specs.Str.{bytes_eq}
 use Rattle.clap.proofs.OnLiterals.{clap_on_literals}
 use Rattle.waitq_alone.specs.Commands.{is_name}
 use Rattle.waitq_alone.specs.Parsed.{are_names, waitq_app, replay_app, drill_app, copy_app, merge_app}

@@ -5,13 +5,10 @@ use Rattle.std.proofs.Common.{drop-cons}
 use Rattle.std.proofs.lemmas.List.{append-nil}
 use Rattle.std.proofs.lemmas.Grind.{common_steps}
 use Rattle.edge_io.specs.Text.{Midway, WritesText}
-use Rattle.edge_io.proofs.Prefix.{finished}
-use Rattle.edge_io.proofs.Sending.{emptied, stuck}
+use Rattle.edge_io.proofs.{Prefix.finished, Sending.emptied, Sending.stuck}
 use Rattle.wait_model.specs.declared.calls.Ran.{Ran}
 use Rattle.wait_core.specs.declared.engine.Stepped.{Stepped}
-use Rattle.wait_script.specs.declared.line.Line.{Line}
-use Rattle.wait_script.specs.Text.{step_text}
-use Rattle.wait_script.specs.Ending.{ending_text}
+use Rattle.wait_script.specs.{declared.line.Line.Line, Text.step_text, Ending.ending_text}
 use Rattle.wait_script.specs.Replay.{stops, then_text, played_steps, answer_at, run_after, replay_line, replay_from}
 
 -- the text of n steps and one more, by the answer of the first

@@ -6,10 +6,8 @@ use Rattle.std.specs.List.{list_all}
 use Rattle.std.specs.Str.{bytes_eq}
 use Rattle.std.proofs.lemmas.Slice.Eq.{bytes_eq-Decides}
 use Rattle.std.proofs.lemmas.Bool.Decides.{not_from_Decides, Decides-eqb, nat_tests}
+use Rattle.clap.specs.{declared.error.Error.Error, declared.error.kind.ErrorKind.TheVariants.OutOfMemory, Kinds.or_else}
 use Rattle.clap.specs.Words.{HasKind, Kinds, Row, Text, fault_of, kind_of, subcommand_of}
-use Rattle.clap.specs.declared.error.Error.{Error}
-use Rattle.clap.specs.declared.error.kind.ErrorKind.TheVariants.{OutOfMemory}
-use Rattle.clap.specs.Kinds.{or_else}
 use Rattle.copy_plan.specs.declared.plan.Planned.{Planned}
 use Rattle.wait_script.specs.Number.{numeral_value}
 use Rattle.waitq_alone.specs.Commands.{Request, command_of, copy_at, drill_at, drill_of, is_name, merge_of}

@@ -3,10 +3,8 @@ use Rattle.std.proofs.Common.{◌≡◌, ℕ, ◌+◌, ◌-◌, ◌<◌, List, [
 use Rattle.std.proofs.Common.{None, refl, ap, ◌∙◌, Bool, true, false, add-one, append_assoc, drop-cons, codes}
 use Rattle.std.proofs.lemmas.List.{take_rest}
 use Rattle.std.specs.Prelude.{if◌then◌else◌, nat_le}
-use Rattle.copy_plan.specs.declared.TheConstants.{SIGNALS}
-use Rattle.copy_plan.specs.declared.gate.Who.{Who}
+use Rattle.copy_plan.specs.{declared.TheConstants.SIGNALS, declared.gate.Who.Who, declared.plan.Planned.Planned}
 use Rattle.copy_plan.specs.declared.gate.Who.TheVariants.{Reader, Relay, Writer}
-use Rattle.copy_plan.specs.declared.plan.Planned.{Planned}
 use Rattle.wait_script.specs.Number.{numeral_value}
 use Rattle.waitq_alone.specs.Events.{begins, planned_at, target_at, event_of, events_of, before, plan_of}
 

@@ -1,9 +1,8 @@
 -- Words that are refused before a command is known.
 use Rattle.std.proofs.Common.{◌≡◌, ℕ, ◌⊎◌, List, Option, Some, None, Err, true, IfSome, refl, sym, ap, subst, inl, inr}
+use Rattle.waitq_alone.specs.{Fault.status_of, declared.fault.Fault.Fault}
 use Rattle.waitq_alone.specs.Commands.{Request, Replay, Drill, Copy, Merge, may_end_with, verdict_at, without_files}
-use Rattle.waitq_alone.specs.Fault.{status_of}
 use Rattle.waitq_alone.specs.Outcome.{Verdict, TooLong, BadLine, Text, Answers}
-use Rattle.waitq_alone.specs.declared.fault.Fault.{Fault}
 use Rattle.waitq_alone.specs.declared.fault.Fault.TheVariants as fault
 use Rattle.edge_io.proofs.Prefix.{nothing}
 

@@ -4,8 +4,7 @@ use Rattle.std.specs.Prelude.{◌≡◌, ℕ, List, Option, Result, Ok, Err, IfS
 use Rattle.std.specs.Prelude.{Bool, ◌||◌, ◌==◌}
 use Rattle.std.specs.Io.KnownBytes.{append_known}
 use Rattle.edge_io.specs.Text.{HoldsPrefix}
-use Rattle.waitq_alone.specs.Fault.{status_of, fault_text}
-use Rattle.waitq_alone.specs.Outcome.{Verdict, Answers}
+use Rattle.waitq_alone.specs.{Fault.status_of, Fault.fault_text, Outcome.Verdict, Outcome.Answers}
 use Rattle.waitq_alone.specs.declared.fault.Fault.{Fault}
 
 abbrev pub exit_status : Result (Unit {0}) Fault → ℕ

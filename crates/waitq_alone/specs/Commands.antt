@@ -5,12 +5,9 @@ use Rattle.std.specs.Prelude.{not, nat_le, if◌then◌else◌, codes}
 use Rattle.std.specs.Str.{bytes_eq}
 use Rattle.wait_script.specs.Number.{numeral_value}
 use Rattle.drill_gen.specs.declared.lines.TheConstants.{MOST_CALLS}
-use Rattle.copy_plan.specs.declared.TheConstants.{SIGNALS}
-use Rattle.copy_plan.specs.declared.plan.Planned.{Planned}
-use Rattle.waitq_alone.specs.Drill.{drill_text}
-use Rattle.waitq_alone.specs.Events.{plan_of}
+use Rattle.copy_plan.specs.{declared.TheConstants.SIGNALS, declared.plan.Planned.Planned}
+use Rattle.waitq_alone.specs.{Drill.drill_text, Events.plan_of, declared.command.Command.Command}
 use Rattle.waitq_alone.specs.Outcome.{Verdict, Text, verdict_of}
-use Rattle.waitq_alone.specs.declared.command.Command.{Command}
 use Rattle.waitq_alone.specs.declared.command.Command.TheVariants as command
 
 -- what words may ask for

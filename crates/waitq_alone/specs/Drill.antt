@@ -3,14 +3,11 @@
 use Rattle.std.specs.Prelude.{ℕ, zero, suc, ◌+◌, List, [], ◌∷◌, ◌++◌, Bool, true, false, if◌then◌else◌, codes, decimal}
 use Rattle.std.specs.declared.result.Result.{Result}
 use Rattle.std.specs.declared.result.Result.TheVariants.{Ok, Err}
-use Rattle.wait_model.specs.declared.calls.Ran.{Ran}
+use Rattle.wait_model.specs.{declared.calls.Ran.Ran, declared.layout.TheConstants.SCRIPT_TASKS}
 use Rattle.wait_model.specs.Runs.{State, state_of, made_in}
-use Rattle.wait_model.specs.declared.layout.TheConstants.{SCRIPT_TASKS}
-use Rattle.wait_core.specs.declared.engine.StartFault.{StartFault}
-use Rattle.wait_core.specs.Stepped.{started}
-use Rattle.wait_script.specs.declared.line.Line.{Line}
+use Rattle.wait_core.specs.{declared.engine.StartFault.StartFault, Stepped.started}
+use Rattle.wait_script.specs.{declared.line.Line.Line, Replay.replay_line}
 use Rattle.wait_script.specs.declared.line.Line.TheVariants as line
-use Rattle.wait_script.specs.Replay.{replay_line}
 use Rattle.drill_gen.specs.Drill.{drill_of}
 
 -- the run after lines that are replayed from a run on

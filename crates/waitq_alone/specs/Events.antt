@@ -4,10 +4,9 @@ use Rattle.std.specs.Prelude.{ℕ, List, [], ◌∷◌, Option, Some, None, Bool
 use Rattle.std.specs.Prelude.{if◌then◌else◌, codes}
 use Rattle.std.specs.List.{starts_with}
 use Rattle.wait_script.specs.Number.{numeral_value}
-use Rattle.copy_plan.specs.declared.TheConstants.{LONGEST, SIGNALS}
-use Rattle.copy_plan.specs.declared.gate.Who.{Who}
-use Rattle.copy_plan.specs.declared.gate.Who.TheVariants.{Reader, Relay, Writer}
+use Rattle.copy_plan.specs.{declared.TheConstants.LONGEST, declared.TheConstants.SIGNALS, declared.gate.Who.Who}
 use Rattle.copy_plan.specs.declared.plan.Planned.{Planned}
+use Rattle.copy_plan.specs.declared.gate.Who.TheVariants.{Reader, Relay, Writer}
 
 abbrev pub begins : List ℕ → List ℕ → Bool
 begins word text = starts_with nat_eq word text

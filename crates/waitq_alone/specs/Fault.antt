@@ -1,13 +1,11 @@
 -- To be believed.
 -- Statuses and their lines.
 use Rattle.std.specs.Prelude.{ℕ, List, ◌++◌, codes, decimal}
-use Rattle.edge_io.specs.declared.sink.SinkFault.{SinkFault}
+use Rattle.edge_io.specs.{declared.sink.SinkFault.SinkFault, declared.whole.ReadFault.ReadFault}
 use Rattle.edge_io.specs.declared.sink.SinkFault.TheVariants as sink
-use Rattle.edge_io.specs.declared.whole.ReadFault.{ReadFault}
 use Rattle.edge_io.specs.declared.whole.ReadFault.TheVariants as read
-use Rattle.wait_script.specs.declared.reason.Reason.{Reason}
+use Rattle.wait_script.specs.{declared.reason.Reason.Reason, declared.script.ReadScript.ReadScript}
 use Rattle.wait_script.specs.declared.reason.Reason.TheVariants as reason
-use Rattle.wait_script.specs.declared.script.ReadScript.{ReadScript}
 use Rattle.wait_script.specs.declared.script.ReadScript.TheVariants as script
 use Rattle.waitq_alone.specs.declared.fault.Fault.{Fault}
 use Rattle.waitq_alone.specs.declared.fault.Fault.TheVariants.{Usage, Script, Read, NoFile, Write, Killed, Memory, Long, Worn}

@@ -4,9 +4,7 @@ use Rattle.std.specs.Prelude.{◌≡◌, ℕ, List, length, Option, Result, Ok, 
 use Rattle.std.specs.Io.KnownBytes.{append_known}
 use Rattle.edge_io.specs.Text.{HoldsPrefix}
 use Rattle.wait_model.specs.declared.layout.TheConstants.{EVENTS, INPUT_BYTES}
-use Rattle.wait_script.specs.declared.reason.Reason.{Reason}
-use Rattle.wait_script.specs.Lines.{VersionedLines, events_asked}
-use Rattle.wait_script.specs.Script.{script_of}
+use Rattle.wait_script.specs.{declared.reason.Reason.Reason, Lines.VersionedLines, Lines.events_asked, Script.script_of}
 use Rattle.wait_script.specs.Replay.{replay_text}
 use Rattle.waitq_alone.specs.declared.fault.Fault.{Fault}
 use Rattle.waitq_alone.specs.declared.fault.Fault.TheVariants as fault

@@ -4,10 +4,9 @@
 use Rattle.std.specs.Prelude.{List, [], ◌∷◌, Option, Some, None, Bool, true, false, unwrap_or, if◌then◌else◌, codes}
 use Rattle.std.specs.List.{list_all}
 use Rattle.std.specs.Str.{bytes_eq}
-use Rattle.clap.specs.Simple.{on_top}
+use Rattle.clap.specs.{Simple.on_top, declared.parser.matches.ArgMatches.ArgMatches}
 use Rattle.clap.specs.Words.{App, Row, Rule, Shape, Text, all_of, first_of, new_app, new_rule, subcommand_rows_of}
 use Rattle.clap.specs.Words.{with_rule, with_subcommand}
-use Rattle.clap.specs.declared.parser.matches.ArgMatches.{ArgMatches}
 use Rattle.copy_plan.specs.declared.TheConstants.{SIGNALS}
 use Rattle.wait_script.specs.Number.{numeral_value}
 use Rattle.waitq_alone.specs.Commands.{Request, Replay, copy_at, drill_at, is_name, merge_at}

@@ -3,10 +3,9 @@
 ghost use Rattle.std.specs.Prelude.{◌≡◌, ◌+◌, ◌≤◌, ◌++◌, IfOk, IsErrOf, IsTrue, Some, codes, length};
 ghost use Rattle.arrayvec.specs.ArrayVec.{array_vec_len};
 ghost use Rattle.edge_io.specs.Faults.{HasRisen};
-ghost use Rattle.waitq_alone.specs.Commands.{Drill, may_end_with};
+ghost use Rattle.waitq_alone.specs.{Commands.Drill, Commands.may_end_with, Alone.exit_status};
 ghost use Rattle.waitq_alone.specs.Drill.{number_line, head_line, drill_text};
 ghost use Rattle.waitq_alone.specs.Outcome.{Text, Answers, LeavesUnwritten};
-ghost use Rattle.waitq_alone.specs.Alone.{exit_status};
 
 use crate::fault::Fault;
 use crate::silent::{count_asleep, make_lines};

@@ -2,12 +2,9 @@
 //! the output.
 
 ghost use Rattle.std.specs.Prelude.{◌≡◌, ◌≤◌, ◌++◌, OnOk, IsErrOf, All};
-ghost use Rattle.edge_io.specs.Faults.{HasRisen};
-ghost use Rattle.edge_io.specs.Text.{WritesText, BuffersText};
+ghost use Rattle.edge_io.specs.{Faults.HasRisen, Text.WritesText, Text.BuffersText};
 ghost use Rattle.wait_model.specs.Admission.{IsListed};
-ghost use Rattle.wait_script.specs.Spelling.{IsPlayable};
-ghost use Rattle.wait_script.specs.Text.{step_text, refused_text};
-ghost use Rattle.wait_script.specs.Ending.{ending_text};
+ghost use Rattle.wait_script.specs.{Spelling.IsPlayable, Text.step_text, Text.refused_text, Ending.ending_text};
 ghost use Rattle.wait_script.specs.Replay.{stops, played_steps, opening_of, replay_line, replay_from};
 
 use edge_io::{Buffer, Sink, SinkFault};

@@ -2,8 +2,7 @@
 
 ghost use Rattle.std.specs.Prelude.{◌≡◌, ◌+◌, ◌≤◌, ◌++◌, codes};
 ghost use Rattle.arrayvec.specs.ArrayVec.{array_vec_len};
-ghost use Rattle.edge_io.specs.Faults.{CountsFailed, CountsWanted};
-ghost use Rattle.edge_io.specs.Text.{WritesText};
+ghost use Rattle.edge_io.specs.{Faults.CountsFailed, Faults.CountsWanted, Text.WritesText};
 ghost use Rattle.waitq_alone.specs.Fault.{fault_text, why_text};
 
 use crate::fault::Fault;

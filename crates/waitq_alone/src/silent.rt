@@ -1,10 +1,8 @@
 //! A script's lines played without their text.
 
 ghost use Rattle.std.specs.Prelude.{◌≡◌, ◌≤◌, ◌<◌, All, length};
-ghost use Rattle.wait_model.specs.Admission.{IsListed};
-ghost use Rattle.wait_model.specs.Runs.{state_of};
-ghost use Rattle.wait_script.specs.Spelling.{IsPlayable};
-ghost use Rattle.wait_script.specs.Replay.{played_steps, replay_line};
+ghost use Rattle.wait_model.specs.{Admission.IsListed, Runs.state_of};
+ghost use Rattle.wait_script.specs.{Spelling.IsPlayable, Replay.played_steps, Replay.replay_line};
 ghost use Rattle.waitq_alone.specs.Drill.{run_after_lines, refuses, refused_in, asleep_below};
 
 use crate::play::stops;

@@ -1,9 +1,8 @@
 -- Which cause an answer has, of a copy or of a merge that ran.
 use Rattle.std.proofs.Common.{◌≡◌, ℕ, ◌⊎◌, List, inl, inr, refl, sym, ap, ◌∙◌, subst}
 use Rattle.std.specs.Prelude.{Option, Some, None, Result, Ok, Err}
-use Rattle.edge_io.specs.declared.sink.SinkFault.{SinkFault}
+use Rattle.edge_io.specs.{declared.sink.SinkFault.SinkFault, Faults.HasRisen}
 use Rattle.edge_io.specs.declared.sink.SinkFault.TheVariants as sink
-use Rattle.edge_io.specs.Faults.{HasRisen}
 use Rattle.wait_rule.specs.Known.{Known}
 use Rattle.copy_plan.specs.declared.stop.Stop.{Stop}
 use Rattle.copy_plan.specs.declared.stop.Stop.TheVariants as stop

@@ -3,21 +3,17 @@ use Rattle.std.proofs.Common.{◌≡◌, ℕ, ◌⊎◌, List, [], inl, inr, ref
 use Rattle.std.specs.Prelude.{Option, Some, None, Result, Ok, Err}
 use Rattle.std.proofs.lemmas.Bool.{false≢true}
 use Rattle.atomic_table.specs.Seated.{TableId}
-use Rattle.edge_io.specs.declared.sink.SinkFault.{SinkFault}
+use Rattle.edge_io.specs.{declared.sink.SinkFault.SinkFault, Folders.Files}
 use Rattle.edge_io.specs.declared.sink.SinkFault.TheVariants as sink
-use Rattle.edge_io.specs.Folders.{Files}
 use Rattle.wait_rule.specs.Known.{Known}
 use Rattle.func_head.specs.Walks.{EntryState}
-use Rattle.copy_plan.specs.declared.plan.Planned.{Planned}
-use Rattle.copy_plan.specs.declared.stop.Stop.{Stop}
+use Rattle.copy_plan.specs.{declared.plan.Planned.Planned, declared.stop.Stop.Stop, Plans.fatal_of}
 use Rattle.copy_plan.specs.declared.stop.Stop.TheVariants as stop
-use Rattle.copy_plan.specs.Plans.{fatal_of}
+use Rattle.waitq_alone.specs.{Alone.exit_status, Alone.is_quiet, declared.fault.Fault.Fault}
 use Rattle.waitq_alone.specs.Commands.{Request, Replay, Drill, Copy, Merge, may_end_with, takes_files}
 use Rattle.waitq_copy.specs.Copying.{Concludes, CopyLeft, HasFile, IsMakeFault, IsOpenFault, IsStartFault}
 use Rattle.waitq_copy.specs.Copying.{Outside, WritesTold, fault_after}
-use Rattle.waitq_alone.specs.Alone.{exit_status, is_quiet}
 use Rattle.waitq_copy.specs.Run.{IfCopy}
-use Rattle.waitq_alone.specs.declared.fault.Fault.{Fault}
 use Rattle.waitq_alone.specs.declared.fault.Fault.TheVariants as fault
 use Rattle.waitq_copy.proofs.Sent.{no_kill}
 

@@ -6,10 +6,8 @@ use Rattle.atomic_table.specs.Seated.{TableId}
 use Rattle.edge_io.specs.declared.sink.SinkFault.{SinkFault}
 use Rattle.wait_rule.specs.Known.{Known}
 use Rattle.func_head.specs.Walks.{EntryState}
-use Rattle.copy_plan.specs.declared.TheConstants.{LONGEST}
-use Rattle.copy_plan.specs.declared.plan.Planned.{Planned}
-use Rattle.copy_plan.specs.declared.stop.ReaderEnd.{ReaderEnd}
-use Rattle.copy_plan.specs.declared.stop.Stop.{Stop}
+use Rattle.copy_plan.specs.{declared.TheConstants.LONGEST, declared.plan.Planned.Planned}
+use Rattle.copy_plan.specs.{declared.stop.ReaderEnd.ReaderEnd, declared.stop.Stop.Stop}
 use Rattle.copy_plan.specs.declared.stop.Stop.TheVariants as stop
 use Rattle.copy_turns.specs.Turns.{IsTooLong}
 use Rattle.waitq_copy.specs.Copying.{Causes, Concludes, Outside, Through, fault_after}

@@ -12,8 +12,7 @@ use Rattle.copy_plan.specs.declared.plan.Planned.{Planned}
 use Rattle.waitq_copy.specs.Copying.{CopyLeft, IsFileStored, Outside}
 use Rattle.waitq_copy.specs.Run.{DeliversFile}
 use Rattle.waitq_alone.specs.declared.fault.Fault.{Fault}
-use Rattle.waitq_copy.proofs.Answered.{stored_whole}
-use Rattle.waitq_copy.proofs.Fronts.{holds}
+use Rattle.waitq_copy.proofs.{Answered.stored_whole, Fronts.holds}
 
 module _ (old : Files) (files_new : Option Files) (src dst : List ℕ) (held_old held_new : Option (List ℕ)) where
   to : (bytes : List ℕ) → old src ≡ Some bytes → held_new ≡ Some bytes → Stores (Some old) files_new dst held_new

@@ -2,20 +2,16 @@
 use Rattle.std.proofs.Common.{◌≡◌, ℕ, ◌%◌, ◌^◌, ◌<◌, List, ◌∙◌, subst}
 use Rattle.std.specs.Prelude.{Option, Result, Ok, Err, IfOk, OnErr, IsErrOf}
 use Rattle.atomic_table.specs.Seated.{TableId}
-use Rattle.edge_io.specs.declared.sink.SinkFault.{SinkFault}
-use Rattle.edge_io.specs.declared.sink.SinkFault.TheVariants as sink
-use Rattle.edge_io.specs.Faults.{HasRisen}
+use Rattle.edge_io.specs.{declared.sink.SinkFault.SinkFault, Faults.HasRisen}
 use Rattle.edge_io.specs.Folders.{Files, HasBytes, HoldsNothing, Stores}
+use Rattle.edge_io.specs.declared.sink.SinkFault.TheVariants as sink
 use Rattle.bit_wait.specs.declared.wait_calls.BitEnd.{BitEnd}
-use Rattle.wait_rule.specs.Known.{Known}
-use Rattle.wait_rule.specs.TallyLaws.{tally_in}
+use Rattle.wait_rule.specs.{Known.Known, TallyLaws.tally_in}
 use Rattle.func_head.specs.Walks.{EntryState}
-use Rattle.copy_plan.specs.declared.TheConstants.{COUNTED_PAGE}
-use Rattle.copy_plan.specs.declared.plan.Planned.{Planned}
-use Rattle.copy_plan.specs.declared.stop.ReaderEnd.{ReaderEnd}
-use Rattle.copy_plan.specs.declared.stop.Stop.{Stop}
-use Rattle.copy_plan.specs.declared.stop.Stop.TheVariants as stop
+use Rattle.copy_plan.specs.{declared.TheConstants.COUNTED_PAGE, declared.plan.Planned.Planned}
+use Rattle.copy_plan.specs.{declared.stop.ReaderEnd.ReaderEnd, declared.stop.Stop.Stop}
 use Rattle.copy_plan.specs.declared.stop.WorkerEnd.{WorkerEnd}
+use Rattle.copy_plan.specs.declared.stop.Stop.TheVariants as stop
 use Rattle.copy_ends.specs.Copied.{Copied, HoldsAll, HoldsGiven, NoneTaken, Watched}
 use Rattle.waitq_copy.specs.Copying.{IsFileStored, Through}
 use Rattle.waitq_copy.proofs.Sent.{kills_are, sent_of, size_of}

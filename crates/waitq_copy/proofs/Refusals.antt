@@ -4,12 +4,10 @@ use Rattle.atomic_table.specs.Seated.{TableId}
 use Rattle.wait_rule.specs.Known.{Known}
 use Rattle.func_head.specs.Walks.{EntryState}
 use Rattle.copy_plan.specs.declared.plan.Planned.{Planned}
+use Rattle.waitq_alone.specs.{Fault.status_of, declared.fault.Fault.Fault}
 use Rattle.waitq_alone.specs.Commands.{Request, Replay, Drill, Copy, Merge}
-use Rattle.waitq_copy.specs.Copying.{CopyLeft, Outside}
-use Rattle.waitq_alone.specs.Fault.{status_of}
+use Rattle.waitq_copy.specs.{Copying.CopyLeft, Copying.Outside, Run.IfCopy}
 use Rattle.waitq_alone.proofs.Refusals.{IsRefusal}
-use Rattle.waitq_copy.specs.Run.{IfCopy}
-use Rattle.waitq_alone.specs.declared.fault.Fault.{Fault}
 use Rattle.waitq_alone.specs.declared.fault.Fault.TheVariants as fault
 
 -- where they ask for a copy, they were refused for want of memory alone

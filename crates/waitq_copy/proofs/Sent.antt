@@ -5,14 +5,11 @@ use Rattle.atomic_table.specs.Seated.{TableId}
 use Rattle.bit_wait.specs.declared.wait_calls.BitEnd.{BitEnd}
 use Rattle.wait_rule.specs.Known.{Known}
 use Rattle.func_head.specs.Walks.{EntryState}
-use Rattle.copy_plan.specs.declared.plan.Planned.{Planned}
-use Rattle.copy_plan.specs.declared.stop.ReaderEnd.{ReaderEnd}
-use Rattle.copy_plan.specs.declared.stop.Stop.{Stop}
-use Rattle.copy_plan.specs.declared.stop.Stop.TheVariants as stop
-use Rattle.copy_plan.specs.declared.stop.WorkerEnd.{WorkerEnd}
-use Rattle.copy_ends.specs.Copied.{Copied, IsNotTaken, NoneTaken}
+use Rattle.copy_plan.specs.{declared.plan.Planned.Planned, declared.stop.ReaderEnd.ReaderEnd, declared.stop.Stop.Stop}
+use Rattle.copy_plan.specs.{declared.stop.WorkerEnd.WorkerEnd, Stops.IfFinished, Stops.IfTaken}
 use Rattle.copy_plan.specs.Plans.{due_in, fatal_of, up_to}
-use Rattle.copy_plan.specs.Stops.{IfFinished, IfTaken}
+use Rattle.copy_plan.specs.declared.stop.Stop.TheVariants as stop
+use Rattle.copy_ends.specs.Copied.{Copied, IsNotTaken, NoneTaken}
 use Rattle.copy_ends.proofs.Rows.{gave_all}
 
 own : (s : Stop) (X Y : Type 0) → IsNotTaken s → IfTaken s X Y → Y

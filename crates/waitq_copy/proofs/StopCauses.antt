@@ -4,17 +4,13 @@ use Rattle.std.specs.Prelude.{Option, Some, Result}
 use Rattle.atomic_table.specs.Seated.{TableId}
 use Rattle.edge_io.specs.Faults.{HasRisen}
 use Rattle.bit_wait.specs.declared.wait_calls.BitEnd.{BitEnd}
-use Rattle.wait_rule.specs.Known.{Known}
-use Rattle.wait_rule.specs.Says.{newcomer}
+use Rattle.wait_rule.specs.{Known.Known, Says.newcomer}
 use Rattle.func_head.specs.Walks.{EntryState}
+use Rattle.copy_plan.specs.{declared.plan.Planned.Planned, declared.stop.ReaderEnd.ReaderEnd, declared.stop.Stop.Stop}
+use Rattle.copy_plan.specs.{declared.stop.WorkerEnd.WorkerEnd, Stops.IfTaken}
 use Rattle.copy_plan.specs.declared.TheConstants.{LONGEST, SINK_PIPE, SOURCE_PIPE}
-use Rattle.copy_plan.specs.declared.plan.Planned.{Planned}
-use Rattle.copy_plan.specs.declared.stop.ReaderEnd.{ReaderEnd}
-use Rattle.copy_plan.specs.declared.stop.Stop.{Stop}
 use Rattle.copy_plan.specs.declared.stop.Stop.TheVariants as stop
-use Rattle.copy_plan.specs.declared.stop.WorkerEnd.{WorkerEnd}
 use Rattle.copy_ends.specs.Copied.{Copied, control_stop}
-use Rattle.copy_plan.specs.Stops.{IfTaken}
 use Rattle.copy_turns.specs.Turns.{IsTooLong, IsReaderStop, IsRelayStop, IsWriterStop}
 use Rattle.waitq_copy.specs.Copying.{WasTableFull}
 use Rattle.waitq_copy.proofs.Stops.{Among, Cause, among_named, cause_of, full_at, full_control, kills_of, never_broken}

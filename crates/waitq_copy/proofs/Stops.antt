@@ -7,18 +7,13 @@ use Rattle.atomic_table.specs.Seated.{TableId}
 use Rattle.edge_io.specs.Faults.{HasRisen}
 use Rattle.bit_wait.specs.declared.wait_calls.BitEnd.{BitEnd}
 use Rattle.bit_wait.specs.declared.wait_calls.BitEnd.TheVariants as bit_end
-use Rattle.wait_rule.specs.Aside.{Grows}
-use Rattle.wait_rule.specs.Ends.{WasWorn}
-use Rattle.wait_rule.specs.declared.journal.Journal.{Journal}
-use Rattle.wait_rule.specs.Journals.{has_of}
-use Rattle.wait_rule.specs.Known.{Known}
-use Rattle.wait_rule.specs.Says.{IsShown, newcomer}
-use Rattle.copy_plan.specs.declared.kinds.Kind.{Kind}
+use Rattle.wait_rule.specs.{Aside.Grows, Ends.WasWorn, declared.journal.Journal.Journal, Journals.has_of, Known.Known}
+use Rattle.wait_rule.specs.{Says.IsShown, Says.newcomer}
+use Rattle.copy_plan.specs.{declared.kinds.Kind.Kind, declared.stop.Stop.Stop}
+use Rattle.copy_plan.specs.Kinds.{copy_stop, first_or, is_of}
 use Rattle.copy_plan.specs.declared.kinds.Kind.TheVariants as kind
-use Rattle.copy_plan.specs.declared.stop.Stop.{Stop}
 use Rattle.copy_plan.specs.declared.stop.Stop.TheVariants as stop
 use Rattle.copy_ends.specs.Copied.{ControlEnds, NotesAreLate, control_stop}
-use Rattle.copy_plan.specs.Kinds.{copy_stop, first_or, is_of}
 use Rattle.waitq_copy.specs.Copying.{WasTableFull}
 
 abbrev pub IsNamed : Stop → Type 0

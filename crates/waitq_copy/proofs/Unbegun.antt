@@ -3,10 +3,7 @@ use Rattle.std.proofs.Common.{refl, sym, ◌∙◌, subst}
 use Rattle.std.specs.Prelude.{ℕ, ◌≡◌, ◌-◌, ◌++◌, ◌&&◌, eqb, Bool, true, false, cond, List, []}
 use Rattle.atomic_table.specs.Seated.{TableId}
 use Rattle.wait_model.specs.declared.layout.TheConstants.{TASKS}
-use Rattle.wait_rule.specs.declared.journal.Item.{Item}
-use Rattle.wait_rule.specs.Journals.{has_of}
-use Rattle.wait_rule.specs.Known.{Known}
-use Rattle.wait_rule.specs.Says.{newcomer}
+use Rattle.wait_rule.specs.{declared.journal.Item.Item, Journals.has_of, Known.Known, Says.newcomer}
 use Rattle.copy_ends.specs.Copied.{HasNoSteps}
 use Rattle.waitq_copy.specs.Copying.{LeavesTask}
 use Rattle.waitq_alone.specs.declared.fault.Fault.{Fault}

@@ -5,30 +5,19 @@ use Rattle.std.specs.Prelude.{codes, decimal}
 use Rattle.std.specs.Prelude.{Option, None, Some, IsSome, IfSome, Result, Ok, Err}
 use Rattle.std.specs.Io.KnownBytes.{append_known}
 use Rattle.atomic_table.specs.Seated.{TableId}
-use Rattle.edge_io.specs.declared.sink.SinkFault.{SinkFault}
-use Rattle.edge_io.specs.declared.sink.SinkFault.TheVariants as sink
-use Rattle.edge_io.specs.Faults.{HasRisen}
+use Rattle.edge_io.specs.{declared.sink.SinkFault.SinkFault, Faults.HasRisen, Text.HoldsPrefix}
 use Rattle.edge_io.specs.Folders.{Files, HasBytes, HasNone, HoldsNothing, Stores}
-use Rattle.edge_io.specs.Text.{HoldsPrefix}
+use Rattle.edge_io.specs.declared.sink.SinkFault.TheVariants as sink
 use Rattle.bit_wait.specs.declared.wait_calls.BitEnd.{BitEnd}
-use Rattle.wait_rule.specs.declared.journal.Journal.{Journal}
-use Rattle.wait_rule.specs.Ends.{WasWorn, worn_adds}
-use Rattle.wait_rule.specs.Places.{queued_at}
-use Rattle.wait_rule.specs.Says.{IsShown}
-use Rattle.wait_rule.specs.Journals.{has_of}
-use Rattle.wait_rule.specs.Known.{Known}
-use Rattle.wait_rule.specs.TallyLaws.{tally_in}
+use Rattle.wait_rule.specs.{declared.journal.Journal.Journal, Ends.WasWorn, Ends.worn_adds, Places.queued_at}
+use Rattle.wait_rule.specs.{Says.IsShown, Journals.has_of, Known.Known, TallyLaws.tally_in}
 use Rattle.func_head.specs.Walks.{EntryState, told_by}
-use Rattle.copy_plan.specs.declared.TheConstants.{COUNTED_PAGE, LONGEST}
-use Rattle.copy_plan.specs.declared.plan.Planned.{Planned}
-use Rattle.copy_plan.specs.declared.stop.ReaderEnd.{ReaderEnd}
-use Rattle.copy_plan.specs.declared.stop.Stop.{Stop}
+use Rattle.copy_plan.specs.{declared.TheConstants.COUNTED_PAGE, declared.TheConstants.LONGEST}
+use Rattle.copy_plan.specs.{declared.plan.Planned.Planned, declared.stop.ReaderEnd.ReaderEnd, declared.stop.Stop.Stop}
+use Rattle.copy_plan.specs.{declared.stop.WorkerEnd.WorkerEnd, Plans.fatal_of, Plans.up_to}
 use Rattle.copy_plan.specs.declared.stop.Stop.TheVariants as stop
-use Rattle.copy_plan.specs.declared.stop.WorkerEnd.{WorkerEnd}
 use Rattle.copy_ends.specs.Copied.{Copied, HoldsAll, HoldsGiven, NoneTaken, Watched}
-use Rattle.copy_plan.specs.Plans.{fatal_of, up_to}
-use Rattle.waitq_alone.specs.Drill.{number_line}
-use Rattle.waitq_alone.specs.declared.fault.Fault.{Fault}
+use Rattle.waitq_alone.specs.{Drill.number_line, declared.fault.Fault.Fault}
 use Rattle.waitq_alone.specs.declared.fault.Fault.TheVariants as fault
 
 -- What a copy works on: the files of its folder and the two counts of the folder's faults; what its output holds, and

@@ -6,10 +6,9 @@ use Rattle.edge_io.specs.Folders.{Files}
 use Rattle.wait_rule.specs.Known.{Known}
 use Rattle.func_head.specs.Walks.{EntryState}
 use Rattle.copy_plan.specs.declared.plan.Planned.{Planned}
+use Rattle.waitq_alone.specs.{Alone.Reports, Alone.exit_status, declared.fault.Fault.Fault}
 use Rattle.waitq_alone.specs.Commands.{Request, Replay, Drill, Copy, Merge}
 use Rattle.waitq_copy.specs.Copying.{CopyLeft, Outside}
-use Rattle.waitq_alone.specs.Alone.{Reports, exit_status}
-use Rattle.waitq_alone.specs.declared.fault.Fault.{Fault}
 
 -- What a copy command does: its status is that of an answer, by which it leaves what it leaves, and err got the
 -- answer's line.

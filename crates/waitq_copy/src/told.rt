@@ -1,8 +1,7 @@
 //! What is told of a copy at its end.
 
 ghost use Rattle.std.specs.Prelude.{◌≡◌, ◌+◌, ◌≤◌, ◌++◌, IsErrOf, decimal, length};
-ghost use Rattle.edge_io.specs.Faults.{HasRisen};
-ghost use Rattle.edge_io.specs.Text.{WritesText};
+ghost use Rattle.edge_io.specs.{Faults.HasRisen, Text.WritesText};
 ghost use Rattle.wait_model.specs.declared.layout.TheConstants.{TEXT_BYTES};
 ghost use Rattle.waitq_copy.specs.Copying.{copy_text, told_pieces, watch_line, watch_lines};
 

@@ -11,10 +11,8 @@ use Rattle.flow_merge.specs.Passed.{Piece, merged_bytes, bytes_of}
 use Rattle.flow_merge.specs.declared.sides.Side.TheVariants as sides
 use Rattle.waitq_alone.specs.declared.fault.Fault.{Fault}
 use Rattle.waitq_copy.specs.Copying.{IsFileStored, Outside}
-use Rattle.waitq_copy.proofs.Answered.{stored_whole}
-use Rattle.waitq_copy.proofs.Fronts.{holds}
-use Rattle.waitq_merge.specs.Merging.{MergeLeft}
-use Rattle.waitq_merge.specs.MergeRun.{DeliversBoth}
+use Rattle.waitq_copy.proofs.{Answered.stored_whole, Fronts.holds}
+use Rattle.waitq_merge.specs.{Merging.MergeLeft, MergeRun.DeliversBoth}
 
 -- the bytes of a file that is there and told
 told_bytes : (file left : Option (List ℕ)) (bytes : List ℕ) → is_some file ≡ true → left ≡ file

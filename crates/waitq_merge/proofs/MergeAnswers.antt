@@ -3,13 +3,9 @@ use Rattle.std.proofs.Common.{◌≡◌, ℕ, ◌+◌, ◌*◌, ◌%◌, ◌^◌
 use Rattle.std.specs.Prelude.{None, Option, Result}
 use Rattle.std.proofs.Math.Nat.{mod-eq_of_lt}
 use Rattle.atomic_table.specs.Seated.{TableId}
-use Rattle.edge_io.specs.declared.sink.SinkFault.{SinkFault}
-use Rattle.edge_io.specs.Faults.{HasRisen}
-use Rattle.edge_io.specs.Folders.{Files}
+use Rattle.edge_io.specs.{declared.sink.SinkFault.SinkFault, Faults.HasRisen, Folders.Files}
 use Rattle.wait_rule.specs.Known.{Known}
-use Rattle.copy_plan.specs.declared.TheConstants.{LONGEST}
-use Rattle.copy_plan.specs.declared.stop.ReaderEnd.{ReaderEnd}
-use Rattle.copy_plan.specs.declared.stop.Stop.{Stop}
+use Rattle.copy_plan.specs.{declared.TheConstants.LONGEST, declared.stop.ReaderEnd.ReaderEnd, declared.stop.Stop.Stop}
 use Rattle.copy_plan.specs.declared.stop.Stop.TheVariants as stop
 use Rattle.flow_merge.specs.Merged.{IsMergeStop}
 use Rattle.waitq_alone.specs.declared.fault.Fault.{Fault}

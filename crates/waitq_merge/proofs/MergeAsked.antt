@@ -5,16 +5,14 @@ use Rattle.std.proofs.lemmas.Bool.{false≢true}
 use Rattle.atomic_table.specs.Seated.{TableId}
 use Rattle.edge_io.specs.Folders.{Files}
 use Rattle.wait_rule.specs.Known.{Known}
-use Rattle.waitq_alone.specs.Alone.{exit_status, is_quiet}
+use Rattle.waitq_alone.specs.{Alone.exit_status, Alone.is_quiet, declared.fault.Fault.Fault}
 use Rattle.waitq_alone.specs.Commands.{Request, Replay, Drill, Copy, Merge, may_end_with, takes_files}
-use Rattle.waitq_alone.specs.declared.fault.Fault.{Fault}
 use Rattle.waitq_alone.specs.declared.fault.Fault.TheVariants as fault
 use Rattle.waitq_copy.specs.Copying.{HasFile, IsMakeFault, IsOpenFault, IsStartFault, Outside, fault_after}
 use Rattle.waitq_copy.proofs.Answered.{killed_how}
 use Rattle.waitq_copy.proofs.Asked.{IsCopyFault, after, concluded, silent}
 use Rattle.waitq_alone.proofs.Refusals.{IsRefusal}
-use Rattle.waitq_merge.specs.Merging.{MergeLeft}
-use Rattle.waitq_merge.specs.MergeRun.{IfMerge}
+use Rattle.waitq_merge.specs.{Merging.MergeLeft, MergeRun.IfMerge}
 use Rattle.waitq_merge.proofs.MergeAnswers.{not_killed}
 
 pub no_merge : (o : Option Request) (P : List ℕ → List ℕ → List ℕ → Type 0) → takes_files o ≡ false → IfMerge o P

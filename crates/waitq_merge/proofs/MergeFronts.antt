@@ -9,11 +9,9 @@ use Rattle.flow_merge.specs.Passed.{Passed, Piece, bytes_if, merged_bytes, bytes
 use Rattle.flow_merge.specs.declared.sides.Side.{Side}
 use Rattle.flow_merge.specs.declared.sides.Side.TheVariants as sides
 use Rattle.waitq_alone.specs.declared.fault.Fault.{Fault}
-use Rattle.waitq_copy.specs.Copying.{Outside}
-use Rattle.waitq_copy.specs.Run.{IsFrontOf}
+use Rattle.waitq_copy.specs.{Copying.Outside, Run.IsFrontOf}
 use Rattle.waitq_copy.proofs.Fronts.{is_front, kept, spares_but}
-use Rattle.waitq_merge.specs.Merging.{MergeLeft}
-use Rattle.waitq_merge.specs.MergeRun.{IsFrontOfBoth, MergeSpares}
+use Rattle.waitq_merge.specs.{Merging.MergeLeft, MergeRun.IsFrontOfBoth, MergeRun.MergeSpares}
 
 in_last : (ps : List Piece) (p : Piece) → merged_bytes (ps ++ p ∷ []) ≡ merged_bytes ps ++ p.bytes
 in_last [] p = append-nil p.bytes

@@ -3,19 +3,14 @@ use Rattle.std.proofs.Common.{◌≡◌, ℕ, ◌%◌, ◌^◌, ◌<◌, ◌⊎�
 use Rattle.std.specs.Prelude.{Option, IfSome, Result, IsErrOf}
 use Rattle.atomic_table.specs.Seated.{TableId}
 use Rattle.bit_wait.specs.declared.wait_calls.BitEnd.{BitEnd}
-use Rattle.edge_io.specs.declared.sink.SinkFault.{SinkFault}
-use Rattle.edge_io.specs.declared.sink.SinkFault.TheVariants as sink
-use Rattle.edge_io.specs.Faults.{HasRisen}
+use Rattle.edge_io.specs.{declared.sink.SinkFault.SinkFault, Faults.HasRisen}
 use Rattle.edge_io.specs.Folders.{Files, HasBytes, HoldsNothing}
-use Rattle.wait_rule.specs.Known.{Known}
-use Rattle.wait_rule.specs.TallyLaws.{tally_in}
-use Rattle.copy_plan.specs.declared.TheConstants.{COUNTED_PAGE}
-use Rattle.copy_plan.specs.declared.plan.Planned.{Planned}
-use Rattle.copy_plan.specs.declared.stop.ReaderEnd.{ReaderEnd}
-use Rattle.copy_plan.specs.declared.stop.Stop.{Stop}
+use Rattle.edge_io.specs.declared.sink.SinkFault.TheVariants as sink
+use Rattle.wait_rule.specs.{Known.Known, TallyLaws.tally_in}
+use Rattle.copy_plan.specs.{declared.TheConstants.COUNTED_PAGE, declared.plan.Planned.Planned}
+use Rattle.copy_plan.specs.{declared.stop.ReaderEnd.ReaderEnd, declared.stop.Stop.Stop}
+use Rattle.copy_plan.specs.{declared.stop.WorkerEnd.WorkerEnd, Stops.IfFinished}
 use Rattle.copy_plan.specs.declared.stop.Stop.TheVariants as stop
-use Rattle.copy_plan.specs.declared.stop.WorkerEnd.{WorkerEnd}
-use Rattle.copy_plan.specs.Stops.{IfFinished}
 use Rattle.copy_ends.specs.Did.{ReaderDid}
 use Rattle.copy_ends.proofs.Rows.{gave_all}
 use Rattle.flow_merge.specs.Merged.{Drawn, SinkFilled, HoldsMerged, IsMergeStop, Merged, MergesAll, NoneHurt, ends_of}

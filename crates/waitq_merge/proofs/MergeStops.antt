@@ -4,12 +4,9 @@ use Rattle.std.specs.Prelude.{Some, Result}
 use Rattle.atomic_table.specs.Seated.{TableId}
 use Rattle.bit_wait.specs.declared.wait_calls.BitEnd.{BitEnd}
 use Rattle.edge_io.specs.Faults.{HasRisen}
-use Rattle.wait_rule.specs.Known.{Known}
-use Rattle.wait_rule.specs.Says.{newcomer}
-use Rattle.copy_plan.specs.declared.TheConstants.{LONGEST}
-use Rattle.copy_plan.specs.declared.stop.Stop.{Stop}
+use Rattle.wait_rule.specs.{Known.Known, Says.newcomer}
+use Rattle.copy_plan.specs.{declared.TheConstants.LONGEST, declared.stop.Stop.Stop, Stops.IfTaken}
 use Rattle.copy_plan.specs.declared.stop.Stop.TheVariants as stop
-use Rattle.copy_plan.specs.Stops.{IfTaken}
 use Rattle.copy_turns.specs.Turns.{IsTooLong, IsReaderStop, IsWriterStop}
 use Rattle.flow_merge.specs.declared.TheConstants.{LEFT_PIPE, MERGED_PIPE, RIGHT_PIPE}
 use Rattle.flow_merge.specs.Merged.{Drawn, CrewEnds, SinkFilled, Merged, stops_of}

@@ -6,11 +6,9 @@ use Rattle.edge_io.specs.Folders.{Files}
 use Rattle.wait_rule.specs.Known.{Known}
 use Rattle.flow_merge.specs.Passed.{Piece, merged_bytes, bytes_of}
 use Rattle.flow_merge.specs.declared.sides.Side.TheVariants as sides
-use Rattle.waitq_alone.specs.Alone.{Reports, exit_status}
+use Rattle.waitq_alone.specs.{Alone.Reports, Alone.exit_status, declared.fault.Fault.Fault}
 use Rattle.waitq_alone.specs.Commands.{Request, Replay, Drill, Copy, Merge}
-use Rattle.waitq_alone.specs.declared.fault.Fault.{Fault}
-use Rattle.waitq_copy.specs.Copying.{Outside}
-use Rattle.waitq_copy.specs.Run.{IsFrontOf, SparesBut}
+use Rattle.waitq_copy.specs.{Copying.Outside, Run.IsFrontOf, Run.SparesBut}
 use Rattle.waitq_merge.specs.Merging.{MergeLeft}
 
 -- What a merge command does: its status is that of an answer, by which it leaves what it leaves, and err got the

@@ -3,21 +3,17 @@
 use Rattle.std.specs.Prelude.{ℕ, ◌≡◌, ◌+◌, ◌*◌, ◌%◌, ◌^◌, ◌<◌, ◌≤◌, ◌++◌, ◌⊎◌, List, codes, decimal, length}
 use Rattle.std.specs.Prelude.{Option, IfSome, Result, Ok, Err}
 use Rattle.atomic_table.specs.Seated.{TableId}
-use Rattle.edge_io.specs.declared.sink.SinkFault.{SinkFault}
-use Rattle.edge_io.specs.declared.sink.SinkFault.TheVariants as sink
-use Rattle.edge_io.specs.Faults.{HasRisen}
+use Rattle.edge_io.specs.{declared.sink.SinkFault.SinkFault, Faults.HasRisen}
 use Rattle.edge_io.specs.Folders.{Files, HasBytes, HoldsNothing}
+use Rattle.edge_io.specs.declared.sink.SinkFault.TheVariants as sink
 use Rattle.bit_wait.specs.declared.wait_calls.BitEnd.{BitEnd}
-use Rattle.wait_rule.specs.Known.{Known}
-use Rattle.wait_rule.specs.TallyLaws.{tally_in}
-use Rattle.copy_plan.specs.declared.TheConstants.{COUNTED_PAGE, LONGEST}
-use Rattle.copy_plan.specs.declared.stop.ReaderEnd.{ReaderEnd}
-use Rattle.copy_plan.specs.declared.stop.Stop.{Stop}
-use Rattle.copy_plan.specs.declared.stop.Stop.TheVariants as stop
+use Rattle.wait_rule.specs.{Known.Known, TallyLaws.tally_in}
+use Rattle.copy_plan.specs.{declared.TheConstants.COUNTED_PAGE, declared.TheConstants.LONGEST}
+use Rattle.copy_plan.specs.{declared.stop.ReaderEnd.ReaderEnd, declared.stop.Stop.Stop}
 use Rattle.copy_plan.specs.declared.stop.WorkerEnd.{WorkerEnd}
+use Rattle.copy_plan.specs.declared.stop.Stop.TheVariants as stop
 use Rattle.flow_merge.specs.Merged.{Drawn, SinkFilled, HoldsMerged, IsMergeStop, Merged, MergesAll, NoneHurt, ends_of}
-use Rattle.waitq_alone.specs.Drill.{number_line}
-use Rattle.waitq_alone.specs.declared.fault.Fault.{Fault}
+use Rattle.waitq_alone.specs.{Drill.number_line, declared.fault.Fault.Fault}
 use Rattle.waitq_alone.specs.declared.fault.Fault.TheVariants as fault
 use Rattle.waitq_copy.specs.Copying.{Concludes, HasFile, IsOpenFault, IsStartFault, IsFileStored, NotBegun, Outside}
 use Rattle.waitq_copy.specs.Copying.{RunCauses, fault_after}

@@ -1,8 +1,7 @@
 //! What is told of a merge at its end.
 
 ghost use Rattle.std.specs.Prelude.{◌≡◌, ◌≤◌, IsErrOf};
-ghost use Rattle.edge_io.specs.Faults.{HasRisen};
-ghost use Rattle.edge_io.specs.Text.{WritesText};
+ghost use Rattle.edge_io.specs.{Faults.HasRisen, Text.WritesText};
 ghost use Rattle.waitq_merge.specs.Merging.{merge_text};
 
 use edge_io::{Sink, SinkFault};

@@ -1,8 +1,7 @@
 //! The command `copy`: one file is copied to another by tasks in threads of their own.
 
 ghost use Rattle.std.specs.Prelude.{◌≡◌, ◌<◌, ◌≤◌, ◌-◌, length, IfOk, IfErr, IsErrOf, OnErr, OnOk};
-ghost use Rattle.edge_io.specs.Faults.{HasRisen};
-ghost use Rattle.edge_io.specs.Folders.{HasBytes, HoldsNothing};
+ghost use Rattle.edge_io.specs.{Faults.HasRisen, Folders.HasBytes, Folders.HoldsNothing};
 ghost use Rattle.wait_model.specs.declared.layout.TheConstants.{TASKS};
 ghost use Rattle.wait_rule.specs.Says.{IsClean, newcomer};
 ghost use Rattle.copy_plan.specs.declared.TheConstants.{SIGNALS};

@@ -5,8 +5,7 @@ ghost use Rattle.std.specs.Prelude.{IfSome, IsErrOf, OnOk, IsTrue, IsFalse, None
 ghost use Rattle.edge_io.specs.Faults.{HasRisen, HasStayed};
 ghost use Rattle.wait_model.specs.declared.layout.TheConstants.{TASKS};
 ghost use Rattle.wait_rule.specs.Says.{IsClean, newcomer};
-ghost use Rattle.copy_plan.specs.declared.TheConstants.{SIGNALS};
-ghost use Rattle.copy_plan.specs.Plans.{fatal_of};
+ghost use Rattle.copy_plan.specs.{declared.TheConstants.SIGNALS, Plans.fatal_of};
 ghost use Rattle.waitq_alone.specs.Commands.{Copy, IsFitRequest, Merge, asked_by, command_of, may_end_with, reads_input};
 ghost use Rattle.waitq_alone.specs.Commands.{takes_files, verdict_at};
 ghost use Rattle.waitq_copy.specs.Copying.{outside};

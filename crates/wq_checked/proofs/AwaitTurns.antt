@@ -3,24 +3,18 @@ use Rattle.std.proofs.Common.{◌∙◌, refl}
 use Rattle.std.specs.Prelude.{◌≡◌, Bool, true}
 use Rattle.wait_rule.specs.Known.{Known}
 use Rattle.wait_class.specs.declared.stages.Turn.TheVariants as turn
-use Rattle.completion_cell.specs.AwaitLeaves.{await_exits, await_until}
-use Rattle.completion_cell.specs.Awaits.{AwaitTurn, await_table}
-use Rattle.completion_cell.specs.declared.awaits.AwaitOutcome.{AwaitOutcome}
+use Rattle.completion_cell.specs.{AwaitLeaves.await_exits, AwaitLeaves.await_until, Awaits.AwaitTurn}
+use Rattle.completion_cell.specs.{Awaits.await_table, declared.awaits.AwaitOutcome.AwaitOutcome}
 use Rattle.completion_cell.specs.declared.awaits.AwaitStage.TheVariants as stage
 use Rattle.completion_cell.proofs.AwaitLaws.{await_lawful}
 use Rattle.completion_cell.proofs.AwaitLeaving.{await_may_leave, leaves_await, left_asked, left_carried, left_idle}
 use Rattle.completion_cell.proofs.AwaitLeaving.{left_off, left_up}
-use Rattle.wq_checked.specs.Kept.{IsReadyWith, but_kept}
-use Rattle.wq_checked.specs.Stages.{AwaitRun}
-use Rattle.wq_checked.specs.Calls.{AwaitCame, CameFrom}
-use Rattle.wq_checked.specs.Advancing.{await_kind}
-use Rattle.wq_checked.specs.Kinds.{IsLawfulKind}
-use Rattle.wq_checked.specs.declared.calls.Running.{Running}
-use Rattle.wq_checked.specs.declared.calls.Running.TheVariants as running
+use Rattle.wq_checked.specs.{Kept.IsReadyWith, Kept.but_kept, Stages.AwaitRun, Calls.AwaitCame, Calls.CameFrom}
+use Rattle.wq_checked.specs.{Advancing.await_kind, Kinds.IsLawfulKind, declared.calls.Running.Running}
 use Rattle.wq_checked.specs.declared.kept_bits.KeptBits.{KeptBits}
+use Rattle.wq_checked.specs.declared.calls.Running.TheVariants as running
+use Rattle.wq_checked.proofs.{Readiness.ready_masks, WayTurns.come_stayed}
 use Rattle.wq_checked.proofs.KindTurns.{Comes, bare_origin, lawful_kind}
-use Rattle.wq_checked.proofs.Readiness.{ready_masks}
-use Rattle.wq_checked.proofs.WayTurns.{come_stayed}
 
 -- a wait that is over leaves a ready task
 await_ready : (ks : KeptBits) (may : Bool) (start new : Known) (f q : AwaitRun) (o : AwaitOutcome) → IsReadyWith ks start

@@ -1,42 +1,32 @@
 -- A wait that begins: it is under way at its first stage, and nothing of its task has changed.
 use Rattle.std.specs.Prelude.{◌≡◌, Bool, None, true, false}
-use Rattle.wait_model.specs.declared.tasks.How.{How}
-use Rattle.wait_model.specs.declared.watches.Watch.{Watch}
-use Rattle.wait_rule.specs.Known.{Known}
-use Rattle.wait_rule.specs.Says.{told_of}
+use Rattle.wait_model.specs.{declared.tasks.How.How, declared.watches.Watch.Watch}
+use Rattle.wait_rule.specs.{Known.Known, Says.told_of}
 use Rattle.wait_event.specs.Waits as events
 use Rattle.wait_event.specs.declared.waits.WaitStage.TheVariants as event_stage
 use Rattle.wait_event.specs.WaitLeaves.{wait_exits}
-use Rattle.wait_event.proofs.WaitLaws.{wait_lawful}
-use Rattle.wait_event.proofs.WaitLeaving.{wait_may_leave}
+use Rattle.wait_event.proofs.{WaitLaws.wait_lawful, WaitLeaving.wait_may_leave}
 use Rattle.wait_class.specs.declared.stages.Turn.TheVariants as turn
 use Rattle.wait_class.specs.Tables.{IsAt}
 use Rattle.wait_class.proofs.Framing.{framed_lawful}
 use Rattle.bit_wait.specs.BitTables as bits
-use Rattle.bit_wait.specs.BitLeaves.{bit_exits}
-use Rattle.bit_wait.proofs.BitLaws.{bit_lawful}
-use Rattle.bit_wait.proofs.BitLeaving.{bit_may_leave}
-use Rattle.bit_wait.specs.LockTables as locks
-use Rattle.bit_wait.specs.LockLeaves.{lock_exits}
-use Rattle.bit_wait.proofs.LockLaws.{lock_lawful}
+use Rattle.bit_wait.specs.{BitLeaves.bit_exits, LockLeaves.lock_exits}
+use Rattle.bit_wait.proofs.{BitLaws.bit_lawful, BitLeaving.bit_may_leave, LockLaws.lock_lawful}
 use Rattle.bit_wait.proofs.LockLeaving.{lock_may_leave}
+use Rattle.bit_wait.specs.LockTables as locks
 use Rattle.completion_cell.specs.Awaits as awaits
 use Rattle.completion_cell.specs.declared.awaits.AwaitStage.TheVariants as await_stage
 use Rattle.completion_cell.specs.AwaitLeaves.{await_exits}
-use Rattle.completion_cell.proofs.AwaitLaws.{await_lawful}
-use Rattle.completion_cell.proofs.AwaitLeaving.{await_may_leave}
+use Rattle.completion_cell.proofs.{AwaitLaws.await_lawful, AwaitLeaving.await_may_leave}
 use Rattle.page_lock.specs.PageTables as pages
 use Rattle.page_lock.specs.declared.waits.PageStage.TheVariants as page_stage
 use Rattle.page_lock.specs.PageLeaves.{page_exits}
-use Rattle.page_lock.proofs.PageLaws.{page_lawful}
-use Rattle.page_lock.proofs.PageLeaving.{page_may_leave}
+use Rattle.page_lock.proofs.{PageLaws.page_lawful, PageLeaving.page_may_leave}
 use Rattle.wq_checked.proofs.WayTurns.{come_none}
+use Rattle.wq_checked.specs.{Kept.IsReadyWith, declared.calls.Running.Running, declared.kept_bits.KeptBits.KeptBits}
 use Rattle.wq_checked.specs.Stages.{AwaitRun, BitRun, LockRun, PageRun, WaitRun, bit_first, lock_first}
 use Rattle.wq_checked.specs.Calls.{Began, CameFrom, IsCallUnderWay, StandsOn}
-use Rattle.wq_checked.specs.Kept.{IsReadyWith}
-use Rattle.wq_checked.specs.declared.calls.Running.{Running}
 use Rattle.wq_checked.specs.declared.calls.Running.TheVariants as running
-use Rattle.wq_checked.specs.declared.kept_bits.KeptBits.{KeptBits}
 
 -- a call that has just begun with this task is under way
 pub under : (ks : KeptBits) (k : Known) (now : Running) → Began ks k now → StandsOn k now → CameFrom true k now k now

@@ -3,27 +3,19 @@ use Rattle.std.proofs.Common.{◌∙◌, refl}
 use Rattle.std.specs.Prelude.{◌≡◌, Bool, true}
 use Rattle.wait_rule.specs.Known.{Known}
 use Rattle.wait_class.specs.declared.stages.Turn.TheVariants as turn
-use Rattle.wait_class.specs.Laws.{IsLawfulCallTable}
-use Rattle.wait_class.specs.Wholes.{HasRested}
+use Rattle.wait_class.specs.{Laws.IsLawfulCallTable, Wholes.HasRested}
 use Rattle.wait_class.proofs.Framing.{framed_lawful}
-use Rattle.bit_wait.specs.BitLeaves.{bit_exits, bit_until_in}
+use Rattle.bit_wait.specs.{BitLeaves.bit_exits, BitLeaves.bit_until_in, declared.waits.BitOutcome.BitOutcome}
 use Rattle.bit_wait.specs.BitTables.{bit_frame, bit_table, is_bit_worn}
-use Rattle.bit_wait.specs.declared.waits.BitOutcome.{BitOutcome}
 use Rattle.bit_wait.proofs.BitLaws.{bit_lawful}
 use Rattle.bit_wait.proofs.BitLeaving.{bit_may_leave, left_asked, left_carried, left_idle, left_up, left_wait}
+use Rattle.wq_checked.specs.{Kept.IsReadyWith, Kept.but_kept, Calls.CameFrom, Advancing.bit_kind, Kinds.IsLawfulKind}
+use Rattle.wq_checked.specs.{declared.calls.Running.Running, declared.kept_bits.KeptBits.KeptBits}
 use Rattle.wq_checked.specs.Stages.{BitRun, BitTurn, HasComeBy, bit_first}
-use Rattle.wq_checked.specs.Kept.{IsReadyWith, but_kept}
-use Rattle.wq_checked.specs.Calls.{CameFrom}
-use Rattle.wq_checked.specs.Advancing.{bit_kind}
-use Rattle.wq_checked.specs.Kinds.{IsLawfulKind}
-use Rattle.wq_checked.specs.declared.calls.Running.{Running}
 use Rattle.wq_checked.specs.declared.calls.Running.TheVariants as running
-use Rattle.wq_checked.specs.declared.kept_bits.KeptBits.{KeptBits}
-use Rattle.wq_checked.proofs.Elsewhere.{bit_low, rest_off}
-use Rattle.wq_checked.proofs.KindTurns.{Comes, bare_origin, lawful_kind}
-use Rattle.wq_checked.proofs.Readiness.{ready_masks}
-use Rattle.wq_checked.proofs.LowWays.{way_off}
+use Rattle.wq_checked.proofs.{Elsewhere.bit_low, Elsewhere.rest_off, Readiness.ready_masks, LowWays.way_off}
 use Rattle.wq_checked.proofs.WayTurns.{come_lands}
+use Rattle.wq_checked.proofs.KindTurns.{Comes, bare_origin, lawful_kind}
 
 abbrev law : IsLawfulCallTable bit_table
 law = framed_lawful bit_frame bit_lawful

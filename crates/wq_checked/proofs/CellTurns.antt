@@ -2,32 +2,24 @@
 use Rattle.std.proofs.Common.{◌∙◌, refl, subst, sym}
 use Rattle.std.specs.Prelude.{ℕ, ◌≡◌, Bool, true, false}
 use Rattle.wait_model.specs.declared.watches.Mode.TheVariants as mode
-use Rattle.wait_model.specs.declared.watches.Watch.{Watch}
+use Rattle.wait_model.specs.{declared.watches.Watch.Watch, Watches.same}
 use Rattle.wait_model.specs.declared.watches.Watch.TheVariants as watch
-use Rattle.wait_model.specs.Watches.{same}
-use Rattle.wait_rule.specs.HandedPermits.{StaysOff}
-use Rattle.wait_rule.specs.Known.{Known}
+use Rattle.wait_rule.specs.{HandedPermits.StaysOff, Known.Known, Stays.Carries}
 use Rattle.wait_rule.specs.Says.{IsFree, IsUp, told_of}
-use Rattle.wait_rule.specs.Stays.{Carries}
-use Rattle.wait_event.specs.Conds.{set_change}
-use Rattle.wait_event.specs.Entries.{hold_change}
-use Rattle.completion_cell.specs.declared.cell_turns.CellCall.{CellCall}
-use Rattle.completion_cell.specs.declared.cell_turns.CellCall.TheVariants as call
-use Rattle.completion_cell.specs.declared.cell_turns.CellRun.{CellRun}
-use Rattle.completion_cell.specs.declared.cell_turns.CellStage.{CellStage}
-use Rattle.completion_cell.specs.declared.cell_turns.CellStage.TheVariants as stage
-use Rattle.completion_cell.specs.declared.cell_turns.CellTurn.{CellTurn}
-use Rattle.completion_cell.specs.declared.cell_turns.CellTurn.TheVariants as turn
+use Rattle.wait_event.specs.{Conds.set_change, Entries.hold_change}
+use Rattle.completion_cell.specs.{declared.cell_turns.CellCall.CellCall, declared.cell_turns.CellRun.CellRun}
+use Rattle.completion_cell.specs.{declared.cell_turns.CellStage.CellStage, declared.cell_turns.CellTurn.CellTurn}
 use Rattle.completion_cell.specs.CellTurns.{HasCellTurned, IsAtCell, IsCellOver}
+use Rattle.completion_cell.specs.declared.cell_turns.CellCall.TheVariants as call
+use Rattle.completion_cell.specs.declared.cell_turns.CellStage.TheVariants as stage
+use Rattle.completion_cell.specs.declared.cell_turns.CellTurn.TheVariants as turn
+use Rattle.wq_checked.specs.{Advancing.cell_left, Advancing.cell_shown, declared.calls.Running.Running}
+use Rattle.wq_checked.specs.declared.kept_bits.KeptBits.{KeptBits}
 use Rattle.wq_checked.specs.Kept.{IsReadyWith, but_kept, keeps_in}
 use Rattle.wq_checked.specs.Calls.{CameFrom, CellCame, IsRunningSound, WentOn}
-use Rattle.wq_checked.specs.Advancing.{cell_left, cell_shown}
-use Rattle.wq_checked.specs.declared.calls.Running.{Running}
 use Rattle.wq_checked.specs.declared.calls.Running.TheVariants as running
-use Rattle.wq_checked.specs.declared.kept_bits.KeptBits.{KeptBits}
+use Rattle.wq_checked.proofs.{Publishing.bits_hold, Publishing.no_bit, WakeTurns.owes_wider}
 use Rattle.wq_checked.proofs.HoldTurns.{HoldComes, IsLawfulHold, lawful_hold}
-use Rattle.wq_checked.proofs.Publishing.{bits_hold, no_bit}
-use Rattle.wq_checked.proofs.WakeTurns.{owes_wider}
 
 -- what is over leaves a ready task: one that sets the completion, and one that does not
 module _ (ks : KeptBits) (start new : Known) (d : ℕ) (r : IsReadyWith ks start) (up : IsUp new) (free : IsFree new)

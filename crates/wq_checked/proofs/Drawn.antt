@@ -1,64 +1,47 @@
 -- A call that tells of a lock has its ticket out.
 use Rattle.std.proofs.Common.{◌≡◌, ◌∙◌, refl, subst, sym, ap}
 use Rattle.std.specs.Prelude.{Bool, true, if◌then◌else◌, Option, Some, None}
-use Rattle.wait_rule.specs.Known.{Known}
-use Rattle.wait_rule.specs.Tickets.{drawn, taken}
-use Rattle.wait_class.specs.Posts.{ticket_out}
-use Rattle.wait_class.specs.Laws.{IsLawfulCallTable, LawOf, LockLaw}
-use Rattle.wait_class.specs.declared.stages.Doing.{Doing}
-use Rattle.wait_class.specs.declared.stages.Doing.TheVariants as doing
-use Rattle.wait_class.specs.declared.stages.Run.{Run}
+use Rattle.wait_rule.specs.{Known.Known, Tickets.drawn, Tickets.taken}
+use Rattle.wait_class.specs.{Posts.ticket_out, declared.stages.Doing.Doing, declared.stages.Run.Run}
 use Rattle.wait_class.specs.declared.stages.Turn.{Turn}
-use Rattle.wait_class.specs.declared.stages.Turn.TheVariants as turn
+use Rattle.wait_class.specs.Laws.{IsLawfulCallTable, LawOf, LockLaw}
 use Rattle.wait_class.specs.Tables.{IsAt, CallTable, Lands, head_in, stage_watch}
+use Rattle.wait_class.specs.declared.stages.Doing.TheVariants as doing
+use Rattle.wait_class.specs.declared.stages.Turn.TheVariants as turn
 use Rattle.wait_class.proofs.Framing.{framed_lawful}
 use Rattle.wait_event.specs.Waits as events
 use Rattle.wait_event.specs.WaitLeaves.{wait_exits}
 use Rattle.wait_event.specs.declared.waits.WaitStage.TheVariants as event_stage
-use Rattle.wait_event.proofs.WaitLaws.{wait_lawful}
-use Rattle.wait_event.proofs.WaitLeaving.{wait_may_leave}
+use Rattle.wait_event.proofs.{WaitLaws.wait_lawful, WaitLeaving.wait_may_leave}
 use Rattle.bit_wait.specs.BitTables as bits
-use Rattle.bit_wait.specs.BitLeaves.{bit_exits}
-use Rattle.bit_wait.proofs.BitLaws.{bit_lawful}
-use Rattle.bit_wait.proofs.BitLeaving.{bit_may_leave}
-use Rattle.bit_wait.specs.LockTables as takes
-use Rattle.bit_wait.specs.LockLeaves.{lock_exits}
-use Rattle.bit_wait.proofs.LockLaws.{lock_lawful}
+use Rattle.bit_wait.specs.{BitLeaves.bit_exits, LockLeaves.lock_exits}
+use Rattle.bit_wait.proofs.{BitLaws.bit_lawful, BitLeaving.bit_may_leave, LockLaws.lock_lawful}
 use Rattle.bit_wait.proofs.LockLeaving.{lock_may_leave}
+use Rattle.bit_wait.specs.LockTables as takes
 use Rattle.page_lock.specs.PageTables as pages
 use Rattle.page_lock.specs.PageLeaves.{page_exits}
 use Rattle.page_lock.specs.declared.waits.PageStage.TheVariants as page_stage
-use Rattle.page_lock.proofs.PageLaws.{page_lawful}
-use Rattle.page_lock.proofs.PageLeaving.{page_may_leave}
+use Rattle.page_lock.proofs.{PageLaws.page_lawful, PageLeaving.page_may_leave}
 use Rattle.completion_cell.specs.Awaits as awaits
-use Rattle.completion_cell.specs.AwaitLeaves.{await_exits}
+use Rattle.completion_cell.specs.{AwaitLeaves.await_exits, declared.cell_turns.CellRun.CellRun}
+use Rattle.completion_cell.specs.declared.cell_turns.CellStage.{CellStage}
 use Rattle.completion_cell.specs.declared.awaits.AwaitStage.TheVariants as await_stage
-use Rattle.completion_cell.proofs.AwaitLaws.{await_lawful}
-use Rattle.completion_cell.proofs.AwaitLeaving.{await_may_leave}
-use Rattle.wq_checked.specs.Stages.{bit_first, lock_first}
+use Rattle.completion_cell.proofs.{AwaitLaws.await_lawful, AwaitLeaving.await_may_leave}
+use Rattle.wq_checked.specs.{Stages.bit_first, Stages.lock_first, Reasons.stopped_reason}
+use Rattle.wq_checked.specs.{declared.kept_bits.KeptBits.KeptBits, declared.calls.Awaited.Awaited}
+use Rattle.wq_checked.specs.{declared.calls.Progress.Progress, declared.calls.Running.Running}
+use Rattle.wq_checked.specs.Calls.{CameFrom, FitsProgress, IsCallUnderWay, IsRunningSound, WentOn, turn_told}
+use Rattle.wq_checked.specs.Locks.{IsDrawn, awaited_in, lock_at, lock_with, refused_with, turn_ticket, wake_ticket}
 use Rattle.wq_checked.proofs.WayTurns.{come_lands}
 use Rattle.completion_cell.specs.CellTurns as cells
-use Rattle.completion_cell.specs.declared.cell_turns.CellRun.{CellRun}
-use Rattle.completion_cell.specs.declared.cell_turns.CellStage.{CellStage}
 use Rattle.completion_cell.specs.declared.cell_turns.CellStage.TheVariants as cell_stage
 use Rattle.swait_queue.specs.SwakeTurns as swakes
-use Rattle.swait_queue.specs.declared.swake_turns.SwakeRun.{SwakeRun}
-use Rattle.swait_queue.specs.declared.swake_turns.SwakeStage.{SwakeStage}
+use Rattle.swait_queue.specs.{declared.swake_turns.SwakeRun.SwakeRun, declared.swake_turns.SwakeStage.SwakeStage}
 use Rattle.swait_queue.specs.declared.swake_turns.SwakeStage.TheVariants as swake_stage
-use Rattle.wq_head.specs.Holds.{HasWaited}
+use Rattle.wq_head.specs.{Holds.HasWaited, declared.wakes.WakeRun.WakeRun, declared.wakes.WakeStage.WakeStage}
 use Rattle.wq_head.specs.Turns as wakes
-use Rattle.wq_head.specs.declared.wakes.WakeRun.{WakeRun}
-use Rattle.wq_head.specs.declared.wakes.WakeStage.{WakeStage}
 use Rattle.wq_head.specs.declared.wakes.WakeStage.TheVariants as wake_stage
-use Rattle.wq_checked.specs.Calls.{CameFrom, FitsProgress, IsCallUnderWay, IsRunningSound, WentOn}
-use Rattle.wq_checked.specs.Calls.{turn_told}
-use Rattle.wq_checked.specs.Locks.{IsDrawn, awaited_in, lock_at, lock_with, refused_with, turn_ticket, wake_ticket}
-use Rattle.wq_checked.specs.Reasons.{stopped_reason}
-use Rattle.wq_checked.specs.declared.kept_bits.KeptBits.{KeptBits}
-use Rattle.wq_checked.specs.declared.calls.Awaited.{Awaited}
-use Rattle.wq_checked.specs.declared.calls.Progress.{Progress}
 use Rattle.wq_checked.specs.declared.calls.Progress.TheVariants as progress
-use Rattle.wq_checked.specs.declared.calls.Running.{Running}
 use Rattle.wq_checked.specs.declared.calls.Running.TheVariants as running
 
 -- the ticket of a lock is out

@@ -1,39 +1,26 @@
 -- Calls about no completion leave no own entry at any.
 use Rattle.std.proofs.Common.{◌∙◌, ap, sym, refl, subst, arith, inl, inr}
 use Rattle.std.specs.Prelude.{ℕ, ◌≡◌, ◌<◌, ◌+◌, ◌*◌, Bool, true, false, None, List, [], ◌∷◌}
+use Rattle.wait_model.specs.{declared.calls.Call.Call, declared.points.Next.Next, declared.queues.Walked.Walked}
+use Rattle.wait_model.specs.{declared.steps.Step.Step, declared.watches.Aim.Aim, declared.watches.Watch.Watch}
+use Rattle.wait_model.specs.Points.{call_watch}
 use Rattle.wait_model.specs.declared.layout.TheConstants.{BIT_WORDS, FIRST_DONE_HEAD, PLAIN_CONDITIONS, WORD_BITS}
-use Rattle.wait_model.specs.declared.calls.Call.{Call}
-use Rattle.wait_model.specs.declared.points.Next.{Next}
+use Rattle.wait_model.specs.Watches.{IsThere, hashed, head_of}
 use Rattle.wait_model.specs.declared.points.Next.TheVariants as next
 use Rattle.wait_model.specs.declared.points.Point.TheVariants as at
 use Rattle.wait_model.specs.declared.points.WalkPoint.TheVariants as walking
-use Rattle.wait_model.specs.declared.queues.Walked.{Walked}
-use Rattle.wait_model.specs.declared.steps.Step.{Step}
 use Rattle.wait_model.specs.declared.steps.Step.TheVariants as step
-use Rattle.wait_model.specs.declared.watches.Aim.{Aim}
-use Rattle.wait_model.specs.declared.watches.Watch.{Watch}
 use Rattle.wait_model.specs.declared.watches.Watch.TheVariants as watch
-use Rattle.wait_model.specs.Points.{call_watch}
-use Rattle.wait_model.specs.Watches.{IsThere, hashed, head_of}
-use Rattle.wait_rule.specs.declared.journal.Item.{Item}
-use Rattle.wait_rule.specs.declared.journal.Item.TheVariants as item
-use Rattle.wait_rule.specs.HandedPermits.{StaysOff}
-use Rattle.wait_rule.specs.Items.{steps_of}
-use Rattle.wait_rule.specs.Known.{Known}
+use Rattle.wait_rule.specs.{declared.journal.Item.Item, HandedPermits.StaysOff, Items.steps_of, Known.Known}
 use Rattle.wait_rule.specs.Says.{added, history_of, told_of}
 use Rattle.wait_rule.specs.Transitions.{AreScansOf, call_program, walk_program}
-use Rattle.wait_rule.proofs.KnownLaws.CalledPermits.{left_on}
-use Rattle.wait_rule.proofs.KnownLaws.HandedSteps.{AddsLow, AllAddLow}
-use Rattle.wait_rule.proofs.KnownLaws.OtherCalls.{others_stay_off}
-use Rattle.wait_rule.proofs.KnownLaws.TaskHistories.{history_after}
-use Rattle.wait_rule.proofs.TableSteps.ItemLists.{steps_append}
-use Rattle.wait_class.specs.Posts.{Runs}
-use Rattle.wait_event.specs.Waits.{IsRunningWait}
-use Rattle.wait_event.specs.WaitPlans.{IsWaitFor}
-use Rattle.wait_event.specs.declared.waits.WaitCall.{WaitCall}
-use Rattle.wait_class.specs.Wholes.{HasRested}
-use Rattle.wq_head.specs.Scanned.{HasScanned}
-use Rattle.wq_head.specs.Turns.{IsWakeOver}
+use Rattle.wait_rule.specs.declared.journal.Item.TheVariants as item
+use Rattle.wait_rule.proofs.{KnownLaws.CalledPermits.left_on, KnownLaws.HandedSteps.AddsLow}
+use Rattle.wait_rule.proofs.{KnownLaws.HandedSteps.AllAddLow, KnownLaws.OtherCalls.others_stay_off}
+use Rattle.wait_rule.proofs.{KnownLaws.TaskHistories.history_after, TableSteps.ItemLists.steps_append}
+use Rattle.wait_class.specs.{Posts.Runs, Wholes.HasRested}
+use Rattle.wait_event.specs.{Waits.IsRunningWait, WaitPlans.IsWaitFor, declared.waits.WaitCall.WaitCall}
+use Rattle.wq_head.specs.{Scanned.HasScanned, Turns.IsWakeOver}
 
 -- the heads of conditions, bits and variables
 pub plain_low : (c : ℕ) → c < PLAIN_CONDITIONS → head_of (watch.Plain c) < FIRST_DONE_HEAD

@@ -7,28 +7,20 @@ use Rattle.wait_rule.specs.Known.{Known}
 use Rattle.wait_class.specs.declared.stages.Turn.TheVariants as turn
 use Rattle.wait_class.specs.Tables.{Plan}
 use Rattle.wait_leave.proofs.Ways.{way_plan}
-use Rattle.wait_event.specs.declared.wait_events.WaitEnd.{WaitEnd}
-use Rattle.wait_event.specs.declared.wait_leaves.WaitUntil.{WaitUntil}
-use Rattle.wait_event.specs.declared.waits.WaitCall.{WaitCall}
+use Rattle.wait_event.specs.{declared.wait_events.WaitEnd.WaitEnd, declared.wait_leaves.WaitUntil.WaitUntil}
+use Rattle.wait_event.specs.{declared.waits.WaitCall.WaitCall, declared.waits.WaitOutcome.WaitOutcome}
+use Rattle.wait_event.specs.{WaitLeaves.wait_exits, WaitLeaves.wait_until_in, Waits.IsRunningWait, Waits.wait_table}
 use Rattle.wait_event.specs.declared.waits.WaitStage.TheVariants as stage
-use Rattle.wait_event.specs.declared.waits.WaitOutcome.{WaitOutcome}
-use Rattle.wait_event.specs.WaitLeaves.{wait_exits, wait_until_in}
-use Rattle.wait_event.specs.Waits.{IsRunningWait, wait_table}
 use Rattle.wait_event.proofs.WaitLaws.{wait_lawful}
 use Rattle.wait_event.proofs.WaitLeaving.{ends_seen, ends_until, left_carried, left_idle, left_up, wait_may_leave}
-use Rattle.wq_checked.specs.Kept.{IsReadyWith, but_kept}
+use Rattle.wq_checked.specs.{Kept.IsReadyWith, Kept.but_kept, Advancing.event_kind, Kinds.IsLawfulKind}
+use Rattle.wq_checked.specs.{declared.calls.Running.Running, declared.kept_bits.KeptBits.KeptBits}
 use Rattle.wq_checked.specs.Stages.{HasComeBy, StandsBy, WaitRun, WaitTurn}
 use Rattle.wq_checked.specs.Calls.{CameFrom, EventCame, EventEnded, event_answer}
-use Rattle.wq_checked.specs.Advancing.{event_kind}
-use Rattle.wq_checked.specs.Kinds.{IsLawfulKind}
-use Rattle.wq_checked.specs.declared.calls.Running.{Running}
 use Rattle.wq_checked.specs.declared.calls.Running.TheVariants as running
+use Rattle.wq_checked.proofs.{Readiness.ready_masks, Elsewhere.event_low, WayTurns.come_lands, WayTurns.come_stayed}
 use Rattle.wq_checked.proofs.KindTurns.{Comes, lawful_kind, stands_fit}
-use Rattle.wq_checked.proofs.Readiness.{ready_masks}
-use Rattle.wq_checked.specs.declared.kept_bits.KeptBits.{KeptBits}
-use Rattle.wq_checked.proofs.Elsewhere.{event_low}
 use Rattle.wq_checked.proofs.LowWays.{QueuesLow, low_back, way_off}
-use Rattle.wq_checked.proofs.WayTurns.{come_lands, come_stayed}
 
 -- its heads are none of completions, and were none where it began
 queues_low : (r : WaitCall) → IsRunningWait r → QueuesLow (wait_table.plan_of r)

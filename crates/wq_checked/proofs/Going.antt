@@ -3,15 +3,11 @@ use Rattle.std.proofs.Common.{sym, subst}
 use Rattle.std.specs.Prelude.{ℕ, ◌≡◌, ◌||◌, Bool, Option, Some, None}
 use Rattle.wait_model.specs.declared.watches.Watch.{Watch}
 use Rattle.wait_model.specs.declared.watches.Watch.TheVariants as watch
-use Rattle.wait_rule.specs.Bits.{taken_bits}
-use Rattle.wait_rule.specs.Known.{Known}
-use Rattle.wq_checked.specs.Calls.{CameFrom, FitsProgress, WentOn}
-use Rattle.wq_checked.specs.Kept.{keeps_in}
-use Rattle.wq_checked.specs.Locks.{refused_with}
-use Rattle.wq_checked.specs.declared.calls.Awaited.{Awaited}
-use Rattle.wq_checked.specs.declared.calls.Progress.{Progress}
-use Rattle.wq_checked.specs.declared.calls.Running.{Running}
+use Rattle.wait_rule.specs.{Bits.taken_bits, Known.Known}
+use Rattle.wq_checked.specs.{Kept.keeps_in, Locks.refused_with, declared.calls.Awaited.Awaited}
+use Rattle.wq_checked.specs.{declared.calls.Progress.Progress, declared.calls.Running.Running}
 use Rattle.wq_checked.specs.declared.kept_bits.KeptBits.{KeptBits}
+use Rattle.wq_checked.specs.Calls.{CameFrom, FitsProgress, WentOn}
 
 pub went_as : (may : Bool) (start : Known) (first : Running) (new : Known) (r s : Running) (p u : Progress) → r ≡ s → p ≡ u
     → WentOn may start first new s u → WentOn may start first new r p

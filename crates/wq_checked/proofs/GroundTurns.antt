@@ -1,10 +1,8 @@
 -- A stretch of a wait that goes straight by its program: it has come on from where it began.
 use Rattle.wait_rule.specs.Known.{Known}
-use Rattle.wait_class.specs.declared.stages.Run.{Run}
-use Rattle.wait_class.specs.declared.stages.Turn.{Turn}
+use Rattle.wait_class.specs.{declared.stages.Run.Run, declared.stages.Turn.Turn, Laws.IsLawfulCallTable}
+use Rattle.wait_class.specs.{Tables.Advances, Tables.CallTable}
 use Rattle.wait_class.specs.declared.stages.Turn.TheVariants as turn
-use Rattle.wait_class.specs.Laws.{IsLawfulCallTable}
-use Rattle.wait_class.specs.Tables.{Advances, CallTable}
 use Rattle.wait_class.proofs.Turns.{advances_on}
 use Rattle.wq_checked.specs.Stages.{StandsBy}
 

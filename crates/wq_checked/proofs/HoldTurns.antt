@@ -1,10 +1,9 @@
 -- A stretch of a call that makes one hold at most: it has come on from where it began, or it is over, and its task ready.
 use Rattle.std.specs.Prelude.{Bool, true}
 use Rattle.wait_rule.specs.Known.{Known}
-use Rattle.wq_checked.specs.Calls.{Began, CameFrom, IsCallUnderWay, IsRunningSound, WentOn}
-use Rattle.wq_checked.specs.declared.calls.Progress.{Progress}
-use Rattle.wq_checked.specs.declared.calls.Running.{Running}
+use Rattle.wq_checked.specs.{declared.calls.Progress.Progress, declared.calls.Running.Running}
 use Rattle.wq_checked.specs.declared.kept_bits.KeptBits.{KeptBits}
+use Rattle.wq_checked.specs.Calls.{Began, CameFrom, IsCallUnderWay, IsRunningSound, WentOn}
 
 -- Calls of one kind: how one stands as a call under way, what a turn leaves so and tells, and what the crate beneath says
 -- of where one stands and of its turn. What has come to here, by where it began:

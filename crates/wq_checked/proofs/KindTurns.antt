@@ -2,30 +2,21 @@
 use Rattle.std.proofs.Common.{◌∙◌, ap, refl}
 use Rattle.std.specs.Prelude.{◌≡◌, ◌||◌, Bool, true}
 use Rattle.wait_model.specs.declared.watches.Watch.{Watch}
-use Rattle.wait_rule.specs.Bits.{taken_bits}
-use Rattle.wait_rule.specs.Known.{Known}
-use Rattle.wait_rule.specs.Says.{IsUp}
-use Rattle.wait_class.specs.declared.stages.Run.{Run}
-use Rattle.wait_class.specs.declared.stages.Turn.{Turn}
-use Rattle.wait_class.specs.declared.stages.Turn.TheVariants as turn
-use Rattle.wait_class.specs.Laws.{IsLawfulCallTable}
-use Rattle.wait_class.specs.Tables.{CallTable, Lands, Plan, watch_in}
+use Rattle.wait_rule.specs.{Bits.taken_bits, Known.Known, Says.IsUp}
+use Rattle.wait_class.specs.{declared.stages.Run.Run, declared.stages.Turn.Turn, Laws.IsLawfulCallTable}
 use Rattle.wait_class.specs.Wholes.{HasRested}
-use Rattle.wait_leave.specs.ExitLaws.{AreLawfulExits}
-use Rattle.wait_leave.specs.Leaves.{Exits}
+use Rattle.wait_class.specs.Tables.{CallTable, Lands, Plan, watch_in}
+use Rattle.wait_class.specs.declared.stages.Turn.TheVariants as turn
+use Rattle.wait_leave.specs.{ExitLaws.AreLawfulExits, Leaves.Exits}
 use Rattle.wait_leave.proofs.Ways.{way_lands, way_plan}
+use Rattle.wq_checked.specs.{Kept.IsReadyWith, Kept.keeps_in, Kinds.IsLawfulKind, Kinds.KeepsTaken, Locks.awaited_in}
+use Rattle.wq_checked.specs.{Outs.OutStretch, Outs.WentOut, declared.calls.Progress.Progress}
+use Rattle.wq_checked.specs.{declared.calls.Running.Running, declared.kept_bits.KeptBits.KeptBits}
 use Rattle.wq_checked.specs.Advancing.{WaitKind, left_by, shown_of_wait, took_by, worn_by}
-use Rattle.wq_checked.specs.Calls.{Began, CameFrom, Ended, FitsProgress, IsCallUnderWay, IsRunningSound, StandsOn, WentOn, turn_told}
-use Rattle.wq_checked.specs.Kept.{IsReadyWith, keeps_in}
-use Rattle.wq_checked.specs.Kinds.{IsLawfulKind, KeepsTaken}
-use Rattle.wq_checked.specs.Locks.{awaited_in}
-use Rattle.wq_checked.specs.Outs.{OutStretch, WentOut}
+use Rattle.wq_checked.specs.Calls.{Began, CameFrom, Ended, FitsProgress, IsCallUnderWay, IsRunningSound, StandsOn}
+use Rattle.wq_checked.specs.Calls.{WentOn, turn_told}
 use Rattle.wq_checked.specs.Stages.{HasComeBy, StandsBy, StretchesOn}
-use Rattle.wq_checked.specs.declared.calls.Progress.{Progress}
-use Rattle.wq_checked.specs.declared.calls.Running.{Running}
-use Rattle.wq_checked.specs.declared.kept_bits.KeptBits.{KeptBits}
-use Rattle.wq_checked.proofs.Going.{went_refused}
-use Rattle.wq_checked.proofs.Readiness.{ready_masks}
+use Rattle.wq_checked.proofs.{Going.went_refused, Readiness.ready_masks}
 use Rattle.wq_checked.proofs.WayTurns.{come_lands, come_on, come_stayed, for_all}
 
 -- A call of this kind that began with this task: its wait, and that the task was ready; what has come from there, also

@@ -1,37 +1,27 @@
 -- A stretch of a wait to take a bit: the call has come on from where it began, or it is over, and its task ready.
 use Rattle.std.proofs.Common.{◌∙◌, refl, subst}
 use Rattle.std.specs.Prelude.{◌≡◌, ◌||◌, Bool, true, false}
-use Rattle.wait_model.specs.declared.watches.Watch.{Watch}
+use Rattle.wait_model.specs.{declared.watches.Watch.Watch, Tasks.state_mask}
 use Rattle.wait_model.specs.declared.watches.Watch.TheVariants as watch
-use Rattle.wait_model.specs.Tasks.{state_mask}
-use Rattle.wait_rule.specs.Bits.{taken_bits}
-use Rattle.wait_rule.specs.Known.{Known}
+use Rattle.wait_rule.specs.{Bits.taken_bits, Known.Known}
 use Rattle.wait_class.specs.declared.stages.Turn.TheVariants as turn
-use Rattle.wait_class.specs.Laws.{IsLawfulCallTable}
-use Rattle.wait_class.specs.Wholes.{HasRested}
-use Rattle.wait_class.proofs.Framing.{framed_lawful}
-use Rattle.wait_class.proofs.Wholes.{rests}
-use Rattle.bit_wait.specs.LockLeaves.{failed_in, lock_exits, takes_until, until_in}
-use Rattle.bit_wait.specs.LockStays.{TakesBit}
-use Rattle.bit_wait.specs.LockTables.{LockTurn, is_lock_over, lock_frame, lock_table}
-use Rattle.bit_wait.specs.declared.lock_runs.LockBit.{LockBit}
+use Rattle.wait_class.specs.{Laws.IsLawfulCallTable, Wholes.HasRested}
+use Rattle.wait_class.proofs.{Framing.framed_lawful, Wholes.rests}
+use Rattle.bit_wait.specs.{LockStays.TakesBit, declared.lock_runs.LockBit.LockBit}
 use Rattle.bit_wait.specs.declared.lock_runs.LockOutcome.{LockOutcome}
+use Rattle.bit_wait.specs.LockLeaves.{failed_in, lock_exits, takes_until, until_in}
+use Rattle.bit_wait.specs.LockTables.{LockTurn, is_lock_over, lock_frame, lock_table}
 use Rattle.bit_wait.specs.declared.lock_runs.LockOutcome.TheVariants as outcome
 use Rattle.bit_wait.proofs.LockLeaving.{left_asked, left_idle, left_lock, left_takes, left_up, lock_may_leave}
 use Rattle.bit_wait.proofs.LockLaws.{lock_lawful}
-use Rattle.wq_checked.specs.Stages.{HasComeBy, LockRun, lock_first}
-use Rattle.wq_checked.proofs.LowWays.{way_off}
-use Rattle.wq_checked.proofs.WayTurns.{come_lands}
-use Rattle.wq_checked.specs.Kept.{IsReadyWith, but_kept, keeps_in}
-use Rattle.wq_checked.specs.Calls.{CameFrom}
-use Rattle.wq_checked.specs.Advancing.{lock_kind}
-use Rattle.wq_checked.specs.Kinds.{IsLawfulKind}
-use Rattle.wq_checked.specs.declared.calls.Running.{Running}
-use Rattle.wq_checked.specs.declared.calls.Running.TheVariants as running
-use Rattle.wq_checked.proofs.KindTurns.{Comes, bare_origin, lawful_kind}
+use Rattle.wq_checked.specs.{Calls.CameFrom, Advancing.lock_kind, Kinds.IsLawfulKind, declared.calls.Running.Running}
 use Rattle.wq_checked.specs.declared.kept_bits.KeptBits.{KeptBits}
-use Rattle.wq_checked.proofs.Elsewhere.{bit_low, rest_off}
+use Rattle.wq_checked.specs.Stages.{HasComeBy, LockRun, lock_first}
+use Rattle.wq_checked.specs.Kept.{IsReadyWith, but_kept, keeps_in}
+use Rattle.wq_checked.proofs.{LowWays.way_off, WayTurns.come_lands, Elsewhere.bit_low, Elsewhere.rest_off}
+use Rattle.wq_checked.proofs.KindTurns.{Comes, bare_origin, lawful_kind}
 use Rattle.wq_checked.proofs.Readiness.{keeps_more, owes_more_bits, ready_out}
+use Rattle.wq_checked.specs.declared.calls.Running.TheVariants as running
 
 abbrev law : IsLawfulCallTable lock_table
 law = framed_lawful lock_frame lock_lawful

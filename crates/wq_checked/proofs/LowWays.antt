@@ -1,30 +1,20 @@
 -- Waits about no completion, left or not, leave no own entry at any.
 use Rattle.std.proofs.Common.{◌∙◌, ap, append-nil, append_assoc, subst, sym}
 use Rattle.std.specs.Prelude.{ℕ, ◌≡◌, ◌<◌, Bool, true, false, None, List, [], ◌∷◌, ◌++◌}
-use Rattle.wait_model.specs.declared.calls.Event.{Event}
+use Rattle.wait_model.specs.{declared.calls.Event.Event, declared.layout.TheConstants.FIRST_DONE_HEAD}
+use Rattle.wait_model.specs.{declared.points.Point.Point, declared.steps.Step.Step, declared.watches.Entry.Entry}
+use Rattle.wait_model.specs.{declared.watches.Watch.Watch, Watches.bare, Watches.head_of}
 use Rattle.wait_model.specs.declared.calls.Event.TheVariants as event
-use Rattle.wait_model.specs.declared.layout.TheConstants.{FIRST_DONE_HEAD}
-use Rattle.wait_model.specs.declared.points.Point.{Point}
-use Rattle.wait_model.specs.declared.steps.Step.{Step}
 use Rattle.wait_model.specs.declared.steps.Step.TheVariants as step
-use Rattle.wait_model.specs.declared.watches.Entry.{Entry}
-use Rattle.wait_model.specs.declared.watches.Watch.{Watch}
 use Rattle.wait_model.specs.declared.watches.Watch.TheVariants as watch
-use Rattle.wait_model.specs.Watches.{bare, head_of}
-use Rattle.wait_rule.specs.HandedPermits.{StaysOff}
-use Rattle.wait_rule.specs.Known.{Known}
-use Rattle.wait_rule.specs.Says.{history_of, told_of}
-use Rattle.wait_rule.specs.Transitions.{IsStepFor}
-use Rattle.wait_rule.proofs.KnownLaws.CalledPermits.{left_on}
-use Rattle.wait_rule.proofs.KnownLaws.HandedSteps.{AddsLow, AllAddLow}
+use Rattle.wait_rule.specs.{HandedPermits.StaysOff, Known.Known, Says.history_of, Says.told_of, Transitions.IsStepFor}
+use Rattle.wait_rule.proofs.{KnownLaws.CalledPermits.left_on, KnownLaws.HandedSteps.AddsLow}
+use Rattle.wait_rule.proofs.{KnownLaws.HandedSteps.AllAddLow, KnownLaws.TaskHistories.history_after}
 use Rattle.wait_rule.proofs.KnownLaws.OtherCalls.{Adding, AddsBy, AllAddBy, goes_adding}
-use Rattle.wait_rule.proofs.KnownLaws.TaskHistories.{history_after}
-use Rattle.wait_class.specs.declared.stages.Run.{Run}
-use Rattle.wait_class.specs.declared.stages.Turn.{Turn}
-use Rattle.wait_class.specs.declared.stages.Turn.TheVariants as turn
-use Rattle.wait_class.specs.Laws.{IsLawfulCallTable}
-use Rattle.wait_class.specs.Tables.{CallTable, Plan, plan_program}
+use Rattle.wait_class.specs.{declared.stages.Run.Run, declared.stages.Turn.Turn, Laws.IsLawfulCallTable}
 use Rattle.wait_class.specs.Wholes.{HasRested}
+use Rattle.wait_class.specs.Tables.{CallTable, Plan, plan_program}
+use Rattle.wait_class.specs.declared.stages.Turn.TheVariants as turn
 use Rattle.wait_leave.specs.ExitLaws.{AreLawfulExits}
 use Rattle.wait_leave.specs.Leaves.{Exits, GoesOut, asked_run, with_asked}
 use Rattle.wait_leave.specs.OnTheWay.{OnTheWay, left_at, straight}

@@ -6,16 +6,12 @@ use Rattle.std.proofs.lemmas.Bool.{ltb-false}
 use Rattle.std.proofs.lemmas.Bool.Decides.{eqb_tells}
 use Rattle.std.proofs.lemmas.List.{get_or-replicate, get_or_past, length-replicate}
 use Rattle.std.specs.Prelude.{ℕ, ◌≡◌, ◌<◌, ◌≤◌, ◌+◌, ◌-◌, ◌^◌, ◌%◌, ◌||◌, ◌&&◌, ◌==◌, not, nat_lt, if◌then◌else◌, Bool, true, false, List, length, replicate, set, slice_index}
-use Rattle.wait_model.specs.declared.layout.TheConstants.{WORD_BITS}
-use Rattle.wait_model.specs.declared.watches.Watch.{Watch}
+use Rattle.wait_model.specs.{declared.layout.TheConstants.WORD_BITS, declared.watches.Watch.Watch, Functions.put}
+use Rattle.wait_model.specs.{Watches.same, Words.bit_at, Words.bit_word}
 use Rattle.wait_model.specs.declared.watches.Watch.TheVariants as watch
-use Rattle.wait_model.specs.Functions.{put}
-use Rattle.wait_model.specs.Watches.{same}
-use Rattle.wait_model.specs.Words.{bit_at, bit_word}
 use Rattle.wait_model.proofs.Functions.{put_at}
 use Rattle.wait_model.proofs.WordLaws.BitWords.{bit_read, bit_word_less, bit_word_more, bit_word_small, same_bits}
-use Rattle.wq_checked.specs.Kept.{keeps_in}
-use Rattle.wq_checked.specs.declared.kept_bits.KeptBits.{KeptBits}
+use Rattle.wq_checked.specs.{Kept.keeps_in, declared.kept_bits.KeptBits.KeptBits}
 
 -- a word by its bits
 word_is : (w : ℕ) → w < 2 ^ 64 → w ≡ bit_word WORD_BITS (bit_at w)

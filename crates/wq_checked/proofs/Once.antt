@@ -3,30 +3,22 @@ use Rattle.std.proofs.Common.{refl, sym, subst}
 use Rattle.std.specs.Prelude.{ℕ, ◌≡◌, ◌<◌, ◌||◌, Bool, true, false, Option}
 use Rattle.wait_model.specs.declared.calls.Answer.TheVariants as answer
 use Rattle.wait_model.specs.declared.calls.Call.TheVariants as calls
-use Rattle.wait_model.specs.declared.layout.TheConstants.{PLAIN_CONDITIONS}
+use Rattle.wait_model.specs.{declared.layout.TheConstants.PLAIN_CONDITIONS, declared.watches.Watch.Watch}
 use Rattle.wait_model.specs.declared.points.BitPoint.TheVariants as biting
 use Rattle.wait_model.specs.declared.points.Next.TheVariants as next
 use Rattle.wait_model.specs.declared.points.Point.TheVariants as at
-use Rattle.wait_model.specs.declared.watches.Watch.{Watch}
 use Rattle.wait_model.specs.declared.watches.Watch.TheVariants as watch
 use Rattle.wait_model.specs.declared.steps.Step.TheVariants as step
-use Rattle.wait_rule.specs.declared.journal.Item.{Item}
+use Rattle.wait_rule.specs.{declared.journal.Item.Item, Aside.IsAsideItem, Bits.SetsBit, Bits.taken_bits}
+use Rattle.wait_rule.specs.{HandedPermits.StaysOff, Known.Known, Says.added, Stays.Carries, Stays.unchanged}
 use Rattle.wait_rule.specs.declared.journal.Item.TheVariants as item
-use Rattle.wait_rule.specs.Aside.{IsAsideItem}
-use Rattle.wait_rule.specs.Bits.{SetsBit, taken_bits}
-use Rattle.wait_rule.specs.HandedPermits.{StaysOff}
-use Rattle.wait_rule.specs.Known.{Known}
-use Rattle.wait_rule.specs.Says.{added}
-use Rattle.wait_rule.specs.Stays.{Carries, unchanged}
 use Rattle.wait_rule.proofs.KnownLaws.AsideCalls.{items_stay_off}
 use Rattle.wait_event.specs.Conds.{HasTakenCond}
 use Rattle.bit_wait.specs.Tries.{HasTriedBit, tried_answer}
-use Rattle.wq_checked.specs.Kept.{IsReadyWith, keeps_in}
-use Rattle.wq_checked.specs.Begins.{Does}
-use Rattle.wq_checked.specs.Signals.{Woke, who_if}
+use Rattle.wq_checked.specs.{Kept.IsReadyWith, Kept.keeps_in, Begins.Does, Signals.Woke, Signals.who_if}
+use Rattle.wq_checked.specs.declared.kept_bits.KeptBits.{KeptBits}
 use Rattle.wq_checked.specs.declared.calls.Answer.TheVariants as told
 use Rattle.wq_checked.specs.declared.calls.Call.TheVariants as call
-use Rattle.wq_checked.specs.declared.kept_bits.KeptBits.{KeptBits}
 use Rattle.wq_checked.proofs.Elsewhere.{bit_low, calls_off, plain_low}
 use Rattle.wq_checked.proofs.Readiness.{ready_carried, ready_sets}
 

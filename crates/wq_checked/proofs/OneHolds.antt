@@ -6,26 +6,18 @@ use Rattle.wait_model.specs.declared.steps.Step.TheVariants as step
 use Rattle.wait_model.specs.declared.watches.Mode.TheVariants as mode
 use Rattle.wait_model.specs.declared.watches.Watch.TheVariants as watch
 use Rattle.wait_rule.specs.declared.journal.Item.TheVariants as item
-use Rattle.wait_rule.specs.Known.{Known}
-use Rattle.wait_rule.specs.Queues.{IsIdle}
-use Rattle.wait_rule.specs.Says.{IsUp, added}
-use Rattle.wait_rule.specs.Stays.{Carries, publish_change}
+use Rattle.wait_rule.specs.{Known.Known, Queues.IsIdle, Says.IsUp, Says.added, Stays.Carries, Stays.publish_change}
 use Rattle.wait_event.proofs.Setting.{set_idle}
-use Rattle.swait_queue.specs.SimpleWaits.{IsSimpleCond}
+use Rattle.swait_queue.specs.{SimpleWaits.IsSimpleCond, declared.swake_turns.SwakeRun.SwakeRun}
 use Rattle.swait_queue.specs.SwakeTurns as swakes
-use Rattle.swait_queue.specs.declared.swake_turns.SwakeRun.{SwakeRun}
 use Rattle.swait_queue.specs.declared.swake_turns.SwakeStage.TheVariants as swake_stage
 use Rattle.completion_cell.specs.CellTurns as cells
-use Rattle.completion_cell.specs.declared.cell_turns.CellCall.{CellCall}
-use Rattle.completion_cell.specs.declared.cell_turns.CellRun.{CellRun}
+use Rattle.completion_cell.specs.{declared.cell_turns.CellCall.CellCall, declared.cell_turns.CellRun.CellRun}
 use Rattle.completion_cell.specs.declared.cell_turns.CellStage.TheVariants as cell_stage
+use Rattle.wq_checked.specs.{Kept.IsReadyWith, Kept.but_kept, declared.kept_bits.KeptBits.KeptBits}
 use Rattle.wq_checked.specs.Calls.{CameFrom, IsSwaking, IsCallUnderWay}
-use Rattle.wq_checked.specs.Kept.{IsReadyWith, but_kept}
 use Rattle.wq_checked.specs.declared.calls.Running.TheVariants as running
-use Rattle.wq_checked.specs.declared.kept_bits.KeptBits.{KeptBits}
-use Rattle.wq_checked.proofs.Begun.{under}
-use Rattle.wq_checked.proofs.Elsewhere.{step_off}
-use Rattle.wq_checked.proofs.Publishing.{set_keeps, set_owes}
+use Rattle.wq_checked.proofs.{Begun.under, Elsewhere.step_off, Publishing.set_keeps, Publishing.set_owes}
 use Rattle.wq_checked.proofs.WakeTurns.{owes_wider}
 
 -- a call about a completion

@@ -2,14 +2,10 @@
 use Rattle.std.proofs.Common.{subst, sym}
 use Rattle.std.specs.Prelude.{◌≡◌}
 use Rattle.wait_rule.specs.Known.{Known}
-use Rattle.wait_class.specs.declared.stages.Run.{Run}
-use Rattle.wait_class.specs.declared.stages.Turn.{Turn}
-use Rattle.wait_class.specs.declared.stages.Turn.TheVariants as turn
-use Rattle.wait_class.specs.Laws.{IsLawfulCallTable}
+use Rattle.wait_class.specs.{declared.stages.Run.Run, declared.stages.Turn.Turn, Laws.IsLawfulCallTable}
 use Rattle.wait_class.specs.Tables.{CallTable}
-use Rattle.wait_leave.specs.ExitLaws.{AreLawfulExits}
-use Rattle.wait_leave.specs.Leaves.{Exits}
-use Rattle.wait_leave.specs.OnTheWay.{OnTheWay}
+use Rattle.wait_class.specs.declared.stages.Turn.TheVariants as turn
+use Rattle.wait_leave.specs.{ExitLaws.AreLawfulExits, Leaves.Exits, OnTheWay.OnTheWay}
 use Rattle.wait_leave.proofs.Ways.{way_then}
 use Rattle.wq_checked.specs.Outs.{OnFrom}
 

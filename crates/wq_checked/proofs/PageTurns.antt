@@ -3,31 +3,23 @@ use Rattle.std.proofs.Common.{refl, subst}
 use Rattle.std.specs.Prelude.{◌≡◌, ◌||◌, Bool, true, false}
 use Rattle.wait_model.specs.declared.watches.Watch.{Watch}
 use Rattle.wait_model.specs.declared.watches.Watch.TheVariants as watch
-use Rattle.wait_rule.specs.Bits.{taken_bits}
-use Rattle.wait_rule.specs.Known.{Known}
+use Rattle.wait_rule.specs.{Bits.taken_bits, Known.Known}
 use Rattle.wait_class.specs.declared.stages.Turn.TheVariants as turn
-use Rattle.page_lock.specs.PageLeaves.{page_exits, page_failed, page_until, takes_page_until}
-use Rattle.page_lock.specs.PageStays.{TakesPage}
-use Rattle.page_lock.specs.PageTables.{PageTurn, is_page_over, page_table}
-use Rattle.page_lock.specs.declared.waits.LockPage.{LockPage}
+use Rattle.page_lock.specs.{PageStays.TakesPage, declared.waits.LockPage.LockPage}
 use Rattle.page_lock.specs.declared.waits.PageOutcome.{PageOutcome}
+use Rattle.page_lock.specs.PageLeaves.{page_exits, page_failed, page_until, takes_page_until}
+use Rattle.page_lock.specs.PageTables.{PageTurn, is_page_over, page_table}
 use Rattle.page_lock.specs.declared.waits.PageOutcome.TheVariants as outcome
 use Rattle.page_lock.specs.declared.waits.PageStage.TheVariants as stage
 use Rattle.page_lock.proofs.PageLaws.{page_lawful}
 use Rattle.page_lock.proofs.PageLeaving.{leaves_page, left_asked, left_idle, left_takes, left_up, page_may_leave}
-use Rattle.wq_checked.specs.Stages.{HasComeBy, PageRun}
-use Rattle.wq_checked.proofs.LowWays.{way_off}
-use Rattle.wq_checked.proofs.WayTurns.{come_lands, come_stayed}
+use Rattle.wq_checked.specs.{Stages.HasComeBy, Stages.PageRun, Calls.CameFrom, Advancing.page_kind, Kinds.IsLawfulKind}
+use Rattle.wq_checked.specs.{declared.calls.Running.Running, declared.kept_bits.KeptBits.KeptBits}
 use Rattle.wq_checked.specs.Kept.{IsReadyWith, but_kept, keeps_in}
-use Rattle.wq_checked.specs.Calls.{CameFrom}
-use Rattle.wq_checked.specs.Advancing.{page_kind}
-use Rattle.wq_checked.specs.Kinds.{IsLawfulKind}
-use Rattle.wq_checked.specs.declared.calls.Running.{Running}
-use Rattle.wq_checked.specs.declared.calls.Running.TheVariants as running
+use Rattle.wq_checked.proofs.{LowWays.way_off, WayTurns.come_lands, WayTurns.come_stayed, Elsewhere.bit_low}
 use Rattle.wq_checked.proofs.KindTurns.{Comes, bare_origin, lawful_kind}
-use Rattle.wq_checked.specs.declared.kept_bits.KeptBits.{KeptBits}
-use Rattle.wq_checked.proofs.Elsewhere.{bit_low}
 use Rattle.wq_checked.proofs.Readiness.{keeps_more, owes_more_bits, ready_out}
+use Rattle.wq_checked.specs.declared.calls.Running.TheVariants as running
 
 -- whether the page was taken, by how the call ended
 failed_is : (b : Bool) (e : LockPage) → takes_page_until (page_failed b e) ≡ false

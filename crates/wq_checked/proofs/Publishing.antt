@@ -2,37 +2,28 @@
 use Rattle.std.proofs.Common.{◌∙◌, arith, ap, sym, refl, subst}
 use Rattle.std.specs.Prelude.{ℕ, ◌≡◌, ◌||◌, ◌&&◌, not, Bool, true, false}
 use Rattle.wait_model.specs.declared.steps.Step.TheVariants as step
-use Rattle.wait_model.specs.declared.watches.Aim.{Aim}
-use Rattle.wait_model.specs.declared.watches.Mode.{Mode}
-use Rattle.wait_model.specs.declared.watches.Mode.TheVariants as mode
-use Rattle.wait_model.specs.declared.watches.Watch.{Watch}
-use Rattle.wait_model.specs.declared.watches.Watch.TheVariants as watch
+use Rattle.wait_model.specs.{declared.watches.Aim.Aim, declared.watches.Mode.Mode, declared.watches.Watch.Watch}
+use Rattle.wait_model.specs.declared.queues.Walked.{Walked}
 use Rattle.wait_model.specs.Watches.{IsThere, head_of, is_bit, same}
+use Rattle.wait_model.specs.declared.watches.Mode.TheVariants as mode
+use Rattle.wait_model.specs.declared.watches.Watch.TheVariants as watch
 use Rattle.wait_rule.specs.declared.journal.Item.TheVariants as item
-use Rattle.wait_rule.specs.Bits.{ClearsBit}
-use Rattle.wait_rule.specs.LeftEntries.{HasLeftNone}
-use Rattle.wait_rule.specs.Known.{Known}
-use Rattle.wait_rule.specs.Queues.{IsIdle}
+use Rattle.wait_rule.specs.{Bits.ClearsBit, LeftEntries.HasLeftNone, Known.Known, Queues.IsIdle}
 use Rattle.wait_rule.specs.Says.{OwesBut, added, told_of}
 use Rattle.wait_rule.specs.Stays.{Carries, publish_change, unchanged, with_bits, with_wakes}
 use Rattle.wq_head.proofs.HeadLooks.{found_none_over}
 use Rattle.wq_head.specs.Scanned.{HasEndedAt, HasScanned, unmade}
 use Rattle.wq_head.specs.Walks.{IsFull}
 use Rattle.wait_event.proofs.Setting.{set_idle}
+use Rattle.wq_checked.specs.{Begins.LooksBehind, Advancing.Waking, Advancing.WakesAs, Calls.WakesFirst}
+use Rattle.wq_checked.specs.{declared.calls.Call.Call, declared.calls.Running.Running}
+use Rattle.wq_checked.specs.declared.kept_bits.KeptBits.{KeptBits}
 use Rattle.wq_checked.specs.Kept.{IsReadyWith, but_kept, keeps_in}
-use Rattle.wq_checked.specs.Begins.{LooksBehind}
-use Rattle.wq_checked.specs.Advancing.{Waking, WakesAs}
-use Rattle.wq_checked.proofs.Elsewhere.{scan_off, step_off}
-use Rattle.wq_checked.proofs.Readiness.{keeps_less, owes_given}
-use Rattle.wq_checked.proofs.WakeTurns.{first_begins, owes_wider}
-use Rattle.wq_checked.specs.Calls.{WakesFirst}
-use Rattle.wq_checked.specs.declared.calls.Call.{Call}
+use Rattle.wq_checked.proofs.{Elsewhere.scan_off, Elsewhere.step_off, Readiness.keeps_less, Readiness.owes_given}
+use Rattle.wq_checked.proofs.{WakeTurns.first_begins, WakeTurns.owes_wider}
 use Rattle.wq_checked.specs.declared.calls.Answer.TheVariants as answer
 use Rattle.wq_checked.specs.declared.calls.Progress.TheVariants as progress
-use Rattle.wq_checked.specs.declared.calls.Running.{Running}
 use Rattle.wq_checked.specs.declared.calls.Running.TheVariants as running
-use Rattle.wq_checked.specs.declared.kept_bits.KeptBits.{KeptBits}
-use Rattle.wait_model.specs.declared.queues.Walked.{Walked}
 
 pub full_there : (w : Watch) → IsFull w → IsThere w
 full_there (watch.Plain c) f = omega arith

@@ -1,23 +1,19 @@
 -- What a ready task knows, and what keeps it ready: by the bits that it keeps and what it owes.
 use Rattle.std.proofs.Common.{◌∙◌, ap, sym, refl, subst, eqb-true}
 use Rattle.std.specs.Prelude.{ℕ, ◌≡◌, ◌||◌, ◌&&◌, ◌==◌, not, Bool, true, false, None}
-use Rattle.wait_model.specs.declared.watches.Watch.{Watch}
+use Rattle.wait_model.specs.{declared.watches.Watch.Watch, Watches.same}
 use Rattle.wait_model.specs.declared.watches.Watch.TheVariants as watch
-use Rattle.wait_model.specs.Watches.{same}
 use Rattle.wait_model.proofs.Functions.{both_left, both_right}
-use Rattle.wait_rule.specs.Bits.{SetsBit, taken_bits}
-use Rattle.wait_rule.specs.HandedPermits.{StaysOff}
-use Rattle.wait_rule.specs.Known.{Known}
-use Rattle.wait_rule.specs.Queues.{IsAgreedHold, index}
-use Rattle.wait_rule.specs.Says.{AsksNoPage, Obligation, OwesBut, excuses, has_duty, no_excuse, told_of, wake_of, page_asked, end_unclosed}
+use Rattle.wait_rule.specs.{Bits.SetsBit, Bits.taken_bits, HandedPermits.StaysOff, Known.Known, Queues.IsAgreedHold}
+use Rattle.wait_rule.specs.Queues.{index}
+use Rattle.wait_rule.specs.Says.{AsksNoPage, Obligation, OwesBut, excuses, has_duty, no_excuse, told_of, wake_of}
+use Rattle.wait_rule.specs.Says.{page_asked, end_unclosed}
 use Rattle.wait_rule.specs.Stays.{Carries, unchanged, with_bit, with_bits}
 use Rattle.wait_class.specs.Posts.{IsOut}
-use Rattle.wq_checked.specs.Kept.{IsReadyWith, but_kept, keeps_in}
-use Rattle.wq_checked.specs.Calls.{IsRunningSound}
-use Rattle.wq_checked.specs.Reasons.{busy_reason}
-use Rattle.wq_checked.specs.declared.calls.Running.{Running}
-use Rattle.wq_checked.specs.declared.calls.Running.TheVariants as running
+use Rattle.wq_checked.specs.{Calls.IsRunningSound, Reasons.busy_reason, declared.calls.Running.Running}
 use Rattle.wq_checked.specs.declared.kept_bits.KeptBits.{KeptBits}
+use Rattle.wq_checked.specs.Kept.{IsReadyWith, but_kept, keeps_in}
+use Rattle.wq_checked.specs.declared.calls.Running.TheVariants as running
 
 pub or_none : (b : Bool) → (b || false) ≡ b
 or_none true = refl

@@ -1,8 +1,7 @@
 -- What a task owes that stored RUNNING.
 use Rattle.std.proofs.Common.{◌∙◌, ap, sym, subst}
 use Rattle.std.specs.Prelude.{◌&&◌, not, Bool, Option}
-use Rattle.wait_model.specs.declared.watches.Entry.{Entry}
-use Rattle.wait_model.specs.Views.{is_trying_for}
+use Rattle.wait_model.specs.{declared.watches.Entry.Entry, Views.is_trying_for}
 use Rattle.wait_rule.specs.Known.{Known}
 use Rattle.wait_rule.specs.Says.{Excuse, IsOutBut, OwesBut}
 use Rattle.wait_class.proofs.Wholes.{Rested}

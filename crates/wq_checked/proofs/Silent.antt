@@ -2,12 +2,11 @@
 use Rattle.std.proofs.Common.{refl}
 use Rattle.std.specs.Prelude.{◌≡◌, true, false}
 use Rattle.wait_rule.specs.Known.{Known}
+use Rattle.wq_checked.specs.{declared.calls.Call.Call, declared.calls.Running.Running}
+use Rattle.wq_checked.specs.declared.kept_bits.KeptBits.{KeptBits}
 use Rattle.wq_checked.specs.Begins.{BeginsCall, HasJustBegun, is_short, publishes_first}
-use Rattle.wq_checked.specs.declared.calls.Call.{Call}
 use Rattle.wq_checked.specs.declared.calls.Call.TheVariants as call
 use Rattle.wq_checked.specs.declared.calls.Progress.TheVariants as progress
-use Rattle.wq_checked.specs.declared.calls.Running.{Running}
-use Rattle.wq_checked.specs.declared.kept_bits.KeptBits.{KeptBits}
 
 pub begins_on : (c : Call) (k : Known) (ks : KeptBits) (now : Running) → publishes_first c ≡ false → is_short c ≡ false
     → HasJustBegun c k now → BeginsCall c k k ks progress.Again now

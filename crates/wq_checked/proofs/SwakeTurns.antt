@@ -4,18 +4,15 @@ use Rattle.std.specs.Prelude.{ℕ, ◌≡◌, ◌<◌, Bool}
 use Rattle.wait_model.specs.declared.calls.Call.TheVariants as calls
 use Rattle.wait_model.specs.declared.layout.TheConstants.{PLAIN_CONDITIONS}
 use Rattle.wait_rule.specs.Known.{Known}
-use Rattle.swait_queue.specs.declared.swake_turns.SwakeRun.{SwakeRun}
-use Rattle.swait_queue.specs.declared.swake_turns.SwakeStage.{SwakeStage}
-use Rattle.swait_queue.specs.declared.swake_turns.SwakeStage.TheVariants as stage
+use Rattle.swait_queue.specs.{declared.swake_turns.SwakeRun.SwakeRun, declared.swake_turns.SwakeStage.SwakeStage}
 use Rattle.swait_queue.specs.declared.swake_turns.SwakeTurn.{SwakeTurn}
-use Rattle.swait_queue.specs.declared.swake_turns.SwakeTurn.TheVariants as turn
 use Rattle.swait_queue.specs.SwakeTurns.{HasSwakeTurned, IsAtSwake, IsSwakeOver}
-use Rattle.wq_checked.specs.Kept.{IsReadyWith, but_kept}
+use Rattle.swait_queue.specs.declared.swake_turns.SwakeStage.TheVariants as stage
+use Rattle.swait_queue.specs.declared.swake_turns.SwakeTurn.TheVariants as turn
+use Rattle.wq_checked.specs.{Kept.IsReadyWith, Kept.but_kept, Advancing.swake_left, Advancing.swake_shown}
+use Rattle.wq_checked.specs.{declared.calls.Running.Running, declared.kept_bits.KeptBits.KeptBits}
 use Rattle.wq_checked.specs.Calls.{CameFrom, IsRunningSound, IsSwaking, SwakeCame, WentOn}
-use Rattle.wq_checked.specs.Advancing.{swake_left, swake_shown}
-use Rattle.wq_checked.specs.declared.calls.Running.{Running}
 use Rattle.wq_checked.specs.declared.calls.Running.TheVariants as running
-use Rattle.wq_checked.specs.declared.kept_bits.KeptBits.{KeptBits}
 use Rattle.wq_checked.proofs.Elsewhere.{calls_off, plain_low}
 use Rattle.wq_checked.proofs.HoldTurns.{HoldComes, IsLawfulHold, lawful_hold}
 

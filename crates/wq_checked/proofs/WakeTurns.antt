@@ -1,33 +1,23 @@
 -- A turn of a wake: it has come on from where it began, or it is over, and its task ready.
 use Rattle.std.proofs.Common.{◌∙◌, sym, refl, subst}
 use Rattle.std.specs.Prelude.{◌≡◌, ◌||◌, ◌&&◌, Bool, true, false}
-use Rattle.wait_model.specs.declared.queues.Walked.{Walked}
-use Rattle.wait_model.specs.declared.watches.Aim.{Aim}
-use Rattle.wait_model.specs.declared.watches.Mode.{Mode}
-use Rattle.wait_model.specs.declared.watches.Watch.{Watch}
-use Rattle.wait_model.specs.Tasks.{meets}
-use Rattle.wait_model.specs.Watches.{mask_of, same}
-use Rattle.wait_rule.specs.Known.{Known}
-use Rattle.wait_rule.specs.Says.{Excuse, OwesBut}
-use Rattle.wait_rule.specs.Stays.{with_wakes}
+use Rattle.wait_model.specs.{declared.queues.Walked.Walked, declared.watches.Aim.Aim, declared.watches.Mode.Mode}
+use Rattle.wait_model.specs.{declared.watches.Watch.Watch, Tasks.meets, Watches.mask_of, Watches.same}
+use Rattle.wait_rule.specs.{Known.Known, Says.Excuse, Says.OwesBut, Stays.with_wakes}
 use Rattle.wait_rule.proofs.KnownLaws.CarriedTasks.{owes_more}
-use Rattle.wq_head.specs.Turns.{HasTurned, IsAtWake, IsWakeOver}
-use Rattle.wq_head.specs.Walks.{IsFull}
-use Rattle.wq_head.specs.declared.wakes.WakeRun.{WakeRun}
-use Rattle.wq_head.specs.declared.wakes.WakeStage.{WakeStage}
-use Rattle.wq_head.specs.declared.wakes.WakeStage.TheVariants as stage
+use Rattle.wq_head.specs.{Walks.IsFull, declared.wakes.WakeRun.WakeRun, declared.wakes.WakeStage.WakeStage}
 use Rattle.wq_head.specs.declared.wakes.WakeTurn.{WakeTurn}
+use Rattle.wq_head.specs.Turns.{HasTurned, IsAtWake, IsWakeOver}
+use Rattle.wq_head.specs.declared.wakes.WakeStage.TheVariants as stage
 use Rattle.wq_head.specs.declared.wakes.WakeTurn.TheVariants as turn
-use Rattle.wq_checked.specs.Kept.{IsReadyWith, but_kept}
-use Rattle.wq_checked.specs.Begins.{HasJustBegun, BeginsAs}
-use Rattle.wq_checked.specs.declared.calls.Call.{Call}
+use Rattle.wq_checked.specs.{Kept.IsReadyWith, Kept.but_kept, Begins.HasJustBegun, Begins.BeginsAs}
+use Rattle.wq_checked.specs.{declared.calls.Call.Call, declared.calls.Running.Running}
+use Rattle.wq_checked.specs.declared.kept_bits.KeptBits.{KeptBits}
 use Rattle.wq_checked.specs.Calls.{CameFrom, IsRunningSound, IsWaking, WakesFirst, WentOn}
 use Rattle.wq_checked.specs.Advancing.{Waking, WakesAs, wake_left, wake_shown}
 use Rattle.wq_checked.proofs.Elsewhere.{wakes_off}
 use Rattle.wq_checked.proofs.HoldTurns.{HoldComes, IsLawfulHold, lawful_hold}
-use Rattle.wq_checked.specs.declared.calls.Running.{Running}
 use Rattle.wq_checked.specs.declared.calls.Running.TheVariants as running
-use Rattle.wq_checked.specs.declared.kept_bits.KeptBits.{KeptBits}
 
 -- what a turn tells
 tells : (may : Bool) (start new : Known) (f : WakeRun) (from : WakeStage) (run q : WakeRun) (t : WakeTurn) → run.aim ≡ f.aim

@@ -3,11 +3,9 @@ use Rattle.std.proofs.Common.{refl, subst, sym}
 use Rattle.std.specs.Prelude.{◌≡◌, ◌||◌, Bool, true, false}
 use Rattle.wait_model.specs.declared.points.Next.TheVariants as next
 use Rattle.wait_rule.specs.Known.{Known}
-use Rattle.wait_class.specs.declared.stages.Run.{Run}
-use Rattle.wait_class.specs.declared.stages.Turn.{Turn}
-use Rattle.wait_class.specs.declared.stages.Turn.TheVariants as turn
-use Rattle.wait_class.specs.Laws.{IsLawfulCallTable}
+use Rattle.wait_class.specs.{declared.stages.Run.Run, declared.stages.Turn.Turn, Laws.IsLawfulCallTable}
 use Rattle.wait_class.specs.Tables.{Advances, CallTable, IsAt, Lands, SleepsNot, next_in, plan_program}
+use Rattle.wait_class.specs.declared.stages.Turn.TheVariants as turn
 use Rattle.wait_leave.specs.ExitLaws.{AreLawfulExits}
 use Rattle.wait_leave.specs.Leaves.{Exits, GoesOut, Leaves, asked_run, stays_awake}
 use Rattle.wait_leave.specs.OnTheWay.{OnTheWay, left_at, straight}

@@ -9,12 +9,10 @@ use Rattle.wait_model.proofs.Functions.{both_left, both_right}
 use Rattle.completion_cell.specs.declared.cell_turns.CellCall.{CellCall}
 use Rattle.completion_cell.specs.declared.cell_turns.CellCall.TheVariants as cell_call
 use Rattle.swait_queue.specs.SimpleWaits.{IsSimpleCond}
-use Rattle.wq_checked.specs.Begins.{if_kept, numbers_fit, keeping_reason, or_else}
-use Rattle.wq_checked.specs.Kept.{keeps_in}
-use Rattle.wq_checked.specs.declared.calls.Call.{Call}
-use Rattle.wq_checked.specs.declared.calls.Call.TheVariants as call
-use Rattle.wq_checked.specs.declared.kept_bits.KeptBits.{KeptBits}
+use Rattle.wq_checked.specs.{Kept.keeps_in, declared.calls.Call.Call, declared.kept_bits.KeptBits.KeptBits}
 use Rattle.wq_checked.specs.declared.reasons.Refused.{Refused}
+use Rattle.wq_checked.specs.Begins.{if_kept, numbers_fit, keeping_reason, or_else}
+use Rattle.wq_checked.specs.declared.calls.Call.TheVariants as call
 use Rattle.wq_checked.specs.declared.reasons.Refused.TheVariants as reason
 
 -- a call that is not refused begins where none is under way

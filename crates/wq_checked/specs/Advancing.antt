@@ -1,66 +1,38 @@
 -- For proofs alone.
 -- What a stretch of a call leaves under way and tells, and what holds where a wake begins.
 use Rattle.std.specs.Prelude.{◌≡◌, Bool, false, None}
-use Rattle.wait_model.specs.declared.watches.Aim.{Aim}
+use Rattle.wait_model.specs.{declared.watches.Aim.Aim, declared.watches.Watch.Watch}
 use Rattle.wait_model.specs.declared.watches.Mode.TheVariants as mode
-use Rattle.wait_model.specs.declared.watches.Watch.{Watch}
-use Rattle.wait_rule.specs.Known.{Known}
-use Rattle.wait_rule.specs.LeftEntries.{HasLeftNone}
-use Rattle.wait_rule.specs.Queues.{IsIdle}
+use Rattle.wait_rule.specs.{Known.Known, LeftEntries.HasLeftNone, Queues.IsIdle, Stays.with_wakes}
 use Rattle.wait_rule.specs.Says.{IsUp, OwesBut, told_of}
-use Rattle.wait_rule.specs.Stays.{with_wakes}
-use Rattle.wq_head.specs.Walks.{IsFull}
-use Rattle.bit_wait.specs.BitTables.{is_bit_worn}
-use Rattle.bit_wait.specs.BitLeaves.{bit_until_in}
-use Rattle.bit_wait.specs.LockLeaves.{until_in}
-use Rattle.bit_wait.specs.LockTables.{is_lock_over}
-use Rattle.page_lock.specs.PageLeaves.{page_until}
-use Rattle.page_lock.specs.PageTables.{is_page_over}
-use Rattle.wait_class.specs.declared.frame_stages.Framed.{Framed}
-use Rattle.wait_class.specs.declared.frame_stages.Stage.{Stage}
-use Rattle.wait_class.specs.declared.stages.Run.{Run}
-use Rattle.wait_class.specs.declared.stages.Turn.{Turn}
+use Rattle.wq_head.specs.{Walks.IsFull, declared.wakes.WakeRun.WakeRun, declared.wakes.WakeTurn.WakeTurn}
+use Rattle.bit_wait.specs.{BitTables.is_bit_worn, BitLeaves.bit_until_in, LockLeaves.until_in, LockTables.is_lock_over}
+use Rattle.bit_wait.specs.{declared.waits.BitOutcome.BitOutcome, declared.waits.BitTest.BitTest}
+use Rattle.bit_wait.specs.{declared.waits.WaitBit.WaitBit, declared.lock_runs.LockBit.LockBit}
+use Rattle.bit_wait.specs.{declared.lock_runs.LockTest.LockTest, declared.lock_runs.LockOutcome.LockOutcome}
+use Rattle.page_lock.specs.{PageLeaves.page_until, PageTables.is_page_over, declared.waits.LockPage.LockPage}
+use Rattle.page_lock.specs.{declared.waits.PageStage.PageStage, declared.waits.PageOutcome.PageOutcome}
+use Rattle.wait_class.specs.{declared.frame_stages.Framed.Framed, declared.frame_stages.Stage.Stage}
+use Rattle.wait_class.specs.{declared.stages.Run.Run, declared.stages.Turn.Turn}
 use Rattle.wait_class.specs.declared.stages.Turn.TheVariants as turn
-use Rattle.bit_wait.specs.declared.waits.BitOutcome.{BitOutcome}
-use Rattle.bit_wait.specs.declared.waits.BitTest.{BitTest}
-use Rattle.bit_wait.specs.declared.waits.WaitBit.{WaitBit}
-use Rattle.bit_wait.specs.declared.lock_runs.LockBit.{LockBit}
-use Rattle.bit_wait.specs.declared.lock_runs.LockTest.{LockTest}
-use Rattle.bit_wait.specs.declared.lock_runs.LockOutcome.{LockOutcome}
-use Rattle.page_lock.specs.declared.waits.LockPage.{LockPage}
-use Rattle.page_lock.specs.declared.waits.PageStage.{PageStage}
-use Rattle.page_lock.specs.declared.waits.PageOutcome.{PageOutcome}
-use Rattle.completion_cell.specs.AwaitLeaves.{await_until}
-use Rattle.wait_event.specs.WaitLeaves.{wait_until_in}
-use Rattle.wait_event.specs.declared.waits.WaitCall.{WaitCall}
-use Rattle.wait_event.specs.declared.waits.WaitOutcome.{WaitOutcome}
-use Rattle.wait_event.specs.declared.waits.WaitStage.{WaitStage}
-use Rattle.completion_cell.specs.declared.awaits.AwaitCall.{AwaitCall}
-use Rattle.completion_cell.specs.declared.awaits.AwaitOutcome.{AwaitOutcome}
-use Rattle.completion_cell.specs.declared.awaits.AwaitStage.{AwaitStage}
-use Rattle.completion_cell.specs.declared.cell_turns.CellRun.{CellRun}
+use Rattle.completion_cell.specs.{AwaitLeaves.await_until, declared.awaits.AwaitCall.AwaitCall}
+use Rattle.completion_cell.specs.{declared.awaits.AwaitOutcome.AwaitOutcome, declared.awaits.AwaitStage.AwaitStage}
+use Rattle.completion_cell.specs.{declared.cell_turns.CellRun.CellRun, declared.cell_turns.CellTurn.CellTurn}
+use Rattle.wait_event.specs.{WaitLeaves.wait_until_in, declared.waits.WaitCall.WaitCall}
+use Rattle.wait_event.specs.{declared.waits.WaitOutcome.WaitOutcome, declared.waits.WaitStage.WaitStage}
 use Rattle.completion_cell.specs.declared.cell_turns.CellStage.TheVariants as cell_stage
-use Rattle.completion_cell.specs.declared.cell_turns.CellTurn.{CellTurn}
 use Rattle.completion_cell.specs.declared.cell_turns.CellTurn.TheVariants as cell_turn
-use Rattle.swait_queue.specs.declared.swake_turns.SwakeRun.{SwakeRun}
+use Rattle.swait_queue.specs.{declared.swake_turns.SwakeRun.SwakeRun, declared.swake_turns.SwakeTurn.SwakeTurn}
 use Rattle.swait_queue.specs.declared.swake_turns.SwakeStage.TheVariants as swake_stage
-use Rattle.swait_queue.specs.declared.swake_turns.SwakeTurn.{SwakeTurn}
 use Rattle.swait_queue.specs.declared.swake_turns.SwakeTurn.TheVariants as swake_turn
-use Rattle.wq_head.specs.declared.wakes.WakeRun.{WakeRun}
 use Rattle.wq_head.specs.declared.wakes.WakeStage.TheVariants as wake_stage
-use Rattle.wq_head.specs.declared.wakes.WakeTurn.{WakeTurn}
 use Rattle.wq_head.specs.declared.wakes.WakeTurn.TheVariants as wake_turn
-use Rattle.wq_checked.specs.Begins.{BeginsAs}
-use Rattle.wq_checked.specs.Kept.{but_kept, keeps_in}
-use Rattle.wq_checked.specs.declared.calls.Call.{Call}
-use Rattle.wq_checked.specs.declared.kept_bits.KeptBits.{KeptBits}
+use Rattle.wq_checked.specs.{Begins.BeginsAs, Kept.but_kept, Kept.keeps_in, declared.calls.Call.Call}
+use Rattle.wq_checked.specs.{declared.kept_bits.KeptBits.KeptBits, Locks.refusal_told, declared.calls.Answer.Answer}
+use Rattle.wq_checked.specs.{declared.calls.Progress.Progress, declared.calls.Running.Running}
 use Rattle.wq_checked.specs.Calls.{await_answer, bit_answer, event_answer, turn_told}
-use Rattle.wq_checked.specs.Locks.{refusal_told}
-use Rattle.wq_checked.specs.declared.calls.Answer.{Answer}
 use Rattle.wq_checked.specs.declared.calls.Answer.TheVariants as answer
-use Rattle.wq_checked.specs.declared.calls.Progress.{Progress}
 use Rattle.wq_checked.specs.declared.calls.Progress.TheVariants as progress
-use Rattle.wq_checked.specs.declared.calls.Running.{Running}
 use Rattle.wq_checked.specs.declared.calls.Running.TheVariants as running
 
 -- A kind of wait as a call that is under way: how it stands there, what it answers at its end, whether RUNNING is stored

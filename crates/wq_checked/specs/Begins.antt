@@ -1,15 +1,12 @@
 -- To be believed.
 -- The calls that a task begins: why each is refused, and what it begins.
 use Rattle.std.specs.Prelude.{ℕ, ◌≡◌, ◌&&◌, Bool, true, false, not, nat_lt, Option, Some, None, if◌then◌else◌}
-use Rattle.wait_model.specs.Admission.{is_in_range}
+use Rattle.wait_model.specs.{Admission.is_in_range, Watches.head_of, declared.calls.Call.Call as Modelled}
+use Rattle.wait_model.specs.{declared.layout.TheConstants.CLAIMS, declared.watches.Watch.Watch}
 use Rattle.wait_model.specs.Tasks.{is_killable, taken_of, task_of}
-use Rattle.wait_model.specs.Watches.{head_of}
-use Rattle.wait_model.specs.declared.calls.Call.{Call as Modelled}
 use Rattle.wait_model.specs.declared.calls.Call.TheVariants as model
-use Rattle.wait_model.specs.declared.layout.TheConstants.{CLAIMS}
 use Rattle.wait_model.specs.declared.steps.Step.TheVariants as step
 use Rattle.wait_model.specs.declared.watches.Mode.TheVariants as mode
-use Rattle.wait_model.specs.declared.watches.Watch.{Watch}
 use Rattle.wait_model.specs.declared.watches.Watch.TheVariants as watch
 use Rattle.wait_rule.specs.Known.{Known}
 use Rattle.wait_rule.specs.Says.{AddsOf, FindsTally, added}
@@ -37,21 +34,15 @@ use Rattle.swait_queue.specs.SwakeTurns as swakes
 use Rattle.swait_queue.specs.declared.swake_turns.SwakeStage.TheVariants as swake_stage
 use Rattle.wq_head.specs.Scanned.{HasScanned, unmade}
 use Rattle.wq_head.specs.declared.wakes.WakeStage.TheVariants as wake_stage
-use Rattle.wq_checked.specs.Calls.{CameFrom}
-use Rattle.wq_checked.specs.Checked.{Checked}
-use Rattle.wq_checked.specs.Kept.{keeps_in}
-use Rattle.wq_checked.specs.Reasons.{busy_reason}
-use Rattle.wq_checked.specs.Signals.{HasKicked, Sends, Woke}
-use Rattle.wq_checked.specs.declared.calls.Answer.{Answer}
-use Rattle.wq_checked.specs.declared.calls.Answer.TheVariants as answer
-use Rattle.wq_checked.specs.declared.calls.Call.{Call}
-use Rattle.wq_checked.specs.declared.calls.Call.TheVariants as call
-use Rattle.wq_checked.specs.declared.calls.Progress.{Progress}
-use Rattle.wq_checked.specs.declared.calls.Progress.TheVariants as progress
-use Rattle.wq_checked.specs.declared.calls.Running.{Running}
-use Rattle.wq_checked.specs.declared.calls.Running.TheVariants as running
-use Rattle.wq_checked.specs.declared.kept_bits.KeptBits.{KeptBits}
+use Rattle.wq_checked.specs.{Calls.CameFrom, Checked.Checked, Kept.keeps_in, Reasons.busy_reason}
+use Rattle.wq_checked.specs.{declared.calls.Answer.Answer, declared.calls.Call.Call, declared.calls.Progress.Progress}
+use Rattle.wq_checked.specs.{declared.calls.Running.Running, declared.kept_bits.KeptBits.KeptBits}
 use Rattle.wq_checked.specs.declared.reasons.Refused.{Refused}
+use Rattle.wq_checked.specs.Signals.{HasKicked, Sends, Woke}
+use Rattle.wq_checked.specs.declared.calls.Answer.TheVariants as answer
+use Rattle.wq_checked.specs.declared.calls.Call.TheVariants as call
+use Rattle.wq_checked.specs.declared.calls.Progress.TheVariants as progress
+use Rattle.wq_checked.specs.declared.calls.Running.TheVariants as running
 use Rattle.wq_checked.specs.declared.reasons.Refused.TheVariants as reason
 
 -- The call of the model whose ranges its numbers keep. A wake's count may be any, and a page's tally is its who may give

@@ -1,21 +1,15 @@
 -- To be believed.
 -- A call that is under way, from its beginning to its answer.
 use Rattle.std.specs.Prelude.{ℕ, ◌≡◌, ◌<◌, ◌^◌, Bool, true, false, None, Some, Result, []}
-use Rattle.wait_model.specs.declared.tasks.How.{How}
-use Rattle.wait_model.specs.declared.watches.Aim.{Aim}
-use Rattle.wait_model.specs.declared.watches.Watch.{Watch}
+use Rattle.wait_model.specs.{declared.tasks.How.How, declared.watches.Aim.Aim, declared.watches.Watch.Watch}
 use Rattle.wait_model.specs.declared.watches.Watch.TheVariants as watch
-use Rattle.wait_rule.specs.HandedPermits.{StaysOff}
-use Rattle.wait_rule.specs.LeftEntries.{HasLeftNone}
-use Rattle.wait_rule.specs.Known.{Known}
-use Rattle.wait_rule.specs.Says.{OwesBut, told_of}
+use Rattle.wait_rule.specs.{HandedPermits.StaysOff, LeftEntries.HasLeftNone, Known.Known, Says.OwesBut, Says.told_of}
 use Rattle.wait_rule.specs.Stays.{with_wakes}
 use Rattle.wait_event.specs.Waits as events
 use Rattle.wait_event.specs.WaitLeaves as event_leaves
-use Rattle.wait_event.specs.declared.wait_events.WaitEnd.{WaitEnd}
-use Rattle.wait_event.specs.declared.waits.WaitCall.{WaitCall}
-use Rattle.wait_event.specs.declared.waits.WaitStage.TheVariants as event_stage
+use Rattle.wait_event.specs.{declared.wait_events.WaitEnd.WaitEnd, declared.waits.WaitCall.WaitCall}
 use Rattle.wait_event.specs.declared.wait_leaves.WaitUntil.{WaitUntil}
+use Rattle.wait_event.specs.declared.waits.WaitStage.TheVariants as event_stage
 use Rattle.wait_event.specs.declared.wait_leaves.WaitUntil.TheVariants as wait_until
 use Rattle.var_wait.specs.VarWaits.{with_loaded}
 use Rattle.wait_class.specs.declared.stages.Turn.{Turn}
@@ -31,32 +25,27 @@ use Rattle.page_lock.specs.declared.waits.PageStage.TheVariants as page_stage
 use Rattle.wait_leave.specs.declared.exits.Until.{Until}
 use Rattle.wait_leave.specs.declared.exits.Until.TheVariants as until
 use Rattle.completion_cell.specs.Awaits as awaits
-use Rattle.completion_cell.specs.Awaits.{AwaitTurn}
+use Rattle.completion_cell.specs.{Awaits.AwaitTurn, declared.cell_turns.CellRun.CellRun}
+use Rattle.completion_cell.specs.declared.cell_turns.CellStage.{CellStage}
 use Rattle.completion_cell.specs.AwaitLeaves as await_leaves
 use Rattle.completion_cell.specs.CellTurns as cells
 use Rattle.completion_cell.specs.declared.awaits.AwaitStage.TheVariants as await_stage
-use Rattle.completion_cell.specs.declared.cell_turns.CellRun.{CellRun}
-use Rattle.completion_cell.specs.declared.cell_turns.CellStage.{CellStage}
 use Rattle.swait_queue.specs.SwakeTurns as swakes
-use Rattle.swait_queue.specs.declared.swake_turns.SwakeRun.{SwakeRun}
-use Rattle.swait_queue.specs.declared.swake_turns.SwakeStage.{SwakeStage}
+use Rattle.swait_queue.specs.{declared.swake_turns.SwakeRun.SwakeRun, declared.swake_turns.SwakeStage.SwakeStage}
 use Rattle.wait_model.specs.declared.watches.Mode.TheVariants as mode
-use Rattle.wq_head.specs.Roused.{IsRousing, tasks_in}
-use Rattle.wq_head.specs.Turns as wakes
-use Rattle.wq_head.specs.declared.rousing.Rousing.{Rousing}
+use Rattle.wq_head.specs.{Roused.IsRousing, Roused.tasks_in, declared.rousing.Rousing.Rousing}
 use Rattle.wq_head.specs.declared.wakes.WakeRun.{WakeRun}
+use Rattle.wq_head.specs.Turns as wakes
 use Rattle.wq_head.specs.declared.wakes.WakeStage.TheVariants as wake_stage
+use Rattle.wq_checked.specs.{Locks.awaited_in, Locks.refusal_told, declared.calls.Answer.Answer}
+use Rattle.wq_checked.specs.{declared.calls.Progress.Progress, declared.calls.Running.Running}
+use Rattle.wq_checked.specs.declared.kept_bits.KeptBits.{KeptBits}
 use Rattle.wq_checked.specs.Kept.{IsReadyWith, but_kept, keeps_in}
-use Rattle.wq_checked.specs.Locks.{awaited_in, refusal_told}
 use Rattle.wq_checked.specs.Stages.{AwaitRun, BitRun, HasComeBy, LockRun, PageRun, StandsBy, WaitRun, WaitTurn}
 use Rattle.wq_checked.specs.Stages.{bit_first, lock_first}
-use Rattle.wq_checked.specs.declared.calls.Answer.{Answer}
 use Rattle.wq_checked.specs.declared.calls.Answer.TheVariants as answer
-use Rattle.wq_checked.specs.declared.calls.Progress.{Progress}
 use Rattle.wq_checked.specs.declared.calls.Progress.TheVariants as progress
-use Rattle.wq_checked.specs.declared.calls.Running.{Running}
 use Rattle.wq_checked.specs.declared.calls.Running.TheVariants as running
-use Rattle.wq_checked.specs.declared.kept_bits.KeptBits.{KeptBits}
 
 -- A wait that has not begun.
 abbrev pub IsFreshEvent : WaitCall → Type 0

@@ -1,11 +1,8 @@
 -- To be believed.
 -- What contracts see of a checked task: what its task knows, the bits that it keeps, and the call that is under way.
 use Rattle.std.specs.Prelude.{ℕ}
-use Rattle.wait_rule.specs.Journals.{left_with}
-use Rattle.wait_rule.specs.Known.{Known}
-use Rattle.wait_rule.specs.Says.{seen_with}
-use Rattle.wq_checked.specs.declared.calls.Running.{Running}
-use Rattle.wq_checked.specs.declared.kept_bits.KeptBits.{KeptBits}
+use Rattle.wait_rule.specs.{Journals.left_with, Known.Known, Says.seen_with}
+use Rattle.wq_checked.specs.{declared.calls.Running.Running, declared.kept_bits.KeptBits.KeptBits}
 
 pub record Checked : Type 0 where
   pub task : Known

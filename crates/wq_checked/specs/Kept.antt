@@ -1,15 +1,10 @@
 -- To be believed.
 -- What is kept of a task between two of its calls.
 use Rattle.std.specs.Prelude.{◌≡◌, ◌&&◌, Bool, false, nat_lt, None, slice_index}
-use Rattle.wait_model.specs.declared.layout.TheConstants.{WORD_BITS}
-use Rattle.wait_model.specs.declared.watches.Watch.{Watch}
+use Rattle.wait_model.specs.{declared.layout.TheConstants.WORD_BITS, declared.watches.Watch.Watch, Words.bit_at}
 use Rattle.wait_model.specs.declared.watches.Watch.TheVariants as watch
-use Rattle.wait_model.specs.Words.{bit_at}
-use Rattle.wait_rule.specs.LeftEntries.{HasLeftNone}
-use Rattle.wait_rule.specs.Known.{Known}
-use Rattle.wait_rule.specs.Queues.{IsIdle}
+use Rattle.wait_rule.specs.{LeftEntries.HasLeftNone, Known.Known, Queues.IsIdle, Stays.with_bits}
 use Rattle.wait_rule.specs.Says.{Excuse, IsUp, OwesBut, no_excuse, told_of}
-use Rattle.wait_rule.specs.Stays.{with_bits}
 use Rattle.wq_checked.specs.declared.kept_bits.KeptBits.{KeptBits}
 
 -- the bits that the masks show

@@ -2,22 +2,15 @@
 -- What holds of a kind of wait, so that one function serves a stretch of any.
 use Rattle.std.specs.Prelude.{◌≡◌, ◌||◌, Bool, true}
 use Rattle.wait_model.specs.declared.watches.Watch.{Watch}
-use Rattle.wait_rule.specs.Bits.{taken_bits}
-use Rattle.wait_rule.specs.Known.{Known}
-use Rattle.wait_rule.specs.Says.{IsUp}
-use Rattle.wait_class.specs.declared.stages.Run.{Run}
-use Rattle.wait_class.specs.declared.stages.Turn.{Turn}
-use Rattle.wait_class.specs.Tables.{CallTable, watch_in}
+use Rattle.wait_rule.specs.{Bits.taken_bits, Known.Known, Says.IsUp}
+use Rattle.wait_class.specs.{declared.stages.Run.Run, declared.stages.Turn.Turn, Tables.CallTable, Tables.watch_in}
 use Rattle.wait_class.specs.Wholes.{HasRested}
 use Rattle.wait_leave.specs.Leaves.{Exits}
+use Rattle.wq_checked.specs.{Kept.keeps_in, Outs.OutStretch, Outs.WentOut, Stages.StandsBy, Stages.StretchesOn}
+use Rattle.wq_checked.specs.{declared.calls.Progress.Progress, declared.calls.Running.Running}
+use Rattle.wq_checked.specs.declared.kept_bits.KeptBits.{KeptBits}
 use Rattle.wq_checked.specs.Advancing.{WaitKind, left_by, shown_of_wait, took_by, worn_by}
 use Rattle.wq_checked.specs.Calls.{CameFrom, IsRunningSound, WentOn}
-use Rattle.wq_checked.specs.Kept.{keeps_in}
-use Rattle.wq_checked.specs.Outs.{OutStretch, WentOut}
-use Rattle.wq_checked.specs.Stages.{StandsBy, StretchesOn}
-use Rattle.wq_checked.specs.declared.calls.Progress.{Progress}
-use Rattle.wq_checked.specs.declared.calls.Running.{Running}
-use Rattle.wq_checked.specs.declared.kept_bits.KeptBits.{KeptBits}
 
 -- the bits that are kept once those were noted that such a wait has taken
 abbrev pub KeepsTaken : {C S O : Type 0} → CallTable C S O → WaitKind C S O → C → Turn S O → KeptBits → KeptBits → Type 0

@@ -1,16 +1,12 @@
 -- To be believed.
 -- The lock of a head that a call waits for, and the one that it gave back.
 use Rattle.std.specs.Prelude.{ℕ, ◌≡◌, Option, Some, None}
-use Rattle.wait_model.specs.declared.watches.Watch.{Watch}
+use Rattle.wait_model.specs.{declared.watches.Watch.Watch, Watches.head_of}
 use Rattle.wait_model.specs.declared.watches.Watch.TheVariants as watch
-use Rattle.wait_model.specs.Watches.{head_of}
-use Rattle.wait_rule.specs.Known.{Known}
-use Rattle.wait_rule.specs.Tickets.{drawn}
-use Rattle.wait_class.specs.declared.stages.Doing.{Doing}
+use Rattle.wait_rule.specs.{Known.Known, Tickets.drawn}
+use Rattle.wait_class.specs.{declared.stages.Doing.Doing, declared.stages.Run.Run, Tables.CallTable, Tables.stage_watch}
 use Rattle.wait_class.specs.declared.stages.Doing.TheVariants as doing
-use Rattle.wait_class.specs.declared.stages.Run.{Run}
 use Rattle.wait_class.specs.declared.stages.Turn.TheVariants as turn
-use Rattle.wait_class.specs.Tables.{CallTable, stage_watch}
 use Rattle.wait_event.specs.Waits as events
 use Rattle.bit_wait.specs.BitTables as bits
 use Rattle.bit_wait.specs.LockTables as takes
@@ -20,10 +16,9 @@ use Rattle.completion_cell.specs.declared.cell_turns.CellStage.TheVariants as ce
 use Rattle.swait_queue.specs.declared.swake_turns.SwakeStage.TheVariants as swake_stage
 use Rattle.wq_head.specs.declared.wakes.WakeStage.{WakeStage}
 use Rattle.wq_head.specs.declared.wakes.WakeStage.TheVariants as wake_stage
-use Rattle.wq_checked.specs.declared.calls.Awaited.{Awaited}
-use Rattle.wq_checked.specs.declared.calls.Progress.{Progress}
-use Rattle.wq_checked.specs.declared.calls.Progress.TheVariants as progress
+use Rattle.wq_checked.specs.{declared.calls.Awaited.Awaited, declared.calls.Progress.Progress}
 use Rattle.wq_checked.specs.declared.calls.Running.{Running}
+use Rattle.wq_checked.specs.declared.calls.Progress.TheVariants as progress
 use Rattle.wq_checked.specs.declared.calls.Running.TheVariants as running
 
 -- the lock of a watch's head, where a ticket of it is drawn

@@ -2,14 +2,9 @@
 -- A wait under way that is asked to leave: it goes out of the stage at which it stands, where that has an exit.
 use Rattle.std.specs.Prelude.{◌≡◌, Some}
 use Rattle.wait_rule.specs.Known.{Known}
-use Rattle.wait_class.specs.declared.stages.Run.{Run}
-use Rattle.wait_class.specs.declared.stages.Turn.{Turn}
+use Rattle.wait_class.specs.{declared.stages.Run.Run, declared.stages.Turn.Turn, Tables.CallTable, Wholes.HasRested}
 use Rattle.wait_class.specs.declared.stages.Turn.TheVariants as turn
-use Rattle.wait_class.specs.Tables.{CallTable}
-use Rattle.wait_class.specs.Wholes.{HasRested}
-use Rattle.wait_leave.specs.declared.exits.Exit.{Exit}
-use Rattle.wait_leave.specs.Leaves.{Exits, Leaves}
-use Rattle.wait_leave.specs.OnTheWay.{OnTheWay}
+use Rattle.wait_leave.specs.{declared.exits.Exit.Exit, Leaves.Exits, Leaves.Leaves, OnTheWay.OnTheWay}
 use Rattle.wait_event.specs.Waits as events
 use Rattle.wait_event.specs.WaitLeaves as event_leaves
 use Rattle.bit_wait.specs.BitTables as bits
@@ -20,10 +15,9 @@ use Rattle.page_lock.specs.PageTables as pages
 use Rattle.page_lock.specs.PageLeaves as page_leaves
 use Rattle.completion_cell.specs.Awaits as awaits
 use Rattle.completion_cell.specs.AwaitLeaves as await_leaves
+use Rattle.wq_checked.specs.{declared.calls.Progress.Progress, declared.calls.Running.Running}
 use Rattle.wq_checked.specs.Advancing.{WaitKind, await_kind, bit_kind, event_kind, left_by, lock_kind, page_kind}
 use Rattle.wq_checked.specs.Advancing.{shown_of_wait, worn_by}
-use Rattle.wq_checked.specs.declared.calls.Progress.{Progress}
-use Rattle.wq_checked.specs.declared.calls.Running.{Running}
 use Rattle.wq_checked.specs.declared.calls.Running.TheVariants as running
 
 -- It went on from where an exit led, to the end of the stretch; where that was its end, it did nothing more.

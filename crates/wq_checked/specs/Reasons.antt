@@ -1,12 +1,10 @@
 -- To be believed.
 -- When a call is refused, by the call that is under way, the bits that the task keeps, and the numbers of the call.
 use Rattle.std.specs.Prelude.{ℕ, ◌≡◌, ◌<◌, ◌≤◌, ◌+◌, Option, Some, None}
-use Rattle.wq_checked.specs.Checked.{Checked}
-use Rattle.wq_checked.specs.declared.calls.Running.{Running}
-use Rattle.wq_checked.specs.declared.calls.Running.TheVariants as running
-use Rattle.wq_checked.specs.declared.reasons.Refused.{Refused}
-use Rattle.wq_checked.specs.declared.reasons.Refused.TheVariants as reason
+use Rattle.wq_checked.specs.{Checked.Checked, declared.calls.Running.Running, declared.reasons.Refused.Refused}
 use Rattle.wq_checked.specs.declared.tasks.NoFork.{NoFork}
+use Rattle.wq_checked.specs.declared.calls.Running.TheVariants as running
+use Rattle.wq_checked.specs.declared.reasons.Refused.TheVariants as reason
 use Rattle.wq_checked.specs.declared.tasks.NoFork.TheVariants as no_fork
 
 -- why no call may begin: none where none is under way

@@ -1,14 +1,10 @@
 -- To be believed.
 -- What becomes of a signal that is raised, and of a task that is kicked out of a sleep.
 use Rattle.std.specs.Prelude.{ℕ, ◌≡◌, Bool, true, false, Option, Some, None}
-use Rattle.wait_model.specs.Tasks.{raise_mask}
-use Rattle.wait_model.specs.Watches.{mask_of}
+use Rattle.wait_model.specs.{Tasks.raise_mask, Watches.mask_of}
 use Rattle.wait_model.specs.declared.watches.Mode.TheVariants as mode
 use Rattle.wait_model.specs.declared.steps.Step.TheVariants as step
-use Rattle.wait_rule.specs.Known.{Known}
-use Rattle.wait_rule.specs.Says.{AddsOf}
-use Rattle.wait_rule.specs.Tried.{HasTried}
-use Rattle.wait_rule.specs.declared.tries.Met.{Met}
+use Rattle.wait_rule.specs.{Known.Known, Says.AddsOf, Tried.HasTried, declared.tries.Met.Met}
 
 -- the signal is pending at the task, and nothing else was done yet
 abbrev pub Sends : Known → Known → ℕ → Bool → Type 0

@@ -2,27 +2,21 @@
 -- Where a call stands between two of its stretches: it goes on there, or was put asleep and goes on there.
 use Rattle.std.specs.Prelude.{◌≡◌, Bool, true, false}
 use Rattle.wait_rule.specs.Known.{Known}
-use Rattle.wait_event.specs.declared.waits.WaitCall.{WaitCall}
-use Rattle.wait_event.specs.declared.waits.WaitOutcome.{WaitOutcome}
+use Rattle.wait_event.specs.{declared.waits.WaitCall.WaitCall, declared.waits.WaitOutcome.WaitOutcome}
 use Rattle.wait_event.specs.declared.waits.WaitStage.{WaitStage}
 use Rattle.completion_cell.specs.declared.awaits.AwaitCall.{AwaitCall}
-use Rattle.wait_class.specs.declared.frame_stages.Framed.{Framed}
-use Rattle.wait_class.specs.declared.frame_stages.Stage.{Stage}
-use Rattle.wait_class.specs.declared.frame_stages.Stage.TheVariants as frame_stage
-use Rattle.wait_class.specs.declared.stages.Run.{Run}
-use Rattle.wait_class.specs.declared.stages.Turn.{Turn}
-use Rattle.wait_class.specs.declared.stages.Turn.TheVariants as turn
+use Rattle.wait_class.specs.{declared.frame_stages.Framed.Framed, declared.frame_stages.Stage.Stage}
+use Rattle.wait_class.specs.{declared.stages.Run.Run, declared.stages.Turn.Turn}
 use Rattle.wait_class.specs.Tables.{Advances, IsAsleepAt, IsAt, CallTable}
-use Rattle.bit_wait.specs.declared.waits.BitOutcome.{BitOutcome}
-use Rattle.bit_wait.specs.declared.waits.BitTest.{BitTest}
-use Rattle.bit_wait.specs.declared.waits.BitTest.TheVariants as bit_test
-use Rattle.bit_wait.specs.declared.waits.WaitBit.{WaitBit}
-use Rattle.bit_wait.specs.declared.lock_runs.LockBit.{LockBit}
+use Rattle.wait_class.specs.declared.frame_stages.Stage.TheVariants as frame_stage
+use Rattle.wait_class.specs.declared.stages.Turn.TheVariants as turn
+use Rattle.bit_wait.specs.{declared.waits.BitOutcome.BitOutcome, declared.waits.BitTest.BitTest}
+use Rattle.bit_wait.specs.{declared.waits.WaitBit.WaitBit, declared.lock_runs.LockBit.LockBit}
 use Rattle.bit_wait.specs.declared.lock_runs.LockTest.{LockTest}
+use Rattle.bit_wait.specs.declared.waits.BitTest.TheVariants as bit_test
 use Rattle.bit_wait.specs.declared.lock_runs.LockTest.TheVariants as lock_test
 use Rattle.page_lock.specs.declared.waits.LockPage.{LockPage}
-use Rattle.wait_leave.specs.Leaves.{Exits}
-use Rattle.wait_leave.specs.OnTheWay.{OnTheWay}
+use Rattle.wait_leave.specs.{Leaves.Exits, OnTheWay.OnTheWay}
 
 -- the runs of waits, what a stretch of them did, and where those for bits begin
 abbrev pub WaitRun : Type 0

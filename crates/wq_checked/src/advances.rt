@@ -1,21 +1,16 @@
 //! An advance of each kind of call that is under way: one stretch, what it leaves under way, and what it tells.
 
 ghost use Rattle.std.specs.Prelude.{◌≡◌, ◌<◌, ◌||◌, [], Bool, true, None};
-ghost use Rattle.wait_rule.specs.Known.{Known};
-ghost use Rattle.wait_rule.specs.PassedLocks.{PassesNone};
+ghost use Rattle.wait_rule.specs.{Known.Known, PassedLocks.PassesNone, Bits.taken_bits};
 ghost use Rattle.wq_head.specs.Roused.{tasks_in};
 ghost use Rattle.wait_model.specs.declared.layout.TheConstants.{BIT_WORDS, WORD_BITS};
 ghost use Rattle.wait_model.specs.declared.watches.Watch.{Watch};
 ghost use Rattle.wait_model.specs.declared.watches.Watch.TheVariants as watch;
-ghost use Rattle.wait_rule.specs.Bits.{taken_bits};
-ghost use Rattle.wq_checked.specs.Kept.{keeps_in};
+ghost use Rattle.wq_checked.specs.{Kept.keeps_in, Kinds.KeepsTaken, Outs.WentOut, Reasons.stopped_reason};
+ghost use Rattle.wq_checked.specs.declared.calls.Running.{Running as TheRunning};
 ghost use Rattle.wq_checked.specs.Calls.{CameFrom, IsRunningSound, Rouses, WentOn};
 ghost use Rattle.wq_checked.specs.Advancing.{cell_left, cell_shown, left_by, shown_of_wait, swake_left, swake_shown};
 ghost use Rattle.wq_checked.specs.Advancing.{wake_left, wake_shown, worn_by};
-ghost use Rattle.wq_checked.specs.Kinds.{KeepsTaken};
-ghost use Rattle.wq_checked.specs.Outs.{WentOut};
-ghost use Rattle.wq_checked.specs.Reasons.{stopped_reason};
-ghost use Rattle.wq_checked.specs.declared.calls.Running.{Running as TheRunning};
 ghost use Rattle.wq_checked.specs.declared.calls.Running.TheVariants as running;
 
 use crate::calls::{Answer, Progress, Running};

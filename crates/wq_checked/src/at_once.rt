@@ -2,10 +2,8 @@
 //! taken, signals, and tasks that are kicked out of a sleep.
 
 ghost use Rattle.std.specs.Prelude.{◌≡◌, true, None};
+ghost use Rattle.wq_checked.specs.{Calls.IsRunningSound, Kept.IsReadyWith, Signals.who_if};
 ghost use Rattle.wq_checked.specs.Begins.{IsDone, is_short, numbers_fit, keeping_reason};
-ghost use Rattle.wq_checked.specs.Calls.{IsRunningSound};
-ghost use Rattle.wq_checked.specs.Kept.{IsReadyWith};
-ghost use Rattle.wq_checked.specs.Signals.{who_if};
 ghost use Rattle.wq_checked.specs.declared.calls.Call.TheVariants as task_call;
 
 use crate::advances::note;

@@ -1,10 +1,9 @@
 //! Calls that begin: each is tested, and goes on by `CheckedTask::advance`.
 
 ghost use Rattle.std.specs.Prelude.{◌≡◌, true, false, IfErr, IfOk, None, Some};
+ghost use Rattle.wq_checked.specs.{Calls.IsRunningSound, Kept.IsReadyWith};
 ghost use Rattle.wq_checked.specs.Begins.{BeginsCall, HasJustBegun, is_short, is_unlisted, numbers_fit, keeping_reason};
 ghost use Rattle.wq_checked.specs.Begins.{publishes_first, refusal_to};
-ghost use Rattle.wq_checked.specs.Calls.{IsRunningSound};
-ghost use Rattle.wq_checked.specs.Kept.{IsReadyWith};
 
 use crate::admission::refusal_by;
 use crate::at_once::do_at_once;

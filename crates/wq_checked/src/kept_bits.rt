@@ -1,10 +1,9 @@
 //! The bits and pages that a task keeps, by a mask for each bit word.
 
 ghost use Rattle.std.specs.Prelude.{◌≡◌, ◌<◌, ◌&&◌, ◌||◌, not, false, true};
-ghost use Rattle.wait_model.specs.declared.layout.TheConstants.{BIT_WORDS, WORD_BITS};
-ghost use Rattle.wait_model.specs.declared.watches.Watch.{Watch};
+ghost use Rattle.wait_model.specs.{declared.layout.TheConstants.BIT_WORDS, declared.layout.TheConstants.WORD_BITS};
+ghost use Rattle.wait_model.specs.{declared.watches.Watch.Watch, Watches.same};
 ghost use Rattle.wait_model.specs.declared.watches.Watch.TheVariants as watch;
-ghost use Rattle.wait_model.specs.Watches.{same};
 ghost use Rattle.wq_checked.specs.Kept.{keeps_in};
 
 use wait_model::layout::BIT_WORDS;

@@ -4,10 +4,9 @@ ghost use Rattle.std.specs.Prelude.{◌≡◌, ◌||◌};
 ghost use Rattle.wait_model.specs.declared.watches.Watch.{Watch};
 ghost use Rattle.wait_rule.specs.Bits.{taken_bits};
 ghost use Rattle.wait_class.specs.Tables.{watch_in};
+ghost use Rattle.wq_checked.specs.{Kept.keeps_in, Kinds.IsLawfulKind};
 ghost use Rattle.wq_checked.specs.Advancing.{WaitKind, await_kind, bit_kind, event_kind, lock_kind, page_kind};
 ghost use Rattle.wq_checked.specs.Calls.{await_answer, bit_answer, waited};
-ghost use Rattle.wq_checked.specs.Kept.{keeps_in};
-ghost use Rattle.wq_checked.specs.Kinds.{IsLawfulKind};
 
 use crate::calls::{Answer, Running};
 use crate::kept_bits::KeptBits;

@@ -4,16 +4,13 @@ ghost use Rattle.std.specs.Prelude.{◌≡◌, ◌<◌, ◌≤◌, ◌+◌, ◌-
 ghost use Rattle.wait_model.specs.declared.layout.TheConstants.{BIT_WORDS, TASKS, WORD_BITS};
 ghost use Rattle.wait_model.specs.declared.watches.Watch.{Watch};
 ghost use Rattle.wait_model.specs.declared.watches.Watch.TheVariants as watch;
-ghost use Rattle.wait_rule.specs.Known.{Known};
-ghost use Rattle.wait_rule.specs.Says.{newcomer};
+ghost use Rattle.wait_rule.specs.{Known.Known, Says.newcomer};
 ghost use Rattle.wq_head.specs.Roused.{tasks_in};
-ghost use Rattle.wq_checked.specs.Calls.{CameFrom, Rouses, WentOn};
-ghost use Rattle.wq_checked.specs.Checked.{shared_by};
-ghost use Rattle.wq_checked.specs.Kept.{IsReadyWith, keeps_in};
-ghost use Rattle.wq_checked.specs.Locks.{IsDrawn, Passes, awaited_in};
-ghost use Rattle.wq_checked.specs.Outs.{WentOut};
-ghost use Rattle.wq_checked.specs.Reasons.{IsNoFork, busy_reason, stopped_reason};
+ghost use Rattle.wq_checked.specs.{Checked.shared_by, Kept.IsReadyWith, Kept.keeps_in, Outs.WentOut};
 ghost use Rattle.wq_checked.specs.declared.calls.Running.{Running as TheRunning};
+ghost use Rattle.wq_checked.specs.Calls.{CameFrom, Rouses, WentOn};
+ghost use Rattle.wq_checked.specs.Locks.{IsDrawn, Passes, awaited_in};
+ghost use Rattle.wq_checked.specs.Reasons.{IsNoFork, busy_reason, stopped_reason};
 ghost use Rattle.wq_checked.specs.declared.calls.Running.TheVariants as running;
 
 use crate::advances::go_on;

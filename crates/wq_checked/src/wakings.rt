@@ -2,10 +2,9 @@
 
 ghost use Rattle.std.specs.Prelude.{◌≡◌, true};
 ghost use Rattle.wait_model.specs.declared.watches.Mode.TheVariants as mode;
-ghost use Rattle.wq_checked.specs.Advancing.{Waking, WakesAs, normal_wake};
-ghost use Rattle.wq_checked.specs.Begins.{LooksBehind};
-ghost use Rattle.wq_checked.specs.Calls.{IsRunningSound, WakesFirst};
+ghost use Rattle.wq_checked.specs.{Begins.LooksBehind, Calls.IsRunningSound, Calls.WakesFirst};
 ghost use Rattle.wq_checked.specs.declared.calls.Call.{Call};
+ghost use Rattle.wq_checked.specs.Advancing.{Waking, WakesAs, normal_wake};
 
 use crate::calls::{Answer, Progress, Running};
 use crate::kept_bits::KeptBits;

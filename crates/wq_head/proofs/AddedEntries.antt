@@ -6,50 +6,37 @@ use Rattle.std.specs.Prelude.{ℕ, ◌≡◌, ◌+◌, ◌-◌, ◌*◌, ◌%◌
 use Rattle.std.specs.Prelude.{Bool, true, false, nat_lt, if◌then◌else◌, Option, Some, None, length}
 use Rattle.std.specs.Prelude.{IfErr, IfOk, Result, Ok, Err}
 use Rattle.std.proofs.lemmas.Result.{IfOk-weaker}
+use Rattle.wait_model.specs.{declared.queues.Form.Form, declared.watches.Watch.Watch, declared.watches.Kind.Kind}
+use Rattle.wait_model.specs.{declared.watches.Entry.Entry, Words.entry_of, Fold.after}
 use Rattle.wait_model.specs.declared.layout.TheConstants.{SLOTS, ENTRIES, MEMBERS, MEMBER_WORDS, PLAIN_CONDITIONS}
 use Rattle.wait_model.specs.declared.layout.TheConstants.{PLACES, MIDDLE, FIRST_PLACE, FIRST_PRIORITY, PRIORITY_TASKS}
 use Rattle.wait_model.specs.declared.layout.TheConstants.{FIRST_DONE_HEAD}
-use Rattle.wait_model.specs.declared.queues.Form.{Form}
-use Rattle.wait_model.specs.declared.queues.Form.TheVariants as forms
-use Rattle.wait_model.specs.declared.watches.Watch.{Watch}
-use Rattle.wait_model.specs.declared.watches.Kind.{Kind}
-use Rattle.wait_model.specs.declared.watches.Kind.TheVariants as kind
-use Rattle.wait_model.specs.declared.watches.Entry.{Entry}
-use Rattle.wait_model.specs.declared.steps.Step.TheVariants as step
-use Rattle.wait_model.specs.Words.{entry_of}
 use Rattle.wait_model.specs.Watches.{is_simple, is_page, head_of}
 use Rattle.wait_model.specs.Queues.{even_below, even_above, is_priority}
 use Rattle.wait_model.specs.Places.{front_for, tail_for, priority_for}
 use Rattle.wait_model.specs.Views.{View as Told, off, look_at, is_trying_for}
-use Rattle.wait_model.specs.Fold.{after}
+use Rattle.wait_model.specs.declared.queues.Form.TheVariants as forms
+use Rattle.wait_model.specs.declared.watches.Kind.TheVariants as kind
+use Rattle.wait_model.specs.declared.steps.Step.TheVariants as step
 use Rattle.wait_model.proofs.Functions.{put_at, put_same}
 use Rattle.wait_rule.specs.declared.journal.Item.TheVariants as item
-use Rattle.wait_rule.specs.Known.{Known}
-use Rattle.wait_rule.specs.LookCounts.{LooksAtMost}
-use Rattle.wait_rule.specs.Shown.{shown_queue}
-use Rattle.wait_rule.specs.Members.{IsStanding}
+use Rattle.wait_rule.specs.{Known.Known, LookCounts.LooksAtMost, Shown.shown_queue, Members.IsStanding}
+use Rattle.wait_rule.specs.{Asked.nothing_asked, Pages.uses_flag}
 use Rattle.wait_rule.specs.Queues.{place_by, StandsIn, IsLowest, IsHighest, IsFrontPlace, IsTailPlace, IsPriorityPlace}
 use Rattle.wait_rule.specs.Queues.{KnewEntry, MayQueue, IsPlaceFor, IsWholeBook, saw, index}
-use Rattle.wait_rule.specs.Asked.{nothing_asked}
-use Rattle.wait_rule.specs.Pages.{uses_flag}
-use Rattle.wait_rule.specs.Says.{Debts, Excuse, IsOutBut, OwesBut, TriesNone, added, asks_for, told_of}
-use Rattle.wait_rule.proofs.KnownLaws.Debts.{entries_debts, queued_debts, queues_quiet, stored_debts}
+use Rattle.wait_rule.specs.Says.{Debts, Excuse, IsOutBut, OwesBut, TriesNone, added, asks_for, told_of, stored_with}
 use Rattle.wait_rule.specs.Stays.{Stays, only, with_entry, with_left_entry, Carries, only_looks, queue_cell_change}
 use Rattle.wait_rule.specs.Stays.{queue_change, take_off_change}
-use Rattle.wq_head.proofs.AskedHolds.{looks_unasked}
-use Rattle.wq_head.proofs.CarriedHolds.{looks_carried}
-use Rattle.wq_head.proofs.CountedLooks.{counted_add}
-use Rattle.wait_rule.proofs.KnownLaws.StayingParts.{stays_on, stays_but, owes_also, owes_left, owes_out}
-use Rattle.wq_head.specs.declared.looks.ShownMember.{ShownMember}
-use Rattle.wq_head.specs.Holds.{IsHolding}
-use Rattle.wq_head.specs.Members.{AreStanding}
+use Rattle.wait_rule.proofs.KnownLaws.Debts.{entries_debts, queued_debts, queues_quiet, stored_debts}
+use Rattle.wq_head.proofs.{AskedHolds.looks_unasked, CarriedHolds.looks_carried, CountedLooks.counted_add}
 use Rattle.wq_head.proofs.FirstAndLast.{below_or}
-use Rattle.wq_head.specs.Looks.{Looks, IsLow, AreLow, AreSeen, IsBetween, IsFirst, IsLast, place_of_shown}
-use Rattle.wq_head.specs.Adds.{IsForPlain, IsFullKind, IsFormPlace, IsWornBy}
-use Rattle.wq_head.specs.Adds.{HasAdded, HasAddedForCell, HasPut, HasQueued, HasRemoved, tail_entry, priority_entry}
-use Rattle.wq_head.specs.declared.adds.Worn.{Worn}
 use Rattle.wq_head.proofs.OneMoreLook.{saw_told, saw_looks, whole_of, looks_on, holding_on}
-use Rattle.wait_rule.specs.Says.{stored_with}
+use Rattle.wait_rule.proofs.KnownLaws.StayingParts.{stays_on, stays_but, owes_also, owes_left, owes_out}
+use Rattle.wq_head.specs.{declared.looks.ShownMember.ShownMember, Holds.IsHolding, Members.AreStanding}
+use Rattle.wq_head.specs.declared.adds.Worn.{Worn}
+use Rattle.wq_head.specs.Looks.{Looks, IsLow, AreLow, AreSeen, IsBetween, IsFirst, IsLast, place_of_shown}
+use Rattle.wq_head.specs.Adds.{IsForPlain, IsFullKind, IsFormPlace, IsWornBy, HasAdded, HasAddedForCell, HasPut}
+use Rattle.wq_head.specs.Adds.{HasQueued, HasRemoved, tail_entry, priority_entry}
 use Rattle.wait_rule.proofs.KnownLaws.MemberBits.{told_stored}
 
 -- a member's place, in both words

@@ -2,19 +2,15 @@
 use Rattle.std.proofs.Common.{◌∙◌, ap, sym, refl, subst}
 use Rattle.std.proofs.lemmas.Bool.{and_right}
 use Rattle.std.specs.Prelude.{ℕ, Option, ◌≡◌, ◌&&◌, not, Bool, true, false}
-use Rattle.wait_model.specs.declared.watches.Aim.{Aim}
-use Rattle.wait_model.specs.declared.watches.Entry.{Entry}
-use Rattle.wait_model.specs.declared.watches.Kind.{Kind}
-use Rattle.wait_model.specs.declared.watches.Kind.TheVariants as kind
+use Rattle.wait_model.specs.{declared.watches.Aim.Aim, declared.watches.Entry.Entry, declared.watches.Kind.Kind}
 use Rattle.wait_model.specs.Watches.{is_page}
+use Rattle.wait_model.specs.declared.watches.Kind.TheVariants as kind
+use Rattle.wait_rule.specs.{Known.Known, Pages.uses_flag}
 use Rattle.wait_rule.specs.Asked.{Asked, nothing_asked, is_asking}
-use Rattle.wait_rule.specs.Known.{Known}
-use Rattle.wait_rule.specs.Pages.{uses_flag}
 use Rattle.wait_rule.specs.Says.{AsksNoPage, Debts, Obligation, Excuse, asks_for, excuses, has_duty, no_excuse}
 use Rattle.wait_rule.specs.Says.{end_unclosed, has_end, page_asked, told_of, wake_of}
 use Rattle.wait_rule.proofs.KnownLaws.AskedPages.{asks_no_page, asks_nothing_of}
-use Rattle.wq_head.specs.Holds.{HasLocked}
-use Rattle.wq_head.specs.Looks.{Looks}
+use Rattle.wq_head.specs.{Holds.HasLocked, Looks.Looks}
 use Rattle.wq_head.proofs.LockWaits.{locked_stays}
 
 -- it is excused of all but that it asks for a page

@@ -3,17 +3,12 @@ use Rattle.std.proofs.Common.{◌∙◌, ap, refl, append_assoc}
 use Rattle.std.specs.Prelude.{ℕ, None, [], ◌∷◌}
 use Rattle.wait_model.specs.declared.steps.Step.TheVariants as step
 use Rattle.wait_rule.specs.declared.journal.Item.TheVariants as item
-use Rattle.wait_rule.specs.Items.{steps_of}
-use Rattle.wait_rule.specs.Known.{Known}
-use Rattle.wait_rule.specs.Queues.{walk_of_hold}
-use Rattle.wait_rule.specs.Says.{IsUp, added}
-use Rattle.wq_head.specs.Holds.{HasLocked, HasWaited}
-use Rattle.wq_head.specs.LockTurns.{AwaitsLock, TookLock}
-use Rattle.wq_head.specs.Roused.{RousesNone, roused}
-use Rattle.wq_head.proofs.CarriedHolds.{lock_carried}
-use Rattle.wq_head.proofs.LockWaits.{locked_holds, locked_owing, locked_stays, turn_awake}
-use Rattle.wq_head.proofs.RousedTasks.{none_added, none_more}
+use Rattle.wait_rule.specs.{Items.steps_of, Known.Known, Queues.walk_of_hold, Says.IsUp, Says.added}
+use Rattle.wq_head.specs.{Holds.HasLocked, Holds.HasWaited, LockTurns.AwaitsLock, LockTurns.TookLock, Roused.RousesNone}
+use Rattle.wq_head.specs.Roused.{roused}
+use Rattle.wq_head.proofs.{CarriedHolds.lock_carried, RousedTasks.none_added, RousedTasks.none_more}
 use Rattle.wq_head.proofs.SimpleHolds.{locked_simple}
+use Rattle.wq_head.proofs.LockWaits.{locked_holds, locked_owing, locked_stays, turn_awake}
 
 -- what `lock` leaves
 pub took_lock : (start new : Known) (head : ℕ) → IsUp start → HasLocked start new head (walk_of_hold head None)

@@ -3,39 +3,28 @@ use Rattle.std.proofs.Common.{◌∙◌, ap, sym, refl, subst, inl, inr, arith}
 use Rattle.std.proofs.lemmas.Bool.{and_from, or_left}
 use Rattle.std.specs.Prelude.{ℕ, ◌+◌, ◌≡◌, ◌<◌, ◌≤◌, ◌⊎◌, ◌||◌, Bool, true, false, if◌then◌else◌, Option, Some}
 use Rattle.std.specs.Prelude.{None, [], ◌∷◌}
-use Rattle.wait_model.specs.declared.layout.TheConstants.{ENTRIES}
-use Rattle.wait_model.specs.declared.watches.Entry.{Entry}
+use Rattle.wait_model.specs.{declared.layout.TheConstants.ENTRIES, declared.watches.Entry.Entry}
+use Rattle.wait_model.specs.{declared.watches.Aim.Aim, declared.queues.Walking.Walking, Tasks.meets, Tasks.task_of}
+use Rattle.wait_model.specs.{Fold.after, Fold.finds_bit_set, Programs.past, Programs.reached}
+use Rattle.wait_model.specs.Watches.{owner, mask_of, misses, failing, is_bit, is_woken, is_page}
+use Rattle.wait_model.specs.Views.{View as Told, Walk, Look, gone, passed}
 use Rattle.wait_model.specs.declared.watches.Kind.TheVariants as kind
-use Rattle.wait_model.specs.declared.watches.Aim.{Aim}
-use Rattle.wait_model.specs.declared.queues.Walking.{Walking}
 use Rattle.wait_model.specs.declared.points.Point.TheVariants as at
 use Rattle.wait_model.specs.declared.points.WalkPoint.TheVariants as walking
 use Rattle.wait_model.specs.declared.points.Next.TheVariants as next
 use Rattle.wait_model.specs.declared.steps.Step.TheVariants as step
-use Rattle.wait_model.specs.Tasks.{meets, task_of}
-use Rattle.wait_model.specs.Watches.{owner, mask_of, misses, failing, is_bit, is_woken, is_page}
-use Rattle.wait_model.specs.Views.{View as Told, Walk, Look, gone, passed}
-use Rattle.wait_model.specs.Fold.{after, finds_bit_set}
-use Rattle.wait_model.specs.Programs.{past, reached}
 use Rattle.wait_rule.specs.declared.journal.Item.TheVariants as item
-use Rattle.wait_rule.specs.Known.{Known}
+use Rattle.wait_rule.specs.{Known.Known, Queues.place_by, Notes.Notes, Shown.look_entry, Transitions.walk_program}
 use Rattle.wait_rule.specs.Says.{told_of, noted, added}
-use Rattle.wait_rule.specs.Queues.{place_by}
-use Rattle.wait_rule.specs.Notes.{Notes}
-use Rattle.wait_rule.specs.Shown.{look_entry}
-use Rattle.wait_rule.specs.Transitions.{walk_program}
 use Rattle.wait_rule.proofs.KnownLaws.AfterSteps.{told_added, noted_added}
 use Rattle.wait_rule.proofs.KnownLaws.Transitions.{goes_on}
-use Rattle.wq_head.specs.declared.functions.ShownEntry.{ShownEntry}
-use Rattle.wq_head.specs.Walks.{IsFull}
+use Rattle.wq_head.specs.{declared.functions.ShownEntry.ShownEntry, Walks.IsFull}
 use Rattle.wq_head.specs.Walking.{StaysInWalk, IsHeld, AreCalled, IsWalking, IsCalling, IsNextEntry, HasCalled}
 use Rattle.wq_head.specs.Walking.{WakesOff, woke_by, SamePlaces, entry_called, rest_of, with_left, is_used}
-use Rattle.wq_head.proofs.CalledEntries.{called_less}
+use Rattle.wq_head.proofs.{CalledEntries.called_less, FullHeads.one_of, FullHeads.kind_bit, PastMembers.passed_more}
 use Rattle.wq_head.proofs.EntryFunctions.{passes_told, next_same, under_one}
 use Rattle.wq_head.proofs.EntryOffs.{onto, off_bit, off_called}
 use Rattle.wq_head.proofs.EntryWakes.{load_transition, load_goes, bit_transition, bit_goes}
-use Rattle.wq_head.proofs.FullHeads.{one_of, kind_bit}
-use Rattle.wq_head.proofs.PastMembers.{passed_more}
 use Rattle.wq_head.proofs.QuietSteps.{load_quiet, load_stays, quiet_marks, quiet_keeps, quiet_walking}
 use Rattle.wq_head.proofs.ShownMembers.{whole_same, standing_same, places_same}
 

@@ -3,22 +3,16 @@ use Rattle.std.proofs.Common.{◌∙◌, ap, sym, refl, subst, inl, inr, arith}
 use Rattle.std.proofs.lemmas.Bool.Decides.{nat_tests}
 use Rattle.std.specs.Prelude.{ℕ, zero, suc, ◌≡◌, ◌-◌, ◌+◌, ◌*◌, ◌==◌}
 use Rattle.std.specs.Prelude.{Bool, true, false, nat_lt, if◌then◌else◌, Option, Some, None, is_some}
-use Rattle.wait_model.specs.declared.layout.TheConstants.{ENTRIES, WORD_BITS}
-use Rattle.wait_model.specs.declared.watches.Entry.{Entry}
-use Rattle.wait_model.specs.declared.queues.Mark.{Mark}
-use Rattle.wait_model.specs.Watches.{head_of, stands_at}
-use Rattle.wait_model.specs.Words.{bit_at, entry_of}
-use Rattle.wait_model.specs.Tables.{mark_of}
+use Rattle.wait_model.specs.{declared.layout.TheConstants.ENTRIES, declared.layout.TheConstants.WORD_BITS}
+use Rattle.wait_model.specs.{declared.watches.Entry.Entry, declared.queues.Mark.Mark, Watches.head_of}
+use Rattle.wait_model.specs.{Watches.stands_at, Words.bit_at, Words.entry_of, Tables.mark_of}
 use Rattle.wait_rule.specs.declared.journal.Item.TheVariants as item
-use Rattle.wait_rule.specs.Notes.{is_at}
+use Rattle.wait_rule.specs.{Notes.is_at, Known.Known, Queues.place_by, Queues.saw}
 use Rattle.wait_rule.specs.MemberLooks.{SawEntry, SawMark, SawKind, SawByBit, SawBits, SawWord}
-use Rattle.wait_rule.specs.Known.{Known}
 use Rattle.wait_rule.specs.Says.{told_of, noted, added}
-use Rattle.wait_rule.specs.Queues.{place_by, saw}
-use Rattle.wq_head.specs.Holds.{IsHolding}
+use Rattle.wq_head.specs.{Holds.IsHolding, Members.IsShownMember}
 use Rattle.wq_head.specs.Looks.{Looks, is_seen_member, entry_place, bookmark_place}
 use Rattle.wq_head.specs.Looking.{IsClear, IsSet, IsByBit, AreByBits}
-use Rattle.wq_head.specs.Members.{IsShownMember}
 use Rattle.wq_head.proofs.FirstAndLast.{below_or}
 use Rattle.wq_head.proofs.MemberStands.{saw_stands, mark_stands, stands_on}
 use Rattle.wq_head.proofs.OneMoreLook.{saw_looks, saw_is_seen, saw_is_placed, mark_looks, mark_is_seen, mark_is_placed}

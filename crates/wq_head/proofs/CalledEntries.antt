@@ -1,12 +1,9 @@
 -- The entries that a hold has called.
 use Rattle.std.proofs.Common.{◌∙◌, ap, arith}
 use Rattle.std.specs.Prelude.{ℕ, ◌≡◌, ◌<◌, Bool, Some}
-use Rattle.wait_model.specs.declared.layout.TheConstants.{ENTRIES}
-use Rattle.wait_model.specs.declared.watches.Entry.{Entry}
+use Rattle.wait_model.specs.{declared.layout.TheConstants.ENTRIES, declared.watches.Entry.Entry}
 use Rattle.wait_model.specs.declared.watches.Aim.{Aim}
-use Rattle.wait_rule.specs.Known.{Known}
-use Rattle.wait_rule.specs.Says.{noted}
-use Rattle.wait_rule.specs.Shown.{shown_entry}
+use Rattle.wait_rule.specs.{Known.Known, Says.noted, Shown.shown_entry}
 use Rattle.wq_head.specs.Walking.{AreCalled}
 
 -- they stay, where the hold shows no others

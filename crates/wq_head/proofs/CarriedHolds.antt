@@ -1,29 +1,19 @@
 -- What the calls on heads carry on of a task.
 use Rattle.std.proofs.Common.{◌∙◌, ap, sym, refl, inl, inr}
 use Rattle.std.specs.Prelude.{ℕ, ◌≡◌, ◌⊎◌, ◌&&◌, ◌||◌, not, Bool, true, false, Option, Some, None}
-use Rattle.wait_model.specs.declared.watches.Watch.{Watch}
-use Rattle.wait_model.specs.declared.watches.Mode.TheVariants as mode
-use Rattle.wait_model.specs.declared.watches.Entry.{Entry}
-use Rattle.wait_model.specs.declared.watches.Aim.{Aim}
-use Rattle.wait_model.specs.Tasks.{meets}
-use Rattle.wait_model.specs.Watches.{same, mask_of}
+use Rattle.wait_model.specs.{declared.watches.Watch.Watch, declared.watches.Entry.Entry, declared.watches.Aim.Aim}
+use Rattle.wait_model.specs.{Tasks.meets, Watches.same, Watches.mask_of, Fold.after_unlock}
 use Rattle.wait_model.specs.Views.{View as Told, Hold, Bits}
-use Rattle.wait_model.specs.Fold.{after_unlock}
+use Rattle.wait_model.specs.declared.watches.Mode.TheVariants as mode
 use Rattle.wait_model.proofs.StepLaws.UnlockSteps.{unlock_bits, unlock_hold}
-use Rattle.wait_rule.specs.Known.{Known}
-use Rattle.wait_rule.specs.Tickets.{no_ticket, taken}
+use Rattle.wait_rule.specs.{Known.Known, Tickets.no_ticket, Tickets.taken, Queues.IsIdle}
 use Rattle.wait_rule.specs.Says.{Excuse, OwesBut, is_excused, told_of, unlocked_with, wake_of}
-use Rattle.wait_rule.specs.Queues.{IsIdle}
 use Rattle.wait_rule.specs.Stays.{Stays, StaysOwing, no_entries, with_wakes, Carries, only_looks, lock_change}
 use Rattle.wait_rule.specs.Stays.{unlock_change, wake_all_change}
-use Rattle.wait_rule.proofs.KnownLaws.Turns.{told_unlocked}
+use Rattle.wait_rule.proofs.{KnownLaws.Turns.told_unlocked, KnownLaws.Debts.unlock_fewer}
+use Rattle.wait_rule.proofs.{KnownLaws.SettledTasks.unlock_mark, KnownLaws.StayingParts.stays_owing}
 use Rattle.wait_rule.proofs.KnownLaws.CarriedTasks.{owes_more, owes_wakes, stays_carried}
-use Rattle.wait_rule.proofs.KnownLaws.Debts.{unlock_fewer}
-use Rattle.wait_rule.proofs.KnownLaws.SettledTasks.{unlock_mark}
-use Rattle.wait_rule.proofs.KnownLaws.StayingParts.{stays_owing}
-use Rattle.wq_head.specs.Holds.{HasLocked}
-use Rattle.wq_head.specs.Looks.{Looks}
-use Rattle.wq_head.specs.Walks.{HasEnded, still_owed}
+use Rattle.wq_head.specs.{Holds.HasLocked, Looks.Looks, Walks.HasEnded, Walks.still_owed}
 use Rattle.wq_head.proofs.LockWaits.{locked_told, locked_stays, unlocked_stays}
 
 pub still_out : (now was : Option Entry) → (now ≡ was) ⊎ (now ≡ None) → was ≡ None → now ≡ None

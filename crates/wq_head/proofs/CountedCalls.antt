@@ -4,28 +4,22 @@ use Rattle.std.proofs.lemmas.Bool.Decides.{nat_tests}
 use native.Mathlib.Decide.{dec_le}
 use Rattle.std.specs.Prelude.{ℕ, ◌+◌, ◌-◌, ◌*◌, ◌%◌, ◌≡◌, ◌≢◌, ◌<◌, ◌≤◌, ◌⊎◌, ◌&&◌, ◌||◌, ◌==◌, not, Bool, true, false}
 use Rattle.std.specs.Prelude.{nat_le, if◌then◌else◌, Option, Some, None}
-use Rattle.wait_model.specs.declared.layout.TheConstants.{ENTRIES}
-use Rattle.wait_model.specs.declared.watches.Entry.{Entry}
-use Rattle.wait_model.specs.declared.watches.Aim.{Aim}
-use Rattle.wait_model.specs.declared.queues.Walking.{Walking}
-use Rattle.wait_model.specs.declared.steps.Step.TheVariants as step
-use Rattle.wait_model.specs.Functions.{put}
+use Rattle.wait_model.specs.{declared.layout.TheConstants.ENTRIES, declared.watches.Entry.Entry}
+use Rattle.wait_model.specs.{declared.watches.Aim.Aim, declared.queues.Walking.Walking, Functions.put, Fold.met_task}
+use Rattle.wait_model.specs.Programs.{past}
 use Rattle.wait_model.specs.Watches.{same, is_bit, is_page, owner, mask_of}
 use Rattle.wait_model.specs.Views.{View as Told, Look, unseen, off, elsewhere, shown}
-use Rattle.wait_model.specs.Fold.{met_task}
-use Rattle.wait_model.specs.Programs.{past}
+use Rattle.wait_model.specs.declared.steps.Step.TheVariants as step
 use Rattle.wait_model.proofs.Functions.{put_at, put_other}
 use Rattle.wait_rule.specs.declared.journal.Item.TheVariants as item
-use Rattle.wait_rule.specs.Known.{Known}
+use Rattle.wait_rule.specs.{Known.Known, Shown.look_entry, Shown.shown_entry}
 use Rattle.wait_rule.specs.Notes.{Notes, notes_after_wake, after_noted_call, callee, first_due, is_due, is_for_look}
 use Rattle.wait_rule.specs.Notes.{is_ahead, is_sooner, is_exclusive_look, look_place, lowered, with_normal}
 use Rattle.wait_rule.specs.Says.{told_of, noted, added}
-use Rattle.wait_rule.specs.Shown.{look_entry, shown_entry}
 use Rattle.wait_rule.proofs.KnownLaws.AfterSteps.{told_added, noted_added}
 use Rattle.wq_head.specs.declared.functions.ShownEntry.{ShownEntry}
 use Rattle.wq_head.specs.Walking.{IsNextEntry, AreCalled, entry_called, rest_of, with_left, is_used}
-use Rattle.wq_head.proofs.MemberStands.{look_is_shown}
-use Rattle.wq_head.proofs.FullHeads.{bit_kinds, one_of}
+use Rattle.wq_head.proofs.{MemberStands.look_is_shown, FullHeads.bit_kinds, FullHeads.one_of}
 
 -- the first of two entries that are due
 first_alone : (d s : Bool) (x : ℕ) → (d ≡ true → s ≡ false) → first_due true d s x ≡ Some x

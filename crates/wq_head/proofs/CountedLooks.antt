@@ -2,15 +2,11 @@
 use Rattle.std.proofs.Common.{◌∙◌, ap, subst, inl, inr, refl, arith}
 use Rattle.std.specs.Prelude.{ℕ, zero, suc, ◌≡◌, ◌+◌, ◌-◌, ◌<◌, ◌≤◌}
 use Rattle.std.specs.Prelude.{Bool, true, false, nat_lt, if◌then◌else◌, Option, Some, None, List, [], ◌∷◌, length}
-use Rattle.wait_model.specs.declared.layout.TheConstants.{MEMBERS, MEMBER_WORDS}
-use Rattle.wait_model.specs.declared.queues.Member.{Member}
+use Rattle.wait_model.specs.{declared.layout.TheConstants.MEMBERS, declared.layout.TheConstants.MEMBER_WORDS}
+use Rattle.wait_model.specs.{declared.queues.Member.Member, declared.watches.Entry.Entry, Queues.rank, Queues.mark_add}
 use Rattle.wait_model.specs.declared.steps.Step.TheVariants as step
-use Rattle.wait_model.specs.declared.watches.Entry.{Entry}
-use Rattle.wait_model.specs.Queues.{rank, mark_add}
 use Rattle.wait_rule.specs.declared.journal.Item.TheVariants as item
-use Rattle.wait_rule.specs.Known.{Known}
-use Rattle.wait_rule.specs.Says.{added, stored_with}
-use Rattle.wait_rule.specs.Queues.{place_by}
+use Rattle.wait_rule.specs.{Known.Known, Says.added, Says.stored_with, Queues.place_by}
 use Rattle.wait_rule.specs.Shown.{queue_with, queue_below, shown_queue}
 use Rattle.wait_rule.specs.LookCounts.{looks_made, Looked, LooksAtMost}
 use Rattle.wait_rule.proofs.KnownLaws.LookCounts.{looks_added}

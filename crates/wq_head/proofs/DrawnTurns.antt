@@ -1,13 +1,10 @@
 -- One try of the lock by a ticket that is drawn.
 use Rattle.std.proofs.Common.{◌∙◌, ap, sym, refl, subst}
 use Rattle.std.specs.Prelude.{ℕ, ◌≡◌, ◌≢◌, false, Option}
-use Rattle.wait_model.specs.declared.watches.Aim.{Aim}
+use Rattle.wait_model.specs.{declared.watches.Aim.Aim, Words.held_of}
 use Rattle.wait_model.specs.declared.steps.Step.TheVariants as step
-use Rattle.wait_model.specs.Words.{held_of}
 use Rattle.wait_rule.specs.declared.journal.Item.TheVariants as item
-use Rattle.wait_rule.specs.Known.{Known}
-use Rattle.wait_rule.specs.Says.{IsUp, added}
-use Rattle.wait_rule.specs.Members.{IsHeadWord}
+use Rattle.wait_rule.specs.{Known.Known, Says.IsUp, Says.added, Members.IsHeadWord}
 use Rattle.wait_rule.specs.Queues.{IsTurn, Resumes, at_head}
 use Rattle.wq_head.specs.Holds.{HasWaited, HasTurn, HasLocked}
 use Rattle.wq_head.proofs.LockWaits.{waited_none, waited_more, turn_more, turn_known, turn_resumes, locked_by}

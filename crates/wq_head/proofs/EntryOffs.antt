@@ -2,45 +2,35 @@
 use Rattle.std.proofs.Common.{◌∙◌, ap, sym, refl, subst, inl, inr, eq-eqb, eqb-true, arith}
 use Rattle.std.specs.Prelude.{ℕ, ◌+◌, ◌%◌, ◌≡◌, ◌<◌, ◌≤◌, ◌⊎◌, ◌&&◌, ◌||◌, ◌==◌, not, Bool, true, false, if◌then◌else◌}
 use Rattle.std.specs.Prelude.{Option, Some, None, List, [], ◌∷◌, ◌++◌}
-use Rattle.wait_model.specs.declared.layout.TheConstants.{SLOTS, ENTRIES}
-use Rattle.wait_model.specs.declared.watches.Entry.{Entry}
-use Rattle.wait_model.specs.declared.watches.Kind.{Kind}
-use Rattle.wait_model.specs.declared.watches.Kind.TheVariants as kind
-use Rattle.wait_model.specs.declared.watches.Aim.{Aim}
-use Rattle.wait_model.specs.declared.queues.Walking.{Walking}
-use Rattle.wait_model.specs.declared.points.Point.TheVariants as at
-use Rattle.wait_model.specs.declared.points.WalkPoint.TheVariants as walking
-use Rattle.wait_model.specs.declared.points.Next.{Next}
-use Rattle.wait_model.specs.declared.points.Next.TheVariants as next
-use Rattle.wait_model.specs.declared.steps.Step.TheVariants as step
-use Rattle.wait_model.specs.Tasks.{meets, task_of}
+use Rattle.wait_model.specs.{declared.layout.TheConstants.SLOTS, declared.layout.TheConstants.ENTRIES}
+use Rattle.wait_model.specs.{declared.watches.Entry.Entry, declared.watches.Kind.Kind, declared.watches.Aim.Aim}
+use Rattle.wait_model.specs.{declared.queues.Walking.Walking, declared.points.Next.Next, Tasks.meets, Tasks.task_of}
+use Rattle.wait_model.specs.{Programs.past, Programs.reached, Rows.MaySpend}
 use Rattle.wait_model.specs.Watches.{owner, mask_of, same, counted, is_bit, is_woken, is_page, is_simple}
 use Rattle.wait_model.specs.Views.{View as Told, Walk, Look, off, shown, gone, passed, is_trying_for}
 use Rattle.wait_model.specs.Fold.{after, met_task, is_off, picks}
-use Rattle.wait_model.specs.Programs.{past, reached}
-use Rattle.wait_model.specs.Rows.{MaySpend}
+use Rattle.wait_model.specs.declared.watches.Kind.TheVariants as kind
+use Rattle.wait_model.specs.declared.points.Point.TheVariants as at
+use Rattle.wait_model.specs.declared.points.WalkPoint.TheVariants as walking
+use Rattle.wait_model.specs.declared.points.Next.TheVariants as next
+use Rattle.wait_model.specs.declared.steps.Step.TheVariants as step
 use Rattle.wait_model.proofs.Functions.{both_left, put_at}
 use Rattle.wait_rule.specs.declared.journal.Item.TheVariants as item
-use Rattle.wait_rule.specs.Known.{Known}
+use Rattle.wait_rule.specs.{Known.Known, Members.IsOwnKind, Members.IsStanding, Notes.Notes, Notes.is_simple_look}
+use Rattle.wait_rule.specs.Shown.{look_entry}
 use Rattle.wait_rule.specs.Says.{told_of, noted, stored_with}
 use Rattle.wait_rule.specs.Queues.{MayUnqueue, place_by, index}
-use Rattle.wait_rule.specs.Members.{IsOwnKind, IsStanding}
-use Rattle.wait_rule.specs.Notes.{Notes, is_simple_look}
-use Rattle.wait_rule.specs.Shown.{look_entry}
 use Rattle.wait_rule.specs.Transitions.{Transition, by_step, walk_program, Goes}
-use Rattle.wait_rule.proofs.KnownLaws.AfterSteps.{told_added}
-use Rattle.wait_rule.proofs.KnownLaws.MemberBits.{told_stored, noted_stored}
-use Rattle.wait_rule.proofs.KnownLaws.Transitions.{goes_on}
-use Rattle.wq_head.specs.declared.functions.ShownEntry.{ShownEntry}
-use Rattle.wq_head.specs.Walks.{IsFull}
+use Rattle.wait_rule.proofs.{KnownLaws.AfterSteps.told_added, KnownLaws.MemberBits.told_stored}
+use Rattle.wait_rule.proofs.{KnownLaws.MemberBits.noted_stored, KnownLaws.Transitions.goes_on}
+use Rattle.wq_head.specs.{declared.functions.ShownEntry.ShownEntry, Walks.IsFull}
 use Rattle.wq_head.specs.Walking.{IsAhead, StaysInWalk, IsPassing, IsHeld, IsCalling, IsNextEntry, HasCalled, TakesOff}
 use Rattle.wq_head.specs.Walking.{WakesOff, woke_by, SamePlaces, entry_called, rest_of, next_in_walk}
-use Rattle.wq_head.proofs.CalledEntries.{called_less}
+use Rattle.wq_head.proofs.{CalledEntries.called_less, PastMembers.passed_more}
 use Rattle.wq_head.proofs.EntryFunctions.{keeps_on, keeps_same, gone_woke, under_one, counted_spends, wake_keeps}
 use Rattle.wq_head.proofs.EntryFunctions.{wake_calling, wake_places, wake_shows}
 use Rattle.wq_head.proofs.EntryWakes.{blank_seen, wake_transition, auto_goes, var_goes, off_goes}
 use Rattle.wq_head.proofs.FullHeads.{IsOne, one_of, same_self, var_only}
-use Rattle.wq_head.proofs.PastMembers.{passed_more}
 use Rattle.wq_head.proofs.QuietSteps.{off_marks, off_keeps, off_walking, off_stays}
 use Rattle.wq_head.proofs.ShownMembers.{whole_off, standing_off, places_off, off_entry}
 

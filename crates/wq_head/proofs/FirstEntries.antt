@@ -3,44 +3,34 @@ use Rattle.std.proofs.Common.{◌∙◌, ap, sym, refl, subst, inl, inr, eq-eqb,
 use Rattle.std.proofs.lemmas.Bool.Decides.{nat_tests}
 use Rattle.std.specs.Prelude.{ℕ, ◌-◌, ◌/◌, ◌%◌, ◌≡◌, ◌≢◌, ◌<◌, ◌≤◌, ◌&&◌, ◌||◌, ◌==◌}
 use Rattle.std.specs.Prelude.{Bool, true, false, nat_lt, if◌then◌else◌, Option, Some, None}
+use Rattle.wait_model.specs.{declared.watches.Entry.Entry, declared.watches.Kind.Kind, declared.queues.Member.Member}
+use Rattle.wait_model.specs.{Facts.Agrees, Functions.put, Tasks.IsLawfulWord, Words.entry_of}
 use Rattle.wait_model.specs.declared.layout.TheConstants.{SLOTS, ENTRIES, MEMBERS}
-use Rattle.wait_model.specs.declared.watches.Entry.{Entry}
-use Rattle.wait_model.specs.declared.watches.Kind.{Kind}
-use Rattle.wait_model.specs.declared.watches.Kind.TheVariants as kind
-use Rattle.wait_model.specs.declared.watches.Mode.TheVariants as mode
-use Rattle.wait_model.specs.declared.queues.Member.{Member}
-use Rattle.wait_model.specs.declared.steps.Step.TheVariants as step
-use Rattle.wait_model.specs.Facts.{Agrees}
 use Rattle.wait_model.specs.Fold.{after, is_off, met_task}
-use Rattle.wait_model.specs.Functions.{put}
 use Rattle.wait_model.specs.Queues.{is_entry, entry_from, rank}
-use Rattle.wait_model.specs.Tasks.{IsLawfulWord}
 use Rattle.wait_model.specs.Views.{View as Told, Look, off, shown}
 use Rattle.wait_model.specs.Watches.{is_page, is_simple, mask_of, owner}
-use Rattle.wait_model.specs.Words.{entry_of}
+use Rattle.wait_model.specs.declared.watches.Kind.TheVariants as kind
+use Rattle.wait_model.specs.declared.watches.Mode.TheVariants as mode
+use Rattle.wait_model.specs.declared.steps.Step.TheVariants as step
 use Rattle.wait_model.proofs.Functions.{put_at, put_same}
 use Rattle.wait_model.proofs.QueueLaws.QueueOrder.{first_is, one_first}
 use Rattle.wait_rule.specs.declared.journal.Item.TheVariants as item
-use Rattle.wait_rule.specs.Known.{Known}
-use Rattle.wait_rule.specs.Members.{IsOwnKind}
+use Rattle.wait_rule.specs.{Known.Known, Members.IsOwnKind, Shown.shown_entry, Shown.shown_queue}
 use Rattle.wait_rule.specs.Notes.{Notes, is_simple_look, look_place, glance_place, notes_after_wake}
 use Rattle.wait_rule.specs.Queues.{IsWholeBook, KnewEntry, MayUnqueue, index, place_by, saw}
 use Rattle.wait_rule.specs.Says.{told_of, noted, added, stored_with}
-use Rattle.wait_rule.specs.Shown.{shown_entry, shown_queue}
 use Rattle.wait_rule.proofs.KnownLaws.AfterSteps.{told_added, noted_added}
 use Rattle.wait_rule.proofs.KnownLaws.HeadLinks.{wake_marks}
 use Rattle.wait_rule.proofs.KnownLaws.MemberBits.{told_stored, noted_stored}
-use Rattle.wq_head.specs.Looks.{Looks}
-use Rattle.wq_head.specs.Members.{AreStanding}
-use Rattle.wq_head.specs.Selects.{ShowsNoEntry, simple_aim}
-use Rattle.wq_head.specs.Selecting.{IsFirstEntry, HasSelectedFirst}
+use Rattle.wq_head.specs.{Looks.Looks, Members.AreStanding, Selects.ShowsNoEntry, Selects.simple_aim}
+use Rattle.wq_head.specs.{Selecting.IsFirstEntry, Selecting.HasSelectedFirst}
+use Rattle.wq_head.proofs.{OneMoreLook.saw_looks, OneMoreLook.saw_bits, SimpleEntries.is_simple_entry}
 use Rattle.wq_head.proofs.KeptHolds.{hold_on, hold_looks, hold_wake, hold_off}
 use Rattle.wq_head.proofs.LookingHold.{looks_whole, looks_place, looks_standing}
 use Rattle.wq_head.proofs.MemberStands.{few, entry_shown, look_is_shown, place_under}
-use Rattle.wq_head.proofs.OneMoreLook.{saw_looks, saw_bits}
 use Rattle.wq_head.proofs.ShownMembers.{place_same, whole_same, standing_same, whole_off, standing_off, off_place}
 use Rattle.wq_head.proofs.ShownQueue.{queue_in_order, queue_has, queue_of}
-use Rattle.wq_head.proofs.SimpleEntries.{is_simple_entry}
 
 -- the first entry of the queue, and none
 pub first_entry : (k : Known) (s : Member) → s.at < ENTRIES → place_by k s.at ≡ Some s.place

@@ -3,10 +3,7 @@ use Rattle.std.proofs.Common.{subst, inl, inr, arith}
 use Rattle.std.specs.Prelude.{ℕ, ◌≡◌, ◌+◌, ◌-◌, ◌*◌, ◌<◌, Bool, true, false, None, MatchBool}
 use Rattle.wait_model.specs.declared.layout.TheConstants.{MEMBERS, MEMBER_WORDS, WORD_BITS}
 use Rattle.wait_model.specs.Words.{bit_at}
-use Rattle.wait_rule.specs.Known.{Known}
-use Rattle.wait_rule.specs.Says.{told_of, noted}
-use Rattle.wait_rule.specs.Queues.{place_by}
-use Rattle.wait_rule.specs.LookCounts.{Looked}
+use Rattle.wait_rule.specs.{Known.Known, Says.told_of, Says.noted, Queues.place_by, LookCounts.Looked}
 use Rattle.wq_head.specs.Looks.{Looks, is_seen_member, AreSeen, IsEmpty, HasMember}
 use Rattle.wq_head.specs.Looking.{IsClear, IsSet, IsByBit, AreNone}
 use Rattle.wq_head.specs.Members.{AreStanding}

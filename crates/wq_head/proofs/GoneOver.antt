@@ -1,12 +1,9 @@
 -- What a hold keeps that goes over the members of its queue.
 use Rattle.std.specs.Prelude.{ℕ, ◌≡◌, ◌≤◌, length}
-use Rattle.wait_model.specs.declared.queues.Walking.{Walking}
-use Rattle.wait_model.specs.declared.watches.Aim.{Aim}
+use Rattle.wait_model.specs.{declared.queues.Walking.Walking, declared.watches.Aim.Aim}
 use Rattle.wait_rule.specs.Known.{Known}
-use Rattle.wq_head.specs.declared.rousing.Rousing.{Rousing}
-use Rattle.wq_head.specs.Looks.{Looks}
-use Rattle.wq_head.specs.Roused.{IsRousing, tasks_in}
-use Rattle.wq_head.specs.Walking.{IsStarting, rest_of}
+use Rattle.wq_head.specs.{declared.rousing.Rousing.Rousing, Looks.Looks, Roused.IsRousing, Roused.tasks_in}
+use Rattle.wq_head.specs.{Walking.IsStarting, Walking.rest_of}
 use Rattle.wq_head.proofs.CallingHold.{InHold}
 
 -- Behind so many members the hold is at `now`, with these counts, and is to rouse these; it began its queue at `old`.

@@ -3,57 +3,44 @@ use Rattle.std.proofs.Common.{◌∙◌, ap, sym, refl, subst, inl, inr, eqb-tru
 use Rattle.std.proofs.lemmas.Bool.{and_from, and_left, or_left, or_right}
 use Rattle.std.specs.Prelude.{ℕ, ◌+◌, ◌*◌, ◌≡◌, ◌≢◌, ◌<◌, ◌&&◌, ◌||◌, ◌==◌, not, Bool, true, false}
 use Rattle.std.specs.Prelude.{if◌then◌else◌, Option, Some, None, [], ◌∷◌}
+use Rattle.wait_model.specs.{declared.watches.Watch.Watch, declared.watches.Entry.Entry, declared.watches.Aim.Aim}
+use Rattle.wait_model.specs.{declared.queues.Walking.Walking, declared.points.Next.Next, Functions.put, Rows.MaySpend}
+use Rattle.wait_model.specs.{Programs.past, Programs.reached}
 use Rattle.wait_model.specs.declared.layout.TheConstants.{SLOTS, ENTRIES, MEMBERS}
-use Rattle.wait_model.specs.declared.watches.Watch.{Watch}
-use Rattle.wait_model.specs.declared.watches.Entry.{Entry}
-use Rattle.wait_model.specs.declared.watches.Kind.TheVariants as kind
-use Rattle.wait_model.specs.declared.watches.Mode.TheVariants as mode
-use Rattle.wait_model.specs.declared.watches.Aim.{Aim}
-use Rattle.wait_model.specs.declared.queues.Walking.{Walking}
-use Rattle.wait_model.specs.declared.points.Point.TheVariants as at
-use Rattle.wait_model.specs.declared.points.WalkPoint.TheVariants as walking
-use Rattle.wait_model.specs.declared.points.PageStage.TheVariants as staging
-use Rattle.wait_model.specs.declared.points.Next.{Next}
-use Rattle.wait_model.specs.declared.points.Next.TheVariants as next
-use Rattle.wait_model.specs.declared.steps.Step.TheVariants as step
-use Rattle.wait_model.specs.Functions.{put}
 use Rattle.wait_model.specs.Watches.{is_bit, is_simple, mask_of, misses, owner, page, same, was_clear, word_of}
 use Rattle.wait_model.specs.Views.{View as Told, Walk, Look, unseen, off, elsewhere, shown, is_trying_for}
 use Rattle.wait_model.specs.Fold.{after, is_for_page, met_task}
-use Rattle.wait_model.specs.Rows.{MaySpend}
-use Rattle.wait_model.specs.Programs.{past, reached}
+use Rattle.wait_model.specs.declared.watches.Kind.TheVariants as kind
+use Rattle.wait_model.specs.declared.watches.Mode.TheVariants as mode
+use Rattle.wait_model.specs.declared.points.Point.TheVariants as at
+use Rattle.wait_model.specs.declared.points.WalkPoint.TheVariants as walking
+use Rattle.wait_model.specs.declared.points.PageStage.TheVariants as staging
+use Rattle.wait_model.specs.declared.points.Next.TheVariants as next
+use Rattle.wait_model.specs.declared.steps.Step.TheVariants as step
 use Rattle.wait_model.proofs.Functions.{put_at, put_same}
 use Rattle.wait_rule.specs.declared.journal.Item.TheVariants as item
-use Rattle.wait_rule.specs.Known.{Known}
-use Rattle.wait_rule.specs.Members.{IsOwnKind}
+use Rattle.wait_rule.specs.{Known.Known, Members.IsOwnKind, Shown.look_entry, Shown.shown_entry, Stays.Stays}
+use Rattle.wait_rule.specs.{Stays.no_entries, Transitions.walk_program, Transitions.Goes}
 use Rattle.wait_rule.specs.Notes.{Notes, after_noted_call, after_telling, callee, first_due, is_ahead, is_due}
 use Rattle.wait_rule.specs.Notes.{is_for_look, is_simple_look, notes_after_wake, with_normal, without_normal}
 use Rattle.wait_rule.specs.Queues.{IsWholeBook, index, place_by}
 use Rattle.wait_rule.specs.Says.{added, noted, stored_with, told_of}
-use Rattle.wait_rule.specs.Shown.{look_entry, shown_entry}
-use Rattle.wait_rule.specs.Stays.{Stays, no_entries}
-use Rattle.wait_rule.specs.Transitions.{walk_program, Goes}
-use Rattle.wait_rule.proofs.KnownLaws.AfterSteps.{told_added, noted_added}
-use Rattle.wait_rule.proofs.KnownLaws.Debts.{step_debts}
-use Rattle.wait_rule.proofs.KnownLaws.MemberBits.{told_stored, noted_stored}
-use Rattle.wait_rule.proofs.KnownLaws.Transitions.{goes_on}
-use Rattle.wq_head.specs.declared.functions.ShownEntry.{ShownEntry}
-use Rattle.wq_head.specs.Members.{AreStanding}
-use Rattle.wq_head.specs.Walks.{IsFull}
+use Rattle.wait_rule.proofs.{KnownLaws.AfterSteps.told_added, KnownLaws.AfterSteps.noted_added}
+use Rattle.wait_rule.proofs.{KnownLaws.Debts.step_debts, KnownLaws.MemberBits.told_stored}
+use Rattle.wait_rule.proofs.{KnownLaws.MemberBits.noted_stored, KnownLaws.Transitions.goes_on}
+use Rattle.wait_rule.proofs.{KnownLaws.StayingParts.stays_bits, KnownLaws.StayingParts.stays_on}
+use Rattle.wq_head.specs.{declared.functions.ShownEntry.ShownEntry, Members.AreStanding, Walks.IsFull}
 use Rattle.wq_head.specs.Walking.{HandsPage, HasCalled, IsCalling, IsHeld, IsNextEntry, SamePlaces, StaysInWalk}
 use Rattle.wq_head.specs.Walking.{entry_called, rest_of, next_in_walk, with_left}
-use Rattle.wq_head.proofs.BitEntries.{tested_places}
+use Rattle.wq_head.proofs.{BitEntries.tested_places, EntryFunctions.keeps_on, EntryFunctions.under_one}
+use Rattle.wq_head.proofs.{EntryWakes.load_transition, EntryWakes.page_goes, PassedBits.passes_all}
+use Rattle.wq_head.proofs.QuietSteps.{off_stays}
 use Rattle.wq_head.proofs.CountedCalls.{call_called, call_left, call_notes, call_used, even_index, one_slot, rest_now}
 use Rattle.wq_head.proofs.CountedCalls.{first_owner, second_owner, shows_entry, walk_is}
-use Rattle.wq_head.proofs.EntryFunctions.{keeps_on, under_one}
-use Rattle.wq_head.proofs.EntryWakes.{load_transition, page_goes}
 use Rattle.wq_head.proofs.PageEntries.{clear_is, for_page, looked, looked_keeps, looked_next, noted_tried, page_bit}
 use Rattle.wq_head.proofs.PageEntries.{told_tried, tried, tries}
 use Rattle.wq_head.proofs.PageTransitions.{at_stage, hand_goes, hand_transition, leave_goes, leave_transition}
 use Rattle.wq_head.proofs.PageTransitions.{rouse_goes, rouse_transition, try_goes, try_transition}
-use Rattle.wait_rule.proofs.KnownLaws.StayingParts.{stays_bits, stays_on}
-use Rattle.wq_head.proofs.PassedBits.{passes_all}
-use Rattle.wq_head.proofs.QuietSteps.{off_stays}
 use Rattle.wq_head.proofs.ShownMembers.{off_entry, places_off, standing_off, whole_off}
 
 used_still : (u s m : Bool) → s ≡ false → (u || (s && m)) ≡ u

@@ -3,28 +3,21 @@ use Rattle.std.proofs.Common.{◌∙◌, ap, sym, refl, subst, inl, inr, eq-eqb,
 use Rattle.std.proofs.lemmas.Bool.{and_right}
 use Rattle.std.specs.Prelude.{ℕ, ◌≡◌, ◌≢◌, ◌<◌, ◌&&◌, ◌||◌, ◌==◌, not, Bool, true, false}
 use Rattle.std.specs.Prelude.{Option, Some}
-use Rattle.wait_model.specs.declared.layout.TheConstants.{BIT_WORDS}
-use Rattle.wait_model.specs.declared.queues.Form.TheVariants as forms
-use Rattle.wait_model.specs.declared.watches.Watch.{Watch}
-use Rattle.wait_model.specs.declared.watches.Kind.{Kind}
-use Rattle.wait_model.specs.declared.watches.Kind.TheVariants as kind
-use Rattle.wait_model.specs.declared.watches.Entry.{Entry}
-use Rattle.wait_model.specs.declared.steps.Step.TheVariants as step
+use Rattle.wait_model.specs.{declared.layout.TheConstants.BIT_WORDS, declared.watches.Watch.Watch}
+use Rattle.wait_model.specs.{declared.watches.Kind.Kind, declared.watches.Entry.Entry, Views.View as Told}
+use Rattle.wait_model.specs.{Views.is_trying_for, Fold.after}
 use Rattle.wait_model.specs.Watches.{is_page, page, same}
-use Rattle.wait_model.specs.Views.{View as Told, is_trying_for}
-use Rattle.wait_model.specs.Fold.{after}
+use Rattle.wait_model.specs.declared.queues.Form.TheVariants as forms
+use Rattle.wait_model.specs.declared.watches.Kind.TheVariants as kind
+use Rattle.wait_model.specs.declared.steps.Step.TheVariants as step
 use Rattle.wait_model.proofs.Functions.{put_at}
 use Rattle.wait_rule.specs.declared.journal.Item.TheVariants as item
-use Rattle.wait_rule.specs.Asked.{is_asking, waits_for}
-use Rattle.wait_rule.specs.Known.{Known}
-use Rattle.wait_rule.specs.Members.{IsStanding}
-use Rattle.wait_rule.specs.Queues.{index}
+use Rattle.wait_rule.specs.{Asked.is_asking, Asked.waits_for, Known.Known, Members.IsStanding, Queues.index}
 use Rattle.wait_rule.specs.Says.{Debts, Obligation, Excuse, IsOutBut, OwesBut, TriesNone, added, asks_for, end_unclosed}
 use Rattle.wait_rule.specs.Says.{excuses, has_duty, has_end, is_excused, page_asked, stored_with, told_of, wake_of}
 use Rattle.wait_rule.specs.Stays.{Carries, only_looks, with_entry, with_page}
-use Rattle.wait_rule.proofs.KnownLaws.AskedPages.{asked_added}
+use Rattle.wait_rule.proofs.{KnownLaws.AskedPages.asked_added, KnownLaws.StayingParts.owes_also}
 use Rattle.wait_rule.proofs.KnownLaws.Debts.{LeavesNone, end_added, leaves_of, leaves_stored}
-use Rattle.wait_rule.proofs.KnownLaws.StayingParts.{owes_also}
 use Rattle.wq_head.proofs.CarriedHolds.{looks_carried}
 use Rattle.wq_head.specs.Adds.{IsFor, IsForBit, IsForVar, HasAddedForBit, HasAddedForPage, HasPut, front_entry}
 use Rattle.wq_head.specs.Adds.{page_change, tail_entry}

@@ -4,31 +4,23 @@ use Rattle.std.proofs.lemmas.Bool.{or_left, or_right}
 use Rattle.std.specs.Prelude.{ℕ, zero, suc, ◌≡◌, ◌≢◌, ◌+◌, ◌<◌, ◌≤◌, ◌==◌, ◌&&◌, ◌||◌, not, Bool, true, false}
 use Rattle.std.specs.Prelude.{List, [], ◌∷◌, ◌++◌}
 use Rattle.std.proofs.lemmas.Bool.Decides.{nat_tests}
-use Rattle.wait_model.specs.declared.layout.TheConstants.{MEMBER_WORDS}
-use Rattle.wait_model.specs.declared.watches.Watch.{Watch}
-use Rattle.wait_model.specs.declared.steps.Step.{Step}
+use Rattle.wait_model.specs.{declared.layout.TheConstants.MEMBER_WORDS, declared.watches.Watch.Watch}
+use Rattle.wait_model.specs.{declared.steps.Step.Step, Tasks.meets, Scans.empty_scans, Scans.empty_look}
+use Rattle.wait_model.specs.{Views.View as Told, Fold.after, Fold.view_of}
+use Rattle.wait_model.specs.Watches.{head_of, mask_of, same}
 use Rattle.wait_model.specs.declared.steps.Step.TheVariants as step
 use Rattle.wait_model.specs.declared.watches.Mode.TheVariants as mode
-use Rattle.wait_model.specs.Tasks.{meets}
-use Rattle.wait_model.specs.Watches.{head_of, mask_of, same}
-use Rattle.wait_model.proofs.Sameness.{same_head}
-use Rattle.wait_model.specs.Scans.{empty_scans, empty_look}
-use Rattle.wait_model.specs.Views.{View as Told}
-use Rattle.wait_model.specs.Fold.{after, view_of}
-use Rattle.wait_model.proofs.HistoryLaws.HeadScans.{empty_looks_end}
-use Rattle.wait_rule.specs.declared.journal.Item.{Item}
-use Rattle.wait_rule.specs.declared.journal.Item.TheVariants as item
-use Rattle.wait_rule.specs.Items.{steps_of}
-use Rattle.wait_rule.specs.Known.{Known}
+use Rattle.wait_model.proofs.{Sameness.same_head, HistoryLaws.HeadScans.empty_looks_end}
+use Rattle.wait_rule.specs.{declared.journal.Item.Item, Items.steps_of, Known.Known, LookCounts.Looked}
+use Rattle.wait_rule.specs.LookCounts.{LooksAtMost}
 use Rattle.wait_rule.specs.Says.{Excuse, OwesBut, told_of, history_of, added, grown, wake_of}
 use Rattle.wait_rule.specs.Stays.{with_wakes, Carries, unchanged}
-use Rattle.wait_rule.specs.LookCounts.{Looked, LooksAtMost}
 use Rattle.wait_rule.specs.Transitions.{AreScansOf, has_bit, has_word}
-use Rattle.wait_rule.proofs.KnownLaws.AfterSteps.{told_added}
-use Rattle.wait_rule.proofs.KnownLaws.Transitions.{grown_none, grown_more}
-use Rattle.wait_rule.proofs.KnownLaws.CarriedTasks.{or_none, owes_more, owes_wakes, unchanged_on, stays_carried}
-use Rattle.wait_rule.proofs.KnownLaws.StayingParts.{stays_same}
+use Rattle.wait_rule.specs.declared.journal.Item.TheVariants as item
+use Rattle.wait_rule.proofs.{KnownLaws.AfterSteps.told_added, KnownLaws.Transitions.grown_none}
+use Rattle.wait_rule.proofs.{KnownLaws.Transitions.grown_more, KnownLaws.StayingParts.stays_same}
 use Rattle.wait_rule.proofs.TableSteps.ItemLists.{steps_append}
+use Rattle.wait_rule.proofs.KnownLaws.CarriedTasks.{or_none, owes_more, owes_wakes, unchanged_on, stays_carried}
 use Rattle.wq_head.specs.Scanned.{HasScanned, HasEndedAt, spares_head}
 use Rattle.wq_head.proofs.FirstAndLast.{below_or}
 

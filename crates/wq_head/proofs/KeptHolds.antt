@@ -1,27 +1,19 @@
 -- What a hold keeps over looks, wakes, and entries that are taken off.
 use Rattle.std.proofs.Common.{◌∙◌, ap, sym, refl, subst}
 use Rattle.std.specs.Prelude.{ℕ, ◌≡◌, ◌<◌, ◌≤◌, true, Some}
-use Rattle.wait_model.specs.declared.layout.TheConstants.{SLOTS, FIRST_SIMPLE_HEAD}
-use Rattle.wait_model.specs.declared.watches.Entry.{Entry}
-use Rattle.wait_model.specs.declared.steps.Step.{Step}
+use Rattle.wait_model.specs.{declared.layout.TheConstants.SLOTS, declared.layout.TheConstants.FIRST_SIMPLE_HEAD}
+use Rattle.wait_model.specs.{declared.watches.Entry.Entry, declared.steps.Step.Step, Views.View as Told, Fold.after}
 use Rattle.wait_model.specs.declared.steps.Step.TheVariants as step
-use Rattle.wait_model.specs.Views.{View as Told}
-use Rattle.wait_model.specs.Fold.{after}
 use Rattle.wait_rule.specs.declared.journal.Item.TheVariants as item
-use Rattle.wait_rule.specs.Known.{Known}
-use Rattle.wait_rule.specs.Members.{IsOwnKind}
-use Rattle.wait_rule.specs.Notes.{Notes, note_step}
-use Rattle.wait_rule.specs.Queues.{IsAgreed, index}
+use Rattle.wait_rule.specs.{Known.Known, Members.IsOwnKind, Notes.Notes, Notes.note_step, Queues.IsAgreed, Queues.index}
 use Rattle.wait_rule.specs.Says.{told_of, noted, added, stored_with}
 use Rattle.wait_rule.specs.Stays.{Stays, no_entries, Carries, only_looks}
 use Rattle.wait_rule.proofs.KnownLaws.AfterSteps.{told_added, noted_added}
 use Rattle.wait_rule.proofs.KnownLaws.CarriedTasks.{stays_carried}
 use Rattle.wait_rule.proofs.KnownLaws.MemberBits.{told_stored, noted_stored}
 use Rattle.wait_rule.proofs.KnownLaws.StayingParts.{stays_on, stays_same}
-use Rattle.wq_head.specs.Holds.{IsHolding}
-use Rattle.wq_head.specs.Looks.{Looks}
+use Rattle.wq_head.specs.{Holds.IsHolding, Looks.Looks, Walking.IsUnder}
 use Rattle.wq_head.specs.Selects.{IsSimpleHold, KeepsHold, simple_aim}
-use Rattle.wq_head.specs.Walking.{IsUnder}
 use Rattle.wq_head.proofs.QuietSteps.{TellsLittle, wake_quiet, wake_stays, off_tells, off_stays}
 
 pub hold_same : (k : Known) → KeepsHold k k

@@ -7,14 +7,11 @@ use Rattle.std.proofs.lemmas.List.{get_or-set_other}
 use Rattle.std.specs.Prelude.{ℕ, zero, suc, ◌≡◌, ◌<◌, ◌≤◌, ◌+◌, true, Option, Some, None, List, [], ◌∷◌, ◌++◌}
 use Rattle.std.specs.Prelude.{length, slice_index}
 use Rattle.wait_model.specs.declared.layout.TheConstants.{MEMBERS}
-use Rattle.wait_rule.specs.Known.{Known}
-use Rattle.wait_rule.specs.Says.{told_of, noted}
-use Rattle.wait_rule.specs.Queues.{place_by}
+use Rattle.wait_rule.specs.{Known.Known, Says.told_of, Says.noted, Queues.place_by}
 use Rattle.wq_head.specs.Looks.{Looks, AreSeen, is_seen_member}
 use Rattle.wq_head.specs.Looking.{AreNone}
 use Rattle.wq_head.specs.Members.{AreStanding, IsShownMember, IsWordOf}
-use Rattle.wq_head.proofs.FirstAndLast.{below_or}
-use Rattle.wq_head.proofs.MemberStands.{stands_on, word_on}
+use Rattle.wq_head.proofs.{FirstAndLast.below_or, MemberStands.stands_on, MemberStands.word_on}
 
 -- the numbers of those that stand
 abbrev pub numbers_with : ℕ → Option ℕ → List ℕ → List ℕ

@@ -2,10 +2,8 @@
 use Rattle.std.specs.Prelude.{ℕ, List, [], ◌∷◌}
 use Rattle.wait_model.specs.declared.steps.Step.{Step}
 use Rattle.wait_model.specs.declared.steps.Step.TheVariants as step
-use Rattle.wait_rule.specs.declared.journal.Item.{Item}
+use Rattle.wait_rule.specs.{declared.journal.Item.Item, Items.steps_of, Transitions.AreLooks}
 use Rattle.wait_rule.specs.declared.journal.Item.TheVariants as item
-use Rattle.wait_rule.specs.Items.{steps_of}
-use Rattle.wait_rule.specs.Transitions.{AreLooks}
 
 pub looks_by : (P : List Step → Type 0) → P [] → ((y w : ℕ) (es : List Step) → P es → P (step.Saw y w ∷ es))
     → (xs : List Item) → AreLooks xs → P (steps_of xs)

@@ -1,14 +1,11 @@
 -- From the index at which a look goes on to the next set bit of its word.
 use Rattle.std.proofs.Common.{subst, inl, inr, arith}
 use Rattle.std.specs.Prelude.{ℕ, ◌≡◌, ◌+◌, ◌-◌, ◌*◌, ◌/◌, ◌%◌, ◌<◌, ◌≤◌, Bool, true, false}
-use Rattle.wait_model.specs.declared.layout.TheConstants.{MEMBERS, WORD_BITS}
-use Rattle.wait_model.specs.Words.{bit_at}
+use Rattle.wait_model.specs.{declared.layout.TheConstants.MEMBERS, declared.layout.TheConstants.WORD_BITS, Words.bit_at}
 use Rattle.wait_rule.specs.Known.{Known}
-use Rattle.wq_head.specs.declared.looking.Looking.{Looking}
-use Rattle.wq_head.specs.Looks.{Looks}
+use Rattle.wq_head.specs.{declared.looking.Looking.Looking, Looks.Looks}
 use Rattle.wq_head.specs.Looking.{IsClear, IsSet, IsByBit, AreByBits, AreNone, IsLookingBy}
-use Rattle.wq_head.proofs.FirstAndLast.{below_or}
-use Rattle.wq_head.proofs.BitLooks.{clear_on, bit_on}
+use Rattle.wq_head.proofs.{FirstAndLast.below_or, BitLooks.clear_on, BitLooks.bit_on}
 
 module _ (old new : Known) (l : Looks old new) (from next word bit : ℕ) (few : next < MEMBERS)
     (none : AreNone old from next) (told : AreByBits new (WORD_BITS * (next / WORD_BITS)) word WORD_BITS)

@@ -1,15 +1,10 @@
 -- A wake that has ended leaves nobody asleep for whom it was.
 use Rattle.std.proofs.Common.{◌∙◌, refl}
 use Rattle.std.specs.Prelude.{◌≡◌, Bool, true, false, not, ◌&&◌}
-use Rattle.wait_model.specs.declared.watches.Aim.{Aim}
-use Rattle.wait_model.specs.Tasks.{meets}
-use Rattle.wait_model.specs.Watches.{same, mask_of}
-use Rattle.wait_rule.specs.Known.{Known}
-use Rattle.wait_rule.specs.LosesNone.{OwesNoneOf}
-use Rattle.wait_rule.specs.Says.{told_of}
+use Rattle.wait_model.specs.{declared.watches.Aim.Aim, Tasks.meets, Watches.same, Watches.mask_of}
+use Rattle.wait_rule.specs.{Known.Known, LosesNone.OwesNoneOf, Says.told_of}
 use Rattle.wait_rule.proofs.KnownLaws.LosesNone.{settled_leave_none}
-use Rattle.wq_head.specs.LosesNone.{WakesLoseNone}
-use Rattle.wq_head.specs.Walks.{HasEnded}
+use Rattle.wq_head.specs.{LosesNone.WakesLoseNone, Walks.HasEnded}
 
 ended_owes_none : (old new : Known) (a : Aim) → HasEnded old new a → OwesNoneOf a.watch a.mode new
 ended_owes_none old new a ended d σ is met = ended.owes d σ

@@ -5,8 +5,7 @@ use Rattle.std.proofs.lemmas.Nat.{pow-add}
 use Rattle.std.proofs.lemmas.Nat.Bits.{bit_at-trailing_zeros, bit_at-zero, bit_at_above}
 use Rattle.std.specs.Int as int
 use Rattle.std.specs.Prelude.{ℕ, ◌≡◌, ◌<◌, ◌≤◌, ◌+◌, ◌-◌, ◌/◌, ◌%◌, ◌^◌, true, false, ◌==◌}
-use Rattle.wait_model.specs.declared.layout.TheConstants.{WORD_BITS}
-use Rattle.wait_model.specs.Words.{bit_at}
+use Rattle.wait_model.specs.{declared.layout.TheConstants.WORD_BITS, Words.bit_at}
 use Rattle.wq_head.proofs.FirstAndLast.{below_or}
 
 -- a bit of a word that was shifted

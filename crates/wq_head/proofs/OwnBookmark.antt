@@ -1,17 +1,13 @@
 -- What the history tells of the own bookmark is what the notes say.
 use Rattle.std.proofs.Common.{◌∙◌, ap, sym, refl}
 use Rattle.std.specs.Prelude.{ℕ, ◌≡◌, Bool, true, false, ◌||◌, if◌then◌else◌, Option, Some, None, List, [], ◌∷◌}
-use Rattle.wait_model.specs.declared.queues.Mark.{Mark}
-use Rattle.wait_model.specs.declared.steps.Step.{Step}
-use Rattle.wait_model.specs.declared.steps.Step.TheVariants as step
+use Rattle.wait_model.specs.{declared.queues.Mark.Mark, declared.steps.Step.Step}
 use Rattle.wait_model.specs.Views.{View as Told, Walk, all_passed, blank}
 use Rattle.wait_model.specs.Fold.{after, after_all, after_unlock, met_task}
-use Rattle.wait_rule.specs.declared.journal.Item.{Item}
-use Rattle.wait_rule.specs.declared.journal.Item.TheVariants as item
-use Rattle.wait_rule.specs.Items.{steps_of}
-use Rattle.wait_rule.specs.Known.{Known}
+use Rattle.wait_model.specs.declared.steps.Step.TheVariants as step
+use Rattle.wait_rule.specs.{declared.journal.Item.Item, Items.steps_of, Known.Known, Says.told_of, Says.noted}
 use Rattle.wait_rule.specs.Notes.{Notes, note, note_step, notes_from, no_notes}
-use Rattle.wait_rule.specs.Says.{told_of, noted}
+use Rattle.wait_rule.specs.declared.journal.Item.TheVariants as item
 use Rattle.wait_rule.proofs.KnownLaws.HeadLinks.{telling_own, wake_own}
 
 -- the place of a bookmark

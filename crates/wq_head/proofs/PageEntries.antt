@@ -3,47 +3,32 @@
 use Rattle.std.proofs.Common.{◌∙◌, ap, sym, refl, inl, arith}
 use Rattle.std.proofs.lemmas.Bool.{or_right}
 use Rattle.std.specs.Prelude.{ℕ, ◌≡◌, not, Bool, true, false, Option, [], ◌∷◌}
-use Rattle.wait_model.specs.declared.layout.TheConstants.{MEMBERS}
-use Rattle.wait_model.specs.declared.watches.Watch.{Watch}
+use Rattle.wait_model.specs.{declared.layout.TheConstants.MEMBERS, declared.watches.Watch.Watch}
+use Rattle.wait_model.specs.{declared.watches.Aim.Aim, declared.queues.Walking.Walking, declared.steps.Step.Step}
+use Rattle.wait_model.specs.{Fold.after, Fold.is_for_page, Programs.reached}
+use Rattle.wait_model.specs.Watches.{is_bit, is_page, misses, page, same, was_clear, word_of}
+use Rattle.wait_model.specs.Views.{View as Told, Walk, is_trying_for}
 use Rattle.wait_model.specs.declared.watches.Kind.TheVariants as kind
-use Rattle.wait_model.specs.declared.watches.Aim.{Aim}
-use Rattle.wait_model.specs.declared.queues.Walking.{Walking}
 use Rattle.wait_model.specs.declared.points.Point.TheVariants as at
 use Rattle.wait_model.specs.declared.points.WalkPoint.TheVariants as walking
 use Rattle.wait_model.specs.declared.points.PageStage.TheVariants as staging
 use Rattle.wait_model.specs.declared.points.Next.TheVariants as next
-use Rattle.wait_model.specs.declared.steps.Step.{Step}
 use Rattle.wait_model.specs.declared.steps.Step.TheVariants as step
-use Rattle.wait_model.specs.Watches.{is_bit, is_page, misses, page, same, was_clear, word_of}
-use Rattle.wait_model.specs.Views.{View as Told, Walk, is_trying_for}
-use Rattle.wait_model.specs.Fold.{after, is_for_page}
-use Rattle.wait_model.specs.Programs.{reached}
 use Rattle.wait_rule.specs.declared.journal.Item.TheVariants as item
-use Rattle.wait_rule.specs.Items.{after_try}
-use Rattle.wait_rule.specs.Known.{Known}
-use Rattle.wait_rule.specs.Members.{IsStanding}
-use Rattle.wait_rule.specs.Notes.{Notes}
-use Rattle.wait_rule.specs.PageCalls.{MayTryFor}
-use Rattle.wait_rule.specs.Queues.{IsWholeBook, index}
-use Rattle.wait_rule.specs.Says.{added, noted, told_of}
-use Rattle.wait_rule.specs.Shown.{look_entry}
-use Rattle.wait_rule.specs.Stays.{Stays, no_entries}
+use Rattle.wait_rule.specs.{Items.after_try, Known.Known, Members.IsStanding, Notes.Notes, PageCalls.MayTryFor}
+use Rattle.wait_rule.specs.{Queues.IsWholeBook, Queues.index, Shown.look_entry, Stays.Stays, Stays.no_entries}
 use Rattle.wait_rule.specs.Transitions.{walk_program}
-use Rattle.wait_rule.proofs.KnownLaws.AfterSteps.{told_added, noted_added}
-use Rattle.wait_rule.proofs.KnownLaws.Debts.{step_debts}
-use Rattle.wait_rule.proofs.KnownLaws.StayingParts.{stays_bits}
+use Rattle.wait_rule.specs.Says.{added, noted, told_of}
+use Rattle.wait_rule.proofs.{KnownLaws.AfterSteps.told_added, KnownLaws.AfterSteps.noted_added}
+use Rattle.wait_rule.proofs.{KnownLaws.Debts.step_debts, KnownLaws.StayingParts.stays_bits}
 use Rattle.wait_rule.proofs.KnownLaws.Transitions.{goes_on}
-use Rattle.wq_head.specs.declared.functions.ShownEntry.{ShownEntry}
-use Rattle.wq_head.specs.Members.{AreStanding}
-use Rattle.wq_head.specs.Walks.{IsFull, IsOfPage}
+use Rattle.wq_head.specs.{declared.functions.ShownEntry.ShownEntry, Members.AreStanding, Walks.IsFull, Walks.IsOfPage}
 use Rattle.wq_head.specs.Walking.{HasStopped, IsHeld, IsNextEntry, StaysInWalk, rest_of}
+use Rattle.wq_head.proofs.{EntryFunctions.keeps_on, EntryWakes.load_transition, EntryWakes.page_goes}
+use Rattle.wq_head.proofs.{PassedBits.past_all, ShownMembers.standing_same, ShownMembers.whole_same}
 use Rattle.wq_head.proofs.BitEntries.{set_moot, tested, tested_keeps, tested_next}
-use Rattle.wq_head.proofs.EntryFunctions.{keeps_on}
-use Rattle.wq_head.proofs.EntryWakes.{load_transition, page_goes}
 use Rattle.wq_head.proofs.FullHeads.{kind_page, page_same, same_self}
 use Rattle.wq_head.proofs.PageTransitions.{at_stage, try_goes, try_transition}
-use Rattle.wq_head.proofs.PassedBits.{past_all}
-use Rattle.wq_head.proofs.ShownMembers.{standing_same, whole_same}
 
 -- the walk is one for the page of the entry at hand
 module _ (a : Aim) (k : Known) (v : ShownEntry) (w : Walking) (n : IsNextEntry a k w v)

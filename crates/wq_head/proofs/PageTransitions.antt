@@ -1,31 +1,24 @@
 -- The events by which a walk hands a page over, as transitions of its program.
 use Rattle.std.proofs.Common.{ap, refl, subst}
 use Rattle.std.specs.Prelude.{ℕ, ◌≡◌, Bool, true, if◌then◌else◌, Some, [], ◌∷◌}
-use Rattle.wait_model.specs.declared.watches.Aim.{Aim}
-use Rattle.wait_model.specs.declared.watches.Mode.TheVariants as mode
-use Rattle.wait_model.specs.declared.queues.CalledEntry.{CalledEntry}
-use Rattle.wait_model.specs.declared.queues.Walking.{Walking}
-use Rattle.wait_model.specs.declared.points.Point.TheVariants as at
-use Rattle.wait_model.specs.declared.points.WalkPoint.{WalkPoint}
-use Rattle.wait_model.specs.declared.points.WalkPoint.TheVariants as walking
-use Rattle.wait_model.specs.declared.points.PageStage.{PageStage}
-use Rattle.wait_model.specs.declared.points.PageStage.TheVariants as staging
-use Rattle.wait_model.specs.declared.points.Seen.{Seen}
-use Rattle.wait_model.specs.declared.points.Next.{Next}
-use Rattle.wait_model.specs.declared.points.Next.TheVariants as next
-use Rattle.wait_model.specs.declared.steps.Step.TheVariants as step
+use Rattle.wait_model.specs.{declared.watches.Aim.Aim, declared.queues.CalledEntry.CalledEntry}
+use Rattle.wait_model.specs.{declared.queues.Walking.Walking, declared.points.WalkPoint.WalkPoint}
+use Rattle.wait_model.specs.{declared.points.PageStage.PageStage, declared.points.Seen.Seen, declared.points.Next.Next}
 use Rattle.wait_model.specs.Tasks.{task_of}
 use Rattle.wait_model.specs.Watches.{mask_of, misses, owner, word_of}
 use Rattle.wait_model.specs.Programs.{onward, past, reached}
+use Rattle.wait_model.specs.declared.watches.Mode.TheVariants as mode
+use Rattle.wait_model.specs.declared.points.Point.TheVariants as at
+use Rattle.wait_model.specs.declared.points.WalkPoint.TheVariants as walking
+use Rattle.wait_model.specs.declared.points.PageStage.TheVariants as staging
+use Rattle.wait_model.specs.declared.points.Next.TheVariants as next
+use Rattle.wait_model.specs.declared.steps.Step.TheVariants as step
 use Rattle.wait_rule.specs.declared.journal.Item.TheVariants as item
-use Rattle.wait_rule.specs.Known.{Known}
-use Rattle.wait_rule.specs.Says.{added, stored_with}
-use Rattle.wait_rule.specs.Shown.{shown_entry}
+use Rattle.wait_rule.specs.{Known.Known, Says.added, Says.stored_with, Shown.shown_entry}
 use Rattle.wait_rule.specs.Transitions.{Transition, by_step, walk_program, Goes}
 use Rattle.wait_rule.proofs.KnownLaws.MemberBits.{bit_looks}
 use Rattle.wait_rule.proofs.KnownLaws.Transitions.{looks_last, one_transition, only_none}
-use Rattle.wq_head.specs.declared.functions.ShownEntry.{ShownEntry}
-use Rattle.wq_head.specs.Walking.{entry_called, next_in_walk}
+use Rattle.wq_head.specs.{declared.functions.ShownEntry.ShownEntry, Walking.entry_called, Walking.next_in_walk}
 use Rattle.wq_head.proofs.EntryWakes.{blank_seen}
 
 module _ (a : Aim) (v : ShownEntry) (w real : Walking) where

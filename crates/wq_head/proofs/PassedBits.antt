@@ -2,22 +2,14 @@
 use Rattle.std.proofs.Common.{◌∙◌, ap, sym, refl, inl, inr, arith}
 use Rattle.std.proofs.lemmas.Bool.{or_left, or_right}
 use Rattle.std.specs.Prelude.{ℕ, ◌≡◌, ◌<◌, ◌||◌, not, Bool, true, false, if◌then◌else◌, Option}
-use Rattle.wait_model.specs.declared.layout.TheConstants.{ENTRIES, MEMBERS}
-use Rattle.wait_model.specs.declared.watches.Watch.{Watch}
-use Rattle.wait_model.specs.declared.watches.Entry.{Entry}
-use Rattle.wait_model.specs.declared.watches.Kind.{Kind}
+use Rattle.wait_model.specs.{declared.layout.TheConstants.ENTRIES, declared.layout.TheConstants.MEMBERS}
+use Rattle.wait_model.specs.{declared.watches.Watch.Watch, declared.watches.Entry.Entry, declared.watches.Kind.Kind}
 use Rattle.wait_model.specs.declared.watches.Aim.{Aim}
 use Rattle.wait_model.specs.Watches.{head_of, is_bit, is_page, is_woken, owner, same}
 use Rattle.wait_model.specs.Views.{Walk, Look, unseen, off, elsewhere, shown, gone, passed}
 use Rattle.wait_model.proofs.HistoryLaws.HoldBooks.{all_passed_of}
-use Rattle.wait_rule.specs.Known.{Known}
-use Rattle.wait_rule.specs.Members.{IsStanding}
-use Rattle.wait_rule.specs.Queues.{IsWholeBook}
-use Rattle.wait_rule.specs.Says.{told_of}
-use Rattle.wait_rule.specs.Shown.{look_entry}
-use Rattle.wq_head.specs.Members.{AreStanding}
-use Rattle.wq_head.specs.Walks.{IsFull}
-use Rattle.wq_head.specs.Walking.{IsHeld, IsPastAll}
+use Rattle.wait_rule.specs.{Known.Known, Members.IsStanding, Queues.IsWholeBook, Says.told_of, Shown.look_entry}
+use Rattle.wq_head.specs.{Members.AreStanding, Walks.IsFull, Walking.IsHeld, Walking.IsPastAll}
 use Rattle.wq_head.proofs.FullHeads.{bit_kinds, no_simple, one_of}
 use Rattle.wq_head.proofs.PastMembers.{passed_called}
 

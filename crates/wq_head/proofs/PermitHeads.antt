@@ -2,26 +2,17 @@
 -- is known as before.
 use Rattle.std.proofs.Common.{refl, ◌∙◌, ap, arith, inl, inr}
 use Rattle.std.specs.Prelude.{ℕ, ◌≡◌, ◌+◌, ◌*◌, ◌<◌, ◌-◌, Option, None, List, [], ◌∷◌, ◌++◌}
+use Rattle.wait_model.specs.{declared.steps.Step.Step, declared.watches.Entry.Entry, declared.watches.Kind.Kind}
+use Rattle.wait_model.specs.{declared.watches.Watch.Watch, Watches.head_of, Watches.page}
 use Rattle.wait_model.specs.declared.layout.TheConstants.{BIT_WORDS, WORD_BITS, FIRST_DONE_HEAD}
-use Rattle.wait_model.specs.declared.steps.Step.{Step}
-use Rattle.wait_model.specs.declared.watches.Entry.{Entry}
-use Rattle.wait_model.specs.declared.watches.Kind.{Kind}
-use Rattle.wait_model.specs.declared.watches.Watch.{Watch}
 use Rattle.wait_model.specs.declared.watches.Watch.TheVariants as watch
-use Rattle.wait_model.specs.Watches.{head_of, page}
-use Rattle.wait_rule.specs.declared.journal.Item.{Item}
-use Rattle.wait_rule.specs.HandedPermits.{FoundNoPermit, OwesNoPermit}
+use Rattle.wait_rule.specs.{declared.journal.Item.Item, HandedPermits.FoundNoPermit, HandedPermits.OwesNoPermit}
+use Rattle.wait_rule.specs.{Items.steps_of, Known.Known, Says.history_of, Transitions.AreLooks}
 use Rattle.wait_rule.specs.HeldValues.{count_in, value_after, value_from}
-use Rattle.wait_rule.specs.Items.{steps_of}
-use Rattle.wait_rule.specs.Known.{Known}
-use Rattle.wait_rule.specs.Says.{history_of}
-use Rattle.wait_rule.specs.Transitions.{AreLooks}
 use Rattle.wait_rule.proofs.TableSteps.ItemLists.{steps_append}
+use Rattle.wq_head.specs.{Looks.Looks, Walks.IsFull}
 use Rattle.wq_head.specs.Adds.{HasQueued, IsFor, IsForBit, IsForPlain, IsForVar}
-use Rattle.wq_head.specs.Looks.{Looks}
-use Rattle.wq_head.specs.Walks.{IsFull}
-use Rattle.wq_head.proofs.FullHeads.{hashed_low, head_small}
-use Rattle.wq_head.proofs.LookedItems.{looks_by}
+use Rattle.wq_head.proofs.{FullHeads.hashed_low, FullHeads.head_small, LookedItems.looks_by}
 
 -- heads below those of completions
 pub plain_low : (w : Watch) (k : Kind) → IsForPlain w k → head_of w < FIRST_DONE_HEAD

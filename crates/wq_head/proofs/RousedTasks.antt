@@ -2,22 +2,16 @@
 use Rattle.std.proofs.Common.{◌∙◌, ap, sym, subst, refl, append_assoc, append-nil, length-append, arith}
 use Rattle.std.specs.Prelude.{ℕ, ◌≡◌, ◌≤◌, ◌++◌, ◌∷◌, [], Bool, true, false, List, length, if◌then◌else◌, Option, Some}
 use Rattle.std.specs.Prelude.{None}
-use Rattle.wait_model.specs.declared.steps.Step.{Step}
+use Rattle.wait_model.specs.{declared.steps.Step.Step, declared.queues.Mark.Mark}
 use Rattle.wait_model.specs.declared.steps.Step.TheVariants as step
-use Rattle.wait_model.specs.declared.queues.Mark.{Mark}
-use Rattle.wait_rule.specs.declared.journal.Item.{Item}
-use Rattle.wait_rule.specs.declared.journal.Item.TheVariants as item
-use Rattle.wait_rule.specs.Items.{steps_of}
-use Rattle.wait_rule.specs.Known.{Known}
+use Rattle.wait_rule.specs.{declared.journal.Item.Item, Items.steps_of, Known.Known, Queues.marked, Queues.saw}
+use Rattle.wait_rule.specs.{Transitions.AreLooks, Tried.rouses}
 use Rattle.wait_rule.specs.Says.{added, stored_with, unlocked_with, history_of}
-use Rattle.wait_rule.specs.Queues.{marked, saw}
-use Rattle.wait_rule.specs.Transitions.{AreLooks}
-use Rattle.wait_rule.specs.Tried.{rouses}
+use Rattle.wait_rule.specs.declared.journal.Item.TheVariants as item
 use Rattle.wait_rule.proofs.TableSteps.ItemLists.{steps_append}
-use Rattle.wq_head.specs.declared.rousing.Rousing.{Rousing}
-use Rattle.wq_head.proofs.LookedItems.{looks_by}
-use Rattle.wq_head.specs.Looks.{Looks}
+use Rattle.wq_head.specs.{declared.rousing.Rousing.Rousing, Looks.Looks}
 use Rattle.wq_head.specs.Roused.{roused, roused_by, tasks_in, RousesNone, IsRousing, HasRoused}
+use Rattle.wq_head.proofs.LookedItems.{looks_by}
 
 roused_append : (xs ys : List Step) → roused (xs ++ ys) ≡ roused xs ++ roused ys
 roused_append [] ys = refl

@@ -4,47 +4,35 @@ use Rattle.std.proofs.lemmas.Bool.{and_right}
 use Rattle.std.proofs.lemmas.Bool.Decides.{nat_tests}
 use Rattle.std.specs.Prelude.{ℕ, zero, suc, ◌+◌, ◌≡◌, ◌≢◌, ◌<◌, ◌≤◌, ◌==◌, ◌&&◌, not, if◌then◌else◌}
 use Rattle.std.specs.Prelude.{Bool, true, false, Option, Some, None, List, [], ◌∷◌, ◌++◌}
-use Rattle.wait_model.specs.declared.layout.TheConstants.{MEMBERS, FIRST_SIMPLE_HEAD}
-use Rattle.wait_model.specs.declared.calls.Call.{Call}
+use Rattle.wait_model.specs.{declared.layout.TheConstants.MEMBERS, declared.layout.TheConstants.FIRST_SIMPLE_HEAD}
+use Rattle.wait_model.specs.{declared.calls.Call.Call, declared.points.Planned.Planned, declared.points.Seen.Seen}
+use Rattle.wait_model.specs.{declared.points.Next.Next, declared.queues.CalledEntry.CalledEntry}
+use Rattle.wait_model.specs.{declared.queues.Member.Member, declared.watches.Entry.Entry, Queues.is_entry}
+use Rattle.wait_model.specs.{Queues.entry_from, Tasks.meets, Tasks.task_of, Watches.mask_of, Watches.owner}
+use Rattle.wait_model.specs.Points.{call_head, call_watch, count_of, mode_of}
+use Rattle.wait_model.specs.Programs.{go, is_enough, program, select_ends, select_from, select_next, selected_answer}
+use Rattle.wait_model.specs.Runs.{called_as, called_by, called_of}
 use Rattle.wait_model.specs.declared.calls.Event.TheVariants as event
 use Rattle.wait_model.specs.declared.points.Point.TheVariants as at
 use Rattle.wait_model.specs.declared.points.SelectPoint.TheVariants as selecting
-use Rattle.wait_model.specs.declared.points.Planned.{Planned}
-use Rattle.wait_model.specs.declared.points.Seen.{Seen}
-use Rattle.wait_model.specs.declared.points.Next.{Next}
 use Rattle.wait_model.specs.declared.points.Next.TheVariants as next
-use Rattle.wait_model.specs.declared.queues.CalledEntry.{CalledEntry}
-use Rattle.wait_model.specs.declared.queues.Member.{Member}
 use Rattle.wait_model.specs.declared.steps.Step.TheVariants as step
-use Rattle.wait_model.specs.declared.watches.Entry.{Entry}
 use Rattle.wait_model.specs.declared.watches.Mode.TheVariants as mode
-use Rattle.wait_model.specs.Points.{call_head, call_watch, count_of, mode_of}
-use Rattle.wait_model.specs.Programs.{go, is_enough, program, select_ends, select_from, select_next, selected_answer}
-use Rattle.wait_model.specs.Queues.{is_entry, entry_from}
-use Rattle.wait_model.specs.Runs.{called_as, called_by, called_of}
-use Rattle.wait_model.specs.Tasks.{meets, task_of}
-use Rattle.wait_model.specs.Watches.{mask_of, owner}
 use Rattle.wait_model.proofs.QueueLaws.QueueOrder.{IsFirstFrom, first_is}
 use Rattle.wait_rule.specs.declared.journal.Item.TheVariants as item
-use Rattle.wait_rule.specs.Known.{Known}
+use Rattle.wait_rule.specs.{Known.Known, Says.added, Says.unlocked_with}
 use Rattle.wait_rule.specs.Queues.{IsWholeBook, IsWalkOfCall, simple_watch, walk_of_hold}
-use Rattle.wait_rule.specs.Says.{added, unlocked_with}
 use Rattle.wait_rule.specs.Shown.{shown_entry, shown_queue, queue_below}
 use Rattle.wait_rule.specs.Transitions.{Program, Transition, OnlyLooks, Goes, IsMadeFor, IsTransition, by_step}
 use Rattle.wait_rule.specs.Transitions.{after_transition, call_program}
-use Rattle.wait_rule.proofs.KnownLaws.MemberBits.{bit_looks}
+use Rattle.wait_rule.proofs.{KnownLaws.MemberBits.bit_looks, KnownLaws.Turns.serve_looks}
 use Rattle.wait_rule.proofs.KnownLaws.Transitions.{only_none, goes_on, looks_first}
-use Rattle.wait_rule.proofs.KnownLaws.Turns.{serve_looks}
 use Rattle.wq_head.specs.Holds.{HasLocked}
 use Rattle.wq_head.specs.Selects.{SelectsFirst, SelectsMany, HasSelected, EndsSelection, simple_aim}
-use Rattle.wq_head.proofs.EntryWakes.{blank_seen}
+use Rattle.wq_head.proofs.{EntryWakes.blank_seen, LockWaits.turn_of, LockWaits.turn_looks, LookingHold.looks_only}
+use Rattle.wq_head.proofs.{MemberStands.entry_shown, ShownMembers.place_same, ShownQueue.queue_in_order}
+use Rattle.wq_head.proofs.{ShownQueue.queue_has, SimpleEntries.walk_is_simple}
 use Rattle.wq_head.proofs.FirstEntries.{no_entry, wake_book, wake_notes}
-use Rattle.wq_head.proofs.LockWaits.{turn_of, turn_looks}
-use Rattle.wq_head.proofs.LookingHold.{looks_only}
-use Rattle.wq_head.proofs.MemberStands.{entry_shown}
-use Rattle.wq_head.proofs.ShownMembers.{place_same}
-use Rattle.wq_head.proofs.ShownQueue.{queue_in_order, queue_has}
-use Rattle.wq_head.proofs.SimpleEntries.{walk_is_simple}
 
 -- as many as a call selects
 not_enough : (n most : ℕ) → (most ≢ 0 → n < most) → (not (n == 0) && (n == most)) ≡ false

@@ -2,29 +2,21 @@
 use Rattle.std.proofs.Common.{◌∙◌, ap, sym, refl, subst, inl, inr, arith}
 use Rattle.std.specs.Prelude.{ℕ, zero, suc, ◌+◌, ◌≡◌, ◌<◌, ◌≤◌, true, Option, Some, None}
 use Rattle.std.specs.Prelude.{List, length, take, slice_index_or}
+use Rattle.wait_model.specs.{declared.queues.Member.Member, Queues.rank, Queues.IsIn, Watches.counted}
 use Rattle.wait_model.specs.declared.layout.TheConstants.{ENTRIES, MEMBERS, FIRST_SIMPLE_HEAD}
-use Rattle.wait_model.specs.declared.queues.Member.{Member}
-use Rattle.wait_model.specs.Queues.{rank, IsIn}
-use Rattle.wait_model.specs.Watches.{counted}
-use Rattle.wait_rule.specs.Known.{Known}
+use Rattle.wait_rule.specs.{Known.Known, Says.noted}
 use Rattle.wait_rule.specs.Queues.{IsWholeBook, MayRise, place_by}
-use Rattle.wait_rule.specs.Says.{noted}
 use Rattle.wait_rule.specs.Shown.{shown_queue, queue_with, queue_below}
-use Rattle.wq_head.specs.declared.looks.ShownMember.{ShownMember}
-use Rattle.wq_head.specs.Holds.{IsHolding}
-use Rattle.wq_head.specs.Looks.{Looks}
-use Rattle.wq_head.specs.Members.{AreStanding, member_of}
+use Rattle.wq_head.specs.{declared.looks.ShownMember.ShownMember, Holds.IsHolding, Looks.Looks, Members.AreStanding}
+use Rattle.wq_head.specs.{Members.member_of, Selecting.IsFirstEntry, Selecting.HasSelectedFirst}
 use Rattle.wq_head.specs.Selects.{HasSelected, IsSimpleHold, KeepsHold, SelectsMany, ShowsNoEntry, EndsSelection}
 use Rattle.wq_head.specs.Selects.{simple_aim}
-use Rattle.wq_head.specs.Selecting.{IsFirstEntry, HasSelectedFirst}
-use Rattle.wq_head.proofs.CountedLooks.{marked_longer}
+use Rattle.wq_head.proofs.{CountedLooks.marked_longer, MemberStands.shown_place, SimpleEntries.simple_counted}
+use Rattle.wq_head.proofs.{FullHeads.one_of, FullHeads.same_self}
 use Rattle.wq_head.proofs.KeptHolds.{hold_on, hold_looks, hold_holds}
-use Rattle.wq_head.proofs.MemberStands.{shown_place}
 use Rattle.wq_head.proofs.QueuePositions.{at_in, split, is_before, one_more, take_more, take_last}
-use Rattle.std.proofs.lemmas.List.{take_all}
 use Rattle.wq_head.proofs.ShownQueue.{queue_in_order, queue_has, queue_of}
-use Rattle.wq_head.proofs.SimpleEntries.{simple_counted}
-use Rattle.wq_head.proofs.FullHeads.{one_of, same_self}
+use Rattle.std.proofs.lemmas.List.{take_all}
 
 -- a head has as many members as there are, at most
 few_with : (at : ℕ → Option ℕ) (n : ℕ) → length (queue_below at n) ≤ n → (o : Option ℕ)

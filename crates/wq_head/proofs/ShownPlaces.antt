@@ -9,9 +9,8 @@ use Rattle.wait_model.specs.Queues.{place_behind, place_for, IsIn}
 use Rattle.wait_model.specs.Places.{within, front_for, tail_for}
 use Rattle.wait_model.proofs.QueueLaws.QueueOrder.{IsFirstFrom, first_is}
 use Rattle.wait_model.proofs.QueueLaws.QueueEnds.{IsLastWithin, last_of}
-use Rattle.wait_rule.specs.Known.{Known}
+use Rattle.wait_rule.specs.{Known.Known, Shown.shown_queue}
 use Rattle.wait_rule.specs.Queues.{StandsIn, IsLowest, IsHighest, IsFrontPlace, IsTailPlace, place_by}
-use Rattle.wait_rule.specs.Shown.{shown_queue}
 use Rattle.wq_head.proofs.ShownQueue.{queue_in_order, queue_has, queue_of}
 
 pub within_is : (a b q p : ℕ) → within a b q ≡ Some p → q ≡ p

@@ -2,17 +2,13 @@
 use Rattle.std.proofs.Common.{refl, subst, sym, inl, inr, arith, ap}
 use Rattle.std.proofs.lemmas.Bool.{and_right}
 use Rattle.std.specs.Prelude.{ℕ, ◌≡◌, ◌<◌, not, Bool, false, Some}
-use Rattle.wait_model.specs.declared.layout.TheConstants.{FIRST_DONE_HEAD, PLAIN_CONDITIONS}
-use Rattle.wait_model.specs.declared.watches.Entry.{Entry}
-use Rattle.wait_model.specs.declared.watches.Watch.{Watch}
-use Rattle.wait_model.specs.declared.watches.Watch.TheVariants as watch
-use Rattle.wait_model.specs.declared.watches.Kind.{Kind}
-use Rattle.wait_model.specs.declared.watches.Kind.TheVariants as kind
-use Rattle.wait_model.specs.Watches.{head_of, is_page}
+use Rattle.wait_model.specs.declared.layout.TheConstants.{FIRST_DONE_HEAD}
+use Rattle.wait_model.specs.{declared.layout.TheConstants.PLAIN_CONDITIONS, declared.watches.Entry.Entry}
+use Rattle.wait_model.specs.{declared.watches.Watch.Watch, declared.watches.Kind.Kind, Watches.head_of, Watches.is_page}
 use Rattle.wait_model.specs.Views.{is_trying_for}
-use Rattle.wait_rule.specs.Members.{IsStanding}
-use Rattle.wait_rule.specs.Known.{Known}
-use Rattle.wait_rule.specs.Queues.{IsTailPlace}
+use Rattle.wait_model.specs.declared.watches.Watch.TheVariants as watch
+use Rattle.wait_model.specs.declared.watches.Kind.TheVariants as kind
+use Rattle.wait_rule.specs.{Members.IsStanding, Known.Known, Queues.IsTailPlace}
 use Rattle.wq_head.specs.Adds.{HasAdded, HasAddedForCell, HasAddedTail, IsForTail, tail_entry}
 use Rattle.wq_head.proofs.PermitHeads.{plain_low}
 use Rattle.wq_head.proofs.AddedEntries.{IsAfter, TriesNo, no_paged, plain_stands, plain_tries}

@@ -2,18 +2,14 @@
 use Rattle.std.proofs.Common.{ap, refl, arith}
 use Rattle.std.proofs.lemmas.Bool.Decides.{nat_tests}
 use Rattle.std.specs.Prelude.{ℕ, ◌-◌, ◌*◌, ◌+◌, ◌≡◌, ◌≤◌, Bool, true, false, nat_lt, if◌then◌else◌, Some, None}
+use Rattle.wait_model.specs.{declared.watches.Watch.Watch, declared.watches.Entry.Entry, declared.watches.Kind.Kind}
+use Rattle.wait_model.specs.{Watches.counted, Watches.head_of, Words.Suited}
 use Rattle.wait_model.specs.declared.layout.TheConstants.{FIRST_SIMPLE_HEAD, FIRST_PLAIN_HEAD, FIRST_DONE_HEAD}
 use Rattle.wait_model.specs.declared.layout.TheConstants.{BIT_WORDS, WORD_BITS}
-use Rattle.wait_model.specs.declared.watches.Watch.{Watch}
 use Rattle.wait_model.specs.declared.watches.Watch.TheVariants as watch
-use Rattle.wait_model.specs.declared.watches.Entry.{Entry}
-use Rattle.wait_model.specs.declared.watches.Kind.{Kind}
 use Rattle.wait_model.specs.declared.watches.Kind.TheVariants as kind
-use Rattle.wait_model.specs.Watches.{counted, head_of}
-use Rattle.wait_model.specs.Words.{Suited}
-use Rattle.wait_rule.specs.Queues.{simple_watch, walk_of_hold}
+use Rattle.wait_rule.specs.{Queues.simple_watch, Queues.walk_of_hold, Members.IsStanding}
 use Rattle.wq_head.specs.Selects.{simple_aim}
-use Rattle.wait_rule.specs.Members.{IsStanding}
 use Rattle.wq_head.proofs.FullHeads.{hashed_low}
 
 -- only the last plain conditions and completions have simple heads

@@ -3,33 +3,24 @@ use Rattle.std.proofs.Common.{◌∙◌, ap, sym, refl, subst, inl, inr, arith}
 use Rattle.std.proofs.lemmas.Bool.Decides.{nat_tests}
 use Rattle.std.specs.Prelude.{ℕ, ◌+◌, ◌-◌, ◌≡◌, ◌<◌, ◌≤◌, ◌⊎◌, ◌&&◌, ◌||◌, not, nat_lt, if◌then◌else◌}
 use Rattle.std.specs.Prelude.{Bool, true, false, Option, Some, None}
+use Rattle.wait_model.specs.{declared.watches.Aim.Aim, declared.watches.Watch.Watch, Fold.begun, Tasks.meets}
 use Rattle.wait_model.specs.declared.layout.TheConstants.{ENTRIES, FIRST_SIMPLE, FIRST_SIMPLE_HEAD, FIRST_PLAIN_HEAD}
 use Rattle.wait_model.specs.declared.layout.TheConstants.{FIRST_DONE_HEAD, PLAIN_CONDITIONS}
-use Rattle.wait_model.specs.declared.watches.Aim.{Aim}
-use Rattle.wait_model.specs.declared.watches.Mode.TheVariants as mode
-use Rattle.wait_model.specs.declared.watches.Watch.{Watch}
-use Rattle.wait_model.specs.declared.watches.Watch.TheVariants as watch
-use Rattle.wait_model.specs.Fold.{begun}
-use Rattle.wait_model.specs.Tasks.{meets}
 use Rattle.wait_model.specs.Views.{View as Told, Walk, Look, unseen, off, elsewhere, shown, passed, all_passed}
 use Rattle.wait_model.specs.Watches.{head_of, mask_of, same}
+use Rattle.wait_model.specs.declared.watches.Mode.TheVariants as mode
+use Rattle.wait_model.specs.declared.watches.Watch.TheVariants as watch
 use Rattle.wait_model.proofs.HistoryLaws.HoldBooks.{all_passed_of}
-use Rattle.wait_rule.specs.Known.{Known}
+use Rattle.wait_rule.specs.{Known.Known, Shown.look_entry}
 use Rattle.wait_rule.specs.Queues.{IsIdle, IsWholeBook, simple_watch, walk_of_hold}
 use Rattle.wait_rule.specs.Says.{IsFree, told_of, unlocked_with}
-use Rattle.wait_rule.specs.Shown.{look_entry}
 use Rattle.wait_rule.specs.Stays.{Stays, no_entries, Carries, wake_all_change}
-use Rattle.wait_rule.proofs.KnownLaws.StayingParts.{stays_on}
-use Rattle.wait_rule.proofs.KnownLaws.Turns.{unlocked_free}
-use Rattle.wq_head.specs.Holds.{HasLocked}
+use Rattle.wait_rule.proofs.{KnownLaws.StayingParts.stays_on, KnownLaws.Turns.unlocked_free}
+use Rattle.wq_head.specs.{Holds.HasLocked, Walking.IsUnder, Walks.HasEnded, Walks.still_owed}
 use Rattle.wq_head.specs.Selects.{IsSimpleHold, ShowsNoEntry, simple_aim}
-use Rattle.wq_head.specs.Walking.{IsUnder}
-use Rattle.wq_head.specs.Walks.{HasEnded, still_owed}
+use Rattle.wq_head.proofs.{SimpleEntries.walk_is_simple, FirstHold.begins, WalkUnlock.owes_ended}
 use Rattle.wq_head.proofs.CarriedHolds.{ended_owes, unlock_carried, unlock_free, wake_carried}
 use Rattle.wq_head.proofs.LockWaits.{locked_at, locked_told, unlocked_stays}
-use Rattle.wq_head.proofs.SimpleEntries.{walk_is_simple}
-use Rattle.wq_head.proofs.FirstHold.{begins}
-use Rattle.wq_head.proofs.WalkUnlock.{owes_ended}
 
 -- a watch with a simple head is that head's own
 pub own_plain : (c : ℕ) → FIRST_SIMPLE ≤ c → c < PLAIN_CONDITIONS

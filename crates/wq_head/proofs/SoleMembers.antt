@@ -1,21 +1,14 @@
 -- A head with no member, and one with one alone: the queue that a hold shows of it.
 use Rattle.std.proofs.Common.{◌∙◌, ap, sym, subst, inl, inr, arith, ◌-◌}
 use Rattle.std.specs.Prelude.{ℕ, zero, suc, ◌≡◌, ◌+◌, ◌≤◌, true, Option, Some, List, [], ◌∷◌}
-use Rattle.wait_model.specs.declared.layout.TheConstants.{MEMBERS}
-use Rattle.wait_model.specs.declared.queues.Member.{Member}
-use Rattle.wait_rule.specs.Known.{Known}
-use Rattle.wait_rule.specs.Queues.{place_by}
-use Rattle.wait_rule.specs.Says.{told_of, noted}
+use Rattle.wait_model.specs.{declared.layout.TheConstants.MEMBERS, declared.queues.Member.Member}
+use Rattle.wait_rule.specs.{Known.Known, Queues.place_by, Says.told_of, Says.noted}
 use Rattle.wait_rule.specs.Shown.{queue_below, queue_with, shown_queue}
-use Rattle.wq_head.specs.declared.looks.ShownMember.{ShownMember}
-use Rattle.wq_head.specs.declared.found_queues.FoundQueue.TheVariants as found
-use Rattle.wq_head.specs.FoundQueues.{IsFoundQueue, IsSole}
-use Rattle.wq_head.specs.Looking.{AreNone}
+use Rattle.wq_head.specs.{declared.looks.ShownMember.ShownMember, FoundQueues.IsFoundQueue, FoundQueues.IsSole}
+use Rattle.wq_head.specs.{Looking.AreNone, Members.AreStanding, Members.IsShownMember}
 use Rattle.wq_head.specs.Looks.{Looks, AreSeen, is_seen_member}
-use Rattle.wq_head.specs.Members.{AreStanding, IsShownMember}
-use Rattle.wq_head.proofs.BitLooks.{clear_on, set_on}
-use Rattle.wq_head.proofs.FirstAndLast.{below_or}
-use Rattle.wq_head.proofs.OneMoreLook.{whole_of}
+use Rattle.wq_head.specs.declared.found_queues.FoundQueue.TheVariants as found
+use Rattle.wq_head.proofs.{BitLooks.clear_on, BitLooks.set_on, FirstAndLast.below_or, OneMoreLook.whole_of}
 
 -- indexes of which none is a member add nothing to the queue
 none_more : (k : Known) (n m : ℕ) → AreNone k n (n + m) → queue_below (place_by k) (n + m) ≡ queue_below (place_by k) n

@@ -9,25 +9,18 @@ use Rattle.std.specs.List.Sorted.{IsPermutation, IsNonDecreasingBy}
 use Rattle.std.specs.Prelude.{ℕ, zero, suc, ◌≡◌, ◌≢◌, ◌+◌, ◌*◌, ◌-◌, ◌/◌, ◌%◌, ◌<◌, ◌≤◌, ◌==◌}
 use Rattle.std.specs.Prelude.{Bool, true, false, nat_lt, cond, if◌then◌else◌, Option, Some, None}
 use Rattle.std.specs.Prelude.{List, [], ◌∷◌, ◌++◌, length, map, take, drop, slice_index, slice_index_or}
-use Rattle.wait_model.specs.declared.layout.TheConstants.{TASKS, SLOTS, ENTRIES, MEMBERS, INDEXES, PLACES}
-use Rattle.wait_model.specs.declared.watches.Entry.{Entry}
-use Rattle.wait_model.specs.declared.queues.Mark.{Mark}
-use Rattle.wait_model.specs.declared.queues.Member.{Member as Stand}
-use Rattle.wait_model.specs.EntryWords.{place_shown}
-use Rattle.wait_model.specs.Words.{entry_of}
+use Rattle.wait_model.specs.{declared.watches.Entry.Entry, declared.queues.Mark.Mark}
+use Rattle.wait_model.specs.{declared.queues.Member.Member as Stand, EntryWords.place_shown, Words.entry_of}
 use Rattle.wait_model.specs.Tables.{mark_of}
+use Rattle.wait_model.specs.declared.layout.TheConstants.{TASKS, SLOTS, ENTRIES, MEMBERS, INDEXES, PLACES}
 use Rattle.wait_model.specs.Queues.{rank, mark_add, IsIn, IsRisingFrom, IsInOrder}
-use Rattle.wait_rule.specs.Known.{Known}
-use Rattle.wait_rule.specs.Queues.{index, place_by}
+use Rattle.wait_rule.specs.{Known.Known, Queues.index, Queues.place_by}
 use Rattle.wait_rule.specs.Shown.{queue_with, queue_below, shown_queue, shown_entry}
-use Rattle.wq_head.specs.Members.{IsWordOf, place_marked}
-use Rattle.wq_head.specs.declared.lists.Member.{Member}
-use Rattle.wq_head.specs.declared.lists.Member.TheVariants as member
+use Rattle.wq_head.specs.{Members.IsWordOf, Members.place_marked, declared.lists.Member.Member}
 use Rattle.wq_head.specs.Lists.{member_by, stand_in, rank_by, IsAsShown, AreAsShown}
-use Rattle.wq_head.proofs.FirstAndLast.{below_or}
-use Rattle.wq_head.proofs.MemberStands.{few, far}
-use Rattle.wq_head.proofs.ListedMembers.{numbers_with, numbers_below}
-use Rattle.wq_head.proofs.ShownQueue.{below_has, below_in_order}
+use Rattle.wq_head.specs.declared.lists.Member.TheVariants as member
+use Rattle.wq_head.proofs.{FirstAndLast.below_or, MemberStands.few, MemberStands.far, ListedMembers.numbers_with}
+use Rattle.wq_head.proofs.{ListedMembers.numbers_below, ShownQueue.below_has, ShownQueue.below_in_order}
 
 -- what a slice holds after it was written whole
 pub refilled : (xs ws : List ℕ) → length ws ≡ length xs → take (length xs) (ws ++ drop (length ws) xs) ≡ ws

@@ -2,11 +2,8 @@
 use Rattle.std.proofs.Common.{◌∙◌, ◌≡◌, ℕ, ap}
 use Rattle.std.specs.Prelude.{Option, Some}
 use Rattle.wait_model.specs.declared.watches.Aim.{Aim}
-use Rattle.wait_rule.specs.declared.tries.FailedTries.{FailedTries}
-use Rattle.wait_rule.specs.Known.{Known}
-use Rattle.wait_rule.specs.Tried.{IsStarved}
-use Rattle.wq_head.specs.Walking.{IsCalling}
-use Rattle.wq_head.specs.Walks.{HasStarved}
+use Rattle.wait_rule.specs.{declared.tries.FailedTries.FailedTries, Known.Known, Tried.IsStarved}
+use Rattle.wq_head.specs.{Walking.IsCalling, Walks.HasStarved}
 
 pub starves : (a : Aim) (k new : Known) (place : ℕ) (rest : Option Aim) (failed : FailedTries)
     → IsCalling a k place rest → IsStarved failed → new.book.head ≡ k.book.head → HasStarved a new failed

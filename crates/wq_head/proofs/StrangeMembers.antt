@@ -4,21 +4,15 @@ use Rattle.std.proofs.Common.{◌∙◌, ap, sym, refl, inl, inr, arith}
 use native.Mathlib.Decide.{dec_le}
 use Rattle.std.specs.Prelude.{ℕ, ◌+◌, ◌%◌, ◌≡◌, ◌<◌, ◌≤◌, Bool, true, false, nat_lt, nat_le}
 use Rattle.std.specs.Prelude.{Option, Some, List, [], ◌∷◌}
+use Rattle.wait_model.specs.{declared.watches.Watch.Watch, declared.watches.Entry.Entry, declared.queues.Member.Member}
+use Rattle.wait_model.specs.{Watches.same, Watches.is_for, Runs.arrives_from}
 use Rattle.wait_model.specs.declared.layout.TheConstants.{ENTRIES, MEMBERS, BREAK}
-use Rattle.wait_model.specs.declared.watches.Watch.{Watch}
-use Rattle.wait_model.specs.declared.watches.Entry.{Entry}
-use Rattle.wait_model.specs.declared.queues.Member.{Member}
-use Rattle.wait_model.specs.Watches.{same, is_for}
 use Rattle.wait_model.specs.Queues.{rank, rank_at, is_entry, members_from, arrive, IsIn, IsInOrder}
-use Rattle.wait_model.specs.Runs.{arrives_from}
 use Rattle.wait_model.proofs.QueueLaws.QueueOrder.{before_in}
-use Rattle.wait_rule.specs.Known.{Known}
-use Rattle.wait_rule.specs.Queues.{place_by}
-use Rattle.wait_rule.specs.Shown.{shown_entry, shown_queue}
+use Rattle.wait_rule.specs.{Known.Known, Queues.place_by, Shown.shown_entry, Shown.shown_queue}
 use Rattle.wq_head.specs.declared.looks.ShownMember.{ShownMember}
 use Rattle.wq_head.specs.Members.{AreStanding, SamePlacesFrom, member_of, IsNext}
-use Rattle.wq_head.proofs.FirstAndLast.{below_or}
-use Rattle.wq_head.proofs.MemberStands.{few, entry_shown}
+use Rattle.wq_head.proofs.{FirstAndLast.below_or, MemberStands.few, MemberStands.entry_shown}
 use Rattle.wq_head.proofs.NextMembers.{on_order, on_from, from_on, widen, entry_from}
 
 -- members of a rank or a higher one, by two ranks

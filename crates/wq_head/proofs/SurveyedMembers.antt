@@ -1,15 +1,11 @@
 -- The first and the last of the members that a hold has seen, with one more and with those that are none.
 use Rattle.std.proofs.Common.{◌∙◌, ap, sym, subst, inl, inr, arith}
 use Rattle.std.specs.Prelude.{ℕ, ◌≡◌, ◌<◌, ◌≤◌, ◌+◌, true, Option, Some, None}
-use Rattle.wait_rule.specs.Known.{Known}
-use Rattle.wait_rule.specs.Says.{told_of, noted}
-use Rattle.wait_rule.specs.Queues.{place_by}
-use Rattle.wq_head.specs.declared.looks.ShownMember.{ShownMember}
+use Rattle.wait_rule.specs.{Known.Known, Says.told_of, Says.noted, Queues.place_by}
+use Rattle.wq_head.specs.{declared.looks.ShownMember.ShownMember, Looking.IsClear, Members.IsShownMember}
 use Rattle.wq_head.specs.Looks.{Looks, IsLow, is_seen_member, IsBetween, IsOutermost, IsFirst, IsLast, IsSurveyed}
 use Rattle.wq_head.specs.Looks.{first_with, last_with}
 use Rattle.wq_head.proofs.FirstAndLast.{below_or, first_more, last_more}
-use Rattle.wq_head.specs.Looking.{IsClear}
-use Rattle.wq_head.specs.Members.{IsShownMember}
 use Rattle.wq_head.proofs.MemberStands.{stands_on}
 
 -- the outermost of some members stays that where no other one comes in

@@ -1,29 +1,21 @@
 -- A turn of a wake: one try of the lock, and what the task may do in the hold then.
 use Rattle.std.proofs.Common.{◌∙◌, ap, sym, refl, subst}
 use Rattle.std.specs.Prelude.{ℕ, ◌≡◌, ◌≢◌, false, Option, Some, None}
-use Rattle.wait_model.specs.declared.watches.Aim.{Aim}
+use Rattle.wait_model.specs.{declared.watches.Aim.Aim, Watches.head_of, Words.held_of, Tables.mark_of}
 use Rattle.wait_model.specs.declared.steps.Step.TheVariants as step
-use Rattle.wait_model.specs.Watches.{head_of}
-use Rattle.wait_model.specs.Words.{held_of}
-use Rattle.wait_model.specs.Tables.{mark_of}
 use Rattle.wait_rule.specs.declared.journal.Item.TheVariants as item
-use Rattle.wait_rule.specs.Known.{Known}
+use Rattle.wait_rule.specs.{Known.Known, Members.IsHeadWord}
 use Rattle.wait_rule.specs.Says.{IsUp, IsFree, added, stored_with}
-use Rattle.wait_rule.specs.Members.{IsHeadWord}
 use Rattle.wait_rule.specs.Queues.{IsTurn, MayStoreMark, Resumes, at_head, marked, walk_of_hold}
-use Rattle.wq_head.specs.declared.wakes.WakeRun.{WakeRun}
+use Rattle.wq_head.specs.{declared.wakes.WakeRun.WakeRun, Holds.HasWaited, Holds.HasLocked}
+use Rattle.wq_head.specs.{declared.wakes.WakeTurn.WakeTurn, declared.wakes.WakeStage.WakeStage, Walking.with_left}
+use Rattle.wq_head.specs.Turns.{HasTurned, WakeRests, InWalk, IsAtWake, StandsAtWake, IsServed, IsTurnStage, IsBroken}
+use Rattle.wq_head.specs.Turns.{HasDrawn, first_counts}
 use Rattle.wq_head.specs.declared.wakes.WakeStage.TheVariants as stage
-use Rattle.wq_head.specs.Holds.{HasWaited, HasLocked}
-use Rattle.wq_head.specs.declared.wakes.WakeTurn.{WakeTurn}
 use Rattle.wq_head.specs.declared.wakes.WakeTurn.TheVariants as turn
-use Rattle.wq_head.specs.declared.wakes.WakeStage.{WakeStage}
-use Rattle.wq_head.specs.Turns.{HasTurned, WakeRests, InWalk, IsAtWake, StandsAtWake, IsServed, IsTurnStage, IsBroken, HasDrawn}
-use Rattle.wq_head.specs.Turns.{first_counts}
-use Rattle.wq_head.specs.Walking.{with_left}
+use Rattle.wq_head.proofs.{FirstHold.begins_walk, FirstHold.locked_full, OwnBookmark.own_clear}
 use Rattle.wq_head.proofs.BrokenHold.{base_up, base_free, may_go, may_take, goes_back}
 use Rattle.wq_head.proofs.DrawnTurns.{draws, drawn_outside, still_waits, turn_is, turn_up, turn_goes, turn_locked}
-use Rattle.wq_head.proofs.FirstHold.{begins_walk, locked_full}
-use Rattle.wq_head.proofs.OwnBookmark.{own_clear}
 
 -- what the step that takes a lock answers
 abbrev pub Locks : Known → Known → ℕ → Option Aim → Type 0

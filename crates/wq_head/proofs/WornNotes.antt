@@ -3,14 +3,9 @@ use Rattle.std.proofs.Common.{◌∙◌, ap, sym, inl, inr}
 use Rattle.std.specs.Prelude.{ℕ, ◌≡◌, Some}
 use Rattle.wait_model.specs.declared.queues.Form.{Form}
 use Rattle.wait_model.specs.declared.queues.Form.TheVariants as forms
-use Rattle.wait_rule.specs.Ends.{WasWorn}
-use Rattle.wait_rule.specs.Known.{Known}
-use Rattle.wait_rule.specs.Says.{told_of}
+use Rattle.wait_rule.specs.{Ends.WasWorn, Known.Known, Says.told_of}
 use Rattle.wait_rule.proofs.WornHeads.WornNotes.{holds_note}
-use Rattle.wq_head.specs.declared.adds.Worn.{Worn}
-use Rattle.wq_head.specs.Holds.{IsHolding}
-use Rattle.wq_head.specs.Looks.{Looks}
-use Rattle.wq_head.specs.Adds.{IsFormWorn}
+use Rattle.wq_head.specs.{declared.adds.Worn.Worn, Holds.IsHolding, Looks.Looks, Adds.IsFormWorn}
 
 holds_at : (old new : Known) (h : ℕ) → IsHolding new → Looks old new → h ≡ old.at → (told_of new).hold.head ≡ Some h
 holds_at old new h held l at = held.told ∙ ap Some (ap (λ (k : Known). k.at) l.is ∙ sym at)

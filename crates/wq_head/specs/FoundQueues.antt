@@ -1,18 +1,13 @@
 -- For proofs alone.
 -- Whom a hold finds queued at its head.
 use Rattle.std.specs.Prelude.{ℕ, ◌≡◌, ◌+◌, ◌<◌, List, [], ◌∷◌, map}
-use Rattle.wait_model.specs.declared.queues.Member.{Member as Stand}
-use Rattle.wait_model.specs.declared.layout.TheConstants.{MEMBERS}
-use Rattle.wait_rule.specs.Known.{Known}
-use Rattle.wait_rule.specs.Queues.{IsWholeBook}
-use Rattle.wait_rule.specs.Shown.{shown_queue}
-use Rattle.wq_head.specs.declared.found_queues.FoundQueue.{FoundQueue}
+use Rattle.wait_model.specs.{declared.queues.Member.Member as Stand, declared.layout.TheConstants.MEMBERS}
+use Rattle.wait_rule.specs.{Known.Known, Queues.IsWholeBook, Shown.shown_queue}
+use Rattle.wq_head.specs.{declared.found_queues.FoundQueue.FoundQueue, declared.found_queues.Queue.Queue}
+use Rattle.wq_head.specs.{Lists.members_in, Lists.stand_in, Looking.AreNone, Looking.IsSet, Members.AreStanding}
+use Rattle.wq_head.specs.Members.{member_of}
 use Rattle.wq_head.specs.declared.found_queues.FoundQueue.TheVariants as found
-use Rattle.wq_head.specs.declared.found_queues.Queue.{Queue}
 use Rattle.wq_head.specs.declared.found_queues.Queue.TheVariants as queue
-use Rattle.wq_head.specs.Lists.{members_in, stand_in}
-use Rattle.wq_head.specs.Looking.{AreNone, IsSet}
-use Rattle.wq_head.specs.Members.{AreStanding, member_of}
 
 -- the words of the head show this member, and no other
 abbrev pub IsSole : Known → ℕ → Type 0

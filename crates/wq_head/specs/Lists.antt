@@ -3,18 +3,12 @@
 use Rattle.std.specs.Prelude.{ℕ, ◌≡◌, ◌+◌, ◌-◌, ◌*◌, ◌/◌, ◌%◌, nat_lt, if◌then◌else◌, Some, List, map, slice_index}
 use Rattle.std.specs.List.{All}
 use Rattle.std.specs.List.Sorted.{IsNonDecreasingBy}
-use Rattle.wait_model.specs.declared.layout.TheConstants.{TASKS, SLOTS, ENTRIES, INDEXES, PLACES}
-use Rattle.wait_model.specs.declared.queues.Member.{Member as Stand}
-use Rattle.wait_model.specs.EntryWords.{place_shown}
-use Rattle.wait_model.specs.Words.{entry_of}
+use Rattle.wait_model.specs.{declared.queues.Member.Member as Stand, EntryWords.place_shown, Words.entry_of}
 use Rattle.wait_model.specs.Tables.{mark_of}
-use Rattle.wait_rule.specs.Known.{Known}
-use Rattle.wait_rule.specs.Queues.{index}
-use Rattle.wait_rule.specs.Shown.{shown_entry}
-use Rattle.wq_head.specs.Members.{place_marked}
-use Rattle.wq_head.specs.declared.lists.Member.{Member}
+use Rattle.wait_model.specs.declared.layout.TheConstants.{TASKS, SLOTS, ENTRIES, INDEXES, PLACES}
+use Rattle.wait_rule.specs.{Known.Known, Queues.index, Shown.shown_entry}
+use Rattle.wq_head.specs.{Members.place_marked, declared.lists.Member.Member, declared.lists.Members.Members}
 use Rattle.wq_head.specs.declared.lists.Member.TheVariants as member
-use Rattle.wq_head.specs.declared.lists.Members.{Members}
 
 -- the member of a number, with its word out of those by number
 abbrev pub member_by : List ℕ → ℕ → Member

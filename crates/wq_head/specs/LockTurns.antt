@@ -3,8 +3,7 @@
 use Rattle.std.specs.Prelude.{ℕ, ◌≡◌, ◌≢◌, ◌≤◌, None}
 use Rattle.wait_model.specs.declared.layout.TheConstants.{FIRST_SIMPLE_HEAD}
 use Rattle.wait_rule.specs.declared.journal.Item.TheVariants as item
-use Rattle.wait_rule.specs.Known.{Known}
-use Rattle.wait_rule.specs.Queues.{walk_of_hold}
+use Rattle.wait_rule.specs.{Known.Known, Queues.walk_of_hold}
 use Rattle.wait_rule.specs.Says.{IsFree, IsUp, added}
 use Rattle.wait_rule.specs.Stays.{Carries, Stays, StaysOwing, lock_change, no_entries}
 use Rattle.wq_head.specs.Holds.{HasLocked, HasWaited, IsHolding}

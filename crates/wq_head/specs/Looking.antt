@@ -1,15 +1,9 @@
 -- To be believed.
 -- How far a look at the members of a head has come, one word after another.
 use Rattle.std.specs.Prelude.{ℕ, ◌≡◌, ◌+◌, ◌-◌, ◌*◌, ◌/◌, ◌%◌, ◌<◌, ◌≤◌, Bool, true, false, Option, Some, None}
-use Rattle.wait_model.specs.declared.layout.TheConstants.{MEMBERS, WORD_BITS}
-use Rattle.wait_model.specs.Words.{bit_at}
-use Rattle.wait_rule.specs.Known.{Known}
-use Rattle.wait_rule.specs.LookCounts.{looks_made}
-use Rattle.wait_rule.specs.Says.{told_of, noted}
-use Rattle.wait_rule.specs.Queues.{place_by}
-use Rattle.wq_head.specs.declared.looking.Looking.{Looking}
-use Rattle.wq_head.specs.Looks.{is_seen_member}
-use Rattle.wq_head.specs.Members.{IsShownMember}
+use Rattle.wait_model.specs.{declared.layout.TheConstants.MEMBERS, declared.layout.TheConstants.WORD_BITS, Words.bit_at}
+use Rattle.wait_rule.specs.{Known.Known, LookCounts.looks_made, Says.told_of, Says.noted, Queues.place_by}
+use Rattle.wq_head.specs.{declared.looking.Looking.Looking, Looks.is_seen_member, Members.IsShownMember}
 
 -- the hold has seen this word, and no member stands there
 pub record IsClear (k : Known) (m : ℕ) : Type 0 where

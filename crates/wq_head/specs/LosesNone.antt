@@ -1,8 +1,7 @@
 -- To be believed.
 -- A wake leaves nobody asleep for whom it was, by what it says of its end.
 use Rattle.wait_model.specs.declared.watches.Aim.{Aim}
-use Rattle.wait_rule.specs.Known.{Known}
-use Rattle.wait_rule.specs.LosesNone.{LeavesNoneAsleep}
+use Rattle.wait_rule.specs.{Known.Known, LosesNone.LeavesNoneAsleep}
 use Rattle.wq_head.specs.Walks.{HasEnded}
 
 abbrev pub WakesLoseNone : Type 0

@@ -3,9 +3,7 @@
 use Rattle.std.specs.Prelude.{ℕ, ◌+◌, ◌≡◌, ◌≤◌, ◌++◌, ◌∷◌, [], List, length, if◌then◌else◌}
 use Rattle.wait_model.specs.declared.steps.Step.{Step}
 use Rattle.wait_model.specs.declared.steps.Step.TheVariants as step
-use Rattle.wait_rule.specs.Known.{Known}
-use Rattle.wait_rule.specs.Says.{history_of}
-use Rattle.wait_rule.specs.Tried.{rouses}
+use Rattle.wait_rule.specs.{Known.Known, Says.history_of, Tried.rouses}
 use Rattle.wq_head.specs.declared.rousing.Rousing.{Rousing}
 
 -- whom a step woke whose thread may be parked

@@ -1,13 +1,10 @@
 -- To be believed.
 -- What a look for members without the lock says.
 use Rattle.std.specs.Prelude.{ℕ, ◌≡◌, ◌≢◌, ◌<◌, ◌==◌, ◌||◌, Bool, true, false, List}
-use Rattle.wait_model.specs.declared.layout.TheConstants.{MEMBER_WORDS}
+use Rattle.wait_model.specs.{declared.layout.TheConstants.MEMBER_WORDS, declared.queues.Walked.Walked}
+use Rattle.wait_model.specs.{declared.watches.Watch.Watch, Watches.head_of}
 use Rattle.wait_model.specs.declared.queues.End.TheVariants as end_as
-use Rattle.wait_model.specs.declared.queues.Walked.{Walked}
-use Rattle.wait_model.specs.declared.watches.Watch.{Watch}
-use Rattle.wait_model.specs.Watches.{head_of}
-use Rattle.wait_rule.specs.declared.journal.Item.{Item}
-use Rattle.wait_rule.specs.Known.{Known}
+use Rattle.wait_rule.specs.{declared.journal.Item.Item, Known.Known}
 use Rattle.wait_rule.specs.Says.{Excuse, OwesBut, told_of, grown}
 use Rattle.wait_rule.specs.Transitions.{AreScansOf, has_bit, has_word}
 

@@ -3,12 +3,8 @@
 use Rattle.std.specs.Prelude.{ℕ, ◌≡◌, ◌≢◌, ◌<◌, ◌≤◌, ◌⊎◌, true, Some, None}
 use Rattle.wait_model.specs.declared.layout.TheConstants.{FIRST_SIMPLE_HEAD, ENTRIES, MEMBERS}
 use Rattle.wait_model.specs.Queues.{rank}
-use Rattle.wait_rule.specs.Known.{Known}
-use Rattle.wait_rule.specs.Queues.{IsWholeBook, place_by}
-use Rattle.wait_rule.specs.Says.{noted}
-use Rattle.wq_head.specs.Holds.{IsHolding}
-use Rattle.wq_head.specs.Members.{AreStanding}
-use Rattle.wq_head.specs.Selects.{KeepsHold, SelectsFirst}
+use Rattle.wait_rule.specs.{Known.Known, Queues.IsWholeBook, Queues.place_by, Says.noted}
+use Rattle.wq_head.specs.{Holds.IsHolding, Members.AreStanding, Selects.KeepsHold, Selects.SelectsFirst}
 
 -- the hold of a simple head shows all of its members, and no entry before this one
 pub record IsFirstEntry (k : Known) (member : ℕ) : Type 0 where

@@ -1,25 +1,17 @@
 -- To be believed.
 -- What selections from a simple head say.
 use Rattle.std.specs.Prelude.{ℕ, zero, suc, ◌≡◌, ◌≢◌, ◌<◌, ◌≤◌, ◌⊎◌, Some}
-use Rattle.wait_model.specs.declared.layout.TheConstants.{FIRST_SIMPLE_HEAD, ENTRIES}
-use Rattle.wait_model.specs.declared.watches.Entry.{Entry}
-use Rattle.wait_model.specs.declared.watches.Aim.{Aim}
-use Rattle.wait_model.specs.declared.watches.Watch.{Watch}
+use Rattle.wait_model.specs.{declared.layout.TheConstants.FIRST_SIMPLE_HEAD, declared.layout.TheConstants.ENTRIES}
+use Rattle.wait_model.specs.{declared.watches.Entry.Entry, declared.watches.Aim.Aim, declared.watches.Watch.Watch}
+use Rattle.wait_model.specs.{declared.queues.Member.Member, Queues.entry_from, Tasks.IsLawfulWord, Views.Walk}
+use Rattle.wait_model.specs.{Watches.mask_of, Watches.owner}
 use Rattle.wait_model.specs.declared.watches.Mode.TheVariants as mode
-use Rattle.wait_model.specs.declared.queues.Member.{Member}
 use Rattle.wait_model.specs.declared.steps.Step.TheVariants as step
-use Rattle.wait_model.specs.Queues.{entry_from}
-use Rattle.wait_model.specs.Tasks.{IsLawfulWord}
-use Rattle.wait_model.specs.Views.{Walk}
-use Rattle.wait_model.specs.Watches.{mask_of, owner}
 use Rattle.wait_rule.specs.declared.journal.Item.TheVariants as item
-use Rattle.wait_rule.specs.Known.{Known}
+use Rattle.wait_rule.specs.{Known.Known, Shown.shown_entry, Shown.shown_queue, Stays.Stays, Stays.no_entries}
 use Rattle.wait_rule.specs.Queues.{IsAgreed, IsWholeBook, simple_watch}
 use Rattle.wait_rule.specs.Says.{added, noted, stored_with, told_of}
-use Rattle.wait_rule.specs.Shown.{shown_entry, shown_queue}
-use Rattle.wait_rule.specs.Stays.{Stays, no_entries}
-use Rattle.wq_head.specs.Looks.{Looks}
-use Rattle.wq_head.specs.Walking.{IsUnder}
+use Rattle.wq_head.specs.{Looks.Looks, Walking.IsUnder}
 
 -- the walk that a hold of a simple head is part of: wakes with NORMAL for the head's own watch
 abbrev pub simple_aim : ℕ → Aim

@@ -1,35 +1,25 @@
 -- To be believed.
 -- A wake that is made hold by hold: where it stands between two of its holds, and what a turn of it did.
 use Rattle.std.specs.Prelude.{ℕ, ◌+◌, ◌^◌, ◌≡◌, ◌<◌, true, false, Some, None, List}
-use Rattle.wait_model.specs.declared.layout.TheConstants.{HEADS}
-use Rattle.wait_model.specs.declared.watches.Aim.{Aim}
-use Rattle.wait_model.specs.declared.queues.Walking.{Walking}
-use Rattle.wait_model.specs.declared.queues.Walked.{Walked}
+use Rattle.wait_model.specs.{declared.layout.TheConstants.HEADS, declared.watches.Aim.Aim}
+use Rattle.wait_model.specs.{declared.queues.Walking.Walking, declared.queues.Walked.Walked, declared.points.Next.Next}
+use Rattle.wait_model.specs.{Watches.head_of, Queues.mark_place}
 use Rattle.wait_model.specs.declared.points.Point.TheVariants as at
 use Rattle.wait_model.specs.declared.points.WalkPoint.TheVariants as walking
-use Rattle.wait_model.specs.declared.points.Next.{Next}
 use Rattle.wait_model.specs.declared.points.Next.TheVariants as next
 use Rattle.wait_model.specs.declared.steps.Step.TheVariants as step
-use Rattle.wait_model.specs.Watches.{head_of}
-use Rattle.wait_model.specs.Queues.{mark_place}
 use Rattle.wait_rule.specs.declared.journal.Item.TheVariants as item
-use Rattle.wait_rule.specs.Known.{Known}
+use Rattle.wait_rule.specs.{Known.Known, Queues.IsIdle, Stays.Carries, Stays.wake_all_change}
 use Rattle.wait_rule.specs.Says.{IsUp, added, stored_with, unlocked_with}
-use Rattle.wait_rule.specs.Queues.{IsIdle}
-use Rattle.wait_rule.specs.Stays.{Carries, wake_all_change}
 use Rattle.wait_rule.specs.Transitions.{Transition, walk_program, Goes}
-use Rattle.wq_head.specs.declared.looks.ShownMember.{ShownMember}
-use Rattle.wq_head.specs.declared.wakes.WakeRun.{WakeRun}
-use Rattle.wq_head.specs.declared.wakes.WakeStage.{WakeStage}
-use Rattle.wq_head.specs.declared.wakes.WakeStage.TheVariants as stage
-use Rattle.wq_head.specs.declared.wakes.WakeTurn.{WakeTurn}
-use Rattle.wq_head.specs.declared.wakes.WakeTurn.TheVariants as turn
-use Rattle.wq_head.specs.Holds.{HasWaited}
-use Rattle.wq_head.specs.LockTurns.{FindsOther}
-use Rattle.wq_head.specs.Members.{member_of}
+use Rattle.wq_head.specs.{declared.looks.ShownMember.ShownMember, declared.wakes.WakeRun.WakeRun}
+use Rattle.wq_head.specs.{declared.wakes.WakeStage.WakeStage, declared.wakes.WakeTurn.WakeTurn, Holds.HasWaited}
+use Rattle.wq_head.specs.{LockTurns.FindsOther, Members.member_of}
 use Rattle.wq_head.specs.Walks.{IsFull, MayWake, HasWoken, HasEnded, HasStarved}
 use Rattle.wq_head.specs.Walking.{SameNumbers, Counts, IsAhead, IsCountedDown, StaysInWalk, IsStarting, IsCalling}
 use Rattle.wq_head.specs.Walking.{IsBreak, Meeting, rest_of, next_in_walk}
+use Rattle.wq_head.specs.declared.wakes.WakeStage.TheVariants as stage
+use Rattle.wq_head.specs.declared.wakes.WakeTurn.TheVariants as turn
 
 -- where the program of a walk begins
 abbrev pub walk_start : Next

@@ -3,11 +3,8 @@
 ghost use Rattle.std.specs.Prelude.{◌≡◌, ◌<◌, ◌≤◌, ◌*◌, length, slice_index_or};
 ghost use Rattle.wait_model.specs.declared.layout.TheConstants.{MEMBER_WORDS, WORD_BITS};
 ghost use Rattle.wait_rule.specs.Says.{IsUp};
+ghost use Rattle.wq_head.specs.{Members.member_of, Holds.IsHolding, Looking.AreNone, Looks.Looks};
 ghost use Rattle.wq_head.specs.FoundQueues.{IsFoundQueue, IsSole, queue_of};
-ghost use Rattle.wq_head.specs.Members.{member_of};
-ghost use Rattle.wq_head.specs.Holds.{IsHolding};
-ghost use Rattle.wq_head.specs.Looking.{AreNone};
-ghost use Rattle.wq_head.specs.Looks.{Looks};
 
 use crate::lists::Members;
 use crate::looking::{Looking, next_bit, next_set};

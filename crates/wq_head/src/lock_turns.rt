@@ -2,8 +2,7 @@
 
 ghost use Rattle.std.specs.Prelude.{◌≡◌, ◌<◌, IfErr, MatchResult};
 ghost use Rattle.wait_model.specs.declared.layout.TheConstants.{HEADS};
-ghost use Rattle.wait_rule.specs.Known.{Known};
-ghost use Rattle.wait_rule.specs.Says.{IsUp, IsFree};
+ghost use Rattle.wait_rule.specs.{Known.Known, Says.IsUp, Says.IsFree};
 ghost use Rattle.wq_head.specs.LockTurns.{AwaitsLock, FindsOther, TookLock};
 
 use wait_rule::queues::{draw, lock_step, serving_load};

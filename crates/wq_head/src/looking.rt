@@ -4,8 +4,7 @@ ghost use Rattle.std.specs.Prelude.{◌≡◌, ◌+◌, ◌<◌, ◌≤◌, ◌*
 ghost use Rattle.wait_model.specs.declared.layout.TheConstants.{MEMBERS, MEMBER_WORDS, WORD_BITS};
 ghost use Rattle.wait_model.specs.Words.{bit_at};
 ghost use Rattle.wait_rule.specs.Says.{IsUp};
-ghost use Rattle.wq_head.specs.Holds.{IsHolding};
-ghost use Rattle.wq_head.specs.Looks.{Looks};
+ghost use Rattle.wq_head.specs.{Holds.IsHolding, Looks.Looks};
 ghost use Rattle.wq_head.specs.Looking.{AreByBits, IsLookingBy, IsNextSet, HasLoaded};
 
 use wait_model::layout::{MEMBERS, WORD_BITS};

@@ -1,11 +1,9 @@
 //! Threads that a hold is to wake once it has given the lock back: woken earlier, they would wait for it at once.
 
 ghost use Rattle.std.specs.Prelude.{◌≡◌, ◌<◌, ◌++◌, ◌∷◌, [], IfErr, IfOk, length};
-ghost use Rattle.wait_model.specs.declared.layout.TheConstants.{MEMBERS};
+ghost use Rattle.wait_model.specs.{declared.layout.TheConstants.MEMBERS, Fold.met_task};
 ghost use Rattle.wait_model.specs.declared.steps.Step.TheVariants as step;
-ghost use Rattle.wait_model.specs.Fold.{met_task};
-ghost use Rattle.wait_rule.specs.Says.{IsUp, AddsOf};
-ghost use Rattle.wait_rule.specs.Tried.{IsStarved};
+ghost use Rattle.wait_rule.specs.{Says.IsUp, Says.AddsOf, Tried.IsStarved};
 ghost use Rattle.wq_head.specs.Roused.{HasRoused, tasks_in};
 
 use arrayvec::ArrayVec;

@@ -2,10 +2,7 @@
 
 ghost use Rattle.std.specs.Prelude.{◌≡◌, ◌<◌, ◌^◌, []};
 ghost use Rattle.wait_model.specs.Watches.{head_of};
-ghost use Rattle.wait_rule.specs.Known.{Known};
-ghost use Rattle.wait_rule.specs.PassedLocks.{PassesNone};
-ghost use Rattle.wait_rule.specs.Says.{IsUp};
-ghost use Rattle.wait_rule.specs.Queues.{IsIdle};
+ghost use Rattle.wait_rule.specs.{Known.Known, PassedLocks.PassesNone, Says.IsUp, Queues.IsIdle};
 ghost use Rattle.wait_rule.specs.Stays.{Carries, StaysOwing, wake_all_change};
 ghost use Rattle.wq_head.specs.declared.wakes.WakeStage.{WakeStage};
 ghost use Rattle.wq_head.specs.Roused.{IsRousing, RousesNone, tasks_in};

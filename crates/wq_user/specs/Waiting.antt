@@ -3,10 +3,8 @@
 use Rattle.std.specs.Prelude.{◌≡◌, Some, None}
 use Rattle.wait_model.specs.declared.watches.Watch.TheVariants as watch
 use Rattle.wait_model.specs.Watches.{head_of}
-use Rattle.wait_rule.specs.Known.{Known}
+use Rattle.wait_rule.specs.{Known.Known, Queues.index, Stays.with_entry, Stays.head_stored}
 use Rattle.wait_rule.specs.Says.{IsUp, IsFree, no_excuse, told_of, OwesBut}
-use Rattle.wait_rule.specs.Queues.{index}
-use Rattle.wait_rule.specs.Stays.{with_entry, head_stored}
 
 -- it has stored the entry at the condition's head, and owes nothing but this entry
 pub record HasQueuedOwn (k : Known) : Type 0 where

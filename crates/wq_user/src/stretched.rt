@@ -1,8 +1,7 @@
 //! A task that waits by stretches, none of which waits for anybody: it owes nothing once the wait is over.
 
 ghost use Rattle.std.specs.Prelude.{◌≡◌, MatchBool};
-ghost use Rattle.wait_rule.specs.PassedLocks.{PassesNone};
-ghost use Rattle.wait_rule.specs.Says.{IsUp, RestsIn};
+ghost use Rattle.wait_rule.specs.{PassedLocks.PassesNone, Says.IsUp, Says.RestsIn};
 ghost use Rattle.wait_class.specs.declared.stages.Turn.TheVariants as turn;
 ghost use Rattle.wait_class.specs.Tables.{Advances, CallTable, IsAsleepAt, IsAt, IsStop, Lands, Turned};
 ghost use Rattle.wait_class.specs.UnderWay.{IsUnderWay};

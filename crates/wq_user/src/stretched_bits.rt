@@ -4,8 +4,7 @@ ghost use Rattle.std.specs.Prelude.{◌≡◌, ◌<◌, MatchBool};
 ghost use Rattle.wait_model.specs.declared.layout.TheConstants.{BIT_WORDS};
 ghost use Rattle.wait_model.specs.declared.watches.Watch.TheVariants as watch;
 ghost use Rattle.wait_rule.specs.Says.{IsClean, RestsIn};
-ghost use Rattle.bit_wait.specs.BitTables.{bit_table};
-ghost use Rattle.bit_wait.specs.Holders.{IsHolder};
+ghost use Rattle.bit_wait.specs.{BitTables.bit_table, Holders.IsHolder};
 
 use crate::stretched::{OfClass, Stretched, go_on};
 use bit_wait::wait_calls::{begin_bit, end_bit, stretch_bit, woke_bit};

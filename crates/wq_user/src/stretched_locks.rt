@@ -4,8 +4,7 @@ ghost use Rattle.std.specs.Prelude.{◌≡◌, ◌<◌, MatchBool};
 ghost use Rattle.wait_model.specs.declared.layout.TheConstants.{BIT_WORDS, WORD_BITS};
 ghost use Rattle.wait_model.specs.declared.watches.Watch.TheVariants as watch;
 ghost use Rattle.wait_rule.specs.Says.{IsClean, RestsIn};
-ghost use Rattle.bit_wait.specs.Holders.{IsHolder};
-ghost use Rattle.bit_wait.specs.LockTables.{lock_table};
+ghost use Rattle.bit_wait.specs.{Holders.IsHolder, LockTables.lock_table};
 
 use crate::stretched::{Stretched, go_on};
 use bit_wait::clear_and_wake_bit;

@@ -5,8 +5,7 @@ ghost use Rattle.wait_model.specs.declared.watches.Watch.TheVariants as watch;
 ghost use Rattle.wait_model.specs.Watches.{head_of};
 ghost use Rattle.wait_rule.specs.Says.{IsClean, IsUp, OwesBut, RestsIn, no_excuse};
 ghost use Rattle.wait_rule.specs.Stays.{Carries, take_off_change};
-ghost use Rattle.wq_head.specs.Holds.{IsHolding};
-ghost use Rattle.wq_head.specs.Readied.{IsPlainKind};
+ghost use Rattle.wq_head.specs.{Holds.IsHolding, Readied.IsPlainKind};
 ghost use Rattle.wq_user.specs.Waiting.{HasQueuedOwn, IsWaiting};
 
 use std::sync::Wait;

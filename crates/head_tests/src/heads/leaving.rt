@@ -5,9 +5,8 @@ ghost use Rattle.std.specs.Prelude.{◌≡◌};
 ghost use Rattle.wait_model.specs.declared.layout.TheConstants.{FIRST_PLAIN_HEAD};
 ghost use Rattle.wait_model.specs.declared.watches.Kind.TheVariants as kind;
 ghost use Rattle.wait_rule.specs.Says.{IsUp, RestsIn};
-ghost use Rattle.wq_head.specs.Holds.{IsHolding};
+ghost use Rattle.wq_head.specs.{Holds.IsHolding, Readied.IsPlainKind};
 ghost use Rattle.head_tests.specs.Leaving.{HasEntry, HasLeft, IsBack, StandsQueued};
-ghost use Rattle.wq_head.specs.Readied.{IsPlainKind};
 ghost use Rattle.head_tests.specs.Ready.{IsReadyIn};
 
 use crate::scenes::{Joined, want_joined};

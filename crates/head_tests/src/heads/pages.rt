@@ -2,8 +2,7 @@
 //! does by then, and the next one stops the walk.
 
 ghost use Rattle.std.specs.Prelude.{◌≡◌, ◌<◌};
-ghost use Rattle.wait_model.specs.declared.layout.TheConstants.{BIT_WORDS};
-ghost use Rattle.wait_model.specs.Tasks.{IsState};
+ghost use Rattle.wait_model.specs.{declared.layout.TheConstants.BIT_WORDS, Tasks.IsState};
 ghost use Rattle.wq_head.specs.Readied.{IsUpAndIdle};
 ghost use Rattle.head_tests.specs.Ready.{IsFreeIn, IsReadyIn};
 

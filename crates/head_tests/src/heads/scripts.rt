@@ -1,8 +1,7 @@
 //! Scripts at heads: what new tasks do there one after the other, and what is to be seen of it.
 
 ghost use Rattle.std.specs.Prelude.{◌<◌};
-ghost use Rattle.wait_model.specs.declared.layout.TheConstants.{BIT_WORDS};
-ghost use Rattle.wait_model.specs.Tasks.{IsState};
+ghost use Rattle.wait_model.specs.{declared.layout.TheConstants.BIT_WORDS, Tasks.IsState};
 ghost use Rattle.wq_head.specs.Walks.{IsFull};
 ghost use Rattle.head_tests.specs.Ready.{IsReadyIn};
 

@@ -1,8 +1,7 @@
 //! Tasks that queue their entries for a bit or a variable, and wakes.
 
 ghost use Rattle.wait_model.specs.declared.watches.Kind.TheVariants as kinds;
-ghost use Rattle.wq_head.specs.Adds.{IsFor, IsForBit};
-ghost use Rattle.wq_head.specs.Walks.{IsFull};
+ghost use Rattle.wq_head.specs.{Adds.IsFor, Adds.IsForBit, Walks.IsFull};
 ghost use Rattle.head_tests.specs.Ready.{IsFreeIn, IsReadyIn};
 
 use crate::heads::scripts::{Did, is_done};

@@ -2,11 +2,9 @@
 //! a count of the members of all heads.
 
 ghost use Rattle.std.specs.Prelude.{◌≡◌};
-ghost use Rattle.wait_model.specs.declared.layout.TheConstants.{FIRST_PLAIN_HEAD};
-ghost use Rattle.wait_model.specs.Tasks.{IsState};
+ghost use Rattle.wait_model.specs.{declared.layout.TheConstants.FIRST_PLAIN_HEAD, Tasks.IsState};
 ghost use Rattle.wait_rule.specs.Says.{IsUp};
-ghost use Rattle.wq_head.specs.Holds.{IsHolding};
-ghost use Rattle.wq_head.specs.Readied.{IsPlainKind, StaysInHold};
+ghost use Rattle.wq_head.specs.{Holds.IsHolding, Readied.IsPlainKind, Readied.StaysInHold};
 ghost use Rattle.head_tests.specs.Ready.{IsFreeIn, IsReadyIn};
 
 use std::sync::Wait;

@@ -2,10 +2,9 @@
 
 ghost use Rattle.std.specs.Prelude.{◌≡◌, ◌+◌, ◌*◌, ◌<◌, true};
 ghost use Rattle.wait_model.specs.declared.layout.TheConstants.{PIPES, PIPE_CELLS, PIPE_ENDS};
+ghost use Rattle.wait_rule.specs.{PipeSays.reading, PipeSays.writing, Says.IsUp};
 ghost use Rattle.wait_rule.specs.Passing.{HasPassedCells, IsReady, OthersStay};
 ghost use Rattle.wait_rule.specs.Pipes.{IsCell, end_word, read_end, write_end};
-ghost use Rattle.wait_rule.specs.PipeSays.{reading, writing};
-ghost use Rattle.wait_rule.specs.Says.{IsUp};
 
 use crate::scenes::{Beside, Seen, want_all, want_beside};
 use std::sync::Wait;

@@ -5,10 +5,9 @@ ghost use Rattle.wait_model.specs.declared.layout.TheConstants.{TASKS, ENTRIES, 
 ghost use Rattle.wait_model.specs.declared.layout.TheConstants.{FIRST_SIMPLE_HEAD};
 ghost use Rattle.wait_model.specs.Tasks.{IsState};
 ghost use Rattle.wait_rule.specs.declared.journal.Item.TheVariants as item;
-ghost use Rattle.wait_rule.specs.Asked.{nothing_asked};
+ghost use Rattle.wait_rule.specs.{Asked.nothing_asked, LookCounts.Looked};
 ghost use Rattle.wait_rule.specs.Says.{IsFree, IsUp, RestsIn, added, asks_for, newcomer, noted};
 ghost use Rattle.wait_rule.specs.Queues.{IsTurn, IsLocked, IsAgreed, MayRise};
-ghost use Rattle.wait_rule.specs.LookCounts.{Looked};
 ghost use Rattle.wait_rule.specs.Stays.{Carries, StaysOwing, unchanged};
 ghost use Rattle.wait_rule.specs.Looking.{HasSeenEntries, HasSeenMarks, IsSelectingHold, ShowsEmpty};
 

@@ -2,25 +2,22 @@
 use Rattle.sugwelan_c.proofs.Walks.{ℕ, List, [], ◌∷◌, ◌++◌, refl, w32, proved, full_share, never, id⊢, fst∗, ftrue}
 use Rattle.sugwelan_c.proofs.Walks.{flft, flent, fsep, fex, bare, named, Val, vptr, WpFn, fact, tables, ‵, raw, ◌⊛◌}
 use Rattle.sugwelan_c.proofs.Walks.{some, later, prop, ◌$◌, ◌∵◌, !, qed, done, move, keep, use1, use2, use3, split}
+use Rattle.sugwelan_c.proofs.{sugwelan_call.Statement.statement, serving.serve.Met.met}
 use Rattle.sugwelan_c.proofs.Walks.{split3, join, fsplit, fjoin, fpack, pick, await, regoal, suffices, group, sem}
 use Rattle.sugwelan_c.proofs.Walks.{enter, of_opd, addr, stop, no_more, and_then, returns, alloc_all, pass_all}
-use Rattle.sugwelan_c.proofs.Walks.{free_all, look_at, get, through, sets, lands_as, Body, lft_new, lft_end, i32}
-use Rattle.sugwelan_c.proofs.Walks.{RefOf, yes, Is, shows, lends_ref, ref_back, mem, lone, Ptr, RawPtr, block_ptr}
-use Rattle.sugwelan_c.proofs.Walks.{null_ptr, lies_at, in_a_block, rawptr_vals, rawptr_Tells, MutRef, MutBor, ShrRef}
-use Rattle.sugwelan_c.proofs.Walks.{mut_vals, mut_Tells, shr_vals, shr_Tells, plain, sint_Lawful, nothing, peeks}
-use Rattle.sugwelan_c.proofs.Walks.{heard, calls_at, Lasts, lasts, triple_of, framed, Stays, walk_of, stay_dropped}
-use Rattle.sugwelan_c.proofs.Walks.{gave_ref, Goes-dropped, Goes-gave_ref, ends_at}
+use Rattle.sugwelan_c.proofs.Walks.{free_all, look_at, get, through, sets, lands_as, Body, lft_new, lft_end, i32, RefOf}
+use Rattle.sugwelan_c.proofs.Walks.{yes, Is, shows, lends_ref, ref_back, mem, lone, Ptr, RawPtr, block_ptr, null_ptr}
+use Rattle.sugwelan_c.proofs.Walks.{lies_at, in_a_block, rawptr_vals, rawptr_Tells, MutRef, MutBor, ShrRef, mut_vals}
+use Rattle.sugwelan_c.proofs.Walks.{mut_Tells, shr_vals, shr_Tells, plain, sint_Lawful, nothing, peeks, heard, calls_at}
+use Rattle.sugwelan_c.proofs.Walks.{Lasts, lasts, triple_of, framed, Stays, walk_of, stay_dropped, gave_ref}
+use Rattle.sugwelan_c.proofs.Walks.{Goes-dropped, Goes-gave_ref, ends_at}
 use Rattle.std.proofs.Common.{ℤ}
-use Rattle.sugwelan_c.specs.Blocks.{freeing, owned}
-use Rattle.sugwelan_c.specs.Served.{Serves}
-use Rattle.wq_checked.specs.contracts.tasks.CheckedTask.{the_row as R}
-use Rattle.sugwelan_c.specs.contracts.calls.Call.{the_row as CallRow}
+use Rattle.sugwelan_c.specs.{Blocks.freeing, Blocks.owned, Served.Serves, contracts.calls.Call.the_row as CallRow}
 use Rattle.sugwelan_c.specs.contracts.replies.Told.{the_row as ToldRow}
+use Rattle.wq_checked.specs.contracts.tasks.CheckedTask.{the_row as R}
 use Rattle.sugwelan_c.specs.contracts.sugwelan_call as f
-use Rattle.sugwelan_c.proofs.sugwelan_call.Statement.{statement}
 use Rattle.sugwelan_c.proofs.sugwelan_call.Code as code
 use Rattle.sugwelan_c.specs.contracts.serving.serve as g
-use Rattle.sugwelan_c.proofs.serving.serve.Met.{met}
 
 abbrev stayed : Stays f.ended.signature.params f.ended.kept
 stayed = (stay_dropped _ yes, (stay_dropped _ yes, (gave_ref (1 ∷ []) tt (plain (λ _. ToldRow)), tt)))

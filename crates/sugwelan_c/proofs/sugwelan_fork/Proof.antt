@@ -1,24 +1,23 @@
 -- The task at the address is lent for the fork, and what was made is put at the new address.
 use Rattle.sugwelan_c.proofs.Walks.{◌≡◌, ℕ, List, [], ◌∷◌, ◌++◌, refl, w32, proved, heap_val, heap_Tells, heap_row}
+use Rattle.sugwelan_c.proofs.{Refused.fork_errno, sugwelan_fork.Statement.statement}
 use Rattle.sugwelan_c.proofs.Walks.{full_share, never, id⊢, fst∗, ftrue, flft, flent, fsep, bare, named, Val, vptr}
-use Rattle.sugwelan_c.proofs.Walks.{WpFn, fact, tables, ‵, raw, ◌⊛◌, some, later, prop, ◌$◌, ◌∵◌, !, qed, done, move}
 use Rattle.sugwelan_c.proofs.Walks.{keep, drop, use1, use2, use3, split, split3, join, fsplit, fjoin, fpack, pick}
 use Rattle.sugwelan_c.proofs.Walks.{await, regoal, suffices, group, sem, enter, of_opd, addr, stop, no_more, and_then}
-use Rattle.sugwelan_c.proofs.Walks.{returns, alloc_all, pass_all, free_all, look_at, get, through, sets, lands_as}
-use Rattle.sugwelan_c.proofs.Walks.{Body, lft_new, lft_end, i32, u32, yes, Is, shows, lends_ref, ref_back, mem, lone}
+use Rattle.sugwelan_c.proofs.Walks.{returns, alloc_all, pass_all, free_all, look_at, get, through, sets, lands_as, Body}
+use Rattle.sugwelan_c.proofs.Walks.{lft_new, lft_end, i32, u32, yes, Is, shows, lends_ref, ref_back, mem, lone}
 use Rattle.sugwelan_c.proofs.Walks.{uint_vals, uint_Tells, Ptr, RawPtr, block_ptr, null_ptr, lies_at, in_a_block}
-use Rattle.sugwelan_c.proofs.Walks.{rawptr_vals, rawptr_Tells, MutRef, MutBor, mut_vals, mut_Tells, plain}
-use Rattle.sugwelan_c.proofs.Walks.{sint_Lawful, nothing, peeks, heard, calls_at, Lasts, lasts, triple_of, framed}
-use Rattle.sugwelan_c.proofs.Walks.{Stays, walk_of, stay_dropped, gave_ref, Goes-dropped, Goes-gave_ref, ends_at}
+use Rattle.sugwelan_c.proofs.Walks.{rawptr_vals, rawptr_Tells, MutRef, MutBor, mut_vals, mut_Tells, plain, sint_Lawful}
+use Rattle.sugwelan_c.proofs.Walks.{nothing, peeks, heard, calls_at, Lasts, lasts, triple_of, framed, Stays, walk_of}
+use Rattle.sugwelan_c.proofs.Walks.{stay_dropped, gave_ref, Goes-dropped, Goes-gave_ref, ends_at}
+use Rattle.sugwelan_c.proofs.Made.{Made, made_laws, given}
+use Rattle.sugwelan_c.proofs.Walks.{WpFn, fact, tables, ‵, raw, ◌⊛◌, some, later, prop, ◌$◌, ◌∵◌, !, qed, done, move}
 use Rattle.std.proofs.Common.{ℤ}
 use Rattle.std.specs.Prelude.{MatchResult}
 use Rattle.sugwelan_c.specs.Blocks.{freeing, code_in, gives_block, owned, puts}
 use Rattle.sugwelan_c.specs.Handles.{IsFork, HasNoFork}
 use Rattle.wq_checked.specs.contracts.tasks.CheckedTask.{the_row as R}
-use Rattle.sugwelan_c.proofs.Made.{Made, made_laws, given}
-use Rattle.sugwelan_c.proofs.Refused.{fork_errno}
 use Rattle.sugwelan_c.specs.contracts.sugwelan_fork as f
-use Rattle.sugwelan_c.proofs.sugwelan_fork.Statement.{statement}
 use Rattle.sugwelan_c.proofs.sugwelan_fork.Code as code
 use Rattle.sugwelan_c.specs.contracts.handles.fork as g
 use Rattle.sugwelan_c.proofs.handles.fork.Met as fork

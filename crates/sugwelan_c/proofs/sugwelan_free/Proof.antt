@@ -1,15 +1,17 @@
 -- The task at the address is shown for a lifetime that is made for the question, and is taken where it may be freed.
 use Rattle.sugwelan_c.proofs.Walks.{◌≡◌, List, [], ◌∷◌, ◌++◌, refl, sym, ap, subst, w32, proved, heap_val, heap_Tells}
+use Rattle.sugwelan_c.proofs.{Made.Held, Made.held_laws, sugwelan_free.Statement.statement}
 use Rattle.sugwelan_c.proofs.Walks.{after, heap_row, full_share, emp, never, id⊢, fst∗, Lft, ftrue, flft, flent, bare}
-use Rattle.sugwelan_c.proofs.Walks.{named, Val, vint, vptr, WpFn, fact, fact_i, tables, ‵, raw, ◌⊛◌, some, later}
-use Rattle.sugwelan_c.proofs.Walks.{prop, at_ret, ◌$◌, ◌∵◌, !, qed, done, move, keep, drop, use0, use1, use2, split}
 use Rattle.sugwelan_c.proofs.Walks.{join, fsplit, fjoin, feq_l, feq_i, pick, await, regoal, rewrite, suffices, group}
 use Rattle.sugwelan_c.proofs.Walks.{sem, enter, of_opd, lit, addr, stop, no_more, and_then, first, exec, returns}
-use Rattle.sugwelan_c.proofs.Walks.{alloc_all, pass_all, free_all, look_at, get, through, sets, lands_as, env}
-use Rattle.sugwelan_c.proofs.Walks.{lft_new, lft_end, i32, yes, Is, shows, lone, part_at, Ptr, RawPtr, block_ptr}
-use Rattle.sugwelan_c.proofs.Walks.{null_ptr, in_a_block, rawptr_vals, rawptr_Tells, Bor, ShrRef, plain, sint_Lawful}
-use Rattle.sugwelan_c.proofs.Walks.{nothing, peeks, only, heard, calls_at, Lasts, lasts, triple_of, framed, Stays}
-use Rattle.sugwelan_c.proofs.Walks.{walk_of, stay_dropped, Goes-dropped, ends_at}
+use Rattle.sugwelan_c.proofs.Walks.{alloc_all, pass_all, free_all, look_at, get, through, sets, lands_as, env, lft_new}
+use Rattle.sugwelan_c.proofs.Walks.{lft_end, i32, yes, Is, shows, lone, part_at, Ptr, RawPtr, block_ptr, null_ptr}
+use Rattle.sugwelan_c.proofs.Walks.{in_a_block, rawptr_vals, rawptr_Tells, Bor, ShrRef, plain, sint_Lawful, nothing}
+use Rattle.sugwelan_c.proofs.Walks.{peeks, only, heard, calls_at, Lasts, lasts, triple_of, framed, Stays, walk_of}
+use Rattle.sugwelan_c.proofs.Walks.{stay_dropped, Goes-dropped, ends_at}
+use Rattle.sugwelan_c.proofs.Freed.{at_zero, not_zero, stays}
+use Rattle.sugwelan_c.proofs.Walks.{named, Val, vint, vptr, WpFn, fact, fact_i, tables, ‵, raw, ◌⊛◌, some, later}
+use Rattle.sugwelan_c.proofs.Walks.{prop, at_ret, ◌$◌, ◌∵◌, !, qed, done, move, keep, drop, use0, use1, use2, split}
 use Rattle.std.proofs.Common.{ℤ, pos}
 use lib.Dec.{T}
 use base.Fml.{Incl-refl}
@@ -25,10 +27,7 @@ use Rattle.sugwelan_c.specs.Blocks.{freeing, left, owned}
 use Rattle.sugwelan_c.specs.Handles.{MayFree}
 use Rattle.wq_checked.specs.contracts.tasks.CheckedTask.{the_row as R}
 use Rattle.wq_checked.proofs.tasks.CheckedTask.TheLaws as task
-use Rattle.sugwelan_c.proofs.Freed.{at_zero, not_zero, stays}
-use Rattle.sugwelan_c.proofs.Made.{Held, held_laws}
 use Rattle.sugwelan_c.specs.contracts.sugwelan_free as f
-use Rattle.sugwelan_c.proofs.sugwelan_free.Statement.{statement}
 use Rattle.sugwelan_c.proofs.sugwelan_free.Code as code
 use Rattle.sugwelan_c.specs.contracts.handles.code_to_free as g
 use Rattle.sugwelan_c.proofs.handles.code_to_free.Met as ask

@@ -1,10 +1,8 @@
 -- Transitions of a program, and their runs.
 use Rattle.std.proofs.Common.{refl}
 use Rattle.std.specs.Prelude.{[], ◌∷◌, ◌++◌}
-use Rattle.wait_model.specs.declared.points.Point.{Point}
-use Rattle.wait_model.specs.declared.points.Next.{Next}
+use Rattle.wait_model.specs.{declared.points.Point.Point, declared.points.Next.Next, declared.points.Seen.Seen}
 use Rattle.wait_model.specs.declared.points.Next.TheVariants as next
-use Rattle.wait_model.specs.declared.points.Seen.{Seen}
 use Rattle.wait_rule.specs.Known.{Known}
 use Rattle.wait_rule.specs.Transitions.{OnlyLooks, Program, StepOrLook, IsMadeFor, Finds, after_step_or_look}
 use Rattle.wait_rule.proofs.KnownLaws.Transitions.{only_none, looks_last, goes_none, goes_on}

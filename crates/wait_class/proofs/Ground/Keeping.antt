@@ -1,19 +1,13 @@
 -- What stays of a task over the steps of a call.
 use Rattle.std.proofs.Common.{◌∙◌, ap, sym, refl, subst}
 use Rattle.std.specs.Prelude.{ℕ, ◌≡◌, ◌==◌, ◌||◌, Bool, true, false, Option, Some}
-use Rattle.wait_model.specs.declared.watches.Watch.{Watch}
-use Rattle.wait_model.specs.declared.watches.Entry.{Entry}
-use Rattle.wait_model.specs.Views.{View as Told}
+use Rattle.wait_model.specs.{declared.watches.Watch.Watch, declared.watches.Entry.Entry, Views.View as Told}
 use Rattle.wait_model.specs.Fold.{view_of}
-use Rattle.wait_rule.specs.declared.journal.Journal.{Journal}
-use Rattle.wait_rule.specs.Items.{steps_of}
-use Rattle.wait_rule.specs.Known.{Known}
+use Rattle.wait_rule.specs.{declared.journal.Journal.Journal, Items.steps_of, Known.Known, Queues.index}
 use Rattle.wait_rule.specs.Says.{Debts, Excuse, IsOutBut, OwesBut, told_of}
-use Rattle.wait_rule.specs.Queues.{index}
 use Rattle.wait_rule.specs.Stays.{StaysOwing, Change, Carries, only_looks, with_entry, queue_change, take_off_change}
-use Rattle.wait_rule.proofs.KnownLaws.StayingParts.{owes_also}
-use Rattle.wait_rule.proofs.KnownLaws.Debts.{entries_debts, list_debts}
-use Rattle.wait_rule.proofs.KnownLaws.SettledTasks.{owes_told}
+use Rattle.wait_rule.proofs.{KnownLaws.StayingParts.owes_also, KnownLaws.Debts.entries_debts}
+use Rattle.wait_rule.proofs.{KnownLaws.Debts.list_debts, KnownLaws.SettledTasks.owes_told}
 use Rattle.wait_class.specs.Posts.{HasSeenOwn, Keeps, KeepsBut}
 
 pub keeps_none : {f : Excuse → Excuse} (i : ℕ) (k : Known) → KeepsBut f i k k

@@ -2,16 +2,12 @@
 use Rattle.std.proofs.Common.{◌∙◌, ap, sym, refl, subst, arith, eq-eqb}
 use Rattle.std.specs.Prelude.{ℕ, ◌≡◌, Bool, false, if◌then◌else◌, Option, Some, None, [], ◌∷◌}
 use Rattle.wait_model.specs.declared.watches.Watch.TheVariants as watch
-use Rattle.wait_model.specs.declared.watches.Watch.{Watch}
-use Rattle.wait_model.specs.declared.watches.Aim.{Aim}
-use Rattle.wait_model.specs.declared.watches.Entry.{Entry}
-use Rattle.wait_model.specs.declared.steps.Step.{Step}
-use Rattle.wait_model.specs.declared.steps.Step.TheVariants as step
+use Rattle.wait_model.specs.{declared.watches.Watch.Watch, declared.watches.Aim.Aim, declared.watches.Entry.Entry}
+use Rattle.wait_model.specs.{declared.steps.Step.Step, Fold.after, Fold.forgotten, Words.entry_of}
 use Rattle.wait_model.specs.Views.{View as Told, Look, off, elsewhere, shown, look_at}
 use Rattle.wait_model.specs.Watches.{bare, head_of, owner}
-use Rattle.wait_model.specs.Fold.{after, forgotten}
-use Rattle.wait_model.specs.Words.{entry_of}
 use Rattle.wait_model.specs.PointFacts.{Zone, absent, waits, IsHome}
+use Rattle.wait_model.specs.declared.steps.Step.TheVariants as step
 use Rattle.wait_model.proofs.Functions.{put_same}
 use Rattle.wait_rule.specs.declared.journal.Item.TheVariants as item
 use Rattle.wait_rule.specs.Items.{Book, learn_step, book_from}

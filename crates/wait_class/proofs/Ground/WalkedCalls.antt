@@ -2,32 +2,22 @@
 use Rattle.std.proofs.Common.{sym, subst, arith}
 use Rattle.std.specs.Prelude.{ℕ, ◌<◌, Bool, true, false, if◌then◌else◌, Option, Some, None, List, [], ◌∷◌}
 use Rattle.wait_model.specs.declared.calls.Answer.TheVariants as answer
-use Rattle.wait_model.specs.declared.calls.Call.{Call}
-use Rattle.wait_model.specs.declared.calls.Event.{Event}
-use Rattle.wait_model.specs.declared.calls.Event.TheVariants as event
-use Rattle.wait_model.specs.declared.points.Given.{Given}
-use Rattle.wait_model.specs.declared.points.Next.{Next}
-use Rattle.wait_model.specs.declared.points.Next.TheVariants as next
-use Rattle.wait_model.specs.declared.points.PageStage.{PageStage}
-use Rattle.wait_model.specs.declared.points.PageStage.TheVariants as staging
-use Rattle.wait_model.specs.declared.points.Planned.{Planned}
-use Rattle.wait_model.specs.declared.points.Point.TheVariants as at
-use Rattle.wait_model.specs.declared.points.Seen.{Seen}
-use Rattle.wait_model.specs.declared.points.WalkPoint.{WalkPoint}
-use Rattle.wait_model.specs.declared.points.WalkPoint.TheVariants as walking
-use Rattle.wait_model.specs.declared.queues.CalledEntry.{CalledEntry}
-use Rattle.wait_model.specs.declared.queues.Mark.{Mark}
-use Rattle.wait_model.specs.declared.queues.Walking.{Walking}
-use Rattle.wait_model.specs.declared.steps.Step.{Step}
-use Rattle.wait_model.specs.declared.steps.Step.TheVariants as step
-use Rattle.wait_model.specs.declared.watches.Aim.{Aim}
-use Rattle.wait_model.specs.declared.watches.Kind.{Kind}
-use Rattle.wait_model.specs.declared.watches.Kind.TheVariants as kind
-use Rattle.wait_model.specs.Points.{call_aim}
+use Rattle.wait_model.specs.{declared.calls.Call.Call, declared.calls.Event.Event, declared.points.Given.Given}
+use Rattle.wait_model.specs.{declared.points.Next.Next, declared.points.PageStage.PageStage}
+use Rattle.wait_model.specs.{declared.points.Planned.Planned, declared.points.Seen.Seen}
+use Rattle.wait_model.specs.{declared.points.WalkPoint.WalkPoint, declared.queues.CalledEntry.CalledEntry}
+use Rattle.wait_model.specs.{declared.queues.Mark.Mark, declared.queues.Walking.Walking, declared.steps.Step.Step}
+use Rattle.wait_model.specs.{declared.watches.Aim.Aim, declared.watches.Kind.Kind, Points.call_aim, Tasks.meets}
 use Rattle.wait_model.specs.Programs.{call_entry, call_next, call_or_break, go, hands_event, onward, past, reached}
 use Rattle.wait_model.specs.Programs.{resumed, walk_event}
-use Rattle.wait_model.specs.Tasks.{meets}
 use Rattle.wait_model.specs.Watches.{head_of, mask_of, misses}
+use Rattle.wait_model.specs.declared.calls.Event.TheVariants as event
+use Rattle.wait_model.specs.declared.points.Next.TheVariants as next
+use Rattle.wait_model.specs.declared.points.PageStage.TheVariants as staging
+use Rattle.wait_model.specs.declared.points.Point.TheVariants as at
+use Rattle.wait_model.specs.declared.points.WalkPoint.TheVariants as walking
+use Rattle.wait_model.specs.declared.steps.Step.TheVariants as step
+use Rattle.wait_model.specs.declared.watches.Kind.TheVariants as kind
 use Rattle.wait_rule.specs.Known.{Known}
 use Rattle.wait_rule.specs.Transitions.{Finds, Goes, IsAbout, IsMadeFor, IsStepFor, StepOrLook, Transition}
 use Rattle.wait_rule.specs.Transitions.{after_transition, by_look, by_step, call_program, walk_program}

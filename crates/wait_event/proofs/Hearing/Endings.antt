@@ -1,23 +1,17 @@
 -- Whole waits for a flag: how they begin, go on turn by turn, and what they say at their end.
 use Rattle.std.proofs.Common.{◌∙◌, ap, sym, subst}
 use Rattle.std.specs.Prelude.{ℕ, ◌≡◌, None}
-use Rattle.wait_model.specs.declared.points.Next.{Next}
+use Rattle.wait_model.specs.{declared.points.Next.Next, declared.tasks.SleepState.SleepState, Reached.IsHome}
+use Rattle.wait_model.specs.{Reached.free, Admission.is_standing}
 use Rattle.wait_model.specs.declared.points.Next.TheVariants as next
-use Rattle.wait_model.specs.declared.tasks.SleepState.{SleepState}
 use Rattle.wait_model.specs.declared.watches.Watch.TheVariants as watch
-use Rattle.wait_model.specs.Reached.{IsHome, free}
-use Rattle.wait_model.specs.Admission.{is_standing}
-use Rattle.wait_rule.specs.Known.{Known}
+use Rattle.wait_rule.specs.{Known.Known, Queues.IsTold, Stays.Carries, Stays.unchanged, Transitions.Goes}
 use Rattle.wait_rule.specs.Says.{IsFree, IsUp, told_of}
-use Rattle.wait_rule.specs.Queues.{IsTold}
-use Rattle.wait_rule.specs.Stays.{Carries, unchanged}
-use Rattle.wait_rule.specs.Transitions.{Goes}
-use Rattle.wait_event.specs.Entries.{HasWokenEntry, MayRemove}
-use Rattle.wait_event.specs.WokenWaits.{EndsWoken, Hears, IsHearing, WentHearing}
-use Rattle.wait_event.specs.WokenWaits.{woken_next, woken_point, woken_program}
-use Rattle.wait_event.specs.declared.woken_waits.WokenStage.{WokenStage}
-use Rattle.wait_event.specs.declared.woken_waits.WokenStage.TheVariants as stage
+use Rattle.wait_event.specs.{Entries.HasWokenEntry, Entries.MayRemove, declared.woken_waits.WokenStage.WokenStage}
 use Rattle.wait_event.specs.declared.woken_waits.WokenTurn.{WokenTurn}
+use Rattle.wait_event.specs.WokenWaits.{EndsWoken, Hears, IsHearing, WentHearing, woken_next, woken_point}
+use Rattle.wait_event.specs.WokenWaits.{woken_program}
+use Rattle.wait_event.specs.declared.woken_waits.WokenStage.TheVariants as stage
 use Rattle.wait_event.specs.declared.woken_waits.WokenTurn.TheVariants as turn
 use Rattle.wait_class.proofs.Ground.Going.{runs_none, runs_on}
 use Rattle.wait_event.proofs.Hearing.Entries.{keeps_none, keeps_on, woken_leaves}

@@ -2,14 +2,11 @@
 use Rattle.std.proofs.Common.{◌∙◌, ap, refl, inr}
 use Rattle.std.specs.Prelude.{ℕ, ◌≡◌}
 use Rattle.wait_model.specs.Views.{View as Told}
-use Rattle.wait_rule.specs.Known.{Known}
+use Rattle.wait_rule.specs.{Known.Known, Queues.index, Stays.Carries, Stays.unchanged}
 use Rattle.wait_rule.specs.Says.{Debts, Excuse, IsFree, IsUp, told_of}
-use Rattle.wait_rule.specs.Queues.{index}
-use Rattle.wait_rule.specs.Stays.{Carries, unchanged}
 use Rattle.wait_class.proofs.Ground.Keeping.{same_owing}
-use Rattle.wait_event.specs.Entries.{HasWokenEntry, MayRemove}
+use Rattle.wait_event.specs.{Entries.HasWokenEntry, Entries.MayRemove, WokenWaits.KeepsEntries}
 use Rattle.wait_class.specs.Posts.{own_of}
-use Rattle.wait_event.specs.WokenWaits.{KeepsEntries}
 
 pub keeps_none : (k : Known) → KeepsEntries k k
 keeps_none k = record {

@@ -4,34 +4,25 @@ use Rattle.std.specs.Prelude.{ℕ, ◌≡◌, ◌⊎◌, Bool, true, false, if�
 use Rattle.wait_model.specs.declared.points.Point.TheVariants as at
 use Rattle.wait_model.specs.declared.points.WokenPoint.TheVariants as hearing
 use Rattle.wait_model.specs.declared.points.Next.TheVariants as next
-use Rattle.wait_model.specs.declared.points.Seen.{Seen}
-use Rattle.wait_model.specs.declared.steps.Step.{Step}
-use Rattle.wait_model.specs.declared.steps.Step.TheVariants as step
-use Rattle.wait_model.specs.declared.tasks.Sleep.{Sleep}
-use Rattle.wait_model.specs.declared.tasks.Sleep.TheVariants as sleeping
-use Rattle.wait_model.specs.declared.tasks.SleepState.{SleepState}
+use Rattle.wait_model.specs.{declared.points.Seen.Seen, declared.steps.Step.Step, declared.tasks.Sleep.Sleep}
+use Rattle.wait_model.specs.{declared.tasks.SleepState.SleepState, Words.flag_of}
 use Rattle.wait_model.specs.Tasks.{sleep_of, state_mask, task_of}
-use Rattle.wait_model.specs.Words.{flag_of}
+use Rattle.wait_model.specs.declared.steps.Step.TheVariants as step
+use Rattle.wait_model.specs.declared.tasks.Sleep.TheVariants as sleeping
 use Rattle.wait_rule.specs.declared.journal.Item.TheVariants as item
+use Rattle.wait_rule.specs.{Known.Known, Says.added, Says.history_of, Transitions.by_step}
 use Rattle.wait_rule.specs.Items.{Book, after_sleep, with_state}
-use Rattle.wait_rule.specs.Known.{Known}
-use Rattle.wait_rule.specs.Says.{added, history_of}
 use Rattle.wait_rule.specs.Stays.{Carries, state_change, unchanged}
-use Rattle.wait_rule.specs.Transitions.{by_step}
-use Rattle.wait_rule.proofs.KnownLaws.Debts.{added_debts}
-use Rattle.wait_rule.proofs.KnownLaws.AfterSteps.{told_added}
-use Rattle.wait_rule.proofs.KnownLaws.TaskHistories.{history_after}
-use Rattle.wait_rule.proofs.KnownLaws.Transitions.{only_none}
-use Rattle.wait_class.specs.Posts.{IsStateFor, Post, Stands}
-use Rattle.wait_class.specs.Posts.{EndsWith, own_of}
+use Rattle.wait_rule.proofs.{KnownLaws.Debts.added_debts, KnownLaws.AfterSteps.told_added}
+use Rattle.wait_rule.proofs.{KnownLaws.TaskHistories.history_after, KnownLaws.Transitions.only_none}
+use Rattle.wait_class.specs.Posts.{IsStateFor, Post, Stands, EndsWith, own_of}
 use Rattle.wait_class.specs.Findings.{saw_nothing, with_own}
 use Rattle.wait_event.specs.WokenWaits.{HasHeardSo, Hears, IsHearing, KeepsEntries, WentHearing, WokenTrail, heard_post}
 use Rattle.wait_event.specs.WokenWaits.{heard_steps, unless_set, woken_point, woken_post, woken_program}
 use Rattle.wait_event.specs.declared.woken_waits.WokenStage.{WokenStage}
 use Rattle.wait_event.specs.declared.woken_waits.WokenStage.TheVariants as stage
 use Rattle.wait_event.specs.declared.woken_waits.WokenTurn.TheVariants as turn
-use Rattle.wait_class.proofs.Ground.Standing.{stands_on}
-use Rattle.wait_class.proofs.Ground.Going.{runs_none, runs_one}
+use Rattle.wait_class.proofs.{Ground.Standing.stands_on, Ground.Going.runs_none, Ground.Going.runs_one}
 use Rattle.wait_event.proofs.Hearing.Entries.{keeps_by, keeps_none, keeps_told, woken_stays}
 
 -- the last steps, with one more

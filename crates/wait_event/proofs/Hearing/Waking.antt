@@ -2,28 +2,20 @@
 use Rattle.std.proofs.Common.{◌∙◌, ap, sym, refl, subst, append-nil, inl}
 use Rattle.std.specs.Prelude.{ℕ, ◌≡◌, Bool, true, false, MatchBool, List, [], ◌∷◌, ◌++◌}
 use Rattle.wait_model.specs.declared.points.Next.TheVariants as next
-use Rattle.wait_model.specs.declared.steps.Step.{Step}
-use Rattle.wait_model.specs.declared.tasks.SleepState.{SleepState}
-use Rattle.wait_model.specs.Tasks.{state_mask, task_of}
-use Rattle.wait_model.specs.Views.{View as Told}
-use Rattle.wait_model.specs.Fold.{view_of}
+use Rattle.wait_model.specs.{declared.steps.Step.Step, declared.tasks.SleepState.SleepState, Tasks.state_mask}
+use Rattle.wait_model.specs.{Tasks.task_of, Views.View as Told, Fold.view_of}
 use Rattle.wait_rule.specs.declared.journal.Item.TheVariants as item
+use Rattle.wait_rule.specs.{Known.Known, Queues.IsTold, Queues.index, Transitions.OnlyLooks}
 use Rattle.wait_rule.specs.Items.{Book, after_awake, risen, steps_of}
-use Rattle.wait_rule.specs.Known.{Known}
 use Rattle.wait_rule.specs.Says.{IsAwakeAgain, added, grown, history_of, told_of}
-use Rattle.wait_rule.specs.Queues.{IsTold, index}
-use Rattle.wait_rule.specs.Transitions.{OnlyLooks}
-use Rattle.wait_rule.proofs.TableSteps.ItemLists.{steps_append}
-use Rattle.wait_rule.proofs.KnownLaws.Debts.{looked_debts}
-use Rattle.wait_rule.proofs.KnownLaws.Transitions.{book_told, looks_of}
-use Rattle.wait_class.specs.Posts.{IsStateFor, Stands}
-use Rattle.wait_class.specs.Posts.{EndsWith}
+use Rattle.wait_rule.proofs.{TableSteps.ItemLists.steps_append, KnownLaws.Debts.looked_debts}
+use Rattle.wait_rule.proofs.{KnownLaws.Transitions.book_told, KnownLaws.Transitions.looks_of}
+use Rattle.wait_class.specs.Posts.{IsStateFor, Stands, EndsWith}
 use Rattle.wait_event.specs.WokenWaits.{HasHeardSo, Hears, IsHearingAsleep, KeepsEntries, WentHearing, heard_steps}
 use Rattle.wait_event.specs.WokenWaits.{woken_point, woken_post, woken_program}
 use Rattle.wait_event.specs.declared.woken_waits.WokenStage.TheVariants as stage
 use Rattle.wait_event.specs.declared.woken_waits.WokenTurn.TheVariants as turn
-use Rattle.wait_class.proofs.Ground.Going.{runs_looks}
-use Rattle.wait_class.proofs.Ground.Standing.{home_told}
+use Rattle.wait_class.proofs.{Ground.Going.runs_looks, Ground.Standing.home_told}
 use Rattle.wait_event.proofs.Hearing.Entries.{keeps_told, woken_stays}
 
 -- by looks that are no steps, and the book that it has then

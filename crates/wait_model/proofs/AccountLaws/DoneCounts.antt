@@ -2,18 +2,14 @@
 use Rattle.std.proofs.Common.{refl, sym, ◌∙◌, ap, arith, inl, inr}
 use Rattle.std.proofs.lemmas.Bool.Decides.{eqb_tells}
 use Rattle.std.specs.Prelude.{ℕ, ◌≡◌, ◌≤◌, ◌+◌, ◌⊎◌, false, ◌==◌, if◌then◌else◌, List, [], ◌∷◌}
-use Rattle.wait_model.specs.declared.layout.TheConstants.{ALL_DONE}
-use Rattle.wait_model.specs.declared.watches.Watch.TheVariants as watch
-use Rattle.wait_model.specs.declared.steps.Step.{Step}
-use Rattle.wait_model.specs.declared.steps.Step.TheVariants as step
-use Rattle.wait_model.specs.Functions.{put}
-use Rattle.wait_model.specs.Histories.{Lacks}
+use Rattle.wait_model.specs.{declared.layout.TheConstants.ALL_DONE, declared.steps.Step.Step, Functions.put}
+use Rattle.wait_model.specs.{Histories.Lacks, Rows.Allowed, Totals.total}
 use Rattle.wait_model.specs.Tables.{Table, next, start}
-use Rattle.wait_model.specs.Rows.{Allowed}
-use Rattle.wait_model.specs.Totals.{total}
 use Rattle.wait_model.specs.DoneCounts.{raises_by_one, lowers_by_one, grants, throws, of_store, total_stored}
 use Rattle.wait_model.specs.DoneCounts.{IsBalanced, IsStored, IsDoneStore, CountsStayBalanced, CountsStartBalanced}
 use Rattle.wait_model.specs.DoneCounts.{ends_count, TakesAreCompleted}
+use Rattle.wait_model.specs.declared.watches.Watch.TheVariants as watch
+use Rattle.wait_model.specs.declared.steps.Step.TheVariants as step
 use Rattle.wait_model.proofs.Functions.{put_same, put_other}
 use Rattle.wait_model.proofs.HistoryLaws.StepTotals.{total_grown, sum_zero}
 

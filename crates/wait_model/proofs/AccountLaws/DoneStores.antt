@@ -2,28 +2,21 @@
 -- are balanced in every state.
 use Rattle.std.proofs.Common.{refl, sym, subst, arith}
 use Rattle.std.specs.Prelude.{ℕ, zero, suc, ◌≡◌, ◌+◌, ◌<◌, ◌≤◌, Bool, true, false, if◌then◌else◌, Option, List, [], ◌∷◌}
+use Rattle.wait_model.specs.{declared.calls.Event.Event, declared.calls.Ran.Ran, declared.points.Given.Given}
+use Rattle.wait_model.specs.{declared.watches.Entry.Entry, declared.watches.Watch.Watch, Completions.NoRunMiscounts}
+use Rattle.wait_model.specs.{Locations.cond_at, Locations.word_in, Reached.Joins, Reached.IsSound, Tables.Table}
+use Rattle.wait_model.specs.{Tables.value_of, Watches.IsThere, Watches.number_of}
 use Rattle.wait_model.specs.declared.layout.TheConstants.{TASKS, ENTRIES, FIRST_DONE, FIRST_BIT_WORD, EVENTS}
-use Rattle.wait_model.specs.declared.calls.Event.{Event}
-use Rattle.wait_model.specs.declared.calls.Event.TheVariants as event
-use Rattle.wait_model.specs.declared.calls.Ran.{Ran}
-use Rattle.wait_model.specs.declared.calls.Ran.TheVariants as ran
-use Rattle.wait_model.specs.declared.points.Given.{Given}
-use Rattle.wait_model.specs.declared.steps.Step.TheVariants as step
-use Rattle.wait_model.specs.declared.watches.Entry.{Entry}
-use Rattle.wait_model.specs.declared.watches.Watch.{Watch}
-use Rattle.wait_model.specs.declared.watches.Watch.TheVariants as watch
 use Rattle.wait_model.specs.DoneCounts.{IsStored, IsDoneStore, IsBalanced}
-use Rattle.wait_model.specs.Completions.{NoRunMiscounts}
-use Rattle.wait_model.specs.Locations.{cond_at, word_in}
-use Rattle.wait_model.specs.Reached.{Joins, IsSound}
 use Rattle.wait_model.specs.Runs.{State, given_by, is_publishing, looks_below, looks, peeks_below, all_peeks, set_step}
 use Rattle.wait_model.specs.Runs.{event_steps, happens, start_state, IsRunFrom, made_in}
-use Rattle.wait_model.specs.Tables.{Table, value_of}
-use Rattle.wait_model.specs.Watches.{IsThere, number_of}
-use Rattle.wait_model.proofs.WordLaws.CondWords.{number_value}
-use Rattle.wait_model.proofs.AccountLaws.DoneCounts.{counts_start_balanced, counts_stay_balanced}
+use Rattle.wait_model.specs.declared.calls.Event.TheVariants as event
+use Rattle.wait_model.specs.declared.calls.Ran.TheVariants as ran
+use Rattle.wait_model.specs.declared.steps.Step.TheVariants as step
+use Rattle.wait_model.specs.declared.watches.Watch.TheVariants as watch
+use Rattle.wait_model.proofs.{WordLaws.CondWords.number_value, AccountLaws.DoneCounts.counts_start_balanced}
+use Rattle.wait_model.proofs.{AccountLaws.DoneCounts.counts_stay_balanced, RunLaws.OthersEvents.Changes}
 use Rattle.wait_model.proofs.RunLaws.EveryRun.{IsMade, made_of, made_sound, opened_sound, start_sound}
-use Rattle.wait_model.proofs.RunLaws.OthersEvents.{Changes}
 use Rattle.wait_model.proofs.StepLaws.TableLaws.{AllSteps, RunSteps, run_law}
 
 looks_stored : (entry : ℕ → Option Entry) (n : ℕ) → AllSteps IsDoneStore (looks_below entry n)

@@ -4,43 +4,34 @@ use Rattle.std.proofs.Common.{refl, sym, ◌∙◌, ap, arith, inl}
 use Rattle.std.proofs.lemmas.List.Elements.{All-nil, All-cons}
 use Rattle.std.specs.Prelude.{ℕ, ◌≡◌, ◌≢◌, Bool, true, false, not, ◌&&◌, if◌then◌else◌, is_some, List, [], ◌∷◌, Option}
 use Rattle.std.specs.Prelude.{Some, None}
-use Rattle.wait_model.specs.declared.calls.Call.{Call}
-use Rattle.wait_model.specs.declared.calls.Call.TheVariants as calls
-use Rattle.wait_model.specs.declared.calls.Event.{Event}
-use Rattle.wait_model.specs.declared.calls.Event.TheVariants as event
-use Rattle.wait_model.specs.declared.tasks.Sleep.{Sleep}
-use Rattle.wait_model.specs.declared.watches.Watch.{Watch}
-use Rattle.wait_model.specs.declared.watches.Entry.{Entry}
-use Rattle.wait_model.specs.declared.points.Planned.{Planned}
-use Rattle.wait_model.specs.declared.points.Next.TheVariants as next
-use Rattle.wait_model.specs.declared.points.Seen.{Seen}
-use Rattle.wait_model.specs.declared.points.Progress.{Progress}
-use Rattle.wait_model.specs.declared.points.Progress.TheVariants as now
-use Rattle.wait_model.specs.declared.points.Point.{Point}
-use Rattle.wait_model.specs.declared.points.Point.TheVariants as at
-use Rattle.wait_model.specs.declared.points.PreparePoint.TheVariants as preparing
-use Rattle.wait_model.specs.declared.points.LeavePoint.TheVariants as leaving
-use Rattle.wait_model.specs.declared.points.FinishPoint.{FinishPoint}
-use Rattle.wait_model.specs.declared.points.FinishPoint.TheVariants as finishing
-use Rattle.wait_model.specs.declared.points.AwaitPoint.TheVariants as awaiting
-use Rattle.wait_model.specs.declared.points.BitPoint.TheVariants as biting
+use Rattle.wait_model.specs.{declared.calls.Call.Call, declared.calls.Event.Event, declared.tasks.Sleep.Sleep}
+use Rattle.wait_model.specs.{declared.watches.Watch.Watch, declared.watches.Entry.Entry}
+use Rattle.wait_model.specs.{declared.points.Planned.Planned, declared.points.Seen.Seen}
+use Rattle.wait_model.specs.{declared.points.Progress.Progress, declared.points.Point.Point}
+use Rattle.wait_model.specs.{declared.points.FinishPoint.FinishPoint, Words.bit_at, Words.flag, Tables.value_of}
+use Rattle.wait_model.specs.Accounts.{Account}
 use Rattle.wait_model.specs.Tasks.{pending, sleep_of, state_mask, looks_in}
 use Rattle.wait_model.specs.Watches.{misses, word_of, bit_of}
-use Rattle.wait_model.specs.Words.{bit_at, flag}
 use Rattle.wait_model.specs.Points.{call_watch, call_number, call_head, is_bit_wait, is_lock, state_in}
-use Rattle.wait_model.specs.Tables.{value_of}
 use Rattle.wait_model.specs.Programs.{go, ends_with, program_start, signalled_at, prepared_at, slept_at, signalled}
 use Rattle.wait_model.specs.Programs.{interrupted, zero_answer, exchange, ask, look_event, await_after, page_last}
 use Rattle.wait_model.specs.Runs.{State, own, seen_by, planned, progress_at}
 use Rattle.wait_model.specs.Reached.{absent, IsFitted, HomeAt, IsHome}
-use Rattle.wait_model.specs.Accounts.{Account}
 use Rattle.wait_model.specs.Selections.{is_finish_event, is_page_lock, IsBrokenOff, IsGivenUp, IsPageGivenUp}
-use Rattle.wait_model.proofs.WaitLaws.WaitStages.{FitsStage}
-use Rattle.wait_model.proofs.WaitLaws.PageTurns.{paging_locks}
-use Rattle.wait_model.proofs.AccountLaws.PageTrails.{PageTrailAt}
-use Rattle.wait_model.proofs.RunLaws.FineEvents.{none_there}
+use Rattle.wait_model.specs.declared.calls.Call.TheVariants as calls
+use Rattle.wait_model.specs.declared.calls.Event.TheVariants as event
+use Rattle.wait_model.specs.declared.points.Next.TheVariants as next
+use Rattle.wait_model.specs.declared.points.Progress.TheVariants as now
+use Rattle.wait_model.specs.declared.points.Point.TheVariants as at
+use Rattle.wait_model.specs.declared.points.PreparePoint.TheVariants as preparing
+use Rattle.wait_model.specs.declared.points.LeavePoint.TheVariants as leaving
+use Rattle.wait_model.specs.declared.points.FinishPoint.TheVariants as finishing
+use Rattle.wait_model.specs.declared.points.AwaitPoint.TheVariants as awaiting
+use Rattle.wait_model.specs.declared.points.BitPoint.TheVariants as biting
+use Rattle.wait_model.proofs.{WaitLaws.WaitStages.FitsStage, WaitLaws.PageTurns.paging_locks}
+use Rattle.wait_model.proofs.{AccountLaws.PageTrails.PageTrailAt, RunLaws.FineEvents.none_there}
+use Rattle.wait_model.proofs.{AccountLaws.Refusals.refusal, AccountLaws.Refusals.not_interrupted}
 use Rattle.wait_model.proofs.WaitLaws.OutsideStages.{either, both, unset, is_aside, aside_step}
-use Rattle.wait_model.proofs.AccountLaws.Refusals.{refusal, not_interrupted}
 use Rattle.wait_model.specs.declared.points.PagePoint.TheVariants as paging
 use Rattle.std.specs.Prelude.{◌⊎◌}
 use Rattle.std.proofs.Common.{inl, inr}

@@ -6,34 +6,16 @@ use Rattle.std.proofs.lemmas.Bool.Decides.{eqb_tells}
 use Rattle.std.proofs.Common.{refl, sym, ◌∙◌, ap, subst, arith, inl, inr}
 use Rattle.std.specs.Prelude.{ℕ, ◌≡◌, ◌≢◌, ◌+◌, ◌≤◌, ◌⊎◌, Bool, true, false, not, if◌then◌else◌, is_some, Option, Some}
 use Rattle.std.specs.Prelude.{None, List, [], ◌∷◌}
-use Rattle.wait_model.specs.declared.layout.TheConstants.{EVENTS}
-use Rattle.wait_model.specs.declared.watches.Watch.{Watch}
-use Rattle.wait_model.specs.declared.watches.Entry.{Entry}
-use Rattle.wait_model.specs.declared.steps.Step.TheVariants as step
-use Rattle.wait_model.specs.declared.calls.Call.{Call}
-use Rattle.wait_model.specs.declared.calls.Call.TheVariants as calls
-use Rattle.wait_model.specs.declared.calls.Event.{Event}
-use Rattle.wait_model.specs.declared.calls.Event.TheVariants as event
-use Rattle.wait_model.specs.declared.calls.Ran.{Ran}
-use Rattle.wait_model.specs.declared.calls.Ran.TheVariants as ran
-use Rattle.wait_model.specs.declared.queues.CalledEntry.{CalledEntry}
-use Rattle.wait_model.specs.declared.points.Given.{Given}
-use Rattle.wait_model.specs.declared.points.Planned.{Planned}
-use Rattle.wait_model.specs.declared.points.Point.TheVariants as at
-use Rattle.wait_model.specs.declared.points.PagePoint.{PagePoint}
-use Rattle.wait_model.specs.declared.points.PagePoint.TheVariants as paging
-use Rattle.wait_model.specs.declared.points.FinishPoint.TheVariants as finishing
-use Rattle.wait_model.specs.declared.points.PageStage.TheVariants as staging
-use Rattle.wait_model.specs.declared.points.WalkPoint.TheVariants as walking
-use Rattle.wait_model.specs.declared.points.Progress.{Progress}
-use Rattle.wait_model.specs.declared.points.Progress.TheVariants as now
-use Rattle.wait_model.specs.declared.points.Seen.{Seen}
-use Rattle.wait_model.specs.Functions.{put}
+use Rattle.wait_model.specs.{declared.layout.TheConstants.EVENTS, declared.watches.Watch.Watch}
+use Rattle.wait_model.specs.{declared.watches.Entry.Entry, declared.calls.Call.Call, declared.calls.Event.Event}
+use Rattle.wait_model.specs.{declared.calls.Ran.Ran, declared.queues.CalledEntry.CalledEntry}
+use Rattle.wait_model.specs.{declared.points.Given.Given, declared.points.Planned.Planned}
+use Rattle.wait_model.specs.{declared.points.PagePoint.PagePoint, declared.points.Progress.Progress}
+use Rattle.wait_model.specs.{declared.points.Seen.Seen, Functions.put, Tables.value_of, Lent.IsLocking}
+use Rattle.wait_model.specs.{Lent.NoRunLeavesPage, Selections.is_page_lock}
 use Rattle.wait_model.specs.Tasks.{pending, looks_in, state_mask}
 use Rattle.wait_model.specs.Words.{head_word, bit_at, flag}
 use Rattle.wait_model.specs.Watches.{is_page, is_bit, bare, head_of, misses, was_clear, word_of, bit_of, page}
-use Rattle.wait_model.specs.Tables.{value_of}
-use Rattle.wait_model.specs.Tables as tables
 use Rattle.wait_model.specs.Points.{call_watch, call_head, state_in}
 use Rattle.wait_model.specs.Programs.{program_start, page_event, page_queue, page_last, call_fails}
 use Rattle.wait_model.specs.Reached.{held_at, handed_by, HomeAt, IsFlagged, IsSound, IsSoundCall, IsPlaced, CountedBy}
@@ -41,19 +23,25 @@ use Rattle.wait_model.specs.Reached.{zone}
 use Rattle.wait_model.specs.Runs.{State, own, is_open, given_by, planned, seen_by, progress_at, progress_after}
 use Rattle.wait_model.specs.Runs.{is_publishing, happens, start_state, state_after, state_of, Continues, IsRunFrom}
 use Rattle.wait_model.specs.Runs.{IsRun, made_in}
+use Rattle.wait_model.specs.declared.steps.Step.TheVariants as step
+use Rattle.wait_model.specs.declared.calls.Call.TheVariants as calls
+use Rattle.wait_model.specs.declared.calls.Event.TheVariants as event
+use Rattle.wait_model.specs.declared.calls.Ran.TheVariants as ran
+use Rattle.wait_model.specs.declared.points.Point.TheVariants as at
+use Rattle.wait_model.specs.declared.points.PagePoint.TheVariants as paging
+use Rattle.wait_model.specs.declared.points.FinishPoint.TheVariants as finishing
+use Rattle.wait_model.specs.declared.points.PageStage.TheVariants as staging
+use Rattle.wait_model.specs.declared.points.WalkPoint.TheVariants as walking
+use Rattle.wait_model.specs.declared.points.Progress.TheVariants as now
+use Rattle.wait_model.specs.Tables as tables
+use Rattle.wait_model.proofs.{Sameness.same_bit, Sameness.same_bit_is, HistoryLaws.HoldLooks.looks_same}
+use Rattle.wait_model.proofs.{HistoryLaws.UnlockedLooks.peeks_same, RunLaws.OthersEvents.own_one}
+use Rattle.wait_model.proofs.{RunLaws.PagelessPoints.IsSober, RunLaws.PagelessPoints.program_apart}
+use Rattle.wait_model.proofs.{AccountLaws.GivenUpWaits.is_off, WaitLaws.WaitStages.FitsStage}
+use Rattle.wait_model.proofs.{WaitLaws.Waiters.page_zone, WaitLaws.Waiters.fits_of}
 use Rattle.wait_model.proofs.Functions.{put_at, put_case, put_same, put_other}
-use Rattle.wait_model.proofs.Sameness.{same_bit, same_bit_is}
-use Rattle.wait_model.proofs.HistoryLaws.HoldLooks.{looks_same}
-use Rattle.wait_model.proofs.HistoryLaws.UnlockedLooks.{peeks_same}
-use Rattle.wait_model.proofs.RunLaws.OthersEvents.{own_one}
 use Rattle.wait_model.proofs.RunLaws.EveryRun.{opened_sound, made_sound, start_sound, sound_of}
-use Rattle.wait_model.proofs.RunLaws.PagelessPoints.{IsSober, program_apart}
 use Rattle.wait_model.proofs.RunLaws.PagesHanded.{IsHanding, handing_of, standing_plain}
-use Rattle.wait_model.proofs.AccountLaws.GivenUpWaits.{is_off}
-use Rattle.wait_model.specs.Lent.{IsLocking, NoRunLeavesPage}
-use Rattle.wait_model.specs.Selections.{is_page_lock}
-use Rattle.wait_model.proofs.WaitLaws.WaitStages.{FitsStage}
-use Rattle.wait_model.proofs.WaitLaws.Waiters.{page_zone, fits_of}
 use Rattle.wait_model.proofs.WaitLaws.PageTurns.{A, flag_stays, no_zone, paging_locks}
 
 false_not : false ≡ true → ⊥

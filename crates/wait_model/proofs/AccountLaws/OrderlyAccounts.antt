@@ -3,51 +3,39 @@ use Rattle.std.proofs.lemmas.Bool.{both_ways}
 use Rattle.std.proofs.Common.{refl, sym, ◌∙◌, ap, subst, arith, inl, inr}
 use Rattle.std.specs.Prelude.{ℕ, ◌≡◌, ◌<◌, ◌≤◌, ◌≢◌, ◌⊎◌, Bool, true, false, if◌then◌else◌, is_some, List, Option, Some}
 use Rattle.std.specs.Prelude.{None}
-use Rattle.wait_model.specs.declared.calls.Call.{Call}
-use Rattle.wait_model.specs.declared.calls.Event.{Event}
-use Rattle.wait_model.specs.declared.calls.Event.TheVariants as event
-use Rattle.wait_model.specs.declared.calls.Answer.TheVariants as answer
-use Rattle.wait_model.specs.declared.queues.Walking.{Walking}
-use Rattle.wait_model.specs.declared.queues.Walked.{Walked}
-use Rattle.wait_model.specs.declared.queues.CalledEntry.{CalledEntry}
-use Rattle.wait_model.specs.declared.watches.Kind.{Kind}
-use Rattle.wait_model.specs.declared.watches.Kind.TheVariants as kind
-use Rattle.wait_model.specs.declared.points.Planned.{Planned}
-use Rattle.wait_model.specs.declared.points.Next.{Next}
-use Rattle.wait_model.specs.declared.points.Next.TheVariants as next
-use Rattle.wait_model.specs.declared.points.Progress.{Progress}
-use Rattle.wait_model.specs.declared.points.Progress.TheVariants as now
-use Rattle.wait_model.specs.declared.points.Point.{Point}
-use Rattle.wait_model.specs.declared.points.Point.TheVariants as at
-use Rattle.wait_model.specs.declared.points.LeavePoint.TheVariants as leaving
-use Rattle.wait_model.specs.declared.points.FinishPoint.{FinishPoint}
-use Rattle.wait_model.specs.declared.points.FinishPoint.TheVariants as finishing
-use Rattle.wait_model.specs.declared.points.WalkPoint.{WalkPoint}
-use Rattle.wait_model.specs.declared.points.WalkPoint.TheVariants as walking
-use Rattle.wait_model.specs.Tasks.{meets}
-use Rattle.wait_model.specs.Watches.{mask_of}
+use Rattle.wait_model.specs.{declared.calls.Call.Call, declared.calls.Event.Event, declared.queues.Walking.Walking}
+use Rattle.wait_model.specs.{declared.queues.Walked.Walked, declared.queues.CalledEntry.CalledEntry}
+use Rattle.wait_model.specs.{declared.watches.Kind.Kind, declared.points.Planned.Planned, declared.points.Next.Next}
+use Rattle.wait_model.specs.{declared.points.Progress.Progress, declared.points.Point.Point}
+use Rattle.wait_model.specs.{declared.points.FinishPoint.FinishPoint, declared.points.WalkPoint.WalkPoint, Tasks.meets}
+use Rattle.wait_model.specs.{Watches.mask_of, Tables.value_of, declared.points.Seen.Seen, Accounts.Account}
+use Rattle.wait_model.specs.Accounts.{account_of}
 use Rattle.wait_model.specs.Points.{call_aim, call_watch, call_number, call_head, is_lock, mode_of, count_of}
 use Rattle.wait_model.specs.Programs.{go, ends_with, signalled, interrupted, zero_answer, call_entry, call_next}
 use Rattle.wait_model.specs.Programs.{reached, past, page_last}
 use Rattle.wait_model.specs.Runs.{State, own, seen_by, planned, state_of, made_in}
-use Rattle.wait_model.specs.Tables.{value_of}
-use Rattle.wait_model.proofs.RunLaws.FineEvents.{none_there}
-use Rattle.wait_model.specs.declared.points.AwaitPoint.TheVariants as awaiting
-use Rattle.wait_model.specs.declared.points.BitPoint.TheVariants as biting
-use Rattle.wait_model.specs.declared.points.Seen.{Seen}
 use Rattle.wait_model.specs.Reached.{HomeAt, IsSoundCall, IsSound}
-use Rattle.wait_model.specs.Accounts.{Account, account_of}
 use Rattle.wait_model.specs.Selections.{IsSignalledHold, IsStopped, IsInterrupted, RunsAreOrderly}
-use Rattle.wait_model.proofs.RunLaws.EveryRun.{sound_of}
+use Rattle.wait_model.specs.declared.calls.Event.TheVariants as event
+use Rattle.wait_model.specs.declared.calls.Answer.TheVariants as answer
+use Rattle.wait_model.specs.declared.watches.Kind.TheVariants as kind
+use Rattle.wait_model.specs.declared.points.Next.TheVariants as next
+use Rattle.wait_model.specs.declared.points.Progress.TheVariants as now
+use Rattle.wait_model.specs.declared.points.Point.TheVariants as at
+use Rattle.wait_model.specs.declared.points.LeavePoint.TheVariants as leaving
+use Rattle.wait_model.specs.declared.points.FinishPoint.TheVariants as finishing
+use Rattle.wait_model.specs.declared.points.WalkPoint.TheVariants as walking
+use Rattle.wait_model.proofs.{RunLaws.FineEvents.none_there, RunLaws.EveryRun.sound_of}
+use Rattle.wait_model.proofs.{AccountLaws.Selections.IsAccounted, AccountLaws.Selections.accounted_of}
+use Rattle.wait_model.proofs.{AccountLaws.Refusals.refusal, AccountLaws.Refusals.not_signalled}
+use Rattle.wait_model.proofs.{AccountLaws.PageTrails.PageTrailAt, AccountLaws.PageTrails.trails_of}
+use Rattle.wait_model.proofs.{WaitLaws.WaitStages.FitsStage, WaitLaws.Waiters.fits_of}
 use Rattle.wait_model.proofs.WaitLaws.OutsideStages.{either, unset, both}
 use Rattle.wait_model.proofs.AccountLaws.RunAccounts.{IsTurn, TurnAt, IsSum, IsChosen, ChosenAt, on_sum, after_sum}
-use Rattle.wait_model.proofs.AccountLaws.Selections.{IsAccounted, accounted_of}
 use Rattle.wait_model.proofs.AccountLaws.TakenEntries.{OffAt, off_below, off_told}
-use Rattle.wait_model.proofs.AccountLaws.Refusals.{refusal, not_signalled}
 use Rattle.wait_model.proofs.AccountLaws.GivenUpWaits.{BrokenAt, is_off, given_up}
-use Rattle.wait_model.proofs.AccountLaws.PageTrails.{PageTrailAt, trails_of}
-use Rattle.wait_model.proofs.WaitLaws.WaitStages.{FitsStage}
-use Rattle.wait_model.proofs.WaitLaws.Waiters.{fits_of}
+use Rattle.wait_model.specs.declared.points.AwaitPoint.TheVariants as awaiting
+use Rattle.wait_model.specs.declared.points.BitPoint.TheVariants as biting
 use Rattle.wait_model.specs.declared.points.PagePoint.TheVariants as paging
 use Rattle.wait_model.specs.declared.points.PageStage.TheVariants as staging
 

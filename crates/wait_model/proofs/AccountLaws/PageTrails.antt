@@ -4,38 +4,28 @@ use Rattle.std.proofs.Common.{refl, sym, ◌∙◌, ap, subst, arith, inl, inr}
 use Rattle.std.proofs.lemmas.List.Elements.{All-nil, All-cons}
 use Rattle.std.specs.Prelude.{ℕ, ◌≡◌, ◌+◌, ◌≤◌, ◌⊎◌, Bool, true, false, if◌then◌else◌, is_some, List, [], ◌∷◌, ◌++◌}
 use Rattle.std.specs.List.{All}
-use Rattle.wait_model.specs.declared.layout.TheConstants.{EVENTS}
-use Rattle.wait_model.specs.declared.watches.Watch.{Watch}
-use Rattle.wait_model.specs.declared.calls.Call.{Call}
-use Rattle.wait_model.specs.declared.calls.Call.TheVariants as calls
-use Rattle.wait_model.specs.declared.calls.Event.{Event}
-use Rattle.wait_model.specs.declared.calls.Event.TheVariants as event
-use Rattle.wait_model.specs.declared.calls.Ran.{Ran}
-use Rattle.wait_model.specs.declared.calls.Ran.TheVariants as ran
-use Rattle.wait_model.specs.declared.queues.Form.{Form}
-use Rattle.wait_model.specs.declared.queues.Form.TheVariants as forms
-use Rattle.wait_model.specs.declared.points.Planned.{Planned}
-use Rattle.wait_model.specs.declared.points.Point.{Point}
-use Rattle.wait_model.specs.declared.points.Point.TheVariants as at
-use Rattle.wait_model.specs.declared.points.PagePoint.{PagePoint}
-use Rattle.wait_model.specs.declared.points.PagePoint.TheVariants as paging
-use Rattle.wait_model.specs.declared.points.FinishPoint.{FinishPoint}
-use Rattle.wait_model.specs.declared.points.FinishPoint.TheVariants as finishing
-use Rattle.wait_model.specs.declared.points.Progress.{Progress}
-use Rattle.wait_model.specs.declared.points.Progress.TheVariants as now
-use Rattle.wait_model.specs.Functions.{put}
+use Rattle.wait_model.specs.{declared.layout.TheConstants.EVENTS, declared.watches.Watch.Watch}
+use Rattle.wait_model.specs.{declared.calls.Call.Call, declared.calls.Event.Event, declared.calls.Ran.Ran}
+use Rattle.wait_model.specs.{declared.queues.Form.Form, declared.points.Planned.Planned, declared.points.Point.Point}
+use Rattle.wait_model.specs.{declared.points.PagePoint.PagePoint, declared.points.FinishPoint.FinishPoint}
+use Rattle.wait_model.specs.{declared.points.Progress.Progress, Functions.put, Words.flag, Words.bit_at, Tables.Table}
+use Rattle.wait_model.specs.{Tables.value_of, Programs.program_start, Accounts.Account, Accounts.account_of}
+use Rattle.wait_model.specs.{Reached.IsSound, Reached.IsSoundCall}
 use Rattle.wait_model.specs.Tasks.{pending, looks_in, state_mask, sleep_of}
-use Rattle.wait_model.specs.Words.{flag, bit_at}
 use Rattle.wait_model.specs.Watches.{misses, word_of, bit_of, page}
-use Rattle.wait_model.specs.Tables.{Table, value_of}
 use Rattle.wait_model.specs.Points.{call_watch, call_head, form_of, state_in, given_at}
-use Rattle.wait_model.specs.Programs.{program_start}
-use Rattle.wait_model.specs.Accounts.{Account, account_of}
-use Rattle.wait_model.specs.Accounts as accounts
 use Rattle.wait_model.specs.Selections.{is_page_lock, is_finish_event, is_page_turn_event, page_hold, IsPageBroken}
-use Rattle.wait_model.specs.Reached.{IsSound, IsSoundCall}
 use Rattle.wait_model.specs.Runs.{State, own, given_by, planned, progress_at, progress_after, happens, start_state}
 use Rattle.wait_model.specs.Runs.{state_after, state_of, Continues, IsRunFrom, IsRun, made_in}
+use Rattle.wait_model.specs.declared.calls.Call.TheVariants as calls
+use Rattle.wait_model.specs.declared.calls.Event.TheVariants as event
+use Rattle.wait_model.specs.declared.calls.Ran.TheVariants as ran
+use Rattle.wait_model.specs.declared.queues.Form.TheVariants as forms
+use Rattle.wait_model.specs.declared.points.Point.TheVariants as at
+use Rattle.wait_model.specs.declared.points.PagePoint.TheVariants as paging
+use Rattle.wait_model.specs.declared.points.FinishPoint.TheVariants as finishing
+use Rattle.wait_model.specs.declared.points.Progress.TheVariants as now
+use Rattle.wait_model.specs.Accounts as accounts
 use Rattle.wait_model.proofs.Functions.{put_at, put_same, put_other}
 use Rattle.wait_model.proofs.RunLaws.EveryRun.{IsMade, made_of, opened_sound, made_sound, start_sound}
 use Rattle.wait_model.proofs.WaitLaws.Waiters.{IsAlert, IsTurn, turn_of, made_alert, opened_alert, start_alert}

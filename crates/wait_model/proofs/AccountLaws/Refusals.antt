@@ -1,21 +1,21 @@
 -- Where a program may answer a negative number: a signalled wait, and an interrupted wait for a bit.
 use Rattle.std.proofs.Common.{refl, sym, ◌∙◌, ap, arith}
 use Rattle.std.specs.Prelude.{ℕ, ◌≡◌, ◌+◌, Bool, true, false, ◌==◌, is_some, pos, negsuc, Option, Some, None}
-use Rattle.wait_model.specs.declared.calls.Call.{Call}
+use Rattle.wait_model.specs.{declared.calls.Call.Call, declared.tasks.Taken.Taken, declared.queues.Walking.Walking}
+use Rattle.wait_model.specs.{declared.queues.CalledEntry.CalledEntry, declared.watches.Kind.Kind}
+use Rattle.wait_model.specs.{declared.points.Planned.Planned, declared.points.Next.Next, declared.points.Seen.Seen}
+use Rattle.wait_model.specs.{declared.points.Point.Point, Tasks.meets, Tasks.taken_of, Watches.mask_of, Tables.value_of}
+use Rattle.wait_model.specs.Points.{call_aim, call_watch, mode_of, who_of}
+use Rattle.wait_model.specs.Programs.{ends_with, selected_answer, select_next, is_enough, is_at_end, call_entry}
+use Rattle.wait_model.specs.Programs.{call_next, reached, taken_answer, kicked, active_event, signalled, interrupted}
+use Rattle.wait_model.specs.Programs.{page_queue}
+use Rattle.wait_model.specs.Runs.{State, own, seen_by, planned}
 use Rattle.wait_model.specs.declared.calls.Call.TheVariants as calls
 use Rattle.wait_model.specs.declared.calls.Event.TheVariants as event
 use Rattle.wait_model.specs.declared.calls.Answer.TheVariants as answer
-use Rattle.wait_model.specs.declared.tasks.Taken.{Taken}
 use Rattle.wait_model.specs.declared.tasks.Taken.TheVariants as taken
-use Rattle.wait_model.specs.declared.queues.Walking.{Walking}
-use Rattle.wait_model.specs.declared.queues.CalledEntry.{CalledEntry}
-use Rattle.wait_model.specs.declared.watches.Kind.{Kind}
 use Rattle.wait_model.specs.declared.watches.Kind.TheVariants as kind
-use Rattle.wait_model.specs.declared.points.Planned.{Planned}
-use Rattle.wait_model.specs.declared.points.Next.{Next}
 use Rattle.wait_model.specs.declared.points.Next.TheVariants as next
-use Rattle.wait_model.specs.declared.points.Seen.{Seen}
-use Rattle.wait_model.specs.declared.points.Point.{Point}
 use Rattle.wait_model.specs.declared.points.Point.TheVariants as at
 use Rattle.wait_model.specs.declared.points.PreparePoint.TheVariants as preparing
 use Rattle.wait_model.specs.declared.points.LeavePoint.TheVariants as leaving
@@ -28,14 +28,6 @@ use Rattle.wait_model.specs.declared.points.SelectPoint.TheVariants as selecting
 use Rattle.wait_model.specs.declared.points.AwaitPoint.TheVariants as awaiting
 use Rattle.wait_model.specs.declared.points.CountPoint.TheVariants as counting
 use Rattle.wait_model.specs.declared.points.BitPoint.TheVariants as biting
-use Rattle.wait_model.specs.Tasks.{meets, taken_of}
-use Rattle.wait_model.specs.Watches.{mask_of}
-use Rattle.wait_model.specs.Points.{call_aim, call_watch, mode_of, who_of}
-use Rattle.wait_model.specs.Tables.{value_of}
-use Rattle.wait_model.specs.Programs.{ends_with, selected_answer, select_next, is_enough, is_at_end, call_entry}
-use Rattle.wait_model.specs.Programs.{call_next, reached, taken_answer, kicked, active_event, signalled, interrupted}
-use Rattle.wait_model.specs.Programs.{page_queue}
-use Rattle.wait_model.specs.Runs.{State, own, seen_by, planned}
 use Rattle.wait_model.proofs.WaitLaws.OutsideStages.{either, both, unset}
 use Rattle.wait_model.specs.declared.points.PagePoint.TheVariants as paging
 use Rattle.wait_model.specs.declared.points.PageStage.TheVariants as staging

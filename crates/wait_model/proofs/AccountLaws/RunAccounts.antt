@@ -4,23 +4,34 @@ use Rattle.std.proofs.lemmas.Bool.Decides.{nat_tests, eqb_tells}
 use Rattle.std.proofs.Common.{refl, sym, ◌∙◌, ap, subst, arith, inl, inr}
 use Rattle.std.specs.Prelude.{ℕ, ◌≡◌, ◌≢◌, ◌+◌, ◌-◌, ◌<◌, ◌⊎◌, Bool, true, false, not, ◌&&◌, ◌==◌, if◌then◌else◌}
 use Rattle.std.specs.Prelude.{is_some, nat_le, nat_lt, List, [], ◌∷◌, Option, Some, None}
-use Rattle.wait_model.specs.declared.layout.TheConstants.{ENTRIES, BREAK}
-use Rattle.wait_model.specs.declared.calls.Call.{Call}
+use Rattle.wait_model.specs.{declared.layout.TheConstants.ENTRIES, declared.layout.TheConstants.BREAK}
+use Rattle.wait_model.specs.{declared.calls.Call.Call, declared.calls.Event.Event, declared.queues.Walking.Walking}
+use Rattle.wait_model.specs.{declared.queues.CalledEntry.CalledEntry, declared.queues.Member.Member}
+use Rattle.wait_model.specs.{declared.watches.Kind.Kind, declared.watches.Entry.Entry, declared.points.Point.Point}
+use Rattle.wait_model.specs.{declared.points.WalkPoint.WalkPoint, declared.points.Seen.Seen}
+use Rattle.wait_model.specs.{declared.points.Planned.Planned, declared.points.Progress.Progress, Tables.value_of}
+use Rattle.wait_model.specs.{declared.queues.Mark.Mark, Selections.IsSignalledTurn, Selections.signalled_hold}
+use Rattle.wait_model.specs.declared.points.PagePoint.{PagePoint}
+use Rattle.wait_model.specs.Tasks.{meets, pending, sleep_of, state_mask, looks_in}
+use Rattle.wait_model.specs.Watches.{owner, mask_of, is_for, is_page}
+use Rattle.wait_model.specs.Points.{call_aim, call_watch, call_number, call_head, is_await, is_bit_wait, is_lock}
+use Rattle.wait_model.specs.Points.{state_in, mode_of, count_of, called_task}
+use Rattle.wait_model.specs.Programs.{program_start, signalled_at, prepared_at, slept_at, is_at_end, is_enough}
+use Rattle.wait_model.specs.Programs.{select_next, await_after, look_event, past, onward, wake_event, wake_off_event}
+use Rattle.wait_model.specs.Programs.{call_entry, call_next, reached, resumed, call_fails, ask, acted, finished}
+use Rattle.wait_model.specs.Programs.{publishing_event, active_event, page_queue, page_last}
+use Rattle.wait_model.specs.Queues.{rank, rank_at, is_entry, members_from, arrive, IsIn}
+use Rattle.wait_model.specs.Runs.{State, own, called_member, called_as, called_by, called_of, seen_by, planned}
+use Rattle.wait_model.specs.Runs.{progress_at}
+use Rattle.wait_model.specs.Reached.{IsFitted, IsMember, IsQueued, IsPlaced, IsFlagged, IsSound}
+use Rattle.wait_model.specs.Accounts.{is_exclusive_entry, one_if, event_selects, is_woken_exclusive}
 use Rattle.wait_model.specs.declared.calls.Call.TheVariants as calls
-use Rattle.wait_model.specs.declared.calls.Event.{Event}
 use Rattle.wait_model.specs.declared.calls.Event.TheVariants as event
-use Rattle.wait_model.specs.declared.queues.Walking.{Walking}
-use Rattle.wait_model.specs.declared.queues.CalledEntry.{CalledEntry}
-use Rattle.wait_model.specs.declared.queues.Member.{Member}
-use Rattle.wait_model.specs.declared.watches.Kind.{Kind}
 use Rattle.wait_model.specs.declared.watches.Kind.TheVariants as kind
-use Rattle.wait_model.specs.declared.watches.Entry.{Entry}
-use Rattle.wait_model.specs.declared.points.Point.{Point}
 use Rattle.wait_model.specs.declared.points.Point.TheVariants as at
 use Rattle.wait_model.specs.declared.points.PreparePoint.TheVariants as preparing
 use Rattle.wait_model.specs.declared.points.LeavePoint.TheVariants as leaving
 use Rattle.wait_model.specs.declared.points.FinishPoint.TheVariants as finishing
-use Rattle.wait_model.specs.declared.points.WalkPoint.{WalkPoint}
 use Rattle.wait_model.specs.declared.points.WalkPoint.TheVariants as walking
 use Rattle.wait_model.specs.declared.points.AddPoint.TheVariants as adding
 use Rattle.wait_model.specs.declared.points.RemovePoint.TheVariants as removing
@@ -29,32 +40,11 @@ use Rattle.wait_model.specs.declared.points.SelectPoint.TheVariants as selecting
 use Rattle.wait_model.specs.declared.points.AwaitPoint.TheVariants as awaiting
 use Rattle.wait_model.specs.declared.points.CountPoint.TheVariants as counting
 use Rattle.wait_model.specs.declared.points.BitPoint.TheVariants as biting
-use Rattle.wait_model.specs.declared.points.Seen.{Seen}
-use Rattle.wait_model.specs.declared.points.Planned.{Planned}
-use Rattle.wait_model.specs.declared.points.Progress.{Progress}
 use Rattle.wait_model.specs.declared.points.Progress.TheVariants as now
-use Rattle.wait_model.specs.Tasks.{meets, pending, sleep_of, state_mask, looks_in}
-use Rattle.wait_model.specs.Watches.{owner, mask_of, is_for, is_page}
-use Rattle.wait_model.specs.Points.{call_aim, call_watch, call_number, call_head, is_await, is_bit_wait, is_lock}
-use Rattle.wait_model.specs.Points.{state_in, mode_of, count_of, called_task}
-use Rattle.wait_model.specs.Tables.{value_of}
-use Rattle.wait_model.specs.Programs.{program_start, signalled_at, prepared_at, slept_at, is_at_end, is_enough}
-use Rattle.wait_model.specs.Programs.{select_next, await_after, look_event, past, onward, wake_event, wake_off_event}
-use Rattle.wait_model.specs.Programs.{call_entry, call_next, reached, resumed, call_fails, ask, acted, finished}
-use Rattle.wait_model.specs.Programs.{publishing_event, active_event, page_queue, page_last}
-use Rattle.wait_model.specs.declared.queues.Mark.{Mark}
-use Rattle.wait_model.specs.Queues.{rank, rank_at, is_entry, members_from, arrive, IsIn}
-use Rattle.wait_model.specs.Runs.{State, own, called_member, called_as, called_by, called_of, seen_by, planned}
-use Rattle.wait_model.specs.Runs.{progress_at}
-use Rattle.wait_model.specs.Reached.{IsFitted, IsMember, IsQueued, IsPlaced, IsFlagged, IsSound}
-use Rattle.wait_model.specs.Accounts.{is_exclusive_entry, one_if, event_selects, is_woken_exclusive}
-use Rattle.wait_model.specs.Selections.{IsSignalledTurn, signalled_hold}
+use Rattle.wait_model.proofs.{QueueLaws.MemberStands.member_is, WordLaws.DecodedWords.owner_own}
 use Rattle.wait_model.proofs.WaitLaws.OutsideStages.{either, both, unset, is_aside, aside_step}
-use Rattle.wait_model.proofs.QueueLaws.MemberStands.{member_is}
-use Rattle.wait_model.proofs.WordLaws.DecodedWords.{owner_own}
 use Rattle.wait_model.specs.declared.points.PagePoint.TheVariants as paging
 use Rattle.wait_model.specs.declared.points.PageStage.TheVariants as staging
-use Rattle.wait_model.specs.declared.points.PagePoint.{PagePoint}
 
 -- what a task's latest events are where it looks for a signal: it took the lock, and a wait for a completion
 -- loaded the done count as 0

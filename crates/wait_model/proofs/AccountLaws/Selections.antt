@@ -3,32 +3,22 @@ use Rattle.std.proofs.lemmas.Bool.Decides.{nat_tests, eqb_tells}
 use Rattle.std.proofs.Common.{refl, sym, ap, subst, arith, inl, inr}
 use Rattle.std.specs.Prelude.{ℕ, ◌≡◌, ◌≢◌, ◌+◌, ◌≤◌, Bool, true, false, ◌&&◌, ◌||◌, IsTrue, ◌==◌, if◌then◌else◌, List}
 use Rattle.std.specs.Prelude.{[], ◌∷◌}
-use Rattle.wait_model.specs.declared.layout.TheConstants.{EVENTS}
-use Rattle.wait_model.specs.declared.calls.Call.{Call}
-use Rattle.wait_model.specs.declared.calls.Event.{Event}
-use Rattle.wait_model.specs.declared.calls.Event.TheVariants as event
-use Rattle.wait_model.specs.declared.calls.Ran.{Ran}
-use Rattle.wait_model.specs.declared.calls.Ran.TheVariants as ran
-use Rattle.wait_model.specs.declared.tasks.TaskRecord.{TaskRecord}
-use Rattle.wait_model.specs.declared.tasks.Taken.{Taken}
-use Rattle.wait_model.specs.declared.tasks.Taken.TheVariants as taken
-use Rattle.wait_model.specs.declared.points.Given.{Given}
-use Rattle.wait_model.specs.declared.points.Progress.{Progress}
-use Rattle.wait_model.specs.declared.points.Progress.TheVariants as now
+use Rattle.wait_model.specs.{declared.layout.TheConstants.EVENTS, declared.calls.Call.Call, declared.calls.Event.Event}
+use Rattle.wait_model.specs.{declared.calls.Ran.Ran, declared.tasks.TaskRecord.TaskRecord, declared.tasks.Taken.Taken}
+use Rattle.wait_model.specs.{declared.points.Given.Given, declared.points.Progress.Progress, Functions.put}
+use Rattle.wait_model.specs.{Tables.next as next_table, Tables.value_of, Words.head_word, Selections.AcceptsRaised}
 use Rattle.wait_model.specs.Tasks.{meets, pending, woken, slept, raised, taken_of, IsLawful}
-use Rattle.wait_model.specs.Functions.{put}
-use Rattle.wait_model.specs.Tables.{next as next_table, value_of}
-use Rattle.wait_model.proofs.WordLaws.CondWords.{set_rest}
-use Rattle.wait_model.specs.Words.{head_word}
 use Rattle.wait_model.specs.Runs.{State, given_by, progress_after, after_event, happens, start_state, state_after}
 use Rattle.wait_model.specs.Runs.{state_of, Continues, IsItem, IsRunFrom, IsRun, made_in}
 use Rattle.wait_model.specs.Reached.{IsPlaced, IsSoundCall, IsSound, Allows}
 use Rattle.wait_model.specs.Accounts.{Account, one_if, event_selects, unqueues, event_raises, event_raises_fatal}
 use Rattle.wait_model.specs.Accounts.{taken_any, taken_fatal, accepts, accepts_fatal, accounted, account_after}
 use Rattle.wait_model.specs.Accounts.{nothing_done, account_of}
-use Rattle.wait_model.specs.Selections.{AcceptsRaised}
-use Rattle.wait_model.proofs.Functions.{put_at}
-use Rattle.wait_model.proofs.HistoryLaws.HoldLooks.{looks_same}
+use Rattle.wait_model.specs.declared.calls.Event.TheVariants as event
+use Rattle.wait_model.specs.declared.calls.Ran.TheVariants as ran
+use Rattle.wait_model.specs.declared.tasks.Taken.TheVariants as taken
+use Rattle.wait_model.specs.declared.points.Progress.TheVariants as now
+use Rattle.wait_model.proofs.{WordLaws.CondWords.set_rest, Functions.put_at, HistoryLaws.HoldLooks.looks_same}
 use Rattle.wait_model.proofs.HistoryLaws.UnlockedLooks.{peeks_same}
 use Rattle.wait_model.proofs.RunLaws.EveryRun.{opened_sound, made_sound, made_of, IsMade, start_sound}
 use Rattle.wait_model.proofs.AccountLaws.RunAccounts.{TurnAt, ChosenAt, turn_step, chosen_step, start_turn}

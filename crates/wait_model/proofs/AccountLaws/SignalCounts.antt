@@ -2,17 +2,13 @@
 use Rattle.std.proofs.Common.{refl, sym, ◌∙◌, ap, subst, arith, inl, inr}
 use Rattle.std.proofs.lemmas.Bool.Decides.{eqb_tells}
 use Rattle.std.specs.Prelude.{ℕ, ◌≡◌, ◌≢◌, ◌+◌, ◌<◌, ◌≤◌, Bool, true, false, ◌&&◌, ◌||◌, ◌==◌}
-use Rattle.wait_model.specs.declared.layout.TheConstants.{TASKS}
-use Rattle.wait_model.specs.declared.tasks.TaskRecord.{TaskRecord}
-use Rattle.wait_model.specs.declared.steps.Step.{Step}
-use Rattle.wait_model.specs.declared.steps.Step.TheVariants as step
+use Rattle.wait_model.specs.{declared.layout.TheConstants.TASKS, declared.tasks.TaskRecord.TaskRecord}
+use Rattle.wait_model.specs.{declared.steps.Step.Step, Words.flag, Tables.Table, Tables.next, Totals.total}
+use Rattle.wait_model.specs.{Totals.total_below, Functions.put}
 use Rattle.wait_model.specs.Tasks.{woken, slept, raised, accepted, task_of}
-use Rattle.wait_model.specs.Words.{flag}
-use Rattle.wait_model.specs.Tables.{Table, next}
-use Rattle.wait_model.specs.Totals.{total, total_below}
 use Rattle.wait_model.specs.SignalCounts.{is_signalled, takes_fatal, takes_any, raises_fatal, raises_any, AreRaised}
 use Rattle.wait_model.specs.SignalCounts.{SignalsStayRaised, SignalsStartRaised, NoRunInventsSignals}
-use Rattle.wait_model.specs.Functions.{put}
+use Rattle.wait_model.specs.declared.steps.Step.TheVariants as step
 use Rattle.wait_model.proofs.Functions.{put_at, put_same, put_other}
 use Rattle.wait_model.proofs.HistoryLaws.StepTotals.{total_grown, total_still, total_own, total_other}
 use Rattle.wait_model.proofs.StepLaws.TableLaws.{table_law}

@@ -4,47 +4,36 @@ use Rattle.std.proofs.lemmas.Bool.Decides.{nat_tests}
 use Rattle.std.proofs.Common.{refl, sym, ◌∙◌, ap, arith}
 use Rattle.std.specs.Prelude.{ℕ, ◌≡◌, ◌+◌, ◌<◌, ◌≤◌, Bool, true, false, not, ◌&&◌, ◌==◌, if◌then◌else◌, is_some, pos}
 use Rattle.std.specs.Prelude.{Option, Some, None}
-use Rattle.wait_model.specs.declared.calls.Call.{Call}
-use Rattle.wait_model.specs.declared.calls.Call.TheVariants as calls
-use Rattle.wait_model.specs.declared.calls.Event.{Event}
-use Rattle.wait_model.specs.declared.calls.Answer.{Answer}
-use Rattle.wait_model.specs.declared.calls.Answer.TheVariants as answer
-use Rattle.wait_model.specs.declared.queues.Walking.{Walking}
-use Rattle.wait_model.specs.declared.queues.CalledEntry.{CalledEntry}
-use Rattle.wait_model.specs.declared.watches.Kind.{Kind}
-use Rattle.wait_model.specs.declared.watches.Kind.TheVariants as kind
-use Rattle.wait_model.specs.declared.points.Planned.{Planned}
-use Rattle.wait_model.specs.declared.points.Next.{Next}
-use Rattle.wait_model.specs.declared.points.Next.TheVariants as next
-use Rattle.wait_model.specs.declared.points.Progress.{Progress}
-use Rattle.wait_model.specs.declared.points.Progress.TheVariants as now
-use Rattle.wait_model.specs.declared.points.Seen.{Seen}
-use Rattle.wait_model.specs.declared.points.Point.{Point}
-use Rattle.wait_model.specs.declared.points.Point.TheVariants as at
-use Rattle.wait_model.specs.declared.points.PreparePoint.TheVariants as preparing
-use Rattle.wait_model.specs.declared.points.LeavePoint.TheVariants as leaving
-use Rattle.wait_model.specs.declared.points.FinishPoint.TheVariants as finishing
-use Rattle.wait_model.specs.declared.points.BitPoint.TheVariants as biting
-use Rattle.wait_model.specs.declared.points.WalkPoint.{WalkPoint}
-use Rattle.wait_model.specs.declared.points.WalkPoint.TheVariants as walking
-use Rattle.wait_model.specs.declared.points.AddPoint.TheVariants as adding
-use Rattle.wait_model.specs.declared.points.RemovePoint.TheVariants as removing
-use Rattle.wait_model.specs.declared.points.WokenPoint.TheVariants as hearing
-use Rattle.wait_model.specs.declared.points.SelectPoint.{SelectPoint}
-use Rattle.wait_model.specs.declared.points.SelectPoint.TheVariants as selecting
-use Rattle.wait_model.specs.declared.points.AwaitPoint.TheVariants as awaiting
-use Rattle.wait_model.specs.declared.points.CountPoint.TheVariants as counting
+use Rattle.wait_model.specs.{declared.calls.Call.Call, declared.calls.Event.Event, declared.calls.Answer.Answer}
+use Rattle.wait_model.specs.{declared.queues.Walking.Walking, declared.queues.CalledEntry.CalledEntry}
+use Rattle.wait_model.specs.{declared.watches.Kind.Kind, declared.points.Planned.Planned, declared.points.Next.Next}
+use Rattle.wait_model.specs.{declared.points.Progress.Progress, declared.points.Seen.Seen, declared.points.Point.Point}
+use Rattle.wait_model.specs.{declared.points.WalkPoint.WalkPoint, declared.points.SelectPoint.SelectPoint}
+use Rattle.wait_model.specs.{Watches.mask_of, Tables.value_of, Accounts.unqueues, Selections.is_selection}
 use Rattle.wait_model.specs.Tasks.{meets, pending, state_mask}
-use Rattle.wait_model.specs.Watches.{mask_of}
 use Rattle.wait_model.specs.Points.{call_watch, call_aim, is_lock, state_in, mode_of, count_of}
-use Rattle.wait_model.specs.Tables.{value_of}
 use Rattle.wait_model.specs.Programs.{program_start, signalled_at, prepared_at, slept_at, look_event, ask, acted}
 use Rattle.wait_model.specs.Programs.{finished, past, onward, reached, call_entry, call_next, is_at_end, is_enough}
 use Rattle.wait_model.specs.Programs.{select_from, select_next, await_after, active_event, await_ends, page_queue}
 use Rattle.wait_model.specs.Programs.{page_last}
 use Rattle.wait_model.specs.Runs.{State, own, seen_by, planned, progress_at}
-use Rattle.wait_model.specs.Accounts.{unqueues}
-use Rattle.wait_model.specs.Selections.{is_selection}
+use Rattle.wait_model.specs.declared.calls.Call.TheVariants as calls
+use Rattle.wait_model.specs.declared.calls.Answer.TheVariants as answer
+use Rattle.wait_model.specs.declared.watches.Kind.TheVariants as kind
+use Rattle.wait_model.specs.declared.points.Next.TheVariants as next
+use Rattle.wait_model.specs.declared.points.Progress.TheVariants as now
+use Rattle.wait_model.specs.declared.points.Point.TheVariants as at
+use Rattle.wait_model.specs.declared.points.PreparePoint.TheVariants as preparing
+use Rattle.wait_model.specs.declared.points.LeavePoint.TheVariants as leaving
+use Rattle.wait_model.specs.declared.points.FinishPoint.TheVariants as finishing
+use Rattle.wait_model.specs.declared.points.BitPoint.TheVariants as biting
+use Rattle.wait_model.specs.declared.points.WalkPoint.TheVariants as walking
+use Rattle.wait_model.specs.declared.points.AddPoint.TheVariants as adding
+use Rattle.wait_model.specs.declared.points.RemovePoint.TheVariants as removing
+use Rattle.wait_model.specs.declared.points.WokenPoint.TheVariants as hearing
+use Rattle.wait_model.specs.declared.points.SelectPoint.TheVariants as selecting
+use Rattle.wait_model.specs.declared.points.AwaitPoint.TheVariants as awaiting
+use Rattle.wait_model.specs.declared.points.CountPoint.TheVariants as counting
 use Rattle.wait_model.proofs.WaitLaws.OutsideStages.{either, both, unset}
 use Rattle.wait_model.specs.declared.points.PagePoint.TheVariants as paging
 use Rattle.wait_model.specs.declared.points.PageStage.TheVariants as staging

@@ -2,15 +2,10 @@
 -- first event.
 use Rattle.std.proofs.Common.{refl}
 use Rattle.std.specs.Prelude.{ℕ, ◌≡◌, Bool, true, false, not}
-use Rattle.wait_model.specs.declared.calls.Call.{Call}
-use Rattle.wait_model.specs.declared.points.Next.{Next}
-use Rattle.wait_model.specs.declared.points.Point.{Point}
-use Rattle.wait_model.specs.Admission.{lacks_bit}
-use Rattle.wait_model.specs.Points.{call_watch}
-use Rattle.wait_model.specs.Programs.{program_start}
+use Rattle.wait_model.specs.{declared.calls.Call.Call, declared.points.Next.Next, declared.points.Point.Point}
+use Rattle.wait_model.specs.{Admission.lacks_bit, Points.call_watch, Programs.program_start, Views.View}
 use Rattle.wait_model.specs.Reached.{stirs, IsFitted, KeepsCleared}
 use Rattle.wait_model.specs.Runs.{State, seen_by, planned, progress_at}
-use Rattle.wait_model.specs.Views.{View}
 use Rattle.wait_model.proofs.RunLaws.StateMoves.{publishes_next, IsMoved, program_moved}
 use Rattle.wait_model.specs.declared.calls.Call.TheVariants as calls
 use Rattle.wait_model.specs.declared.points.Next.TheVariants as next

@@ -1,28 +1,21 @@
 -- A bit is set exactly where one task keeps it.
 use Rattle.std.proofs.Common.{refl, sym, ◌∙◌, ap, subst, arith, inl, inr}
 use Rattle.std.specs.Prelude.{ℕ, ◌≡◌, ◌⊎◌, Bool, true, false, not, ◌&&◌, ◌||◌, List, Option, Some, None, cond}
-use Rattle.wait_model.specs.declared.watches.Watch.{Watch}
-use Rattle.wait_model.specs.declared.watches.Watch.TheVariants as watch
-use Rattle.wait_model.specs.declared.steps.Step.{Step}
-use Rattle.wait_model.specs.declared.steps.Step.TheVariants as step
-use Rattle.wait_model.specs.Words.{bit_at}
+use Rattle.wait_model.specs.{declared.watches.Watch.Watch, declared.steps.Step.Step, Words.bit_at, Rows.Allowed}
+use Rattle.wait_model.specs.{Facts.Kept, Functions.put}
 use Rattle.wait_model.specs.Watches.{same, is_bit, was_clear, page, owner}
 use Rattle.wait_model.specs.Views.{View, Bits, blank}
 use Rattle.wait_model.specs.Fold.{after, view_of, takes_note}
 use Rattle.wait_model.specs.Tables.{Table, next, start, met}
-use Rattle.wait_model.specs.Rows.{Allowed}
-use Rattle.wait_model.specs.Facts.{Kept}
 use Rattle.wait_model.specs.BitKeepers.{clears_bit, KeepsBit, AreKept, KeepsTold, BitsStayKept, BitsStartKept}
 use Rattle.wait_model.specs.BitKeepers.{EveryRunKeepsBits, comes_to_keep, HoldsBit, IsTakenFor}
-use Rattle.wait_model.proofs.Functions.{put_at, put_case}
-use Rattle.wait_model.proofs.StepLaws.KeptLaws.{step_keeps}
-use Rattle.wait_model.proofs.HistoryLaws.HoldLooks.{IsLookTold, told_next}
-use Rattle.wait_model.proofs.StepLaws.StartLaws.{start_kept}
+use Rattle.wait_model.specs.declared.watches.Watch.TheVariants as watch
+use Rattle.wait_model.specs.declared.steps.Step.TheVariants as step
+use Rattle.wait_model.proofs.{Functions.put_at, Functions.put_case, StepLaws.KeptLaws.step_keeps}
+use Rattle.wait_model.proofs.{HistoryLaws.HoldLooks.IsLookTold, HistoryLaws.HoldLooks.told_next}
+use Rattle.wait_model.proofs.{StepLaws.StartLaws.start_kept, StepLaws.UnlockSteps.unlock_bits}
+use Rattle.wait_model.proofs.{StepLaws.TableLaws.table_law, Sameness.same_refl}
 use Rattle.wait_model.proofs.HistoryLaws.Stretches.{IsSetBy, found_in, set_at, kept_so}
-use Rattle.wait_model.proofs.StepLaws.UnlockSteps.{unlock_bits}
-use Rattle.wait_model.proofs.StepLaws.TableLaws.{table_law}
-use Rattle.wait_model.specs.Functions.{put}
-use Rattle.wait_model.proofs.Sameness.{same_refl}
 
 or_kept : (k t : Bool) → (k || t) ≡ (t || (k && not false))
 or_kept k t = grind arith

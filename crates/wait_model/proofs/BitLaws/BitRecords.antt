@@ -1,21 +1,15 @@
 -- What each step does to the facts on bits.
 use Rattle.std.proofs.Common.{refl, sym, ◌∙◌, ap, subst, inl, inr}
 use Rattle.std.specs.Prelude.{ℕ, ◌≡◌, ◌≢◌, ◌⊎◌, Option, Some, None, Bool, true, false}
-use Rattle.wait_model.specs.declared.watches.Watch.{Watch}
-use Rattle.wait_model.specs.declared.watches.Entry.{Entry}
-use Rattle.wait_model.specs.declared.steps.Step.{Step}
+use Rattle.wait_model.specs.{declared.watches.Watch.Watch, declared.watches.Entry.Entry, declared.steps.Step.Step}
+use Rattle.wait_model.specs.{Views.Walk, Views.View, Fold.forgotten, Fold.after, Words.entry_of, Functions.put}
 use Rattle.wait_model.specs.Facts.{Facts, BitFacts, Kept}
-use Rattle.wait_model.specs.Views.{Walk, View}
-use Rattle.wait_model.specs.Fold.{forgotten, after}
 use Rattle.wait_model.specs.Watches.{same, is_bit, owner}
 use Rattle.wait_model.specs.Tables.{Table, met, next}
-use Rattle.wait_model.specs.Words.{entry_of}
 use Rattle.wait_model.specs.Laws.{Waits, Tried, Others}
-use Rattle.wait_model.specs.Functions.{put}
+use Rattle.wait_model.proofs.{StepLaws.OwnSteps.TriedMoves, StepLaws.UntouchedParts.Moves, Functions.put_case}
+use Rattle.wait_model.proofs.Functions.{put_at}
 use Rattle.wait_model.proofs.StepLaws.QuietSteps.{slept_state, signal_state, accept_state}
-use Rattle.wait_model.proofs.StepLaws.OwnSteps.{TriedMoves}
-use Rattle.wait_model.proofs.StepLaws.UntouchedParts.{Moves}
-use Rattle.wait_model.proofs.Functions.{put_case, put_at}
 use Rattle.wait_model.proofs.StepLaws.CombinedLaws.{HoldFrom, selected_from, roused_from}
 use Rattle.wait_model.specs.declared.steps.Step.TheVariants as step
 

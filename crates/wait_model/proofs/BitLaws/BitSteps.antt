@@ -1,27 +1,21 @@
 -- What the steps that touch bits, holds or entries do to the facts on bits.
 use Rattle.std.proofs.Common.{refl, sym, ◌∙◌, ap, subst, arith, inl, inr}
 use Rattle.std.specs.Prelude.{ℕ, ◌≡◌, ◌≢◌, ◌⊎◌, Option, Some, None, Bool, true, false, not, ◌&&◌, ◌||◌, ◌==◌}
-use Rattle.wait_model.specs.declared.watches.Watch.{Watch}
-use Rattle.wait_model.specs.declared.watches.Entry.{Entry}
-use Rattle.wait_model.specs.declared.watches.Aim.{Aim}
-use Rattle.wait_model.specs.declared.tasks.TaskRecord.{TaskRecord}
-use Rattle.wait_model.specs.Tasks.{meets, task_of}
+use Rattle.wait_model.specs.{declared.watches.Watch.Watch, declared.watches.Entry.Entry, declared.watches.Aim.Aim}
+use Rattle.wait_model.specs.{declared.tasks.TaskRecord.TaskRecord, Tasks.meets, Tasks.task_of, Words.bit_at}
+use Rattle.wait_model.specs.{Functions.put, Rows.Reads, Rows.Allowed}
 use Rattle.wait_model.specs.Facts.{BitFacts, Kept, Facts}
 use Rattle.wait_model.specs.Views.{Walk, Hold, Bits, View, no_hold}
 use Rattle.wait_model.specs.Fold.{after_unlock, begun_anew, met_task, after, is_for_page, takes_note}
 use Rattle.wait_model.specs.Watches.{same, is_bit, was_clear, owner, page}
 use Rattle.wait_model.specs.Tables.{Words, Table, met, next, consume}
-use Rattle.wait_model.specs.Words.{bit_at}
-use Rattle.wait_model.specs.Functions.{put}
-use Rattle.wait_model.specs.Rows.{Reads, Allowed}
-use Rattle.wait_model.proofs.StepLaws.WakeSteps.{meets_zero, wake_state}
+use Rattle.wait_model.specs.Laws.{Waits, Others, Tried}
+use Rattle.wait_model.proofs.{StepLaws.WakeSteps.meets_zero, StepLaws.WakeSteps.wake_state}
+use Rattle.wait_model.proofs.{StepLaws.UnlockSteps.unlock_bits, StepLaws.UnlockSteps.unlock_hold, Functions.put_case}
+use Rattle.wait_model.proofs.{Functions.put_at, BitLaws.BitRecords.BitStep, BitLaws.BitRecords.kept_by_none}
 use Rattle.wait_model.proofs.Sameness.{same_bit_is, tas_unmet, same_of_page, same_trans}
-use Rattle.wait_model.proofs.StepLaws.UnlockSteps.{unlock_bits, unlock_hold}
-use Rattle.wait_model.proofs.Functions.{put_case, put_at}
-use Rattle.wait_model.proofs.BitLaws.BitRecords.{BitStep, kept_by_none}
 use Rattle.wait_model.specs.declared.watches.Watch.TheVariants as watch
 use Rattle.wait_model.specs.declared.steps.Step.TheVariants as step
-use Rattle.wait_model.specs.Laws.{Waits, Others, Tried}
 
 pub state_bits : (s : Table) (a σ : ℕ) → BitFacts s → BitStep s a (step.State σ)
 state_bits s a σ k = record {

@@ -1,17 +1,12 @@
 -- No event sets a bit above those of its word.
 use Rattle.std.proofs.Common.{sym, subst, arith}
 use Rattle.std.specs.Prelude.{ℕ, Bool, true, false, if◌then◌else◌}
-use Rattle.wait_model.specs.declared.calls.Event.{Event}
-use Rattle.wait_model.specs.declared.points.Given.{Given}
-use Rattle.wait_model.specs.declared.watches.Watch.{Watch}
-use Rattle.wait_model.specs.Reached.{Allows, Joins}
+use Rattle.wait_model.specs.{declared.calls.Event.Event, declared.points.Given.Given, declared.watches.Watch.Watch}
+use Rattle.wait_model.specs.{Reached.Allows, Reached.Joins, Watches.IsThere, Watches.page, Words.head_word}
 use Rattle.wait_model.specs.Runs.{State, is_publishing, after_event}
 use Rattle.wait_model.specs.Tables.{AreBitsLow, Words, next, value_of, publish, consume}
-use Rattle.wait_model.specs.Watches.{IsThere, page}
-use Rattle.wait_model.specs.Words.{head_word}
-use Rattle.wait_model.proofs.WordLaws.BitWords.{low_consumed, low_published}
-use Rattle.wait_model.proofs.HistoryLaws.HoldLooks.{looks_same}
-use Rattle.wait_model.proofs.HistoryLaws.UnlockedLooks.{peeks_same}
+use Rattle.wait_model.proofs.{WordLaws.BitWords.low_consumed, WordLaws.BitWords.low_published}
+use Rattle.wait_model.proofs.{HistoryLaws.HoldLooks.looks_same, HistoryLaws.UnlockedLooks.peeks_same}
 use Rattle.wait_model.specs.declared.calls.Event.TheVariants as event
 use Rattle.wait_model.specs.declared.steps.Step.TheVariants as step
 use Rattle.wait_model.specs.declared.watches.Watch.TheVariants as watch

@@ -2,21 +2,14 @@
 use Rattle.std.proofs.lemmas.Option.{none-some}
 use Rattle.std.proofs.Common.{refl, sym, ◌∙◌, ap, subst, arith, inl, inr}
 use Rattle.std.specs.Prelude.{ℕ, ◌≡◌, ◌≢◌, ◌⊎◌, Option, Some, None, Bool, true, false, cond, ◌&&◌, ◌||◌}
-use Rattle.wait_model.specs.declared.watches.Watch.{Watch}
-use Rattle.wait_model.specs.declared.steps.Step.{Step}
-use Rattle.wait_model.specs.declared.steps.Step.TheVariants as step
-use Rattle.wait_model.specs.Functions.{put}
+use Rattle.wait_model.specs.{declared.watches.Watch.Watch, declared.steps.Step.Step, Functions.put, Views.View}
+use Rattle.wait_model.specs.{Views.Bits, Fold.after, Fold.takes_note, Rows.Allowed, Facts.PageFacts, Facts.Kept}
 use Rattle.wait_model.specs.Watches.{same, is_bit, was_clear, page}
-use Rattle.wait_model.specs.Views.{View, Bits}
-use Rattle.wait_model.specs.Fold.{after, takes_note}
 use Rattle.wait_model.specs.Tables.{Table, Words, met, publish, consume, next}
-use Rattle.wait_model.specs.Rows.{Allowed}
-use Rattle.wait_model.specs.Facts.{PageFacts, Kept}
-use Rattle.wait_model.proofs.Functions.{put_case, put_at}
+use Rattle.wait_model.specs.declared.steps.Step.TheVariants as step
+use Rattle.wait_model.proofs.{Functions.put_case, Functions.put_at, StepLaws.UnlockSteps.unlock_bits}
+use Rattle.wait_model.proofs.{BitLaws.BitRecords.kept_by_none, BitLaws.BitSteps.tas_found}
 use Rattle.wait_model.proofs.Sameness.{same_refl, same_bit_is, publish_other, consume_sets_none, tas_unmet}
-use Rattle.wait_model.proofs.StepLaws.UnlockSteps.{unlock_bits}
-use Rattle.wait_model.proofs.BitLaws.BitRecords.{kept_by_none}
-use Rattle.wait_model.proofs.BitLaws.BitSteps.{tas_found}
 
 -- what is not so
 not_true : (b : Bool) → (b ≡ true → ⊥) → b ≡ false

@@ -1,19 +1,13 @@
 -- The entry that a walk for a bit selects is taken off.
 use Rattle.std.proofs.Common.{refl, sym, ◌∙◌, ap, subst, arith, inl, inr}
 use Rattle.std.specs.Prelude.{ℕ, ◌≡◌, ◌≢◌, ◌⊎◌, Option, Some, None, Bool, true, false, not, ◌||◌, IsTrue}
-use Rattle.wait_model.specs.declared.watches.Watch.{Watch}
-use Rattle.wait_model.specs.declared.watches.Entry.{Entry}
-use Rattle.wait_model.specs.Facts.{Agrees, Kept}
+use Rattle.wait_model.specs.{declared.watches.Watch.Watch, declared.watches.Entry.Entry, Facts.Agrees, Facts.Kept}
+use Rattle.wait_model.specs.{Tables.Table, Tables.next, Functions.put, Rows.Allowed}
 use Rattle.wait_model.specs.Views.{Look, unseen, off, elsewhere, shown, Walk, View, covers, is_trying_for}
 use Rattle.wait_model.specs.Fold.{is_off, picks, after}
 use Rattle.wait_model.specs.Watches.{same, is_bit, owner, is_page}
-use Rattle.wait_model.specs.Tables.{Table, next}
 use Rattle.wait_model.specs.Laws.{Waits, Tried, Others}
-use Rattle.wait_model.specs.Functions.{put}
-use Rattle.wait_model.specs.Rows.{Allowed}
-use Rattle.wait_model.proofs.StepLaws.QuietSteps.{back_waits}
-use Rattle.wait_model.proofs.Sameness.{same_bit, same_bit_is}
-use Rattle.wait_model.proofs.Functions.{put_at}
+use Rattle.wait_model.proofs.{StepLaws.QuietSteps.back_waits, Sameness.same_bit, Sameness.same_bit_is, Functions.put_at}
 use Rattle.wait_model.proofs.BitLaws.BitRecords.{BitStep}
 use Rattle.wait_model.specs.declared.watches.Watch.TheVariants as watch
 use Rattle.wait_model.specs.declared.steps.Step.TheVariants as step

@@ -2,22 +2,15 @@
 use Rattle.std.proofs.lemmas.Bool.{both_ways}
 use Rattle.std.proofs.Common.{refl, ◌∙◌, ap, subst, arith, inl, inr}
 use Rattle.std.specs.Prelude.{ℕ, ◌≡◌, ◌⊎◌, Option, Some, None, Bool, true, false, cond, not, ◌&&◌, ◌||◌, ◌==◌, List}
-use Rattle.wait_model.specs.declared.watches.Watch.{Watch}
-use Rattle.wait_model.specs.declared.watches.Watch.TheVariants as watch
-use Rattle.wait_model.specs.declared.watches.Entry.{Entry}
-use Rattle.wait_model.specs.declared.steps.Step.{Step}
-use Rattle.wait_model.specs.declared.steps.Step.TheVariants as step
-use Rattle.wait_model.specs.Functions.{put}
+use Rattle.wait_model.specs.{declared.watches.Watch.Watch, declared.watches.Entry.Entry, declared.steps.Step.Step}
+use Rattle.wait_model.specs.{Functions.put, Words.entry_of, Fold.view_of, Fold.is_off, Laws.TryingBy, Histories.Lacks}
+use Rattle.wait_model.specs.{Histories.Since, BitKeepers.gets, Told.TryingTold}
 use Rattle.wait_model.specs.Watches.{same, is_bit, owner, is_page}
-use Rattle.wait_model.specs.Words.{entry_of}
 use Rattle.wait_model.specs.Views.{View, Bits, blank, is_trying_for}
-use Rattle.wait_model.specs.Fold.{view_of, is_off}
-use Rattle.wait_model.specs.Laws.{TryingBy}
-use Rattle.wait_model.specs.Histories.{Lacks, Since}
-use Rattle.wait_model.specs.BitKeepers.{gets}
 use Rattle.wait_model.specs.Tryings.{queues_for, finds_off, resettles, HasQueuedForBit, answers, begins, HasGot}
 use Rattle.wait_model.specs.Tryings.{IsUnanswered, IsUnseen, IsTrying}
-use Rattle.wait_model.specs.Told.{TryingTold}
+use Rattle.wait_model.specs.declared.watches.Watch.TheVariants as watch
+use Rattle.wait_model.specs.declared.steps.Step.TheVariants as step
 use Rattle.wait_model.proofs.BitLaws.BitKeepers.{took_bit, keeps_told}
 use Rattle.wait_model.proofs.HistoryLaws.Stretches.{Seen, IsSetBy, seen_in, found_in, set_at, kept_so}
 use Rattle.wait_model.proofs.StepLaws.UnlockSteps.{unlock_bits}

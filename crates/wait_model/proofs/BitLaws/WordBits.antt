@@ -1,9 +1,7 @@
 -- A bit set in a word, or cleared, leaves such a word.
 use Rattle.std.proofs.Common.{arith}
 use Rattle.std.specs.Prelude.{ℕ, ◌≡◌, ◌+◌, ◌*◌, ◌%◌, ◌^◌, ◌<◌, ◌≤◌, true, false}
-use Rattle.wait_model.specs.declared.layout.TheConstants.{WORD_BITS}
-use Rattle.wait_model.specs.Functions.{put}
-use Rattle.wait_model.specs.Words.{bit_at, bit_word}
+use Rattle.wait_model.specs.{declared.layout.TheConstants.WORD_BITS, Functions.put, Words.bit_at, Words.bit_word}
 use Rattle.wait_model.proofs.WordLaws.BitWords.{bit_word_small, bit_read, same_bits, bit_word_more, bit_word_less}
 
 -- a word is that of its bits

@@ -5,56 +5,45 @@ use Rattle.std.proofs.lemmas.Bool.{both_ways}
 use Rattle.std.proofs.Common.{refl, sym, ◌∙◌, ap, subst, arith, inl, inr}
 use Rattle.std.specs.Prelude.{ℕ, ◌≡◌, ◌≢◌, ◌+◌, ◌<◌, ◌≤◌, ◌⊎◌, ◌&&◌, Bool, true, false, if◌then◌else◌, Option, Some}
 use Rattle.std.specs.Prelude.{None}
+use Rattle.wait_model.specs.{declared.tasks.TaskRecord.TaskRecord, declared.watches.Watch.Watch}
+use Rattle.wait_model.specs.{declared.watches.Entry.Entry, declared.watches.Kind.Kind}
+use Rattle.wait_model.specs.{declared.queues.CalledEntry.CalledEntry, declared.queues.Walking.Walking}
+use Rattle.wait_model.specs.{declared.queues.Mark.Mark, declared.calls.Call.Call, declared.points.Point.Point}
+use Rattle.wait_model.specs.{declared.points.WalkPoint.WalkPoint, declared.points.PageStage.PageStage}
+use Rattle.wait_model.specs.{declared.points.Seen.Seen, declared.points.Planned.Planned}
+use Rattle.wait_model.specs.{declared.points.Progress.Progress, Functions.put, Laws.Waits, Laws.Unheard}
+use Rattle.wait_model.specs.{Queues.mark_place, Queues.Arrival}
 use Rattle.wait_model.specs.declared.layout.TheConstants.{RUNNING, INTERRUPTIBLE, UNINTERRUPTIBLE, KILLABLE, NORMAL}
-use Rattle.wait_model.specs.declared.tasks.TaskRecord.{TaskRecord}
-use Rattle.wait_model.specs.declared.watches.Watch.{Watch}
-use Rattle.wait_model.specs.declared.watches.Watch.TheVariants as watch
-use Rattle.wait_model.specs.declared.watches.Entry.{Entry}
-use Rattle.wait_model.specs.declared.watches.Kind.{Kind}
-use Rattle.wait_model.specs.declared.watches.Kind.TheVariants as kind
-use Rattle.wait_model.specs.declared.watches.Mode.TheVariants as mode
-use Rattle.wait_model.specs.declared.queues.CalledEntry.{CalledEntry}
-use Rattle.wait_model.specs.declared.queues.Walking.{Walking}
-use Rattle.wait_model.specs.declared.queues.Mark.{Mark}
-use Rattle.wait_model.specs.declared.calls.Call.{Call}
-use Rattle.wait_model.specs.declared.calls.Call.TheVariants as calls
-use Rattle.wait_model.specs.declared.calls.Event.TheVariants as event
-use Rattle.wait_model.specs.declared.points.Point.{Point}
-use Rattle.wait_model.specs.declared.points.Point.TheVariants as at
-use Rattle.wait_model.specs.declared.points.WalkPoint.{WalkPoint}
-use Rattle.wait_model.specs.declared.points.WalkPoint.TheVariants as walking
-use Rattle.wait_model.specs.declared.points.PageStage.{PageStage}
-use Rattle.wait_model.specs.declared.points.PageStage.TheVariants as staging
-use Rattle.wait_model.specs.declared.points.Seen.{Seen}
-use Rattle.wait_model.specs.declared.points.Planned.{Planned}
-use Rattle.wait_model.specs.declared.points.Progress.{Progress}
-use Rattle.wait_model.specs.declared.points.Progress.TheVariants as now
-use Rattle.wait_model.specs.declared.steps.Step.TheVariants as step
-use Rattle.wait_model.specs.Functions.{put}
 use Rattle.wait_model.specs.Tasks.{IsLawful, meets, woken}
 use Rattle.wait_model.specs.Watches.{same, is_done, is_bit, is_woken, is_page, counted, misses, number_of, word_of}
 use Rattle.wait_model.specs.Watches.{bit_of, mask_of, owner}
 use Rattle.wait_model.specs.Words.{head_word, bit_at, flag, Suited}
 use Rattle.wait_model.specs.Tables.{Table, met, steps, value_of}
-use Rattle.wait_model.specs.Tables as tables
-use Rattle.wait_model.specs.Laws.{Waits, Unheard}
-use Rattle.wait_model.specs.Queues.{mark_place, Arrival}
 use Rattle.wait_model.specs.Points.{call_aim, call_watch, call_head, mode_of, called_task, given_at, walk_mask}
 use Rattle.wait_model.specs.Programs.{go, load, call_fails, past, onward, reached, resumed, wake_event, wake_off_event}
 use Rattle.wait_model.specs.Programs.{tests, tests_page, hands_event, call_entry, call_next}
 use Rattle.wait_model.specs.Runs.{State, own, arrives_from, mark_for, called_by, seen_by, event_steps, planned}
 use Rattle.wait_model.specs.Runs.{progress_at}
 use Rattle.wait_model.specs.Reached.{IsFlagged, IsPlaced, IsCallSound, CountedAt, IsSound}
+use Rattle.wait_model.specs.declared.watches.Watch.TheVariants as watch
+use Rattle.wait_model.specs.declared.watches.Kind.TheVariants as kind
+use Rattle.wait_model.specs.declared.watches.Mode.TheVariants as mode
+use Rattle.wait_model.specs.declared.calls.Call.TheVariants as calls
+use Rattle.wait_model.specs.declared.calls.Event.TheVariants as event
+use Rattle.wait_model.specs.declared.points.Point.TheVariants as at
+use Rattle.wait_model.specs.declared.points.WalkPoint.TheVariants as walking
+use Rattle.wait_model.specs.declared.points.PageStage.TheVariants as staging
+use Rattle.wait_model.specs.declared.points.Progress.TheVariants as now
+use Rattle.wait_model.specs.declared.steps.Step.TheVariants as step
+use Rattle.wait_model.specs.Tables as tables
+use Rattle.wait_model.proofs.{HistoryLaws.HoldLooks.looks_same, QueueLaws.PlacesApart.AreApart}
+use Rattle.wait_model.proofs.{RunLaws.WalkCounts.one_of_bits, RunLaws.WalkCounts.bit_kind}
+use Rattle.wait_model.proofs.{WaitLaws.NextStages.misses_fails, WordLaws.CondWords.reads_value}
+use Rattle.wait_model.proofs.WordLaws.DecodedWords.{owner_own}
 use Rattle.wait_model.proofs.Functions.{put_at, put_same, both_left, both_right}
 use Rattle.wait_model.proofs.Sameness.{same_head, same_bit, same_trans, same_bit_is, same_done_is, failing_unmet}
-use Rattle.wait_model.proofs.HistoryLaws.HoldLooks.{looks_same}
 use Rattle.wait_model.proofs.QueueLaws.FoundEntries.{IsFoundEntry, reach, walk_case}
 use Rattle.wait_model.proofs.QueueLaws.CalledFirst.{one_or_behind, marked_before, at_or_behind}
-use Rattle.wait_model.proofs.QueueLaws.PlacesApart.{AreApart}
-use Rattle.wait_model.proofs.RunLaws.WalkCounts.{one_of_bits, bit_kind}
-use Rattle.wait_model.proofs.WaitLaws.NextStages.{misses_fails}
-use Rattle.wait_model.proofs.WordLaws.CondWords.{reads_value}
-use Rattle.wait_model.proofs.WordLaws.DecodedWords.{owner_own}
 
 -- the calls whose walk wakes whoever waits for their watch, in whatever state
 abbrev pub is_walk : Call → Bool

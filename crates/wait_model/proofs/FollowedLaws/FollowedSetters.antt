@@ -4,46 +4,34 @@ use Rattle.std.proofs.lemmas.Bool.{both_ways}
 use Rattle.std.proofs.Common.{refl, sym, ◌∙◌, ap, subst, arith, inl, inr}
 use Rattle.std.proofs.lemmas.Bool.Decides.{eqb_tells}
 use Rattle.std.specs.Prelude.{ℕ, ◌≡◌, ◌≢◌, ◌+◌, ◌<◌, ◌≤◌, true, false, Option, Some, None, List, [], ◌∷◌, ◌++◌}
-use Rattle.wait_model.specs.declared.layout.TheConstants.{EVENTS}
-use Rattle.wait_model.specs.declared.watches.Watch.{Watch}
-use Rattle.wait_model.specs.declared.watches.Watch.TheVariants as watch
-use Rattle.wait_model.specs.declared.watches.Entry.{Entry}
-use Rattle.wait_model.specs.declared.steps.Step.{Step}
-use Rattle.wait_model.specs.declared.steps.Step.TheVariants as step
-use Rattle.wait_model.specs.declared.queues.Mark.{Mark}
-use Rattle.wait_model.specs.declared.calls.Call.{Call}
-use Rattle.wait_model.specs.declared.calls.Call.TheVariants as calls
-use Rattle.wait_model.specs.declared.calls.Event.{Event}
-use Rattle.wait_model.specs.declared.calls.Ran.{Ran}
-use Rattle.wait_model.specs.declared.calls.Ran.TheVariants as ran
-use Rattle.wait_model.specs.declared.points.Point.{Point}
-use Rattle.wait_model.specs.declared.points.Point.TheVariants as at
-use Rattle.wait_model.specs.declared.points.WalkPoint.{WalkPoint}
-use Rattle.wait_model.specs.declared.points.WalkPoint.TheVariants as walking
-use Rattle.wait_model.specs.declared.points.Next.{Next}
-use Rattle.wait_model.specs.declared.points.Next.TheVariants as next
-use Rattle.wait_model.specs.declared.points.Progress.{Progress}
-use Rattle.wait_model.specs.declared.points.Progress.TheVariants as now
-use Rattle.wait_model.specs.Functions.{put}
+use Rattle.wait_model.specs.{declared.layout.TheConstants.EVENTS, declared.watches.Watch.Watch}
+use Rattle.wait_model.specs.{declared.watches.Entry.Entry, declared.steps.Step.Step, declared.queues.Mark.Mark}
+use Rattle.wait_model.specs.{declared.calls.Call.Call, declared.calls.Event.Event, declared.calls.Ran.Ran}
+use Rattle.wait_model.specs.{declared.points.Point.Point, declared.points.WalkPoint.WalkPoint}
+use Rattle.wait_model.specs.{declared.points.Next.Next, declared.points.Progress.Progress, Functions.put, Views.View}
+use Rattle.wait_model.specs.{Laws.Waits, Laws.Unheard, Rows.MayPublish, Rows.AllAllowed, Programs.program_start}
 use Rattle.wait_model.specs.Watches.{same, head_of, is_done, owner}
-use Rattle.wait_model.specs.Views.{View}
 use Rattle.wait_model.specs.Tables.{Table, met, steps}
-use Rattle.wait_model.specs.Laws.{Waits, Unheard}
-use Rattle.wait_model.specs.Rows.{MayPublish, AllAllowed}
 use Rattle.wait_model.specs.Points.{call_aim, call_watch, given_at}
-use Rattle.wait_model.specs.Programs.{program_start}
 use Rattle.wait_model.specs.Runs.{State, given_by, event_steps, seen_by, planned, progress_at, progress_after, happens}
 use Rattle.wait_model.specs.Runs.{start_state, state_after, state_of, IsItem, Continues, IsRunFrom, IsRun, made_in}
 use Rattle.wait_model.specs.Reached.{held_at, IsPlaced, CountedBy, IsSoundCall, IsSound}
 use Rattle.wait_model.specs.Followed.{comes_to_end, Publishes, EndsWake, StaysMet, SettersLeaveNobody}
+use Rattle.wait_model.specs.declared.watches.Watch.TheVariants as watch
+use Rattle.wait_model.specs.declared.steps.Step.TheVariants as step
+use Rattle.wait_model.specs.declared.calls.Call.TheVariants as calls
+use Rattle.wait_model.specs.declared.calls.Ran.TheVariants as ran
+use Rattle.wait_model.specs.declared.points.Point.TheVariants as at
+use Rattle.wait_model.specs.declared.points.WalkPoint.TheVariants as walking
+use Rattle.wait_model.specs.declared.points.Next.TheVariants as next
+use Rattle.wait_model.specs.declared.points.Progress.TheVariants as now
+use Rattle.wait_model.proofs.{Sameness.same_trans, Sameness.same_done_is, HistoryLaws.HoldLooks.steps_other}
+use Rattle.wait_model.proofs.{HistoryLaws.ViewsTold.views_told, HistoryLaws.NoLostWake.sleeper_found}
+use Rattle.wait_model.proofs.{QueueLaws.OutsideWalks.goes_away, QueueLaws.OutsideWalks.program_away}
+use Rattle.wait_model.proofs.{QueueLaws.OwnBookmarks.marks_other, QueueLaws.PlacesApart.AreApart}
+use Rattle.wait_model.proofs.{QueueLaws.PlacesApart.event_apart, FollowedLaws.WakeEnds.Gone}
+use Rattle.wait_model.proofs.FollowedLaws.WakeEnds.{ends_gone}
 use Rattle.wait_model.proofs.Functions.{put_at, put_same, put_other, bool_or}
-use Rattle.wait_model.proofs.Sameness.{same_trans, same_done_is}
-use Rattle.wait_model.proofs.HistoryLaws.HoldLooks.{steps_other}
-use Rattle.wait_model.proofs.HistoryLaws.ViewsTold.{views_told}
-use Rattle.wait_model.proofs.HistoryLaws.NoLostWake.{sleeper_found}
-use Rattle.wait_model.proofs.QueueLaws.OutsideWalks.{goes_away, program_away}
-use Rattle.wait_model.proofs.QueueLaws.OwnBookmarks.{marks_other}
-use Rattle.wait_model.proofs.QueueLaws.PlacesApart.{AreApart, event_apart}
 use Rattle.wait_model.proofs.RunLaws.EveryRun.{IsMade, made_of, opened_sound, made_sound, start_sound}
 use Rattle.wait_model.proofs.FollowedLaws.OldWaiters.{FoundZero, has_store, Before, AllMet, event_met, waits_all}
 use Rattle.wait_model.proofs.FollowedLaws.OldWaiters.{unheard_all, zero_all}
@@ -51,7 +39,6 @@ use Rattle.wait_model.proofs.FollowedLaws.AheadEntries.{walks_for, IsAhead, IsFl
 use Rattle.wait_model.proofs.FollowedLaws.AheadEntries.{walk_both}
 use Rattle.wait_model.proofs.FollowedLaws.WakePoints.{is_at_home, IsAtHome, start_home, is_of_walks, walks_publish_not}
 use Rattle.wait_model.proofs.FollowedLaws.WakePoints.{goes, walk_step, home_next}
-use Rattle.wait_model.proofs.FollowedLaws.WakeEnds.{Gone, ends_gone}
 
 -- what holds of every state of a run
 pub record IsGood (s : State) (n : ℕ) : Type 0 where

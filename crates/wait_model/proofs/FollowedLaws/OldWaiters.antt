@@ -3,32 +3,24 @@
 use Rattle.std.proofs.lemmas.Bool.{both_ways}
 use Rattle.std.proofs.Common.{refl, sym, ◌∙◌, ap, subst, arith, inl, inr}
 use Rattle.std.specs.Prelude.{ℕ, zero, suc, ◌≡◌, ◌≢◌, ◌⊎◌, Option, Some, None, Bool, true, false, ◌&&◌, List, [], ◌∷◌}
-use Rattle.wait_model.specs.declared.layout.TheConstants.{ENTRIES}
-use Rattle.wait_model.specs.declared.watches.Watch.{Watch}
-use Rattle.wait_model.specs.declared.watches.Entry.{Entry}
-use Rattle.wait_model.specs.declared.steps.Step.{Step}
-use Rattle.wait_model.specs.declared.steps.Step.TheVariants as step
-use Rattle.wait_model.specs.declared.tasks.TaskRecord.{TaskRecord}
-use Rattle.wait_model.specs.declared.calls.Event.{Event}
-use Rattle.wait_model.specs.declared.calls.Event.TheVariants as event
-use Rattle.wait_model.specs.declared.points.Given.{Given}
-use Rattle.wait_model.specs.Facts.{Facts, Kept}
+use Rattle.wait_model.specs.{declared.layout.TheConstants.ENTRIES, declared.watches.Watch.Watch}
+use Rattle.wait_model.specs.{declared.watches.Entry.Entry, declared.steps.Step.Step}
+use Rattle.wait_model.specs.{declared.tasks.TaskRecord.TaskRecord, declared.calls.Event.Event}
+use Rattle.wait_model.specs.{declared.points.Given.Given, Facts.Facts, Facts.Kept, Fold.after, Laws.Waits, Laws.Unheard}
+use Rattle.wait_model.specs.{Rows.Allowed, Rows.AllAllowed}
 use Rattle.wait_model.specs.Views.{View, Hold, Checks, checked}
-use Rattle.wait_model.specs.Fold.{after}
 use Rattle.wait_model.specs.Watches.{same, is_done, is_bit, is_page, failing, owner}
 use Rattle.wait_model.specs.Words.{entry_word, flag_of, head_word}
 use Rattle.wait_model.specs.Tables.{Words, Table, met, next, steps, consume}
-use Rattle.wait_model.specs.Laws.{Waits, Unheard}
-use Rattle.wait_model.specs.Rows.{Allowed, AllAllowed}
 use Rattle.wait_model.specs.Runs.{State, looks_below, looks, peeks_below, all_peeks, event_steps}
-use Rattle.wait_model.proofs.Functions.{put_case, bool_or}
-use Rattle.wait_model.proofs.Sameness.{failing_unmet, tas_unmet}
-use Rattle.wait_model.proofs.StepLaws.KeptLaws.{step_keeps}
-use Rattle.wait_model.proofs.StepLaws.UntouchedParts.{back_view, at_view}
+use Rattle.wait_model.specs.declared.steps.Step.TheVariants as step
+use Rattle.wait_model.specs.declared.calls.Event.TheVariants as event
+use Rattle.wait_model.proofs.{Functions.put_case, Functions.bool_or, Sameness.failing_unmet, Sameness.tas_unmet}
+use Rattle.wait_model.proofs.{StepLaws.KeptLaws.step_keeps, StepLaws.UntouchedParts.back_view}
+use Rattle.wait_model.proofs.{StepLaws.UntouchedParts.at_view, StepLaws.WakeSteps.wake_state}
+use Rattle.wait_model.proofs.StepLaws.LoadSteps.{loaded_checked}
 use Rattle.wait_model.proofs.StepLaws.QuietSteps.{back_waits, slept_state, signal_state, accept_state, unflag_checked}
 use Rattle.wait_model.proofs.StepLaws.QuietSteps.{consumed_checked}
-use Rattle.wait_model.proofs.StepLaws.WakeSteps.{wake_state}
-use Rattle.wait_model.proofs.StepLaws.LoadSteps.{loaded_checked}
 use Rattle.wait_model.proofs.StepLaws.StoreSteps.{stored_own, stored_page, stored_task, queued_own, queued_other}
 use Rattle.wait_model.proofs.StepLaws.StoreSteps.{flag_own}
 use Rattle.wait_model.proofs.StepLaws.FlagSteps.{back_unheard, low_put, own_low}

@@ -2,36 +2,14 @@
 use Rattle.std.proofs.Common.{refl, sym, ◌∙◌, ap, subst, arith}
 use Rattle.std.proofs.lemmas.Bool.{lt-ltb, ltb-true}
 use Rattle.std.specs.Prelude.{ℕ, ◌≡◌, ◌<◌, Bool, true, false, if◌then◌else◌, nat_lt, Option, Some, None, List, [], ◌∷◌}
-use Rattle.wait_model.specs.declared.layout.TheConstants.{ENTRIES}
-use Rattle.wait_model.specs.declared.watches.Watch.{Watch}
-use Rattle.wait_model.specs.declared.watches.Entry.{Entry}
-use Rattle.wait_model.specs.declared.watches.Kind.{Kind}
-use Rattle.wait_model.specs.declared.watches.Kind.TheVariants as kind
-use Rattle.wait_model.specs.declared.watches.Aim.{Aim}
-use Rattle.wait_model.specs.declared.watches.Mode.TheVariants as mode
-use Rattle.wait_model.specs.declared.queues.Member.{Member}
-use Rattle.wait_model.specs.declared.queues.CalledEntry.{CalledEntry}
-use Rattle.wait_model.specs.declared.queues.Walking.{Walking}
-use Rattle.wait_model.specs.declared.queues.Walked.{Walked}
-use Rattle.wait_model.specs.declared.calls.Answer.{Answer}
-use Rattle.wait_model.specs.declared.calls.Answer.TheVariants as answers
-use Rattle.wait_model.specs.declared.calls.Call.{Call}
-use Rattle.wait_model.specs.declared.calls.Call.TheVariants as calls
-use Rattle.wait_model.specs.declared.calls.Event.{Event}
-use Rattle.wait_model.specs.declared.calls.Event.TheVariants as event
-use Rattle.wait_model.specs.declared.points.Point.{Point}
-use Rattle.wait_model.specs.declared.points.Point.TheVariants as at
-use Rattle.wait_model.specs.declared.points.WalkPoint.{WalkPoint}
-use Rattle.wait_model.specs.declared.points.WalkPoint.TheVariants as walking
-use Rattle.wait_model.specs.declared.points.PageStage.{PageStage}
-use Rattle.wait_model.specs.declared.points.PageStage.TheVariants as staging
-use Rattle.wait_model.specs.declared.points.SelectPoint.{SelectPoint}
-use Rattle.wait_model.specs.declared.points.SelectPoint.TheVariants as selecting
-use Rattle.wait_model.specs.declared.points.Seen.{Seen}
-use Rattle.wait_model.specs.declared.points.Next.TheVariants as next
-use Rattle.wait_model.specs.declared.points.Planned.{Planned}
-use Rattle.wait_model.specs.declared.points.Progress.TheVariants as now
-use Rattle.wait_model.specs.Tasks.{meets}
+use Rattle.wait_model.specs.{declared.layout.TheConstants.ENTRIES, declared.watches.Watch.Watch}
+use Rattle.wait_model.specs.{declared.watches.Entry.Entry, declared.watches.Kind.Kind, declared.watches.Aim.Aim}
+use Rattle.wait_model.specs.{declared.queues.Member.Member, declared.queues.CalledEntry.CalledEntry}
+use Rattle.wait_model.specs.{declared.queues.Walking.Walking, declared.queues.Walked.Walked}
+use Rattle.wait_model.specs.{declared.calls.Answer.Answer, declared.calls.Call.Call, declared.calls.Event.Event}
+use Rattle.wait_model.specs.{declared.points.Point.Point, declared.points.WalkPoint.WalkPoint}
+use Rattle.wait_model.specs.{declared.points.PageStage.PageStage, declared.points.SelectPoint.SelectPoint}
+use Rattle.wait_model.specs.{declared.points.Seen.Seen, declared.points.Planned.Planned, Tasks.meets}
 use Rattle.wait_model.specs.Watches.{same, mask_of, owner}
 use Rattle.wait_model.specs.Queues.{rank, is_entry, entry_from, has_members, Arrival, IsIn}
 use Rattle.wait_model.specs.Points.{call_aim, call_watch, call_head, mode_of, called_task, given_at}
@@ -40,13 +18,22 @@ use Rattle.wait_model.specs.Programs.{is_enough, active_event, selected_answer}
 use Rattle.wait_model.specs.Runs.{State, called_as, called_of, called_by, seen_by, event_steps, planned}
 use Rattle.wait_model.specs.Followed.{is_wake, is_end, comes_to_end}
 use Rattle.wait_model.specs.Reached.{IsCallSound, IsMember, IsSound}
-use Rattle.wait_model.proofs.Sameness.{same_head, same_trans}
-use Rattle.wait_model.proofs.QueueLaws.CalledFirst.{not_called}
-use Rattle.wait_model.proofs.QueueLaws.FoundEntries.{reach}
-use Rattle.wait_model.proofs.QueueLaws.MemberStands.{member_is}
-use Rattle.wait_model.proofs.QueueLaws.PlacesApart.{entry_number, entry_inside}
-use Rattle.wait_model.proofs.QueueLaws.QueueOrder.{IsFirstFrom, first_is}
-use Rattle.wait_model.proofs.FollowedLaws.OldWaiters.{has_store, peeks_store}
+use Rattle.wait_model.specs.declared.watches.Kind.TheVariants as kind
+use Rattle.wait_model.specs.declared.watches.Mode.TheVariants as mode
+use Rattle.wait_model.specs.declared.calls.Answer.TheVariants as answers
+use Rattle.wait_model.specs.declared.calls.Call.TheVariants as calls
+use Rattle.wait_model.specs.declared.calls.Event.TheVariants as event
+use Rattle.wait_model.specs.declared.points.Point.TheVariants as at
+use Rattle.wait_model.specs.declared.points.WalkPoint.TheVariants as walking
+use Rattle.wait_model.specs.declared.points.PageStage.TheVariants as staging
+use Rattle.wait_model.specs.declared.points.SelectPoint.TheVariants as selecting
+use Rattle.wait_model.specs.declared.points.Next.TheVariants as next
+use Rattle.wait_model.specs.declared.points.Progress.TheVariants as now
+use Rattle.wait_model.proofs.{Sameness.same_head, Sameness.same_trans, QueueLaws.CalledFirst.not_called}
+use Rattle.wait_model.proofs.{QueueLaws.FoundEntries.reach, QueueLaws.MemberStands.member_is}
+use Rattle.wait_model.proofs.{QueueLaws.PlacesApart.entry_number, QueueLaws.PlacesApart.entry_inside}
+use Rattle.wait_model.proofs.{QueueLaws.QueueOrder.IsFirstFrom, QueueLaws.QueueOrder.first_is}
+use Rattle.wait_model.proofs.{FollowedLaws.OldWaiters.has_store, FollowedLaws.OldWaiters.peeks_store}
 use Rattle.wait_model.proofs.FollowedLaws.AheadEntries.{is_walk, walks_for, IsAhead}
 use Rattle.wait_model.proofs.FollowedLaws.WakePoints.{is_of_walk, is_of_selection, is_of_publisher, is_at_home}
 

@@ -3,20 +3,16 @@ use Rattle.std.proofs.lemmas.Bool.{both_ways}
 use Rattle.std.proofs.Common.{refl, sym, ◌∙◌, ap, subst, arith, inl, inr}
 use Rattle.std.specs.Prelude.{ℕ, ◌≡◌, ◌⊎◌, Option, Some, None, Bool, true, false, not, ◌&&◌, ◌||◌, ◌==◌, List, ◌∷◌}
 use Rattle.std.specs.Prelude.{◌++◌, if◌then◌else◌}
-use Rattle.wait_model.specs.declared.watches.Watch.{Watch}
-use Rattle.wait_model.specs.declared.watches.Watch.TheVariants as watch
-use Rattle.wait_model.specs.declared.watches.Entry.{Entry}
-use Rattle.wait_model.specs.declared.watches.Aim.{Aim}
-use Rattle.wait_model.specs.declared.steps.Step.{Step}
-use Rattle.wait_model.specs.declared.steps.Step.TheVariants as step
-use Rattle.wait_model.specs.Tasks.{meets}
+use Rattle.wait_model.specs.{declared.watches.Watch.Watch, declared.watches.Entry.Entry, declared.watches.Aim.Aim}
+use Rattle.wait_model.specs.{declared.steps.Step.Step, Tasks.meets}
 use Rattle.wait_model.specs.Watches.{same, head_of, is_bit, is_woken, mask_of, failing, owner, part_of, is_page, page}
 use Rattle.wait_model.specs.Views.{View, Walk, Hold, blank, concerns, gone, ahead}
 use Rattle.wait_model.specs.Fold.{after, after_all, view_of, hits, finds_bit_set, is_for_page}
 use Rattle.wait_model.specs.Histories.{Lacks, Since, turns_lock, is_publish}
 use Rattle.wait_model.specs.Walks.{WalkHold, calls_entry, wakes_entry, flags, CalledBy, CalledNow, finds_off_head}
-use Rattle.wait_model.specs.Walks.{sees_set}
-use Rattle.wait_model.specs.Walks.{looks_anew}
+use Rattle.wait_model.specs.Walks.{sees_set, looks_anew}
+use Rattle.wait_model.specs.declared.watches.Watch.TheVariants as watch
+use Rattle.wait_model.specs.declared.steps.Step.TheVariants as step
 use Rattle.wait_model.proofs.HistoryLaws.Stretches.{after_append, lacks_append, lacks_left, lacks_right, lacks_more}
 use Rattle.wait_model.proofs.HistoryLaws.Stretches.{lacks_both, Seen, IsSetBy, seen_in, found_in, set_at}
 use Rattle.wait_model.proofs.HistoryLaws.Stretches.{kept_so, append_split}

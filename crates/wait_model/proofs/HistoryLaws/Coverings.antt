@@ -1,20 +1,14 @@
 -- What the fold covers is what the history says plainly.
 use Rattle.std.proofs.Common.{refl, arith, inl, inr}
 use Rattle.std.specs.Prelude.{ℕ, ◌≡◌, ◌⊎◌, Option, Some, None, Bool, true, false, not, ◌&&◌, ◌||◌, List, nat_le}
-use Rattle.wait_model.specs.declared.watches.Entry.{Entry}
-use Rattle.wait_model.specs.declared.steps.Step.{Step}
+use Rattle.wait_model.specs.{declared.watches.Entry.Entry, declared.steps.Step.Step, Fold.view_of, Histories.Lacks}
+use Rattle.wait_model.specs.{Histories.is_mark, Walks.CalledNow, Coverings.Covering, Told.CoveringTold}
 use Rattle.wait_model.specs.Watches.{is_woken, is_simple, is_page}
 use Rattle.wait_model.specs.Views.{Walk, blank, concerns, gone, ahead, covers}
-use Rattle.wait_model.specs.Fold.{view_of}
-use Rattle.wait_model.specs.Histories.{Lacks, is_mark}
-use Rattle.wait_model.specs.Walks.{CalledNow}
-use Rattle.wait_model.specs.Coverings.{Covering}
-use Rattle.wait_model.specs.Told.{CoveringTold}
+use Rattle.wait_model.proofs.{HistoryLaws.PassedPlaces.gone_not, HistoryLaws.PlainReadings.owing_told}
+use Rattle.wait_model.proofs.HistoryLaws.OwedWakes.{owes_told}
 use Rattle.wait_model.proofs.HistoryLaws.HoldWalks.{AtFirst, first_in, locked_of}
 use Rattle.wait_model.proofs.HistoryLaws.CalledEntries.{called_not, seen_off, off_seen, called_now}
-use Rattle.wait_model.proofs.HistoryLaws.PassedPlaces.{gone_not}
-use Rattle.wait_model.proofs.HistoryLaws.PlainReadings.{owing_told}
-use Rattle.wait_model.proofs.HistoryLaws.OwedWakes.{owes_told}
 
 parts : (o c s a : Bool) → (o && (not c && (s || a))) ≡ true → (o ≡ true) × (c ≡ false) × ((s || a) ≡ true)
 parts true false s a h = (refl, refl, h)

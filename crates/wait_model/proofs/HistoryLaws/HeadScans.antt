@@ -4,24 +4,19 @@ use Rattle.std.proofs.Common.{refl, sym, ◌∙◌, ap, subst, arith, inl, inr}
 use Rattle.std.proofs.lemmas.List.{append_assoc}
 use Rattle.std.specs.Prelude.{ℕ, zero, suc, ◌≡◌, ◌+◌, ◌-◌, ◌<◌, ◌≤◌, ◌⊎◌, Option, Bool, true, false, not}
 use Rattle.std.specs.Prelude.{◌&&◌, ◌||◌, ◌==◌, if◌then◌else◌, List, [], ◌∷◌, ◌++◌}
-use Rattle.wait_model.specs.declared.layout.TheConstants.{ENTRIES, MEMBER_WORDS}
-use Rattle.wait_model.specs.declared.watches.Watch.{Watch}
-use Rattle.wait_model.specs.declared.steps.Step.{Step}
-use Rattle.wait_model.specs.declared.steps.Step.TheVariants as step
+use Rattle.wait_model.specs.{declared.layout.TheConstants.ENTRIES, declared.layout.TheConstants.MEMBER_WORDS}
+use Rattle.wait_model.specs.{declared.watches.Watch.Watch, declared.steps.Step.Step, Told.ends_wake}
+use Rattle.wait_model.specs.{Walks.finds_off_head, Walks.looks_anew, Owed.Owes}
 use Rattle.wait_model.specs.Watches.{head_of, part_of, same}
 use Rattle.wait_model.specs.Views.{View, Walk, blank, all_below, all_cleared}
 use Rattle.wait_model.specs.Fold.{after, after_all, after_unlock, view_of, scanned}
-use Rattle.wait_model.specs.Told.{ends_wake}
 use Rattle.wait_model.specs.Histories.{Lacks, Since, publishes}
-use Rattle.wait_model.specs.Walks.{finds_off_head, looks_anew}
-use Rattle.wait_model.specs.Owed.{Owes}
 use Rattle.wait_model.specs.Scans.{empty_scans, empty_look, EmptyLooksEnd, FoundBitsEndNothing, WorkedScans}
-use Rattle.wait_model.proofs.HistoryLaws.PlainReadings.{owes_after}
-use Rattle.wait_model.proofs.HistoryLaws.CalledEntries.{off_seen}
-use Rattle.wait_model.proofs.HistoryLaws.HoldBooks.{all_cleared_of}
-use Rattle.wait_model.proofs.HistoryLaws.Stretches.{after_append, lacks_right, append_split}
-use Rattle.wait_model.proofs.StepLaws.PastEntries.{all_cleared_not}
+use Rattle.wait_model.specs.declared.steps.Step.TheVariants as step
+use Rattle.wait_model.proofs.{HistoryLaws.PlainReadings.owes_after, HistoryLaws.CalledEntries.off_seen}
+use Rattle.wait_model.proofs.{HistoryLaws.HoldBooks.all_cleared_of, StepLaws.PastEntries.all_cleared_not}
 use Rattle.wait_model.proofs.StepLaws.UnlockSteps.{unlocked}
+use Rattle.wait_model.proofs.HistoryLaws.Stretches.{after_append, lacks_right, append_split}
 
 -- who owes a wake has not found all entries off by a look
 abbrev pub IsDue : View → Watch → ℕ → Type 0

@@ -2,20 +2,16 @@
 use Rattle.std.proofs.lemmas.Option.{none-some}
 use Rattle.std.proofs.Common.{refl, sym, ◌∙◌, ap, subst, arith, inl, inr}
 use Rattle.std.specs.Prelude.{ℕ, zero, suc, ◌≡◌, ◌<◌, ◌⊎◌, Some, None, Bool, true, false, ◌&&◌, List, [], ◌∷◌, ◌++◌}
-use Rattle.wait_model.specs.declared.layout.TheConstants.{ENTRIES}
-use Rattle.wait_model.specs.declared.watches.Watch.{Watch}
-use Rattle.wait_model.specs.declared.steps.Step.{Step}
-use Rattle.wait_model.specs.declared.steps.Step.TheVariants as step
-use Rattle.wait_model.specs.Words.{entry_of}
+use Rattle.wait_model.specs.{declared.layout.TheConstants.ENTRIES, declared.watches.Watch.Watch}
+use Rattle.wait_model.specs.{declared.steps.Step.Step, Words.entry_of, Walks.WalkHold, Walks.tells}
 use Rattle.wait_model.specs.Views.{View, Walk, Hold, blank, Look, unseen, off, shown, passed, all_below, all_passed}
 use Rattle.wait_model.specs.Views.{all_cleared, look_at}
 use Rattle.wait_model.specs.Fold.{after, after_all, view_of}
 use Rattle.wait_model.specs.Histories.{Lacks, Since, takes_any_lock, turns_lock}
-use Rattle.wait_model.specs.Walks.{WalkHold, tells}
-use Rattle.wait_model.proofs.HistoryLaws.Stretches.{after_append, lacks_left, lacks_right, since_behind, since_first}
-use Rattle.wait_model.proofs.StepLaws.PastEntries.{all_below_at}
-use Rattle.wait_model.proofs.StepLaws.UnlockSteps.{unlock_hold}
+use Rattle.wait_model.specs.declared.steps.Step.TheVariants as step
+use Rattle.wait_model.proofs.{StepLaws.PastEntries.all_below_at, StepLaws.UnlockSteps.unlock_hold}
 use Rattle.wait_model.proofs.HistoryLaws.CalledEntries.{hold_view}
+use Rattle.wait_model.proofs.HistoryLaws.Stretches.{after_append, lacks_left, lacks_right, since_behind, since_first}
 
 -- what a step of a hold of h leaves in the book
 unfoldable pub look_of : ℕ → Step → Look

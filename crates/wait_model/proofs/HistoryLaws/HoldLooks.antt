@@ -2,17 +2,12 @@
 use Rattle.std.proofs.lemmas.Bool.Decides.{eqb_tells}
 use Rattle.std.proofs.Common.{refl, sym, ◌∙◌, ap, arith, inl, inr}
 use Rattle.std.specs.Prelude.{ℕ, zero, suc, ◌≡◌, ◌≢◌, ◌<◌, ◌≤◌, ◌⊎◌, Option, true, false, ◌==◌, List, [], ◌∷◌, ◌++◌}
-use Rattle.wait_model.specs.declared.layout.TheConstants.{ENTRIES}
-use Rattle.wait_model.specs.declared.watches.Entry.{Entry}
-use Rattle.wait_model.specs.declared.steps.Step.{Step}
-use Rattle.wait_model.specs.Runs.{looks_below, looks}
-use Rattle.wait_model.specs.Facts.{Kept}
+use Rattle.wait_model.specs.{declared.layout.TheConstants.ENTRIES, declared.watches.Entry.Entry}
+use Rattle.wait_model.specs.{declared.steps.Step.Step, Runs.looks_below, Runs.looks, Facts.Kept, Words.entry_word}
+use Rattle.wait_model.specs.{Words.entry_of, Functions.put, Rows.AllAllowed}
 use Rattle.wait_model.specs.Views.{View, blank, look_at}
 use Rattle.wait_model.specs.Fold.{after, after_all, view_of}
 use Rattle.wait_model.specs.Tables.{Table, next, steps}
-use Rattle.wait_model.specs.Words.{entry_word, entry_of}
-use Rattle.wait_model.specs.Functions.{put}
-use Rattle.wait_model.specs.Rows.{AllAllowed}
 use Rattle.wait_model.proofs.StepLaws.KeptLaws.{step_keeps}
 use Rattle.wait_model.proofs.Functions.{put_case, put_same, put_other}
 use Rattle.wait_model.specs.declared.steps.Step.TheVariants as step

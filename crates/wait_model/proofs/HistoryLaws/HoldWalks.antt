@@ -3,16 +3,13 @@ use Rattle.std.proofs.lemmas.Option.{none-some}
 use Rattle.std.proofs.Common.{refl, sym, ◌∙◌, ap, subst, arith, inl, inr}
 use Rattle.std.specs.Prelude.{ℕ, ◌≡◌, ◌⊎◌, Option, Some, None, Bool, true, false, ◌&&◌, ◌==◌, List, [], ◌∷◌}
 use Rattle.std.specs.Prelude.{◌++◌, if◌then◌else◌}
-use Rattle.wait_model.specs.declared.watches.Aim.{Aim}
-use Rattle.wait_model.specs.declared.steps.Step.{Step}
-use Rattle.wait_model.specs.declared.steps.Step.TheVariants as step
-use Rattle.wait_model.specs.Watches.{same, mask_of}
+use Rattle.wait_model.specs.{declared.watches.Aim.Aim, declared.steps.Step.Step, Watches.same, Watches.mask_of}
 use Rattle.wait_model.specs.Views.{View, Walk, blank}
 use Rattle.wait_model.specs.Fold.{after, after_all, after_unlock, begun, begun_anew, paused}
 use Rattle.wait_model.specs.Histories.{Lacks, Since, turns_lock, takes_any_lock, is_mark}
+use Rattle.wait_model.specs.declared.steps.Step.TheVariants as step
+use Rattle.wait_model.proofs.{Sameness.same_refl, StepLaws.UnlockSteps.unlocked}
 use Rattle.wait_model.proofs.HistoryLaws.Stretches.{after_append, lacks_left, lacks_right}
-use Rattle.wait_model.proofs.Sameness.{same_refl}
-use Rattle.wait_model.proofs.StepLaws.UnlockSteps.{unlocked}
 
 -- the walk under way is one of this aim
 pub record IsForWalk (a : Aim) (o : Option Walk) : Type 0 where

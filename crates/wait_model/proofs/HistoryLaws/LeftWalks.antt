@@ -3,25 +3,21 @@ use Rattle.std.proofs.lemmas.Option.{none-some}
 use Rattle.std.proofs.Common.{refl, sym, ◌∙◌, ap, subst, arith, inl, inr}
 use Rattle.std.proofs.lemmas.List.{append_assoc, append-nil}
 use Rattle.std.specs.Prelude.{ℕ, suc, ◌≡◌, ◌<◌, ◌≤◌, ◌⊎◌, Option, Some, None, Bool, true, false, not, ◌&&◌, ◌||◌, ◌==◌, List, [], ◌∷◌, ◌++◌, nat_le, nat_lt, if◌then◌else◌}
-use Rattle.wait_model.specs.declared.layout.TheConstants.{ENTRIES}
-use Rattle.wait_model.specs.declared.watches.Watch.{Watch}
-use Rattle.wait_model.specs.declared.watches.Entry.{Entry}
-use Rattle.wait_model.specs.declared.watches.Aim.{Aim}
-use Rattle.wait_model.specs.declared.steps.Step.{Step}
-use Rattle.wait_model.specs.declared.steps.Step.TheVariants as step
-use Rattle.wait_model.specs.Tasks.{meets}
+use Rattle.wait_model.specs.{declared.layout.TheConstants.ENTRIES, declared.watches.Watch.Watch}
+use Rattle.wait_model.specs.{declared.watches.Entry.Entry, declared.watches.Aim.Aim, declared.steps.Step.Step}
+use Rattle.wait_model.specs.{Tasks.meets, Words.entry_of}
 use Rattle.wait_model.specs.Watches.{same, head_of, is_woken, is_simple, is_page, mask_of}
-use Rattle.wait_model.specs.Words.{entry_of}
 use Rattle.wait_model.specs.Views.{View, Walk, Look, unseen, elsewhere, shown, blank, no_hold, concerns, gone, passed}
 use Rattle.wait_model.specs.Views.{all_passed, look_at}
 use Rattle.wait_model.specs.Fold.{after, after_all, after_unlock, begun, begun_anew, paused, view_of}
 use Rattle.wait_model.specs.Histories.{Lacks, Since, UnlocksHeld, is_mark, marks}
-use Rattle.wait_model.specs.Walks.{WalkHold, tells, entry_of_head, shown_by, IsPast, CalledNow, HasPassed, leaves, GoneIn, GoneBy}
+use Rattle.wait_model.specs.Walks.{WalkHold, tells, entry_of_head, shown_by, IsPast, CalledNow, HasPassed, leaves}
+use Rattle.wait_model.specs.Walks.{GoneIn, GoneBy}
+use Rattle.wait_model.specs.declared.steps.Step.TheVariants as step
+use Rattle.wait_model.proofs.{HistoryLaws.HoldLooks.after_snoc, Sameness.same_trans}
 use Rattle.wait_model.proofs.HistoryLaws.Stretches.{lacks_append, lacks_left, append_split, since_behind, since_first}
 use Rattle.wait_model.proofs.HistoryLaws.HoldWalks.{IsForWalk, Locked, HasWalk, locked_of, locked_for, locked_held}
 use Rattle.wait_model.proofs.HistoryLaws.HoldWalks.{mark_kept}
-use Rattle.wait_model.proofs.HistoryLaws.HoldLooks.{after_snoc}
-use Rattle.wait_model.proofs.Sameness.{same_trans}
 use Rattle.wait_model.proofs.HistoryLaws.CalledEntries.{both, same_sym, hold_walk, aims, hold_for, called_now}
 use Rattle.wait_model.proofs.HistoryLaws.HoldBooks.{look_of, telling, hold_book, hold_unseen, stopped_at}
 

@@ -3,36 +3,25 @@ use Rattle.std.proofs.lemmas.Bool.{both_ways}
 use Rattle.std.proofs.Common.{refl, sym, ◌∙◌, ap, subst, arith, inl, inr}
 use Rattle.std.specs.Prelude.{ℕ, ◌≡◌, ◌<◌, ◌⊎◌, ◌-◌, ◌^◌, Some, None, Bool, true, false, cond, ◌==◌, List, [], ◌∷◌}
 use Rattle.std.specs.Prelude.{◌||◌, ◌&&◌, not}
-use Rattle.wait_model.specs.declared.watches.Watch.{Watch}
-use Rattle.wait_model.specs.declared.watches.Watch.TheVariants as watch
-use Rattle.wait_model.specs.declared.watches.Entry.{Entry}
-use Rattle.wait_model.specs.declared.steps.Step.{Step}
-use Rattle.wait_model.specs.declared.steps.Step.TheVariants as step
-use Rattle.wait_model.specs.Functions.{put}
-use Rattle.wait_model.specs.Words.{spent_of}
+use Rattle.wait_model.specs.{declared.watches.Watch.Watch, declared.watches.Entry.Entry, declared.steps.Step.Step}
+use Rattle.wait_model.specs.{Functions.put, Words.spent_of, Tables.Table, Tables.met, Runs.state_of}
 use Rattle.wait_model.specs.Watches.{same, head_of, is_done, is_woken, owner, counted, is_page, is_bit, was_clear}
 use Rattle.wait_model.specs.Views.{View, Checks, blank, checked, covers}
 use Rattle.wait_model.specs.Fold.{after, after_all, view_of}
-use Rattle.wait_model.specs.Tables.{Table, met}
 use Rattle.wait_model.specs.Laws.{Waits, Covered, Spent, TryingBy, Trying, Tried, NoLostWake}
 use Rattle.wait_model.specs.Readings.{fails, clears_flag, reads_no, outdates, HasTestedUnheard, ZeroLoad, FailedBy}
-use Rattle.wait_model.specs.Readings.{finds_set, queues}
-use Rattle.wait_model.specs.Readings.{before_load}
+use Rattle.wait_model.specs.Readings.{finds_set, queues, before_load}
 use Rattle.wait_model.specs.Histories.{Lacks, Since, takes_lock, spent_found, LockFound, LastFound}
 use Rattle.wait_model.specs.Wakes.{Sleeps, IsCovered, UsedUp, IsTried, NoWakeIsLost, NoRunLosesWake}
-use Rattle.wait_model.specs.Runs.{state_of}
+use Rattle.wait_model.specs.declared.watches.Watch.TheVariants as watch
+use Rattle.wait_model.specs.declared.steps.Step.TheVariants as step
+use Rattle.wait_model.proofs.{HistoryLaws.CalledEntries.view_at, Functions.put_same, HistoryLaws.HoldLooks.IsLookTold}
+use Rattle.wait_model.proofs.{HistoryLaws.HoldLooks.after_snoc, StepLaws.UnlockSteps.unlock_checks}
+use Rattle.wait_model.proofs.{HistoryLaws.PlainReadings.failed_told, HistoryLaws.ViewsTold.views_told}
+use Rattle.wait_model.proofs.{HistoryLaws.ZeroLoads.zero_told, BitLaws.Tryings.trying_told}
+use Rattle.wait_model.proofs.{HistoryLaws.Coverings.covering_told, RunLaws.EveryRun.no_lost_wake}
 use Rattle.wait_model.proofs.HistoryLaws.Stretches.{IsSetBy, seen_in, set_at, kept_so}
-use Rattle.wait_model.proofs.HistoryLaws.CalledEntries.{view_at}
-use Rattle.wait_model.proofs.Functions.{put_same}
-use Rattle.wait_model.proofs.HistoryLaws.HoldLooks.{IsLookTold, after_snoc}
-use Rattle.wait_model.proofs.StepLaws.UnlockSteps.{unlock_checks}
 use Rattle.wait_model.proofs.Sameness.{same_head, same_counted, same_bit, same_bit_is, bit_not_counted}
-use Rattle.wait_model.proofs.HistoryLaws.PlainReadings.{failed_told}
-use Rattle.wait_model.proofs.HistoryLaws.ViewsTold.{views_told}
-use Rattle.wait_model.proofs.HistoryLaws.ZeroLoads.{zero_told}
-use Rattle.wait_model.proofs.BitLaws.Tryings.{trying_told}
-use Rattle.wait_model.proofs.HistoryLaws.Coverings.{covering_told}
-use Rattle.wait_model.proofs.RunLaws.EveryRun.{no_lost_wake}
 
 -- the spent count found at the last lock of a head
 found_after : (e : Step) (v : View) (h : ℕ) → (takes_lock h e ≡ true)

@@ -2,20 +2,16 @@
 use Rattle.std.proofs.Common.{refl, sym, ◌∙◌, ap, subst, arith, inl, inr}
 use Rattle.std.proofs.lemmas.List.{append_assoc, append-nil}
 use Rattle.std.specs.Prelude.{ℕ, ◌≡◌, ◌<◌, ◌⊎◌, Option, Some, None, Bool, true, false, ◌||◌, List, [], ◌∷◌, ◌++◌}
-use Rattle.wait_model.specs.declared.layout.TheConstants.{ENTRIES}
-use Rattle.wait_model.specs.declared.watches.Watch.{Watch}
-use Rattle.wait_model.specs.declared.steps.Step.{Step}
-use Rattle.wait_model.specs.declared.steps.Step.TheVariants as step
-use Rattle.wait_model.specs.Words.{entry_of}
+use Rattle.wait_model.specs.{declared.layout.TheConstants.ENTRIES, declared.watches.Watch.Watch}
+use Rattle.wait_model.specs.{declared.steps.Step.Step, Words.entry_of, Owed.EndsWake, Owed.Owes}
 use Rattle.wait_model.specs.Views.{View, Walk, blank, concerns, all_passed}
 use Rattle.wait_model.specs.Fold.{after, after_all, view_of, peeks, scanned}
 use Rattle.wait_model.specs.Walks.{WalkHold, HasPassed, GoneBy}
-use Rattle.wait_model.specs.Owed.{EndsWake, Owes}
 use Rattle.wait_model.specs.Told.{ends_walk, ends_wake, Unended, Owing, OwesTold}
-use Rattle.wait_model.proofs.HistoryLaws.Stretches.{after_append}
-use Rattle.wait_model.proofs.HistoryLaws.HoldWalks.{IsForWalk, HasWalk, Locked}
-use Rattle.wait_model.proofs.HistoryLaws.HoldLooks.{after_snoc}
+use Rattle.wait_model.specs.declared.steps.Step.TheVariants as step
+use Rattle.wait_model.proofs.{HistoryLaws.Stretches.after_append, HistoryLaws.HoldLooks.after_snoc}
 use Rattle.wait_model.proofs.HistoryLaws.PlainReadings.{owing_told}
+use Rattle.wait_model.proofs.HistoryLaws.HoldWalks.{IsForWalk, HasWalk, Locked}
 use Rattle.wait_model.proofs.HistoryLaws.CalledEntries.{both, hold_walk, seen_off, off_seen, aims, hold_for}
 use Rattle.wait_model.proofs.HistoryLaws.HoldBooks.{all_cleared_of, passed_at, cleared_at}
 use Rattle.wait_model.proofs.HistoryLaws.LeftWalks.{WalksLocked, GoesOn, walks_locked, locked_left, has_passed}

@@ -2,26 +2,20 @@
 use Rattle.std.proofs.Common.{refl, sym, ◌∙◌, ap, subst, arith, inl, inr}
 use Rattle.std.specs.Prelude.{ℕ, zero, suc, ◌≡◌, ◌<◌, ◌≤◌, ◌⊎◌, Option, Some, None, Bool, true, false, not, ◌&&◌, ◌||◌}
 use Rattle.std.specs.Prelude.{◌==◌, List, [], ◌∷◌, nat_le, nat_lt, if◌then◌else◌}
-use Rattle.wait_model.specs.declared.layout.TheConstants.{ENTRIES}
-use Rattle.wait_model.specs.declared.watches.Watch.{Watch}
-use Rattle.wait_model.specs.declared.watches.Entry.{Entry}
-use Rattle.wait_model.specs.declared.watches.Aim.{Aim}
-use Rattle.wait_model.specs.declared.steps.Step.{Step}
-use Rattle.wait_model.specs.declared.steps.Step.TheVariants as step
-use Rattle.wait_model.specs.Tasks.{meets}
+use Rattle.wait_model.specs.{declared.layout.TheConstants.ENTRIES, declared.watches.Watch.Watch}
+use Rattle.wait_model.specs.{declared.watches.Entry.Entry, declared.watches.Aim.Aim, declared.steps.Step.Step}
+use Rattle.wait_model.specs.{Tasks.meets, Words.entry_of}
 use Rattle.wait_model.specs.Watches.{same, head_of, is_simple, mask_of}
-use Rattle.wait_model.specs.Words.{entry_of}
 use Rattle.wait_model.specs.Views.{View, Walk, Look, elsewhere, shown, no_hold, concerns, gone, ahead, passed}
 use Rattle.wait_model.specs.Views.{all_passed, look_at}
 use Rattle.wait_model.specs.Fold.{after, after_all, after_unlock, view_of, paused, begun}
 use Rattle.wait_model.specs.Histories.{Lacks, Since, publishes, is_mark, marks}
 use Rattle.wait_model.specs.Walks.{WalkHold, tells, entry_of_head, shown_by, IsPast, HasPassed, leaves, GoneIn, GoneBy}
-use Rattle.wait_model.proofs.HistoryLaws.HoldWalks.{IsForWalk, mark_kept}
-use Rattle.wait_model.proofs.Sameness.{same_trans}
-use Rattle.wait_model.proofs.HistoryLaws.PlainReadings.{owes_after}
+use Rattle.wait_model.specs.declared.steps.Step.TheVariants as step
+use Rattle.wait_model.proofs.{HistoryLaws.HoldWalks.IsForWalk, HistoryLaws.HoldWalks.mark_kept, Sameness.same_trans}
+use Rattle.wait_model.proofs.{HistoryLaws.PlainReadings.owes_after, StepLaws.UnlockSteps.unlocked}
 use Rattle.wait_model.proofs.HistoryLaws.CalledEntries.{same_sym, view_at, hold_walk, called_gone}
 use Rattle.wait_model.proofs.HistoryLaws.HoldBooks.{look_of, hold_book, all_passed_of}
-use Rattle.wait_model.proofs.StepLaws.UnlockSteps.{unlocked}
 
 pub concerned : (w : Walk) (a : Aim) (c : Watch) (σ : ℕ) → same a.watch w.watch ≡ true
     → w.mask ≡ mask_of a.mode

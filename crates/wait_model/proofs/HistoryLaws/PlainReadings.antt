@@ -4,14 +4,12 @@ use Rattle.std.proofs.lemmas.Bool.{both_ways}
 use Rattle.std.proofs.Common.{refl, sym, ◌∙◌, ap, subst, arith, inl, inr}
 use Rattle.std.specs.Prelude.{ℕ, ◌≡◌, ◌⊎◌, Option, Some, None, Bool, true, false, cond, not, ◌&&◌, ◌||◌, List, [], ◌∷◌}
 use Rattle.std.specs.Prelude.{◌++◌}
-use Rattle.wait_model.specs.declared.watches.Watch.{Watch}
-use Rattle.wait_model.specs.declared.steps.Step.{Step}
+use Rattle.wait_model.specs.{declared.watches.Watch.Watch, declared.steps.Step.Step, Histories.publishes}
+use Rattle.wait_model.specs.Watches.{head_of}
 use Rattle.wait_model.specs.Views.{Walk, Checks, View, blank}
 use Rattle.wait_model.specs.Fold.{after_unlock, after, after_all, view_of}
 use Rattle.wait_model.specs.Readings.{stores_own, fails, Quiet, FailedLoad}
-use Rattle.wait_model.specs.Histories.{publishes}
 use Rattle.wait_model.specs.Told.{ends_walk, ends_wake, Unended, Owing, FailedTold, OwingTold}
-use Rattle.wait_model.specs.Watches.{head_of}
 use Rattle.wait_model.proofs.StepLaws.UnlockSteps.{unlock_checks}
 use Rattle.wait_model.specs.declared.steps.Step.TheVariants as step
 

@@ -1,14 +1,9 @@
 -- The loads of all entry words by which a task looks for members without the lock.
 use Rattle.std.proofs.Common.{refl, ap, sym, ◌∙◌}
 use Rattle.std.specs.Prelude.{ℕ, zero, suc, ◌≡◌, Option, None}
-use Rattle.wait_model.specs.declared.layout.TheConstants.{ENTRIES}
-use Rattle.wait_model.specs.declared.watches.Entry.{Entry}
-use Rattle.wait_model.specs.Runs.{peeks_below, all_peeks}
-use Rattle.wait_model.specs.Views.{View}
-use Rattle.wait_model.specs.Fold.{after, after_all}
+use Rattle.wait_model.specs.{declared.layout.TheConstants.ENTRIES, declared.watches.Entry.Entry, Runs.peeks_below}
+use Rattle.wait_model.specs.{Runs.all_peeks, Views.View, Fold.after, Fold.after_all, Words.entry_word, Rows.AllAllowed}
 use Rattle.wait_model.specs.Tables.{Table, next, steps}
-use Rattle.wait_model.specs.Words.{entry_word}
-use Rattle.wait_model.specs.Rows.{AllAllowed}
 use Rattle.wait_model.proofs.HistoryLaws.HoldLooks.{SameWords, AllRead, same_words, same_through}
 use Rattle.wait_model.proofs.Functions.{put_same}
 use Rattle.wait_model.specs.declared.steps.Step.TheVariants as step

@@ -1,12 +1,10 @@
 -- In every state of a run each task's view is that of its history.
 use Rattle.std.proofs.Common.{refl}
 use Rattle.std.specs.Prelude.{ℕ, List, [], ◌∷◌}
-use Rattle.wait_model.specs.declared.steps.Step.{Step}
-use Rattle.wait_model.specs.declared.calls.Ran.{Ran}
-use Rattle.wait_model.specs.declared.calls.Ran.TheVariants as ran
+use Rattle.wait_model.specs.{declared.steps.Step.Step, declared.calls.Ran.Ran, Told.ViewsTold}
 use Rattle.wait_model.specs.Tables.{Table, steps, next}
-use Rattle.wait_model.specs.Told.{ViewsTold}
 use Rattle.wait_model.specs.Runs.{State, happens, start_state, state_after, event_steps, given_by}
+use Rattle.wait_model.specs.declared.calls.Ran.TheVariants as ran
 use Rattle.wait_model.proofs.HistoryLaws.HoldLooks.{IsLookTold, told_next}
 
 told_steps : (es : List Step) (t : Table) (a : ℕ) → IsLookTold t → IsLookTold (steps t a es)

@@ -3,23 +3,17 @@ use Rattle.std.proofs.lemmas.Option.{none-some}
 use Rattle.std.proofs.Common.{refl, sym, ◌∙◌, ap, subst, arith, inl, inr}
 use Rattle.std.proofs.lemmas.List.{append_assoc, append-nil}
 use Rattle.std.specs.Prelude.{ℕ, ◌≡◌, ◌⊎◌, Option, Some, None, Bool, true, false, cond, ◌&&◌, ◌==◌, List, [], ◌∷◌, ◌++◌}
-use Rattle.wait_model.specs.declared.watches.Watch.{Watch}
-use Rattle.wait_model.specs.declared.watches.Aim.{Aim}
-use Rattle.wait_model.specs.declared.steps.Step.{Step}
-use Rattle.wait_model.specs.declared.steps.Step.TheVariants as step
-use Rattle.wait_model.specs.Functions.{put}
-use Rattle.wait_model.specs.Watches.{head_of, failing}
-use Rattle.wait_model.specs.Words.{spent_of}
+use Rattle.wait_model.specs.{declared.watches.Watch.Watch, declared.watches.Aim.Aim, declared.steps.Step.Step}
+use Rattle.wait_model.specs.{Functions.put, Watches.head_of, Watches.failing, Words.spent_of, Told.ZeroTold}
 use Rattle.wait_model.specs.Views.{View, Hold, Checks, blank}
 use Rattle.wait_model.specs.Fold.{after, after_all, view_of, holding}
 use Rattle.wait_model.specs.Readings.{stores_own, fails, is_state_store, ZeroLoad}
 use Rattle.wait_model.specs.Histories.{Lacks, Since, turns_lock}
-use Rattle.wait_model.specs.Told.{ZeroTold}
-use Rattle.wait_model.proofs.Functions.{put_same, bool_or}
-use Rattle.wait_model.proofs.HistoryLaws.HoldLooks.{after_snoc}
-use Rattle.wait_model.proofs.HistoryLaws.Stretches.{after_append, lacks_append}
-use Rattle.wait_model.proofs.HistoryLaws.CalledEntries.{view_at}
-use Rattle.wait_model.proofs.StepLaws.UnlockSteps.{unlock_checks, unlock_hold}
+use Rattle.wait_model.specs.declared.steps.Step.TheVariants as step
+use Rattle.wait_model.proofs.{Functions.put_same, Functions.bool_or, HistoryLaws.HoldLooks.after_snoc}
+use Rattle.wait_model.proofs.{HistoryLaws.Stretches.after_append, HistoryLaws.Stretches.lacks_append}
+use Rattle.wait_model.proofs.{HistoryLaws.CalledEntries.view_at, StepLaws.UnlockSteps.unlock_checks}
+use Rattle.wait_model.proofs.StepLaws.UnlockSteps.{unlock_hold}
 
 is_holding : (g : Option ℕ) (h : ℕ) → holding g h ≡ true → g ≡ Some h
 is_holding None h e = absurd (cc)

@@ -3,27 +3,20 @@ use Rattle.std.proofs.Common.{refl, sym, ◌∙◌, ap, subst, arith, inl, inr}
 use Rattle.std.proofs.lemmas.Bool.Decides.{eqb_tells, nat_tests}
 use Rattle.std.specs.Prelude.{ℕ, zero, suc, ◌≡◌, ◌≢◌, ◌+◌, ◌-◌, ◌≤◌, ◌⊎◌, Bool, true, false, not, ◌&&◌, ◌||◌, ◌==◌}
 use Rattle.std.specs.Prelude.{nat_le, if◌then◌else◌, Option, Some, ◌∷◌}
-use Rattle.wait_model.specs.declared.layout.TheConstants.{ALL_DONE, ENTRIES}
-use Rattle.wait_model.specs.declared.steps.Step.TheVariants as step
-use Rattle.wait_model.specs.declared.watches.Aim.{Aim}
-use Rattle.wait_model.specs.declared.watches.Entry.{Entry}
-use Rattle.wait_model.specs.declared.watches.Watch.{Watch}
-use Rattle.wait_model.specs.declared.watches.Watch.TheVariants as watch
-use Rattle.wait_model.specs.Counts.{raised_done, taken_done}
-use Rattle.wait_model.specs.Fold.{after}
-use Rattle.wait_model.specs.Functions.{put}
+use Rattle.wait_model.specs.{declared.layout.TheConstants.ALL_DONE, declared.layout.TheConstants.ENTRIES}
+use Rattle.wait_model.specs.{declared.watches.Aim.Aim, declared.watches.Entry.Entry, declared.watches.Watch.Watch}
+use Rattle.wait_model.specs.{Counts.raised_done, Counts.taken_done, Fold.after, Functions.put, PermitPlaces.AllHandOn}
+use Rattle.wait_model.specs.{Programs.done_in, Programs.is_at_end, Tables.Table, Tables.next, Watches.same}
+use Rattle.wait_model.specs.Watches.{stands_at}
 use Rattle.wait_model.specs.Permits.{Dealt, after_read, after_store, deals, deals_all, done_head, finds_handed, is_in}
 use Rattle.wait_model.specs.Permits.{is_seen}
-use Rattle.wait_model.specs.PermitPlaces.{AllHandOn}
-use Rattle.wait_model.specs.Programs.{done_in, is_at_end}
 use Rattle.wait_model.specs.Runs.{is_publishing, looks, looks_below, all_peeks, peeks_below, set_step}
-use Rattle.wait_model.specs.Tables.{Table, next}
 use Rattle.wait_model.specs.Views.{View, Look, look_at}
-use Rattle.wait_model.specs.Watches.{same, stands_at}
 use Rattle.wait_model.specs.Words.{entry_word, entry_of, flag}
-use Rattle.wait_model.proofs.Functions.{put_same, put_other}
-use Rattle.wait_model.proofs.PermitLaws.OwnTurns.{flag_small, in_is}
-use Rattle.wait_model.proofs.PermitLaws.PermitTurns.{look_seen}
+use Rattle.wait_model.specs.declared.steps.Step.TheVariants as step
+use Rattle.wait_model.specs.declared.watches.Watch.TheVariants as watch
+use Rattle.wait_model.proofs.{Functions.put_same, Functions.put_other, PermitLaws.OwnTurns.flag_small}
+use Rattle.wait_model.proofs.{PermitLaws.OwnTurns.in_is, PermitLaws.PermitTurns.look_seen}
 
 pub stored_debt : (value found debt : ℕ) → after_store value found debt ≤ debt + value - found
 stored_debt value found debt = by (value == 0)

@@ -3,17 +3,12 @@ use Rattle.std.proofs.Common.{refl, sym, ◌∙◌, ap, subst, arith, inl, inr}
 use Rattle.std.proofs.lemmas.Bool.Decides.{eqb_tells}
 use Rattle.std.specs.Prelude.{ℕ, ◌≡◌, ◌≢◌, ◌+◌, ◌<◌, ◌≤◌, ◌⊎◌, Bool, true, false, not, ◌&&◌, ◌==◌, Option, Some, None}
 use Rattle.std.specs.Prelude.{List, [], ◌∷◌, ◌++◌}
-use Rattle.wait_model.specs.declared.layout.TheConstants.{TASKS}
-use Rattle.wait_model.specs.declared.steps.Step.{Step}
-use Rattle.wait_model.specs.Facts.{Kept}
+use Rattle.wait_model.specs.{declared.layout.TheConstants.TASKS, declared.steps.Step.Step, Facts.Kept, Runs.own}
+use Rattle.wait_model.specs.{Tables.Table, Tables.next, Views.View, Views.blank, Watches.owner, Watches.stands_at}
+use Rattle.wait_model.specs.Words.{flag}
 use Rattle.wait_model.specs.Fold.{after, after_all, holding}
 use Rattle.wait_model.specs.Permits.{Dealt, done_head, is_in, deals, deals_all, none_dealt, dealt}
 use Rattle.wait_model.specs.PermitFacts.{is_settled, worth_of, dealt_in, worth, IsExact, AreViewsTold}
-use Rattle.wait_model.specs.Runs.{own}
-use Rattle.wait_model.specs.Tables.{Table, next}
-use Rattle.wait_model.specs.Views.{View, blank}
-use Rattle.wait_model.specs.Watches.{owner, stands_at}
-use Rattle.wait_model.specs.Words.{flag}
 use Rattle.wait_model.proofs.Functions.{put_same, put_other}
 use Rattle.wait_model.proofs.PermitLaws.Sums.{rest_of, rest_is, rest_same, rest_small}
 

@@ -3,36 +3,21 @@ use Rattle.std.proofs.Common.{refl, sym, ◌∙◌, ap, subst, arith, inl, inr}
 use Rattle.std.proofs.lemmas.Bool.Decides.{eqb_tells}
 use Rattle.std.specs.Prelude.{ℕ, ◌≡◌, ◌≢◌, ◌+◌, ◌<◌, ◌≤◌, ◌⊎◌, Bool, true, false, not, ◌&&◌, ◌==◌, if◌then◌else◌}
 use Rattle.std.specs.Prelude.{is_some, Option, Some, None, List, [], ◌∷◌}
+use Rattle.wait_model.specs.{declared.calls.Call.Call, declared.calls.Answer.Answer}
+use Rattle.wait_model.specs.{declared.points.AwaitPoint.AwaitPoint, declared.points.Next.Next}
+use Rattle.wait_model.specs.{declared.points.Planned.Planned, declared.points.Point.Point}
+use Rattle.wait_model.specs.{declared.points.PreparePoint.PreparePoint, declared.steps.Step.Step}
+use Rattle.wait_model.specs.{declared.watches.Entry.Entry, Counts.taken_done, Facts.Agrees, PermitFacts.IsAccounted}
+use Rattle.wait_model.specs.{PermitFacts.dealt_in, Queues.place_for, Fold.holding, Functions.put, Words.flag}
+use Rattle.wait_model.specs.Words.{head_word}
 use Rattle.wait_model.specs.declared.layout.TheConstants.{TASKS, ENTRIES, ALL_DONE}
-use Rattle.wait_model.specs.declared.calls.Call.{Call}
-use Rattle.wait_model.specs.declared.calls.Call.TheVariants as calls
-use Rattle.wait_model.specs.declared.calls.Answer.{Answer}
-use Rattle.wait_model.specs.declared.calls.Event.TheVariants as event
-use Rattle.wait_model.specs.declared.points.AwaitPoint.{AwaitPoint}
-use Rattle.wait_model.specs.declared.points.AwaitPoint.TheVariants as awaiting
-use Rattle.wait_model.specs.declared.points.Next.{Next}
-use Rattle.wait_model.specs.declared.points.Next.TheVariants as next
-use Rattle.wait_model.specs.declared.points.Planned.{Planned}
-use Rattle.wait_model.specs.declared.points.Point.{Point}
-use Rattle.wait_model.specs.declared.points.Point.TheVariants as at
-use Rattle.wait_model.specs.declared.points.PreparePoint.{PreparePoint}
-use Rattle.wait_model.specs.declared.points.PreparePoint.TheVariants as preparing
-use Rattle.wait_model.specs.declared.points.Progress.TheVariants as now
-use Rattle.wait_model.specs.declared.steps.Step.{Step}
-use Rattle.wait_model.specs.declared.steps.Step.TheVariants as step
-use Rattle.wait_model.specs.declared.watches.Entry.{Entry}
-use Rattle.wait_model.specs.declared.watches.Watch.TheVariants as watch
-use Rattle.wait_model.specs.Counts.{taken_done}
-use Rattle.wait_model.specs.Facts.{Agrees}
 use Rattle.wait_model.specs.Permits.{Dealt, HandsOnOf, after_read, after_store, deals, deals_all, done_head, is_in}
 use Rattle.wait_model.specs.Permits.{shows_at, ShowsNobody}
-use Rattle.wait_model.specs.PermitFacts.{IsAccounted, dealt_in}
 use Rattle.wait_model.specs.PermitPlaces.{AllHandOn, DealtAt, IsDealt, Selects, Settles, is_about}
 use Rattle.wait_model.specs.Points.{call_head, call_number, call_watch, count_of, form_of, given_at, head_at, is_await}
 use Rattle.wait_model.specs.Points.{is_bit_wait, state_in}
 use Rattle.wait_model.specs.Programs.{await_after, completed, count_from, done_in, ends_with, go, is_at_end}
 use Rattle.wait_model.specs.Programs.{prepared_at, select_from, signalled, signalled_at, slept_at, zero_answer}
-use Rattle.wait_model.specs.Queues.{place_for}
 use Rattle.wait_model.specs.Reached.{IsHome, IsPlaced, IsSound, absent, holds}
 use Rattle.wait_model.specs.Runs.{State, entry_for, event_steps, is_publishing, looks, own, planned, progress_at}
 use Rattle.wait_model.specs.Runs.{set_step}
@@ -40,11 +25,16 @@ use Rattle.wait_model.specs.Tables.{next, steps, value_of}
 use Rattle.wait_model.specs.Tasks.{looks_in, pending, state_mask}
 use Rattle.wait_model.specs.Views.{Look, View, off, elsewhere, shown, unseen}
 use Rattle.wait_model.specs.Watches.{head_of, same, stands_at}
-use Rattle.wait_model.specs.Fold.{holding}
-use Rattle.wait_model.specs.Functions.{put}
-use Rattle.wait_model.specs.Words.{flag, head_word}
-use Rattle.wait_model.proofs.HistoryLaws.HoldLooks.{looks_same}
-use Rattle.wait_model.proofs.RunLaws.FineEvents.{none_there}
+use Rattle.wait_model.specs.declared.calls.Call.TheVariants as calls
+use Rattle.wait_model.specs.declared.calls.Event.TheVariants as event
+use Rattle.wait_model.specs.declared.points.AwaitPoint.TheVariants as awaiting
+use Rattle.wait_model.specs.declared.points.Next.TheVariants as next
+use Rattle.wait_model.specs.declared.points.Point.TheVariants as at
+use Rattle.wait_model.specs.declared.points.PreparePoint.TheVariants as preparing
+use Rattle.wait_model.specs.declared.points.Progress.TheVariants as now
+use Rattle.wait_model.specs.declared.steps.Step.TheVariants as step
+use Rattle.wait_model.specs.declared.watches.Watch.TheVariants as watch
+use Rattle.wait_model.proofs.{HistoryLaws.HoldLooks.looks_same, RunLaws.FineEvents.none_there}
 use Rattle.wait_model.proofs.WordLaws.CondWords.{set_rest}
 use Rattle.wait_model.proofs.PermitLaws.CountDebts.{IsLocked, at_end_large, load_about, locked, looks_hand, raised_most}
 use Rattle.wait_model.proofs.PermitLaws.CountDebts.{read_debt, read_end, set_about, stored_debt, taken_one}

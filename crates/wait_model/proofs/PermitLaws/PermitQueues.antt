@@ -2,27 +2,19 @@
 use Rattle.std.proofs.Common.{refl, sym, ◌∙◌, ap, subst, arith, inl, inr}
 use Rattle.std.proofs.lemmas.Bool.Decides.{eqb_tells}
 use Rattle.std.specs.Prelude.{ℕ, ◌≡◌, ◌≢◌, ◌+◌, ◌<◌, ◌≤◌, ◌⊎◌, Bool, true, false, not, ◌&&◌, ◌==◌, Option, Some, None}
-use Rattle.wait_model.specs.declared.layout.TheConstants.{TASKS, ENTRIES}
-use Rattle.wait_model.specs.declared.steps.Step.{Step}
-use Rattle.wait_model.specs.declared.steps.Step.TheVariants as step
-use Rattle.wait_model.specs.declared.watches.Entry.{Entry}
-use Rattle.wait_model.specs.Facts.{Kept}
-use Rattle.wait_model.specs.Fold.{after}
-use Rattle.wait_model.specs.Functions.{put}
+use Rattle.wait_model.specs.{declared.layout.TheConstants.TASKS, declared.layout.TheConstants.ENTRIES}
+use Rattle.wait_model.specs.{declared.steps.Step.Step, declared.watches.Entry.Entry, Facts.Kept, Fold.after}
+use Rattle.wait_model.specs.{Functions.put, Runs.own, Tables.Table, Tables.next, Totals.sum_below, Words.flag}
 use Rattle.wait_model.specs.Permits.{Dealt, done_head, is_in, is_seen, deals}
 use Rattle.wait_model.specs.PermitFacts.{is_settled, worth_of, dealt_in, worth, IsExact, AreViewsTold}
-use Rattle.wait_model.specs.Runs.{own}
-use Rattle.wait_model.specs.Tables.{Table, next}
-use Rattle.wait_model.specs.Totals.{sum_below}
 use Rattle.wait_model.specs.Views.{View, Look, off, shown}
 use Rattle.wait_model.specs.Watches.{owner, head_of, stands_at}
-use Rattle.wait_model.specs.Words.{flag}
+use Rattle.wait_model.specs.declared.steps.Step.TheVariants as step
+use Rattle.wait_model.proofs.{PermitLaws.Sums.sum_shift, HistoryLaws.StepTotals.sum_same}
 use Rattle.wait_model.proofs.Functions.{put_at, put_same, put_other}
 use Rattle.wait_model.proofs.PermitLaws.OwnTurns.{flag_small, held_is, clash, turn_exact, at_own, at_other, out}
 use Rattle.wait_model.proofs.PermitLaws.OwnTurns.{own_worth, other_worth, other_dealt}
 use Rattle.wait_model.proofs.PermitLaws.PermitTurns.{due, due_settled, due_standing, same_turn, no_debt, unsettled}
-use Rattle.wait_model.proofs.PermitLaws.Sums.{sum_shift}
-use Rattle.wait_model.proofs.HistoryLaws.StepTotals.{sum_same}
 
 pub owner_small : (y : ℕ) → y < ENTRIES → owner y < TASKS
 unfolding owner

@@ -3,53 +3,39 @@ use Rattle.std.proofs.Common.{refl, sym, ◌∙◌, ap, subst, arith, inl, inr}
 use Rattle.std.proofs.lemmas.Bool.Decides.{eqb_tells}
 use Rattle.std.specs.Prelude.{ℕ, ◌≡◌, ◌≢◌, ◌+◌, ◌*◌, ◌<◌, ◌≤◌, ◌⊎◌, Bool, true, false, ◌&&◌, ◌==◌, if◌then◌else◌}
 use Rattle.std.specs.Prelude.{Option, Some, None, List, [], ◌∷◌}
+use Rattle.wait_model.specs.{declared.calls.Call.Call, declared.calls.Event.Event, declared.calls.Ran.Ran}
+use Rattle.wait_model.specs.{declared.points.Next.Next, declared.points.Point.Point, declared.points.Progress.Progress}
+use Rattle.wait_model.specs.{declared.steps.Step.Step, declared.watches.Entry.Entry, declared.watches.Watch.Watch}
+use Rattle.wait_model.specs.{Facts.Kept, Fold.after, Programs.program_start, Queues.place_for, Rows.AllAllowed}
+use Rattle.wait_model.specs.{Views.View, Words.flag, Words.head_word}
 use Rattle.wait_model.specs.declared.layout.TheConstants.{TASKS, BIT_WORDS, WORD_BITS, EVENTS, HASHED_HEADS}
-use Rattle.wait_model.specs.declared.calls.Call.{Call}
-use Rattle.wait_model.specs.declared.calls.Call.TheVariants as calls
-use Rattle.wait_model.specs.declared.calls.Event.{Event}
-use Rattle.wait_model.specs.declared.calls.Event.TheVariants as event
-use Rattle.wait_model.specs.declared.calls.Ran.{Ran}
-use Rattle.wait_model.specs.declared.calls.Ran.TheVariants as ran
-use Rattle.wait_model.specs.declared.points.Next.{Next}
-use Rattle.wait_model.specs.declared.points.Next.TheVariants as next
-use Rattle.wait_model.specs.declared.points.Point.{Point}
-use Rattle.wait_model.specs.declared.points.Progress.{Progress}
-use Rattle.wait_model.specs.declared.points.Progress.TheVariants as now
-use Rattle.wait_model.specs.declared.steps.Step.{Step}
-use Rattle.wait_model.specs.declared.steps.Step.TheVariants as step
-use Rattle.wait_model.specs.declared.watches.Entry.{Entry}
-use Rattle.wait_model.specs.declared.watches.Watch.{Watch}
-use Rattle.wait_model.specs.declared.watches.Watch.TheVariants as watch
-use Rattle.wait_model.specs.Facts.{Kept}
-use Rattle.wait_model.specs.Fold.{after}
 use Rattle.wait_model.specs.Permits.{Dealt, EveryRunHandsPermitsOn, HandsOnOf, deals_all, done_head, shows_at}
 use Rattle.wait_model.specs.PermitFacts.{AreViewsTold, IsAccounted, dealt_in}
 use Rattle.wait_model.specs.PermitPlaces.{AllHandOn, AreAllDealt, DealtAt, IsDealt, is_about}
 use Rattle.wait_model.specs.Points.{call_watch, given_at, is_await}
-use Rattle.wait_model.specs.Programs.{program_start}
-use Rattle.wait_model.specs.Queues.{place_for}
 use Rattle.wait_model.specs.Reached.{IsCallSound, IsPlaced, IsSound, IsSoundCall}
-use Rattle.wait_model.specs.Rows.{AllAllowed}
 use Rattle.wait_model.specs.Runs.{State, Continues, IsRunFrom, entry_for, event_steps, given_by, happens, is_open}
 use Rattle.wait_model.specs.Runs.{is_publishing, made_in, own, planned, progress_after, progress_at, set_step}
 use Rattle.wait_model.specs.Runs.{start_state, state_after}
 use Rattle.wait_model.specs.Tables.{Table, next, steps, value_of}
-use Rattle.wait_model.specs.Views.{View}
 use Rattle.wait_model.specs.Watches.{IsThere, bare, hashed, head_of, same, stands_at}
-use Rattle.wait_model.specs.Words.{flag, head_word}
+use Rattle.wait_model.specs.declared.calls.Call.TheVariants as calls
+use Rattle.wait_model.specs.declared.calls.Event.TheVariants as event
+use Rattle.wait_model.specs.declared.calls.Ran.TheVariants as ran
+use Rattle.wait_model.specs.declared.points.Next.TheVariants as next
+use Rattle.wait_model.specs.declared.points.Progress.TheVariants as now
+use Rattle.wait_model.specs.declared.steps.Step.TheVariants as step
+use Rattle.wait_model.specs.declared.watches.Watch.TheVariants as watch
+use Rattle.wait_model.proofs.{HistoryLaws.HoldLooks.looks_same, HistoryLaws.HoldLooks.told_next}
+use Rattle.wait_model.proofs.{HistoryLaws.UnlockedLooks.peeks_same, PermitLaws.PermitEvents.shows_none}
+use Rattle.wait_model.proofs.{PermitLaws.PermitSelections.program_leaves, RunLaws.OthersEvents.own_one}
+use Rattle.wait_model.proofs.{StepLaws.KeptLaws.step_keeps, WordLaws.CondWords.set_rest}
 use Rattle.wait_model.proofs.Functions.{put_at, put_same, put_other}
-use Rattle.wait_model.proofs.HistoryLaws.HoldLooks.{looks_same, told_next}
-use Rattle.wait_model.proofs.HistoryLaws.UnlockedLooks.{peeks_same}
 use Rattle.wait_model.proofs.PermitLaws.CountDebts.{all_peeked, load_apart, locked, looks_hand, peeks_hand, set_apart}
 use Rattle.wait_model.proofs.PermitLaws.CountDebts.{store_apart}
 use Rattle.wait_model.proofs.PermitLaws.OwnTurns.{clash, other_dealt, own_dealt, own_view}
-use Rattle.wait_model.proofs.PermitLaws.PermitEvents.{shows_none}
-use Rattle.wait_model.proofs.PermitLaws.PermitSelections.{program_leaves}
 use Rattle.wait_model.proofs.PermitLaws.PermitSteps.{accounted_handed, accounted_start, accounted_step}
 use Rattle.wait_model.proofs.RunLaws.EveryRun.{IsMade, made_of, made_sound, opened_sound, start_sound, sound_of}
-use Rattle.wait_model.proofs.RunLaws.OthersEvents.{own_one}
-use Rattle.wait_model.proofs.StepLaws.KeptLaws.{step_keeps}
-use Rattle.wait_model.proofs.WordLaws.CondWords.{set_rest}
 
 -- the heads of bits and variables are others
 hashed_small : (n : ℕ) → hashed n < HASHED_HEADS

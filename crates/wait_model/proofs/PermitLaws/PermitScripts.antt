@@ -1,9 +1,6 @@
 -- The worked histories of permits, computed.
 use Rattle.std.proofs.Common.{refl}
-use Rattle.wait_model.specs.Totals.{sum_below}
-use Rattle.wait_model.specs.Watches.{head_of}
-use Rattle.wait_model.specs.WorkedPermits.{WorkedPermits}
-use Rattle.wait_model.specs.Words.{entry_of}
+use Rattle.wait_model.specs.{Totals.sum_below, Watches.head_of, WorkedPermits.WorkedPermits, Words.entry_of}
 
 pub worked_permits : WorkedPermits
 unfolding sum_below head_of entry_of

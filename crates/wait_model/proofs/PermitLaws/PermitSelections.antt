@@ -4,27 +4,14 @@ use Rattle.std.proofs.Common.{refl, sym, ◌∙◌, ap, subst, arith, inl, inr}
 use Rattle.std.proofs.lemmas.Bool.Decides.{eqb_tells, nat_tests}
 use Rattle.std.specs.Prelude.{ℕ, ◌≡◌, ◌+◌, ◌-◌, ◌<◌, ◌≤◌, Bool, true, false, not, ◌&&◌, ◌==◌, if◌then◌else◌, nat_lt}
 use Rattle.std.specs.Prelude.{Option, Some, None}
-use Rattle.wait_model.specs.declared.layout.TheConstants.{TASKS, ENTRIES}
-use Rattle.wait_model.specs.declared.calls.Call.{Call}
-use Rattle.wait_model.specs.declared.calls.Event.TheVariants as event
-use Rattle.wait_model.specs.declared.points.CountPoint.{CountPoint}
-use Rattle.wait_model.specs.declared.points.CountPoint.TheVariants as counting
-use Rattle.wait_model.specs.declared.points.Next.{Next}
-use Rattle.wait_model.specs.declared.points.Next.TheVariants as next
-use Rattle.wait_model.specs.declared.points.Planned.{Planned}
-use Rattle.wait_model.specs.declared.points.Point.{Point}
-use Rattle.wait_model.specs.declared.points.Point.TheVariants as at
-use Rattle.wait_model.specs.declared.points.Progress.TheVariants as now
-use Rattle.wait_model.specs.declared.points.SelectPoint.{SelectPoint}
-use Rattle.wait_model.specs.declared.points.SelectPoint.TheVariants as selecting
-use Rattle.wait_model.specs.declared.queues.Member.{Member}
-use Rattle.wait_model.specs.declared.steps.Step.TheVariants as step
-use Rattle.wait_model.specs.declared.watches.Entry.{Entry}
-use Rattle.wait_model.specs.declared.watches.Mode.TheVariants as mode
-use Rattle.wait_model.specs.declared.watches.Watch.TheVariants as watch
-use Rattle.wait_model.specs.Counts.{taken_done}
+use Rattle.wait_model.specs.{declared.layout.TheConstants.TASKS, declared.layout.TheConstants.ENTRIES}
+use Rattle.wait_model.specs.{declared.calls.Call.Call, declared.points.CountPoint.CountPoint, declared.points.Next.Next}
+use Rattle.wait_model.specs.{declared.points.Planned.Planned, declared.points.Point.Point}
+use Rattle.wait_model.specs.{declared.points.SelectPoint.SelectPoint, declared.queues.Member.Member}
+use Rattle.wait_model.specs.{declared.watches.Entry.Entry, Counts.taken_done, PermitFacts.IsAccounted}
+use Rattle.wait_model.specs.{PermitFacts.dealt_in, Tables.value_of, Tasks.meets, Views.View, Fold.holding}
+use Rattle.wait_model.specs.{Functions.put, Words.flag}
 use Rattle.wait_model.specs.Permits.{Dealt, after_read, deals, done_head, is_in, shows_at, ShowsNobody}
-use Rattle.wait_model.specs.PermitFacts.{IsAccounted, dealt_in}
 use Rattle.wait_model.specs.PermitPlaces.{DealtAt, IsDealt, Selected, Selects, is_about}
 use Rattle.wait_model.specs.Points.{call_head, called_task, call_number, call_watch, count_of, head_at, is_await}
 use Rattle.wait_model.specs.Programs.{completed, count_from, done_in, ends_with, go, is_at_end, is_enough, select_ends}
@@ -32,19 +19,21 @@ use Rattle.wait_model.specs.Programs.{select_from, select_next, selected_answer,
 use Rattle.wait_model.specs.Queues.{IsIn, entry_from, is_entry}
 use Rattle.wait_model.specs.Reached.{IsCallSound, IsPlaced, IsSound, holds}
 use Rattle.wait_model.specs.Runs.{State, called_as, called_by, own, planned, progress_at}
-use Rattle.wait_model.specs.Tables.{value_of}
-use Rattle.wait_model.specs.Tasks.{meets}
-use Rattle.wait_model.specs.Views.{View}
 use Rattle.wait_model.specs.Watches.{head_of, mask_of, owner, stands_at}
-use Rattle.wait_model.specs.Fold.{holding}
-use Rattle.wait_model.specs.Functions.{put}
-use Rattle.wait_model.specs.Words.{flag}
+use Rattle.wait_model.specs.declared.calls.Event.TheVariants as event
+use Rattle.wait_model.specs.declared.points.CountPoint.TheVariants as counting
+use Rattle.wait_model.specs.declared.points.Next.TheVariants as next
+use Rattle.wait_model.specs.declared.points.Point.TheVariants as at
+use Rattle.wait_model.specs.declared.points.Progress.TheVariants as now
+use Rattle.wait_model.specs.declared.points.SelectPoint.TheVariants as selecting
+use Rattle.wait_model.specs.declared.steps.Step.TheVariants as step
+use Rattle.wait_model.specs.declared.watches.Mode.TheVariants as mode
+use Rattle.wait_model.specs.declared.watches.Watch.TheVariants as watch
+use Rattle.wait_model.proofs.{QueueLaws.MemberStands.member_is, QueueLaws.PlacesApart.entry_inside}
+use Rattle.wait_model.proofs.{QueueLaws.QueueOrder.IsFirstFrom, QueueLaws.QueueOrder.first_is}
+use Rattle.wait_model.proofs.{PermitLaws.OwnTurns.clash, PermitLaws.OwnTurns.known_is}
 use Rattle.wait_model.proofs.Functions.{put_at, both_left, both_right}
 use Rattle.wait_model.proofs.PermitLaws.CountDebts.{load_outside, read_debt, stored_debt, taken_most}
-use Rattle.wait_model.proofs.QueueLaws.MemberStands.{member_is}
-use Rattle.wait_model.proofs.QueueLaws.PlacesApart.{entry_inside}
-use Rattle.wait_model.proofs.QueueLaws.QueueOrder.{IsFirstFrom, first_is}
-use Rattle.wait_model.proofs.PermitLaws.OwnTurns.{clash, known_is}
 use Rattle.wait_model.proofs.PermitLaws.PermitEvents.{Leaves, agrees, at_place, await_leaves, bare, completes}
 use Rattle.wait_model.proofs.PermitLaws.PermitEvents.{count_begins, count_cases, ends, flipped, head_is, held, loads}
 use Rattle.wait_model.proofs.PermitLaws.PermitEvents.{locks, out_debt, prepare_leaves, select_begins, shows_none}

@@ -2,23 +2,16 @@
 use Rattle.std.proofs.Common.{refl, ap, arith, inl, inr}
 use Rattle.std.proofs.lemmas.Bool.Decides.{eqb_tells}
 use Rattle.std.specs.Prelude.{ℕ, ◌≡◌, ◌<◌, Bool, true, false, ◌&&◌, Some, None}
-use Rattle.wait_model.specs.declared.layout.TheConstants.{TASKS}
-use Rattle.wait_model.specs.declared.steps.Step.{Step}
-use Rattle.wait_model.specs.declared.steps.Step.TheVariants as step
-use Rattle.wait_model.specs.declared.watches.Watch.TheVariants as watch
-use Rattle.wait_model.specs.Facts.{Kept}
+use Rattle.wait_model.specs.{declared.layout.TheConstants.TASKS, declared.steps.Step.Step, Facts.Kept, Rows.Allowed}
+use Rattle.wait_model.specs.{Runs.own, Tables.Table, Tables.next, Watches.stands_at, Words.flag}
 use Rattle.wait_model.specs.Permits.{done_head, is_in, is_handed, is_seen, HandsOnOf, MayGiveBack}
 use Rattle.wait_model.specs.PermitFacts.{AccountedAreHanded, AreViewsTold, IsExact, PermitsStartAccounted}
 use Rattle.wait_model.specs.PermitFacts.{PermitsStayAccounted, dealt_in, is_settled, worth}
-use Rattle.wait_model.specs.Rows.{Allowed}
-use Rattle.wait_model.specs.Runs.{own}
-use Rattle.wait_model.specs.Tables.{Table, next}
-use Rattle.wait_model.specs.Watches.{stands_at}
-use Rattle.wait_model.specs.Words.{flag}
-use Rattle.wait_model.proofs.HistoryLaws.HoldLooks.{told_next}
-use Rattle.wait_model.proofs.HistoryLaws.StepTotals.{sum_same}
+use Rattle.wait_model.specs.declared.steps.Step.TheVariants as step
+use Rattle.wait_model.specs.declared.watches.Watch.TheVariants as watch
+use Rattle.wait_model.proofs.{HistoryLaws.HoldLooks.told_next, HistoryLaws.StepTotals.sum_same}
+use Rattle.wait_model.proofs.{PermitLaws.PermitQueues.queue_exact, PermitLaws.PermitQueues.unqueue_exact}
 use Rattle.wait_model.proofs.PermitLaws.OwnTurns.{Turn, clash, in_is, nothing_known, turn_exact}
-use Rattle.wait_model.proofs.PermitLaws.PermitQueues.{queue_exact, unqueue_exact}
 use Rattle.wait_model.proofs.PermitLaws.PermitTurns.{due, quiet, lock_turn, other_unlock, own_unlock, saw_turn}
 use Rattle.wait_model.proofs.PermitLaws.PermitTurns.{load_turn, store_turn}
 

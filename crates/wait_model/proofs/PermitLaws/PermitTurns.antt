@@ -3,24 +3,17 @@ use Rattle.std.proofs.Common.{refl, sym, ◌∙◌, ap, subst, arith, inl, inr}
 use Rattle.std.proofs.lemmas.Bool.Decides.{eqb_tells, nat_tests}
 use Rattle.std.specs.Prelude.{ℕ, ◌≡◌, ◌≢◌, ◌+◌, ◌-◌, ◌<◌, ◌≤◌, ◌⊎◌, Bool, true, false, not, ◌&&◌, ◌||◌, nat_le, ◌==◌}
 use Rattle.std.specs.Prelude.{if◌then◌else◌, Option, Some, None}
+use Rattle.wait_model.specs.{declared.steps.Step.Step, declared.watches.Aim.Aim, declared.watches.Entry.Entry}
+use Rattle.wait_model.specs.{Facts.Kept, Facts.Agrees, Functions.put, Rows.Allowed, Runs.own, Tables.Table, Tables.next}
+use Rattle.wait_model.specs.{Watches.head_of, Watches.stands_at, Words.flag, Words.entry_of}
 use Rattle.wait_model.specs.declared.layout.TheConstants.{TASKS, ENTRIES, ALL_DONE}
-use Rattle.wait_model.specs.declared.steps.Step.{Step}
-use Rattle.wait_model.specs.declared.steps.Step.TheVariants as step
-use Rattle.wait_model.specs.declared.watches.Aim.{Aim}
-use Rattle.wait_model.specs.declared.watches.Entry.{Entry}
-use Rattle.wait_model.specs.declared.watches.Watch.TheVariants as watch
-use Rattle.wait_model.specs.Facts.{Kept, Agrees}
 use Rattle.wait_model.specs.Fold.{after, holding, after_unlock}
-use Rattle.wait_model.specs.Functions.{put}
 use Rattle.wait_model.specs.Permits.{Dealt, done_head, shows_at, is_in, is_seen, after_read, after_store, deals}
 use Rattle.wait_model.specs.Permits.{finds_handed, MayGiveBack, ShowsNobody}
 use Rattle.wait_model.specs.PermitFacts.{is_settled, dealt_in, IsExact, AreViewsTold}
-use Rattle.wait_model.specs.Rows.{Allowed}
-use Rattle.wait_model.specs.Runs.{own}
-use Rattle.wait_model.specs.Tables.{Table, next}
 use Rattle.wait_model.specs.Views.{View, Hold, Look, no_hold, unseen, off, elsewhere, shown, look_at}
-use Rattle.wait_model.specs.Watches.{head_of, stands_at}
-use Rattle.wait_model.specs.Words.{flag, entry_of}
+use Rattle.wait_model.specs.declared.steps.Step.TheVariants as step
+use Rattle.wait_model.specs.declared.watches.Watch.TheVariants as watch
 use Rattle.wait_model.proofs.Functions.{put_same, put_other, both_left, both_right}
 use Rattle.wait_model.proofs.PermitLaws.OwnTurns.{Turn, flag_small, held_is, in_is, clash, nothing_known, known_is}
 use Rattle.wait_model.proofs.StepLaws.UnlockSteps.{unlock_hold}

@@ -2,8 +2,7 @@
 use Rattle.std.proofs.Common.{sym, ◌∙◌, ap, arith, inl, inr}
 use Rattle.std.proofs.lemmas.Bool.Decides.{eqb_tells}
 use Rattle.std.specs.Prelude.{ℕ, zero, suc, ◌≡◌, ◌≢◌, ◌+◌, ◌<◌, ◌≤◌}
-use Rattle.wait_model.specs.Functions.{put}
-use Rattle.wait_model.specs.Totals.{sum_below}
+use Rattle.wait_model.specs.{Functions.put, Totals.sum_below}
 use Rattle.wait_model.proofs.Functions.{put_same, put_other, put_at}
 use Rattle.wait_model.proofs.HistoryLaws.StepTotals.{sum_same}
 

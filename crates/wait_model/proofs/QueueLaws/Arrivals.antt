@@ -5,8 +5,7 @@ use Rattle.std.proofs.lemmas.Bool.Decides.{nat_tests}
 use Rattle.std.proofs.Common.{refl, sym, ◌∙◌, ap, subst, arith, inl, inr}
 use Rattle.std.specs.Prelude.{ℕ, ◌≡◌, ◌+◌, ◌<◌, ◌≤◌, ◌&&◌, Bool, true, false, cond, nat_le, nat_lt, if◌then◌else◌, List}
 use Rattle.std.specs.Prelude.{[], ◌∷◌, Some, None}
-use Rattle.wait_model.specs.declared.layout.TheConstants.{BREAK}
-use Rattle.wait_model.specs.declared.queues.Member.{Member}
+use Rattle.wait_model.specs.{declared.layout.TheConstants.BREAK, declared.queues.Member.Member}
 use Rattle.wait_model.specs.Queues.{rank, member_from, members_from, is_entry, Arrival, arrive, IsIn, IsRisingFrom}
 use Rattle.wait_model.specs.Queues.{IsInOrder}
 use Rattle.wait_model.proofs.QueueLaws.QueueOrder.{before_in, before_all}

@@ -5,23 +5,18 @@ use Rattle.std.proofs.lemmas.Bool.Decides.{nat_tests}
 use Rattle.std.proofs.Common.{refl, sym, ◌∙◌, ap, subst, arith, inl, inr}
 use Rattle.std.specs.Prelude.{ℕ, ◌≡◌, ◌+◌, ◌-◌, ◌<◌, ◌≤◌, ◌⊎◌, Option, Some, None, Bool, true, false, List, nat_lt}
 use Rattle.std.specs.Prelude.{if◌then◌else◌}
-use Rattle.wait_model.specs.declared.layout.TheConstants.{ENTRIES, BREAK}
-use Rattle.wait_model.specs.declared.queues.Member.{Member}
-use Rattle.wait_model.specs.declared.queues.Mark.{Mark}
-use Rattle.wait_model.specs.declared.queues.CalledEntry.{CalledEntry}
-use Rattle.wait_model.specs.declared.watches.Entry.{Entry}
+use Rattle.wait_model.specs.{declared.layout.TheConstants.ENTRIES, declared.layout.TheConstants.BREAK}
+use Rattle.wait_model.specs.{declared.queues.Member.Member, declared.queues.Mark.Mark}
+use Rattle.wait_model.specs.{declared.queues.CalledEntry.CalledEntry, declared.watches.Entry.Entry}
 use Rattle.wait_model.specs.declared.watches.Watch.{Watch}
 use Rattle.wait_model.specs.Queues.{is_entry, rank, rank_at, mark_place, IsIn}
 use Rattle.wait_model.specs.Reached.{IsQueued, IsMember, IsLinked}
 use Rattle.wait_model.specs.Runs.{own, called_as, called_by, called_of}
 use Rattle.wait_model.specs.Watches.{same, head_of, owner, is_for}
-use Rattle.wait_model.proofs.Functions.{both_left}
-use Rattle.wait_model.proofs.QueueLaws.Arrivals.{in_from}
+use Rattle.wait_model.proofs.{Functions.both_left, QueueLaws.Arrivals.in_from, QueueLaws.MemberStands.some_stands}
+use Rattle.wait_model.proofs.{QueueLaws.MemberStands.member_is, Sameness.same_head, WordLaws.DecodedWords.owner_own}
 use Rattle.wait_model.proofs.QueueLaws.FoundEntries.{reach, arrived, inside}
-use Rattle.wait_model.proofs.QueueLaws.MemberStands.{some_stands, member_is}
 use Rattle.wait_model.proofs.QueueLaws.PlacesApart.{AreApart, entry_number, entry_inside}
-use Rattle.wait_model.proofs.Sameness.{same_head}
-use Rattle.wait_model.proofs.WordLaws.DecodedWords.{owner_own}
 
 -- the parts of marks and of called entries that are one
 mark_parts : (a b : Mark) → Some a ≡ Some b → (a.head ≡ b.head) × (a.place ≡ b.place)

@@ -2,29 +2,23 @@
 use Rattle.std.proofs.lemmas.Bool.Decides.{nat_tests}
 use Rattle.std.proofs.Common.{refl, sym, ◌∙◌, ap, subst, arith}
 use Rattle.std.specs.Prelude.{ℕ, ◌≡◌, ◌+◌, ◌<◌, ◌≤◌, Bool, true, false, if◌then◌else◌, List, Option, Some, None}
-use Rattle.wait_model.specs.declared.layout.TheConstants.{TASKS, ENTRIES, BREAK}
-use Rattle.wait_model.specs.declared.watches.Watch.{Watch}
-use Rattle.wait_model.specs.declared.watches.Entry.{Entry}
-use Rattle.wait_model.specs.declared.queues.Member.{Member}
-use Rattle.wait_model.specs.declared.queues.Mark.{Mark}
-use Rattle.wait_model.specs.declared.queues.CalledEntry.{CalledEntry}
-use Rattle.wait_model.specs.declared.queues.Walking.{Walking}
-use Rattle.wait_model.specs.declared.calls.Call.{Call}
-use Rattle.wait_model.specs.declared.calls.Event.TheVariants as event
-use Rattle.wait_model.specs.declared.points.Planned.{Planned}
-use Rattle.wait_model.specs.declared.points.Point.TheVariants as at
-use Rattle.wait_model.specs.declared.points.WalkPoint.TheVariants as walking
+use Rattle.wait_model.specs.{declared.watches.Watch.Watch, declared.watches.Entry.Entry, declared.queues.Member.Member}
+use Rattle.wait_model.specs.{declared.queues.Mark.Mark, declared.queues.CalledEntry.CalledEntry}
+use Rattle.wait_model.specs.{declared.queues.Walking.Walking, declared.calls.Call.Call, declared.points.Planned.Planned}
 use Rattle.wait_model.specs.Tasks.{meets}
+use Rattle.wait_model.specs.declared.layout.TheConstants.{TASKS, ENTRIES, BREAK}
 use Rattle.wait_model.specs.Points.{call_aim, call_head, called_task, mode_of}
 use Rattle.wait_model.specs.Programs.{call_next, go, reached}
 use Rattle.wait_model.specs.Runs.{State, seen_by, own, arrives_from, called_as, called_by, called_of}
 use Rattle.wait_model.specs.Reached.{IsQueued, IsMember, IsLinked}
 use Rattle.wait_model.specs.Watches.{same, head_of, mask_of, owner, is_for}
 use Rattle.wait_model.specs.Queues.{is_entry, rank_at, members_from, Arrival, IsIn}
+use Rattle.wait_model.specs.declared.calls.Event.TheVariants as event
+use Rattle.wait_model.specs.declared.points.Point.TheVariants as at
+use Rattle.wait_model.specs.declared.points.WalkPoint.TheVariants as walking
+use Rattle.wait_model.proofs.{QueueLaws.MemberStands.member_is, WordLaws.DecodedWords.owner_own, Functions.both_left}
+use Rattle.wait_model.proofs.Functions.{both_right}
 use Rattle.wait_model.proofs.QueueLaws.Arrivals.{from_in, ordered_from, is_called, IsReached, arrives_in, arrives}
-use Rattle.wait_model.proofs.QueueLaws.MemberStands.{member_is}
-use Rattle.wait_model.proofs.WordLaws.DecodedWords.{owner_own}
-use Rattle.wait_model.proofs.Functions.{both_left, both_right}
 
 -- what a walk makes of the entry that it comes to; its hold breaks first, or it calls that
 abbrev pub calls_on : State → ℕ → Call → Walking → Arrival → Option CalledEntry → Planned

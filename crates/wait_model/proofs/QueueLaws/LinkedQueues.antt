@@ -3,21 +3,17 @@ use Rattle.std.proofs.lemmas.Bool.Decides.{nat_tests}
 use Rattle.std.proofs.Common.{refl, sym, ◌∙◌, ap, subst, arith}
 use Rattle.std.specs.Prelude.{ℕ, ◌≡◌, ◌≢◌, ◌+◌, ◌-◌, ◌*◌, ◌<◌, ◌≤◌, nat_lt, ◌&&◌, not, if◌then◌else◌, Option, Some}
 use Rattle.std.specs.Prelude.{None, Bool, true, false, List}
+use Rattle.wait_model.specs.{declared.watches.Entry.Entry, declared.queues.Member.Member, declared.queues.Mark.Mark}
+use Rattle.wait_model.specs.{declared.watches.Watch.Watch, declared.queues.Form.Form, declared.points.Given.Given}
+use Rattle.wait_model.specs.Functions.{put}
 use Rattle.wait_model.specs.declared.layout.TheConstants.{TASKS, ENTRIES, HEADS, PLACES, INDEXES, EVENTS}
-use Rattle.wait_model.specs.declared.watches.Entry.{Entry}
-use Rattle.wait_model.specs.declared.queues.Member.{Member}
-use Rattle.wait_model.specs.declared.queues.Mark.{Mark}
 use Rattle.wait_model.specs.Runs.{own, own_mark, entry_for, arrives_from, mark_for}
 use Rattle.wait_model.specs.Reached.{first_of, IsWithinAdds, IsQueued, IsBookmark, IsOrdered, IsLinked}
-use Rattle.wait_model.specs.declared.watches.Watch.{Watch}
-use Rattle.wait_model.specs.declared.watches.Watch.TheVariants as watch
 use Rattle.wait_model.specs.Watches.{head_of, bare, is_var, is_for, is_simple}
 use Rattle.wait_model.specs.Words.{entry_word, Suited, entry_of}
-use Rattle.wait_model.specs.declared.queues.Form.{Form}
-use Rattle.wait_model.specs.declared.points.Given.{Given}
 use Rattle.wait_model.specs.Queues.{stand_by, stand_of, rank, rank_at, members_from, mark_place, mark_add, place_for}
 use Rattle.wait_model.specs.Queues.{add_to, is_exclusive, is_priority, is_entry, without, IsIn}
-use Rattle.wait_model.specs.Functions.{put}
+use Rattle.wait_model.specs.declared.watches.Watch.TheVariants as watch
 use Rattle.wait_model.proofs.QueueLaws.Arrivals.{from_in, arrives_in}
 use Rattle.wait_model.proofs.QueueLaws.QueueMarks.{marked_in, mark_in, unmarked_in, order_marked}
 use Rattle.wait_model.proofs.QueueLaws.QueuePlaces.{Adds, IsPlaceOfForm, form_adds}

@@ -4,18 +4,13 @@ use Rattle.std.proofs.lemmas.Bool.Decides.{nat_tests}
 use Rattle.std.proofs.Common.{refl, sym, ◌∙◌, ap, subst, arith, inl, inr}
 use Rattle.std.specs.Prelude.{ℕ, ◌≡◌, ◌≢◌, ◌+◌, ◌-◌, ◌<◌, ◌⊎◌, Bool, true, false, nat_lt, if◌then◌else◌, Option, Some}
 use Rattle.std.specs.Prelude.{None, List}
-use Rattle.wait_model.specs.declared.layout.TheConstants.{ENTRIES, INDEXES}
-use Rattle.wait_model.specs.declared.watches.Entry.{Entry}
-use Rattle.wait_model.specs.declared.queues.Member.{Member}
-use Rattle.wait_model.specs.declared.queues.Mark.{Mark}
+use Rattle.wait_model.specs.{declared.layout.TheConstants.ENTRIES, declared.layout.TheConstants.INDEXES}
+use Rattle.wait_model.specs.{declared.watches.Entry.Entry, declared.queues.Member.Member, declared.queues.Mark.Mark}
+use Rattle.wait_model.specs.{Runs.own_mark, Functions.put, Watches.head_of}
 use Rattle.wait_model.specs.Queues.{stand_by, stand_of, without, IsIn, IsInOrder}
-use Rattle.wait_model.specs.Runs.{own_mark}
 use Rattle.wait_model.specs.Reached.{IsWithinAdds, IsInside, IsOrdered, IsMember}
-use Rattle.wait_model.specs.Functions.{put}
-use Rattle.wait_model.specs.Watches.{head_of}
+use Rattle.wait_model.proofs.{QueueLaws.QueuePlaces.Adds, Functions.put_at, Functions.put_same}
 use Rattle.wait_model.proofs.QueueLaws.QueueOrder.{kept_in, stays_in, order_removed}
-use Rattle.wait_model.proofs.QueueLaws.QueuePlaces.{Adds}
-use Rattle.wait_model.proofs.Functions.{put_at, put_same}
 
 pub near_later : (n p : ℕ) → IsWithinAdds n p → IsWithinAdds (n + 1) p
 near_later n p (b, l, u) = (b, omega (arith, l), omega (arith, u))

@@ -1,44 +1,31 @@
 -- A task's bookmark stands exactly while its walk breaks.
 use Rattle.std.proofs.Common.{refl, sym, ◌∙◌, ap}
 use Rattle.std.specs.Prelude.{ℕ, ◌≡◌, ◌≢◌, Bool, true, false, if◌then◌else◌, Option, Some, None}
-use Rattle.wait_model.specs.declared.queues.Mark.{Mark}
-use Rattle.wait_model.specs.declared.queues.CalledEntry.{CalledEntry}
-use Rattle.wait_model.specs.declared.queues.Walking.{Walking}
-use Rattle.wait_model.specs.declared.watches.Kind.{Kind}
-use Rattle.wait_model.specs.declared.watches.Kind.TheVariants as kind
-use Rattle.wait_model.specs.declared.calls.Call.{Call}
-use Rattle.wait_model.specs.declared.calls.Call.TheVariants as calls
-use Rattle.wait_model.specs.declared.calls.Event.{Event}
-use Rattle.wait_model.specs.declared.calls.Event.TheVariants as event
-use Rattle.wait_model.specs.declared.points.Point.{Point}
-use Rattle.wait_model.specs.declared.points.Point.TheVariants as at
-use Rattle.wait_model.specs.declared.points.WalkPoint.{WalkPoint}
-use Rattle.wait_model.specs.declared.points.WalkPoint.TheVariants as walking
-use Rattle.wait_model.specs.declared.points.Given.{Given}
-use Rattle.wait_model.specs.declared.points.Next.{Next}
-use Rattle.wait_model.specs.declared.points.Next.TheVariants as next
-use Rattle.wait_model.specs.declared.points.Planned.{Planned}
-use Rattle.wait_model.specs.declared.points.Progress.{Progress}
-use Rattle.wait_model.specs.declared.points.Progress.TheVariants as now
-use Rattle.wait_model.specs.declared.points.Seen.{Seen}
-use Rattle.wait_model.specs.declared.steps.Step.TheVariants as step
+use Rattle.wait_model.specs.{declared.queues.Mark.Mark, declared.queues.CalledEntry.CalledEntry}
+use Rattle.wait_model.specs.{declared.queues.Walking.Walking, declared.watches.Kind.Kind, declared.calls.Call.Call}
+use Rattle.wait_model.specs.{declared.calls.Event.Event, declared.points.Point.Point}
+use Rattle.wait_model.specs.{declared.points.WalkPoint.WalkPoint, declared.points.Given.Given}
+use Rattle.wait_model.specs.{declared.points.Next.Next, declared.points.Planned.Planned}
+use Rattle.wait_model.specs.{declared.points.Progress.Progress, declared.points.Seen.Seen, Reached.mark_head}
+use Rattle.wait_model.specs.{Reached.marked_at, Tables.steps, Tables.value_of, Words.head_word, Tasks.meets}
+use Rattle.wait_model.specs.{Watches.mask_of, declared.points.PageStage.PageStage}
 use Rattle.wait_model.specs.Runs.{State, mark_for, event_steps, seen_by, planned, progress_at, is_open}
-use Rattle.wait_model.specs.Reached.{mark_head, marked_at}
-use Rattle.wait_model.specs.Tables as tables
-use Rattle.wait_model.specs.Tables.{steps, value_of}
-use Rattle.wait_model.specs.Words.{head_word}
-use Rattle.wait_model.specs.Tasks.{meets}
-use Rattle.wait_model.specs.Watches.{mask_of}
 use Rattle.wait_model.specs.Points.{call_aim, call_head, mode_of, given_at}
 use Rattle.wait_model.specs.Programs.{program_start, go, load, call_fails, past, onward, wake_off_event, tests}
 use Rattle.wait_model.specs.Programs.{call_entry, call_next, reached, hands_event}
-use Rattle.wait_model.proofs.HistoryLaws.HoldLooks.{looks_same}
-use Rattle.wait_model.proofs.HistoryLaws.UnlockedLooks.{peeks_same}
-use Rattle.wait_model.proofs.WordLaws.CondWords.{set_rest}
-use Rattle.wait_model.proofs.Functions.{put_same, put_other}
+use Rattle.wait_model.specs.declared.watches.Kind.TheVariants as kind
+use Rattle.wait_model.specs.declared.calls.Call.TheVariants as calls
+use Rattle.wait_model.specs.declared.calls.Event.TheVariants as event
+use Rattle.wait_model.specs.declared.points.Point.TheVariants as at
+use Rattle.wait_model.specs.declared.points.WalkPoint.TheVariants as walking
+use Rattle.wait_model.specs.declared.points.Next.TheVariants as next
+use Rattle.wait_model.specs.declared.points.Progress.TheVariants as now
+use Rattle.wait_model.specs.declared.steps.Step.TheVariants as step
+use Rattle.wait_model.specs.Tables as tables
+use Rattle.wait_model.proofs.{HistoryLaws.HoldLooks.looks_same, HistoryLaws.UnlockedLooks.peeks_same}
+use Rattle.wait_model.proofs.{WordLaws.CondWords.set_rest, Functions.put_same, Functions.put_other}
 use Rattle.wait_model.proofs.QueueLaws.OutsideWalks.{IsUnmarked, goes_away, IsAway, program_away}
 use Rattle.wait_model.specs.declared.points.PageStage.TheVariants as staging
-use Rattle.wait_model.specs.declared.points.PageStage.{PageStage}
 
 module _ (s : State) (me : ℕ) (g : Given) where
   marks_left : (e : Event) → IsUnmarked e → (steps s.table me (event_steps s me g e)).mark ≡ s.table.mark

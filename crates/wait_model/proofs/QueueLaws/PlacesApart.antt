@@ -2,34 +2,25 @@
 use Rattle.std.proofs.lemmas.Bool.Decides.{nat_tests}
 use Rattle.std.proofs.Common.{refl, sym, ◌∙◌, ap, subst, arith, inl, inr}
 use Rattle.std.specs.Prelude.{ℕ, ◌≡◌, ◌≢◌, ◌<◌, ◌≤◌, Option, Some, None, true, List, nat_lt}
+use Rattle.wait_model.specs.{declared.calls.Event.Event, declared.points.Given.Given, declared.queues.Member.Member}
+use Rattle.wait_model.specs.{declared.queues.Mark.Mark, declared.queues.Form.Form, declared.watches.Entry.Entry}
+use Rattle.wait_model.specs.{Functions.put, Watches.head_of, Words.head_word, Tables.next, Tables.value_of}
 use Rattle.wait_model.specs.declared.layout.TheConstants.{TASKS, ENTRIES, PLACES, MIDDLE, FIRST_PRIORITY, FIRST_PLACE}
 use Rattle.wait_model.specs.declared.layout.TheConstants.{INDEXES, EVENTS}
-use Rattle.wait_model.specs.declared.calls.Event.{Event}
-use Rattle.wait_model.specs.declared.calls.Event.TheVariants as event
-use Rattle.wait_model.specs.declared.points.Given.{Given}
-use Rattle.wait_model.specs.declared.queues.Member.{Member}
-use Rattle.wait_model.specs.declared.queues.Mark.{Mark}
-use Rattle.wait_model.specs.declared.queues.Form.{Form}
-use Rattle.wait_model.specs.declared.queues.Form.TheVariants as forms
-use Rattle.wait_model.specs.declared.steps.Step.TheVariants as step
-use Rattle.wait_model.specs.declared.watches.Entry.{Entry}
-use Rattle.wait_model.specs.Functions.{put}
-use Rattle.wait_model.specs.Watches.{head_of}
-use Rattle.wait_model.specs.Words.{head_word}
-use Rattle.wait_model.specs.Tables.{next, value_of}
 use Rattle.wait_model.specs.Queues.{place_before, place_behind, place_for, rank, rank_at, member_from, last_within}
 use Rattle.wait_model.specs.Queues.{is_entry, entries_of, IsIn, IsInOrder}
 use Rattle.wait_model.specs.Reached.{IsWithinAdds, IsLinked, Joins}
 use Rattle.wait_model.specs.Runs.{State, own, entry_for, after_event}
-use Rattle.wait_model.proofs.Functions.{put_case, put_at}
-use Rattle.wait_model.proofs.HistoryLaws.HoldLooks.{looks_same}
-use Rattle.wait_model.proofs.HistoryLaws.UnlockedLooks.{peeks_same}
-use Rattle.wait_model.proofs.QueueLaws.LinkedQueues.{member_near, member_small}
-use Rattle.wait_model.proofs.QueueLaws.MemberStands.{some_stands}
-use Rattle.wait_model.proofs.QueueLaws.QueueOrder.{IsFirstFrom, first_is}
+use Rattle.wait_model.specs.declared.calls.Event.TheVariants as event
+use Rattle.wait_model.specs.declared.queues.Form.TheVariants as forms
+use Rattle.wait_model.specs.declared.steps.Step.TheVariants as step
+use Rattle.wait_model.proofs.{Functions.put_case, Functions.put_at, HistoryLaws.HoldLooks.looks_same}
+use Rattle.wait_model.proofs.{HistoryLaws.UnlockedLooks.peeks_same, QueueLaws.LinkedQueues.member_near}
+use Rattle.wait_model.proofs.{QueueLaws.LinkedQueues.member_small, QueueLaws.MemberStands.some_stands}
+use Rattle.wait_model.proofs.{QueueLaws.QueueOrder.IsFirstFrom, QueueLaws.QueueOrder.first_is}
+use Rattle.wait_model.proofs.WordLaws.CondWords.{set_rest}
 use Rattle.wait_model.proofs.QueueLaws.QueueEnds.{IsLastWithin, last_of, entry_in, in_entries, order_entries}
 use Rattle.wait_model.proofs.QueueLaws.QueuePlaces.{near_low, near_high, split}
-use Rattle.wait_model.proofs.WordLaws.CondWords.{set_rest}
 
 -- no two entries of a head stand at one place
 abbrev pub AreApart : (ℕ → Option Entry) → Type 0

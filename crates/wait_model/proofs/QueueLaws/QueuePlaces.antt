@@ -2,13 +2,12 @@
 use Rattle.std.proofs.lemmas.Bool.Decides.{nat_tests}
 use Rattle.std.proofs.Common.{refl, arith, inl, inr}
 use Rattle.std.specs.Prelude.{ℕ, ◌≡◌, ◌≢◌, ◌+◌, ◌*◌, ◌<◌, ◌≤◌, ◌⊎◌, Option, Some, None, Bool, true, false, List, nat_lt}
+use Rattle.wait_model.specs.{declared.queues.Member.Member, declared.queues.Form.Form, Reached.first_of}
+use Rattle.wait_model.specs.Reached.{IsWithinAdds}
 use Rattle.wait_model.specs.declared.layout.TheConstants.{PLACES, MIDDLE, FIRST_PRIORITY, FIRST_PLACE, INDEXES, EVENTS}
-use Rattle.wait_model.specs.declared.queues.Member.{Member}
-use Rattle.wait_model.specs.declared.queues.Form.{Form}
-use Rattle.wait_model.specs.declared.queues.Form.TheVariants as forms
 use Rattle.wait_model.specs.Queues.{place_before, place_behind, place_for, add_to, is_priority, rank, rank_at}
 use Rattle.wait_model.specs.Queues.{member_from, last_within, front_add, mark_add, entries_of, IsIn, IsInOrder}
-use Rattle.wait_model.specs.Reached.{first_of, IsWithinAdds}
+use Rattle.wait_model.specs.declared.queues.Form.TheVariants as forms
 use Rattle.wait_model.proofs.QueueLaws.QueueOrder.{IsFirstFrom, first_is, added_in, new_in, old_in, GoesBetween}
 use Rattle.wait_model.proofs.QueueLaws.QueueOrder.{order_added}
 use Rattle.wait_model.proofs.QueueLaws.QueueEnds.{IsLastWithin, last_of, tail_added, tail_new, tail_old, order_tail}

@@ -2,23 +2,17 @@
 -- look for members after it.
 use Rattle.std.proofs.Common.{refl, arith}
 use Rattle.std.specs.Prelude.{ℕ, ◌≡◌, ◌+◌, ◌<◌, Bool, true, false, not, ◌&&◌, if◌then◌else◌}
-use Rattle.wait_model.specs.declared.layout.TheConstants.{TASKS}
-use Rattle.wait_model.specs.declared.calls.Call.{Call}
-use Rattle.wait_model.specs.declared.calls.Event.{Event}
-use Rattle.wait_model.specs.declared.points.BitPoint.{BitPoint}
-use Rattle.wait_model.specs.declared.points.Next.{Next}
-use Rattle.wait_model.specs.declared.points.Planned.{Planned}
-use Rattle.wait_model.specs.declared.points.Point.{Point}
-use Rattle.wait_model.specs.declared.watches.Watch.{Watch}
+use Rattle.wait_model.specs.{declared.layout.TheConstants.TASKS, declared.calls.Call.Call, declared.calls.Event.Event}
+use Rattle.wait_model.specs.{declared.points.BitPoint.BitPoint, declared.points.Next.Next}
+use Rattle.wait_model.specs.{declared.points.Planned.Planned, declared.points.Point.Point, declared.watches.Watch.Watch}
+use Rattle.wait_model.specs.{Tables.value_of, Words.bit_at, Words.flag}
 use Rattle.wait_model.specs.Points.{call_watch, is_await, is_bit_wait, is_lock, call_number, call_head, state_in}
 use Rattle.wait_model.specs.Points.{given_at}
 use Rattle.wait_model.specs.Programs.{go, ends_with, zero_answer, sleep_event, active_event, no_walk}
 use Rattle.wait_model.specs.Reached.{IsPlaced, IsSoundCall, IsCallSound, IsSound, KeepsCleared}
 use Rattle.wait_model.specs.Runs.{State, own, seen_by, planned, progress_at}
-use Rattle.wait_model.specs.Tables.{value_of}
 use Rattle.wait_model.specs.Tasks.{pending, state_mask, looks_in}
 use Rattle.wait_model.specs.Watches.{is_bit, word_of, bit_of, misses}
-use Rattle.wait_model.specs.Words.{bit_at, flag}
 use Rattle.wait_model.proofs.WordLaws.CondWords.{var_store}
 use Rattle.wait_model.proofs.RunLaws.FineEvents.{Fine, Leads, outside, still_fine, store_fine, tas_fine, clear_fine, leads_by}
 use Rattle.wait_model.proofs.RunLaws.FineEvents.{active_fine}

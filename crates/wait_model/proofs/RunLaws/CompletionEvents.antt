@@ -1,43 +1,33 @@
 -- Each event of a selection, of a wait for a completion, and of a look at a done count is fine.
-use Rattle.wait_model.specs.declared.layout.TheConstants.{TASKS, ENTRIES}
-use Rattle.wait_model.specs.DoneCounts.{IsStored}
-use Rattle.wait_model.specs.Counts.{taken_done}
-use Rattle.wait_model.specs.Programs.{done_in}
-use Rattle.wait_model.specs.Reached.{is_amid_function}
-use Rattle.std.proofs.Common.{refl, sym, ◌∙◌, ap, subst, arith, inl, inr}
-use Rattle.std.specs.Prelude.{ℕ, ◌≡◌, ◌+◌, ◌<◌, ◌≤◌, Option, Some, None, Bool, true, false, not, ◌&&◌, ◌==◌}
-use Rattle.std.specs.Prelude.{if◌then◌else◌, is_some}
-use Rattle.wait_model.specs.declared.queues.Member.{Member}
-use Rattle.wait_model.specs.declared.calls.Call.{Call}
-use Rattle.wait_model.specs.declared.points.Point.{Point}
-use Rattle.wait_model.specs.declared.points.SelectPoint.{SelectPoint}
-use Rattle.wait_model.specs.declared.points.AwaitPoint.{AwaitPoint}
-use Rattle.wait_model.specs.declared.points.CountPoint.{CountPoint}
-use Rattle.wait_model.specs.declared.points.Planned.{Planned}
-use Rattle.wait_model.specs.declared.watches.Entry.{Entry}
-use Rattle.wait_model.specs.declared.watches.Watch.{Watch}
-use Rattle.wait_model.specs.declared.watches.Watch.TheVariants as watch
+use Rattle.wait_model.specs.{declared.layout.TheConstants.TASKS, declared.layout.TheConstants.ENTRIES}
+use Rattle.wait_model.specs.{DoneCounts.IsStored, Counts.taken_done, declared.queues.Member.Member}
+use Rattle.wait_model.specs.{declared.calls.Call.Call, declared.points.Point.Point}
+use Rattle.wait_model.specs.{declared.points.SelectPoint.SelectPoint, declared.points.AwaitPoint.AwaitPoint}
+use Rattle.wait_model.specs.{declared.points.CountPoint.CountPoint, declared.points.Planned.Planned}
+use Rattle.wait_model.specs.{declared.watches.Entry.Entry, declared.watches.Watch.Watch, Queues.is_entry}
+use Rattle.wait_model.specs.{Queues.entry_from, Tables.value_of}
+use Rattle.wait_model.specs.Programs.{done_in, go, ends_with, zero_answer, signalled, is_at_end, completed, select_from}
+use Rattle.wait_model.specs.Programs.{is_enough, select_ends, select_next, await_after, count_from, takes}
+use Rattle.wait_model.specs.Reached.{is_amid_function, absent, waits, IsHome, HomeAt, holds, IsTaken, IsQueued}
+use Rattle.wait_model.specs.Reached.{IsMember, IsPlaced, IsWalkSound, IsSimpleHead, IsFitted, IsCallSound, IsSound}
 use Rattle.wait_model.specs.Runs.{State, own, called_as, called_by, called_of, planned}
-use Rattle.wait_model.specs.Reached.{absent, waits, IsHome, HomeAt, holds, IsTaken, IsQueued, IsMember, IsPlaced}
-use Rattle.wait_model.specs.Reached.{IsWalkSound, IsSimpleHead, IsFitted, IsCallSound, IsSound}
 use Rattle.wait_model.specs.Tasks.{meets, task_word, task_of, looks_in}
 use Rattle.wait_model.specs.Watches.{owner, is_done, is_bit, mask_of}
 use Rattle.wait_model.specs.Points.{is_await, is_bit_wait, call_watch, call_head, call_number, state_in, called_task}
 use Rattle.wait_model.specs.Points.{head_at, given_at}
-use Rattle.wait_model.specs.Programs.{go, ends_with, zero_answer, signalled, is_at_end, completed, select_from}
-use Rattle.wait_model.specs.Programs.{is_enough, select_ends, select_next, await_after, count_from, takes}
-use Rattle.wait_model.specs.Queues.{is_entry, entry_from}
-use Rattle.wait_model.specs.Tables.{value_of}
-use Rattle.wait_model.proofs.QueueLaws.QueueOrder.{IsFirstFrom, first_is}
-use Rattle.wait_model.proofs.WordLaws.DecodedWords.{task_read, owner_own}
+use Rattle.std.proofs.Common.{refl, sym, ◌∙◌, ap, subst, arith, inl, inr}
+use Rattle.std.specs.Prelude.{ℕ, ◌≡◌, ◌+◌, ◌<◌, ◌≤◌, Option, Some, None, Bool, true, false, not, ◌&&◌, ◌==◌}
+use Rattle.std.specs.Prelude.{if◌then◌else◌, is_some}
+use Rattle.wait_model.specs.declared.watches.Watch.TheVariants as watch
+use Rattle.wait_model.proofs.{QueueLaws.QueueOrder.IsFirstFrom, QueueLaws.QueueOrder.first_is}
+use Rattle.wait_model.proofs.{WordLaws.DecodedWords.task_read, WordLaws.DecodedWords.owner_own, Functions.put_at}
+use Rattle.wait_model.proofs.QueueLaws.MemberStands.{member_is}
 use Rattle.wait_model.proofs.WordLaws.CondWords.{await_done, head_below, number_value, done_simple, simple_counted}
 use Rattle.wait_model.proofs.WordLaws.CondWords.{going_at, done_store, raised_counts, taken_counts, unpaged_at}
 use Rattle.wait_model.proofs.RunLaws.FineEvents.{Fine, Leads, inside, still_fine, still_on, store_fine, lock_fine}
 use Rattle.wait_model.proofs.RunLaws.FineEvents.{unlock_fine, unqueue_fine, none_there}
 use Rattle.wait_model.proofs.RunLaws.WaitEvents.{off_waits, off_free, none_absent, no_spend, may_spend, loads}
 use Rattle.wait_model.proofs.RunLaws.WaitEvents.{load_small, head_small, to, state_fine, own_gone, gone_home}
-use Rattle.wait_model.proofs.Functions.{put_at}
-use Rattle.wait_model.proofs.QueueLaws.MemberStands.{member_is}
 use Rattle.std.proofs.lemmas.Bool.Decides.{nat_tests}
 use Rattle.wait_model.specs.declared.watches.Mode.TheVariants as mode
 use Rattle.wait_model.specs.declared.calls.Call.TheVariants as calls

@@ -5,15 +5,14 @@ use Rattle.std.proofs.lemmas.Bool.Decides.{nat_tests, eqb_tells}
 use Rattle.std.proofs.Common.{refl, sym, ◌∙◌, ap, subst, arith, inl, inr}
 use Rattle.std.specs.Prelude.{ℕ, ◌≡◌, ◌≢◌, ◌+◌, ◌<◌, ◌≤◌, Option, Some, None, Bool, true, false, not, ◌&&◌, nat_lt}
 use Rattle.std.specs.Prelude.{if◌then◌else◌, List, [], ◌∷◌, ◌++◌}
+use Rattle.wait_model.specs.{declared.calls.Call.Call, declared.calls.Event.Event, declared.calls.Ran.Ran}
+use Rattle.wait_model.specs.{declared.points.Point.Point, declared.points.Progress.Progress}
+use Rattle.wait_model.specs.{declared.watches.Entry.Entry, declared.steps.Step.Step, Views.View, Fold.after_all}
+use Rattle.wait_model.specs.{Tables.Table, Tables.steps, Laws.NoLostWake, Laws.NoLostFlag, Watches.IsThere}
+use Rattle.wait_model.specs.{Programs.program_start, Rows.AllAllowed, declared.queues.Mark.Mark, Queues.stand_by}
+use Rattle.wait_model.specs.Facts.{Kept}
 use Rattle.wait_model.specs.declared.layout.TheConstants.{TASKS, ENTRIES, PLAIN_CONDITIONS, FIRST_SIMPLE, BIT_WORDS}
 use Rattle.wait_model.specs.declared.layout.TheConstants.{WORD_BITS, HEADS, EVENTS}
-use Rattle.wait_model.specs.declared.calls.Call.{Call}
-use Rattle.wait_model.specs.declared.calls.Event.{Event}
-use Rattle.wait_model.specs.declared.calls.Ran.{Ran}
-use Rattle.wait_model.specs.declared.points.Point.{Point}
-use Rattle.wait_model.specs.declared.points.Progress.{Progress}
-use Rattle.wait_model.specs.declared.watches.Entry.{Entry}
-use Rattle.wait_model.specs.declared.steps.Step.{Step}
 use Rattle.wait_model.specs.Runs.{State, given_by, own, event_steps, planned, progress_after, happens, start_state}
 use Rattle.wait_model.specs.Runs.{state_after, state_of, is_open, after_event, busy_head, Continues, IsItem, IsRunFrom}
 use Rattle.wait_model.specs.Runs.{IsRun, made_in}
@@ -23,32 +22,21 @@ use Rattle.wait_model.specs.Reached.{Rests, HasLookedAtAll, OwnStored, KeepsClea
 use Rattle.wait_model.specs.Reached.{free, IsHome, HomeAt, taken_off, flagged, held_at, is_preparing, IsPlaced}
 use Rattle.wait_model.specs.Reached.{IsWalkSound, IsFitted, IsSoundCall, mark_head, marked_at, IsSound, Allows, Joins}
 use Rattle.wait_model.specs.Reached.{HandsAt}
-use Rattle.wait_model.specs.Views.{View}
-use Rattle.wait_model.specs.Fold.{after_all}
-use Rattle.wait_model.specs.Tables.{Table, steps}
-use Rattle.wait_model.specs.Laws.{NoLostWake, NoLostFlag}
 use Rattle.wait_model.specs.Points.{call_watch, call_head, who_of, head_at, given_at}
-use Rattle.wait_model.specs.Watches.{IsThere}
-use Rattle.wait_model.specs.Programs.{program_start}
-use Rattle.wait_model.specs.Rows.{AllAllowed}
-use Rattle.wait_model.proofs.RunLaws.OthersEvents.{Changes, others_placed}
-use Rattle.wait_model.proofs.WordLaws.LawfulWords.{event_lawful, event_linked}
-use Rattle.wait_model.proofs.RunLaws.WalkEvents.{counted_later, program_fine}
-use Rattle.wait_model.proofs.RunLaws.WalkCounts.{program_counted, others_counted}
+use Rattle.wait_model.proofs.{RunLaws.OthersEvents.Changes, RunLaws.OthersEvents.others_placed}
+use Rattle.wait_model.proofs.{WordLaws.LawfulWords.event_lawful, WordLaws.LawfulWords.event_linked}
+use Rattle.wait_model.proofs.{RunLaws.WalkEvents.counted_later, RunLaws.WalkEvents.program_fine}
+use Rattle.wait_model.proofs.{RunLaws.WalkCounts.program_counted, RunLaws.WalkCounts.others_counted}
+use Rattle.wait_model.proofs.{RunLaws.FineEvents.Fine, QueueLaws.LinkedQueues.queued_read}
+use Rattle.wait_model.proofs.{RunLaws.WaitEvents.stands_suited, WordLaws.CondWords.head_below}
+use Rattle.wait_model.proofs.{StepLaws.StartLaws.start_kept, BitLaws.BitClears.program_keeps}
+use Rattle.wait_model.proofs.{BitLaws.BitClears.begun_keeps, BitLaws.HighBits.event_low}
+use Rattle.wait_model.proofs.{RunLaws.PagesHanded.opened_handed, RunLaws.PagesHanded.made_handed}
 use Rattle.wait_model.proofs.HistoryLaws.HoldLooks.{steps_own, steps_other, steps_keep}
-use Rattle.wait_model.proofs.RunLaws.FineEvents.{Fine}
-use Rattle.wait_model.proofs.QueueLaws.LinkedQueues.{queued_read}
-use Rattle.wait_model.proofs.RunLaws.WaitEvents.{stands_suited}
-use Rattle.wait_model.proofs.WordLaws.CondWords.{head_below}
 use Rattle.wait_model.proofs.QueueLaws.OwnBookmarks.{marks_other, program_marked, start_marked, closed_marked}
-use Rattle.wait_model.specs.declared.queues.Mark.{Mark}
-use Rattle.wait_model.specs.Queues.{stand_by}
 use Rattle.wait_model.proofs.Functions.{put_at, both_left, both_right}
-use Rattle.wait_model.proofs.StepLaws.StartLaws.{start_kept}
 use Rattle.wait_model.proofs.RunLaws.RunningStates.{others_rest, program_rests, begun_rests}
 use Rattle.wait_model.proofs.RunLaws.WholeLooks.{event_whole, event_stored, start_whole, start_stored}
-use Rattle.wait_model.proofs.BitLaws.BitClears.{program_keeps, begun_keeps}
-use Rattle.wait_model.proofs.BitLaws.HighBits.{event_low}
 use Rattle.wait_model.specs.declared.calls.Call.TheVariants as calls
 use Rattle.wait_model.specs.declared.calls.Ran.TheVariants as ran
 use Rattle.wait_model.specs.declared.points.Point.TheVariants as at
@@ -56,8 +44,6 @@ use Rattle.wait_model.specs.declared.points.WalkPoint.TheVariants as walking
 use Rattle.wait_model.specs.declared.points.SelectPoint.TheVariants as selecting
 use Rattle.wait_model.specs.declared.points.Progress.TheVariants as now
 use Rattle.wait_model.specs.declared.watches.Watch.TheVariants as watch
-use Rattle.wait_model.proofs.RunLaws.PagesHanded.{opened_handed, made_handed}
-use Rattle.wait_model.specs.Facts.{Kept}
 
 walk_later : (n : ℕ) (p : Point) → IsWalkSound n p → IsWalkSound (n + 1) p
 walk_later n (at.Walk (walking.Call w)) k = counted_later n w k

@@ -1,47 +1,35 @@
 -- What an event that continues a program owes: it is allowed, as are its word steps, and it leads to the
 -- program's next place.
 use Rattle.std.proofs.lemmas.Bool.{both_ways}
+use Rattle.wait_model.specs.{DoneCounts.IsStored, declared.calls.Call.Call, declared.calls.Event.Event}
+use Rattle.wait_model.specs.{declared.queues.CalledEntry.CalledEntry, declared.points.Point.Point}
+use Rattle.wait_model.specs.{declared.points.Next.Next, declared.points.Planned.Planned}
+use Rattle.wait_model.specs.{declared.points.Progress.Progress, declared.points.Given.Given}
+use Rattle.wait_model.specs.{declared.watches.Entry.Entry, declared.queues.Mark.Mark, declared.steps.Step.Step}
+use Rattle.wait_model.specs.{declared.watches.Watch.Watch, Locations.word_in, Locations.cond_at, Programs.go}
+use Rattle.wait_model.specs.{Queues.place_for, Functions.put}
 use Rattle.wait_model.specs.declared.layout.TheConstants.{TASKS, FIRST_DONE, FIRST_BIT_WORD, HEADS}
-use Rattle.wait_model.specs.DoneCounts.{IsStored}
-use Rattle.std.proofs.Common.{refl, sym, ◌∙◌, ap, subst, arith}
-use Rattle.std.specs.Prelude.{ℕ, ◌≡◌, ◌+◌, ◌<◌, ◌≤◌, Option, Some, None, Bool, true, false, if◌then◌else◌, ◌∷◌, is_some}
-use Rattle.wait_model.specs.declared.calls.Call.{Call}
-use Rattle.wait_model.specs.declared.calls.Event.{Event}
-use Rattle.wait_model.specs.declared.queues.CalledEntry.{CalledEntry}
-use Rattle.wait_model.specs.declared.points.Point.{Point}
-use Rattle.wait_model.specs.declared.points.Next.{Next}
-use Rattle.wait_model.specs.declared.points.Planned.{Planned}
-use Rattle.wait_model.specs.declared.points.Progress.{Progress}
-use Rattle.wait_model.specs.declared.points.Given.{Given}
-use Rattle.wait_model.specs.declared.watches.Entry.{Entry}
-use Rattle.wait_model.specs.declared.queues.Mark.{Mark}
-use Rattle.wait_model.specs.declared.steps.Step.{Step}
 use Rattle.wait_model.specs.Runs.{State, own, entry_for, looks, set_step, event_steps, progress_at, busy_head}
 use Rattle.wait_model.specs.Reached.{is_amid_function, stands_between, flagged_by, holds, held_at, HomeAt, is_preparing}
 use Rattle.wait_model.specs.Reached.{taken_by, IsTaken, IsFlagged, aimed_by, IsPlaced, IsSoundCall, IsCallSound}
 use Rattle.wait_model.specs.Reached.{IsWalkSound, IsFitted, IsSound, Allows, Joins}
 use Rattle.wait_model.specs.Views.{Hold, View, Look, look_at}
 use Rattle.wait_model.specs.Fold.{after_unlock, after, after_all}
-use Rattle.wait_model.specs.declared.watches.Watch.{Watch}
-use Rattle.wait_model.specs.declared.watches.Watch.TheVariants as watch
 use Rattle.wait_model.specs.Watches.{bare, is_bit, IsThere, is_page}
-use Rattle.wait_model.specs.Locations.{word_in, cond_at}
 use Rattle.wait_model.specs.Tables.{next, steps, value_of}
 use Rattle.wait_model.specs.Words.{entry_word, entry_of, head_word, Suited}
 use Rattle.wait_model.specs.Points.{call_watch, call_number, call_head, form_of, head_at, aim_at, kind_at, given_at}
-use Rattle.wait_model.specs.Programs.{go}
-use Rattle.wait_model.specs.Queues.{place_for}
-use Rattle.wait_model.specs.Functions.{put}
 use Rattle.wait_model.specs.Rows.{AimsAt, MaySpend, Allowed, AllAllowed}
-use Rattle.wait_model.proofs.WordLaws.DecodedWords.{spent_read, owner_own}
+use Rattle.std.proofs.Common.{refl, sym, ◌∙◌, ap, subst, arith}
+use Rattle.std.specs.Prelude.{ℕ, ◌≡◌, ◌+◌, ◌<◌, ◌≤◌, Option, Some, None, Bool, true, false, if◌then◌else◌, ◌∷◌, is_some}
+use Rattle.wait_model.specs.declared.watches.Watch.TheVariants as watch
+use Rattle.wait_model.proofs.{WordLaws.DecodedWords.spent_read, WordLaws.DecodedWords.owner_own}
+use Rattle.wait_model.proofs.{StepLaws.UnlockSteps.unlock_hold, Functions.put_same, QueueLaws.LinkedQueues.queued_read}
 use Rattle.wait_model.proofs.WordLaws.CondWords.{head_of_bare, head_below, number_below, suits_of, var_shared, set_rest}
 use Rattle.wait_model.proofs.WordLaws.CondWords.{set_head, tas_step, clear_step}
 use Rattle.wait_model.proofs.HistoryLaws.UnlockedLooks.{peeks_same, peeks_allowed, peeks_hold}
 use Rattle.wait_model.proofs.RunLaws.OthersEvents.{placed_same, IsGone, Changes}
 use Rattle.wait_model.proofs.HistoryLaws.HoldLooks.{looks_same, looks_allowed, looks_head, looks_book}
-use Rattle.wait_model.proofs.StepLaws.UnlockSteps.{unlock_hold}
-use Rattle.wait_model.proofs.Functions.{put_same}
-use Rattle.wait_model.proofs.QueueLaws.LinkedQueues.{queued_read}
 use Rattle.wait_model.specs.declared.calls.Event.TheVariants as event
 use Rattle.wait_model.specs.declared.points.Point.TheVariants as at
 use Rattle.wait_model.specs.declared.points.WalkPoint.TheVariants as walking

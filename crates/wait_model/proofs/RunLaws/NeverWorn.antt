@@ -2,32 +2,23 @@
 use Rattle.std.proofs.lemmas.Bool.{both_ways}
 use Rattle.std.proofs.Common.{refl, sym, ◌∙◌, ap, subst, arith}
 use Rattle.std.specs.Prelude.{ℕ, ◌≡◌, ◌≢◌, Bool, true, false, is_some}
-use Rattle.wait_model.specs.declared.calls.Call.{Call}
-use Rattle.wait_model.specs.declared.calls.Answer.{Answer}
+use Rattle.wait_model.specs.{declared.calls.Call.Call, declared.calls.Answer.Answer, declared.points.Planned.Planned}
+use Rattle.wait_model.specs.{declared.points.Next.Next, declared.points.Point.Point}
+use Rattle.wait_model.specs.{declared.points.FinishPoint.FinishPoint, Points.is_lock, Reached.IsFitted}
+use Rattle.wait_model.specs.{Reached.IsSoundCall, Unworn.NoRunWears, declared.points.PagePoint.PagePoint}
+use Rattle.wait_model.specs.Programs.{interrupted, zero_answer, page_last}
+use Rattle.wait_model.specs.Runs.{State, own, planned, state_of, made_in, seen_by}
 use Rattle.wait_model.specs.declared.calls.Answer.TheVariants as answer
-use Rattle.wait_model.specs.declared.points.Planned.{Planned}
-use Rattle.wait_model.specs.declared.points.Next.{Next}
 use Rattle.wait_model.specs.declared.points.Next.TheVariants as next
-use Rattle.wait_model.specs.declared.points.Point.{Point}
 use Rattle.wait_model.specs.declared.points.Point.TheVariants as at
 use Rattle.wait_model.specs.declared.points.LeavePoint.TheVariants as leaving
-use Rattle.wait_model.specs.declared.points.FinishPoint.{FinishPoint}
 use Rattle.wait_model.specs.declared.points.FinishPoint.TheVariants as finishing
 use Rattle.wait_model.specs.declared.points.AwaitPoint.TheVariants as awaiting
 use Rattle.wait_model.specs.declared.points.BitPoint.TheVariants as biting
-use Rattle.wait_model.specs.Points.{is_lock}
-use Rattle.wait_model.specs.Programs.{interrupted, zero_answer}
-use Rattle.wait_model.specs.Runs.{State, own, planned, state_of, made_in}
-use Rattle.wait_model.specs.Reached.{IsFitted, IsSoundCall}
-use Rattle.wait_model.specs.Unworn.{NoRunWears}
-use Rattle.wait_model.proofs.WaitLaws.OutsideStages.{either, unset}
+use Rattle.wait_model.proofs.WaitLaws.OutsideStages.{either, unset, both}
 use Rattle.wait_model.proofs.AccountLaws.Refusals.{refusal, IsOther, other}
 use Rattle.wait_model.proofs.RunLaws.EveryRun.{sound_of}
-use Rattle.wait_model.specs.declared.points.PagePoint.{PagePoint}
 use Rattle.wait_model.specs.declared.points.PagePoint.TheVariants as paging
-use Rattle.wait_model.specs.Programs.{page_last}
-use Rattle.wait_model.specs.Runs.{seen_by}
-use Rattle.wait_model.proofs.WaitLaws.OutsideStages.{both}
 
 abbrev is_worn : Next → Bool
 is_worn (next.Ends answer.Worn) = true

@@ -2,33 +2,21 @@
 use Rattle.std.proofs.lemmas.Bool.{both_ways}
 use Rattle.std.proofs.Common.{sym, ◌∙◌, ap, subst, arith, inl, inr, refl}
 use Rattle.std.specs.Prelude.{ℕ, ◌≡◌, ◌≢◌, ◌<◌, ◌≤◌, ◌⊎◌, Option, Some, None, true, false}
-use Rattle.wait_model.specs.declared.layout.TheConstants.{FIRST_DONE, FIRST_BIT_WORD}
-use Rattle.wait_model.specs.declared.calls.Event.{Event}
-use Rattle.wait_model.specs.declared.points.Progress.{Progress}
-use Rattle.wait_model.specs.declared.queues.CalledEntry.{CalledEntry}
-use Rattle.wait_model.specs.declared.points.Given.{Given}
-use Rattle.wait_model.specs.declared.watches.Entry.{Entry}
-use Rattle.wait_model.specs.declared.queues.Mark.{Mark}
-use Rattle.wait_model.specs.declared.watches.Watch.{Watch}
-use Rattle.wait_model.specs.declared.watches.Kind.{Kind}
+use Rattle.wait_model.specs.{declared.layout.TheConstants.FIRST_DONE, declared.layout.TheConstants.FIRST_BIT_WORD}
+use Rattle.wait_model.specs.{declared.calls.Event.Event, declared.points.Progress.Progress}
+use Rattle.wait_model.specs.{declared.queues.CalledEntry.CalledEntry, declared.points.Given.Given}
+use Rattle.wait_model.specs.{declared.watches.Entry.Entry, declared.queues.Mark.Mark, declared.watches.Watch.Watch}
+use Rattle.wait_model.specs.{declared.watches.Kind.Kind, Admission.IsStandingKind, Admission.IsGoing, Facts.Facts}
+use Rattle.wait_model.specs.{Views.View, Watches.head_of, Watches.is_page, Tables.next, Tables.value_of}
+use Rattle.wait_model.specs.{Words.head_word, Points.call_watch, Queues.place_for, Functions.put, DoneCounts.IsStored}
+use Rattle.wait_model.specs.{Locations.cond_at, Locations.word_in, declared.calls.Call.Call}
+use Rattle.wait_model.specs.declared.points.Point.{Point}
 use Rattle.wait_model.specs.Runs.{State, own, entry_for, after_event}
-use Rattle.wait_model.specs.Admission.{IsStandingKind, IsGoing}
 use Rattle.wait_model.specs.Reached.{Zone, absent, waits, free, stands, parts, IsHome, HomeAt, held_at, is_preparing}
 use Rattle.wait_model.specs.Reached.{IsTaken, IsFlagged, aimed_by, IsPlaced, seated, zone, pages}
-use Rattle.wait_model.specs.Facts.{Facts}
-use Rattle.wait_model.specs.Views.{View}
-use Rattle.wait_model.specs.Watches.{head_of, is_page}
-use Rattle.wait_model.specs.Tables.{next, value_of}
-use Rattle.wait_model.specs.Words.{head_word}
-use Rattle.wait_model.specs.Points.{call_watch}
-use Rattle.wait_model.specs.Queues.{place_for}
-use Rattle.wait_model.specs.Functions.{put}
-use Rattle.wait_model.specs.DoneCounts.{IsStored}
-use Rattle.wait_model.specs.Locations.{cond_at, word_in}
-use Rattle.wait_model.proofs.WordLaws.CondWords.{head_of_bare, set_rest}
-use Rattle.wait_model.proofs.HistoryLaws.HoldLooks.{looks_same}
-use Rattle.wait_model.proofs.HistoryLaws.UnlockedLooks.{peeks_same}
-use Rattle.wait_model.proofs.Functions.{put_at, put_other}
+use Rattle.wait_model.proofs.{WordLaws.CondWords.head_of_bare, WordLaws.CondWords.set_rest}
+use Rattle.wait_model.proofs.{HistoryLaws.HoldLooks.looks_same, HistoryLaws.UnlockedLooks.peeks_same, Functions.put_at}
+use Rattle.wait_model.proofs.Functions.{put_other}
 use Rattle.wait_model.specs.declared.calls.Event.TheVariants as event
 use Rattle.wait_model.specs.declared.points.Point.TheVariants as at
 use Rattle.wait_model.specs.declared.points.PreparePoint.TheVariants as preparing
@@ -37,8 +25,6 @@ use Rattle.wait_model.specs.declared.points.AwaitPoint.TheVariants as awaiting
 use Rattle.wait_model.specs.declared.points.Progress.TheVariants as now
 use Rattle.wait_model.specs.declared.steps.Step.TheVariants as step
 use Rattle.wait_model.specs.declared.points.PagePoint.TheVariants as paging
-use Rattle.wait_model.specs.declared.calls.Call.{Call}
-use Rattle.wait_model.specs.declared.points.Point.{Point}
 use Rattle.wait_model.specs.declared.points.LeavePoint.TheVariants as leaving
 use Rattle.wait_model.specs.declared.points.FinishPoint.TheVariants as finishing
 use Rattle.wait_model.specs.declared.points.BitPoint.TheVariants as biting

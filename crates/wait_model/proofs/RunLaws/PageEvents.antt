@@ -2,29 +2,23 @@
 use Rattle.std.proofs.lemmas.Bool.{both_ways}
 use Rattle.std.proofs.Common.{refl, sym, ◌∙◌, ap, subst, inl, inr}
 use Rattle.std.specs.Prelude.{ℕ, ◌≡◌, ◌+◌, ◌<◌, Bool, true, false, is_some, if◌then◌else◌, Option, Some, None}
-use Rattle.wait_model.specs.declared.layout.TheConstants.{TASKS}
-use Rattle.wait_model.specs.declared.calls.Call.{Call}
-use Rattle.wait_model.specs.declared.points.FinishPoint.{FinishPoint}
-use Rattle.wait_model.specs.declared.points.PagePoint.{PagePoint}
-use Rattle.wait_model.specs.declared.points.Planned.{Planned}
-use Rattle.wait_model.specs.declared.watches.Watch.{Watch}
-use Rattle.wait_model.specs.declared.watches.Entry.{Entry}
+use Rattle.wait_model.specs.{declared.layout.TheConstants.TASKS, declared.calls.Call.Call}
+use Rattle.wait_model.specs.{declared.points.FinishPoint.FinishPoint, declared.points.PagePoint.PagePoint}
+use Rattle.wait_model.specs.{declared.points.Planned.Planned, declared.watches.Watch.Watch}
+use Rattle.wait_model.specs.{declared.watches.Entry.Entry, Tables.value_of, Words.Suited, Words.done_word, Rows.Allowed}
 use Rattle.wait_model.specs.Points.{call_watch, call_head, state_in, given_at}
 use Rattle.wait_model.specs.Programs.{go, ends_with, zero_answer, page_last}
 use Rattle.wait_model.specs.Reached.{IsPlaced, IsCallSound, IsSound, IsHome, absent, pages, seated, holds}
 use Rattle.wait_model.specs.Runs.{State, own, planned}
-use Rattle.wait_model.specs.Tables.{value_of}
 use Rattle.wait_model.specs.Tasks.{pending, state_mask, looks_in}
 use Rattle.wait_model.specs.Watches.{IsThere, bare, is_bit, page, word_of, bit_of, misses, head_of}
-use Rattle.wait_model.specs.Words.{Suited, done_word}
-use Rattle.wait_model.proofs.RunLaws.BitEvents.{take_fine, taking}
+use Rattle.wait_model.proofs.{RunLaws.BitEvents.take_fine, RunLaws.BitEvents.taking, RunLaws.OthersEvents.IsGone}
+use Rattle.wait_model.proofs.{WordLaws.CondWords.head_of_bare, WordLaws.DecodedWords.owner_own}
+use Rattle.wait_model.proofs.WordLaws.DecodedWords.{done_read_back}
 use Rattle.wait_model.proofs.RunLaws.FineEvents.{Fine, inside, outside, still_fine, lock_fine, unlock_fine, queue_fine}
 use Rattle.wait_model.proofs.RunLaws.FineEvents.{unqueue_fine, none_there, one_there, read, unflag_fine}
-use Rattle.wait_model.proofs.RunLaws.OthersEvents.{IsGone}
 use Rattle.wait_model.proofs.RunLaws.WaitEvents.{own_read, no_spend, to, head_small, state_fine, mask_state, gone_home}
 use Rattle.wait_model.proofs.RunLaws.WaitEvents.{off_free, none_absent, is_off}
-use Rattle.wait_model.proofs.WordLaws.CondWords.{head_of_bare}
-use Rattle.wait_model.proofs.WordLaws.DecodedWords.{owner_own, done_read_back}
 use Rattle.wait_model.specs.declared.calls.Event.TheVariants as event
 use Rattle.wait_model.specs.declared.points.FinishPoint.TheVariants as finishing
 use Rattle.wait_model.specs.declared.points.Next.TheVariants as next
@@ -33,7 +27,6 @@ use Rattle.wait_model.specs.declared.points.Point.TheVariants as at
 use Rattle.wait_model.specs.declared.points.Progress.TheVariants as now
 use Rattle.wait_model.specs.declared.watches.Kind.TheVariants as kind
 use Rattle.wait_model.specs.declared.watches.Watch.TheVariants as watch
-use Rattle.wait_model.specs.Rows.{Allowed}
 use Rattle.wait_model.specs.declared.steps.Step.TheVariants as step
 
 page_suits : (c : Watch) → IsThere c → c ≡ page (word_of c) → Suited (bare c) kind.Page

@@ -2,27 +2,18 @@
 -- the program does not come to those places.
 use Rattle.std.proofs.Common.{refl, sym}
 use Rattle.std.specs.Prelude.{ℕ, ◌≡◌, Bool, true, false, if◌then◌else◌, Option, Some, None}
-use Rattle.wait_model.specs.declared.queues.CalledEntry.{CalledEntry}
-use Rattle.wait_model.specs.declared.calls.Call.{Call}
-use Rattle.wait_model.specs.declared.calls.Event.{Event}
+use Rattle.wait_model.specs.{declared.queues.CalledEntry.CalledEntry, declared.calls.Call.Call}
+use Rattle.wait_model.specs.{declared.calls.Event.Event, declared.points.Point.Point, declared.points.Planned.Planned}
+use Rattle.wait_model.specs.{declared.points.Next.Next, declared.points.Seen.Seen, Tasks.meets, Watches.mask_of}
+use Rattle.wait_model.specs.{Points.call_aim, Points.mode_of, declared.queues.Walking.Walking}
+use Rattle.wait_model.specs.{declared.watches.Kind.Kind, declared.points.WalkPoint.WalkPoint}
+use Rattle.wait_model.specs.Programs.{program, go, call_fails, load, call_entry, call_next, walk_event, onward, past}
+use Rattle.wait_model.specs.Programs.{wake_off_event, reached}
 use Rattle.wait_model.specs.declared.calls.Event.TheVariants as event
-use Rattle.wait_model.specs.declared.points.Point.{Point}
 use Rattle.wait_model.specs.declared.points.Point.TheVariants as at
 use Rattle.wait_model.specs.declared.points.WalkPoint.TheVariants as walking
-use Rattle.wait_model.specs.declared.points.Planned.{Planned}
-use Rattle.wait_model.specs.declared.points.Next.{Next}
 use Rattle.wait_model.specs.declared.points.Next.TheVariants as next
-use Rattle.wait_model.specs.declared.points.Seen.{Seen}
-use Rattle.wait_model.specs.Tasks.{meets}
-use Rattle.wait_model.specs.Watches.{mask_of}
-use Rattle.wait_model.specs.Points.{call_aim, mode_of}
-use Rattle.wait_model.specs.Programs.{program, go, call_fails, load}
-use Rattle.wait_model.specs.Programs.{call_entry, call_next, walk_event, onward, past}
-use Rattle.wait_model.specs.Programs.{wake_off_event, reached}
 use Rattle.wait_model.specs.declared.points.PagePoint.TheVariants as paging
-use Rattle.wait_model.specs.declared.queues.Walking.{Walking}
-use Rattle.wait_model.specs.declared.watches.Kind.{Kind}
-use Rattle.wait_model.specs.declared.points.WalkPoint.{WalkPoint}
 use Rattle.wait_model.specs.declared.watches.Kind.TheVariants as kind
 use Rattle.wait_model.specs.declared.points.PageStage.TheVariants as staging
 use Rattle.wait_model.proofs.WaitLaws.OutsideStages.{either}

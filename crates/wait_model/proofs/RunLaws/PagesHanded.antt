@@ -4,44 +4,35 @@ use Rattle.std.proofs.lemmas.Option.{none-some, same_Some}
 use Rattle.std.proofs.Common.{refl, sym, ◌∙◌, ap, subst, inl, inr}
 use Rattle.std.specs.Prelude.{ℕ, ◌≡◌, ◌≢◌, Option, Some, None, Bool, true, false, ◌⊎◌, if◌then◌else◌, is_some}
 use Rattle.std.specs.Prelude.{cond, not, ◌+◌}
-use Rattle.wait_model.specs.declared.calls.Call.{Call}
-use Rattle.wait_model.specs.declared.calls.Event.{Event}
-use Rattle.wait_model.specs.declared.calls.Ran.TheVariants as ran
-use Rattle.wait_model.specs.declared.calls.Call.TheVariants as calls
-use Rattle.wait_model.specs.declared.points.Progress.{Progress}
-use Rattle.wait_model.specs.declared.points.Progress.TheVariants as now
-use Rattle.wait_model.specs.declared.watches.Entry.{Entry}
-use Rattle.wait_model.specs.Facts.{Facts}
-use Rattle.wait_model.specs.Programs.{program_start, page_event, page_finish_event, page_queue, page_last}
-use Rattle.wait_model.specs.Programs.{call_fails, past}
+use Rattle.wait_model.specs.{declared.calls.Call.Call, declared.calls.Event.Event, declared.points.Progress.Progress}
+use Rattle.wait_model.specs.{declared.watches.Entry.Entry, Facts.Facts, declared.queues.Form.Form}
+use Rattle.wait_model.specs.{declared.queues.Walking.Walking, declared.queues.CalledEntry.CalledEntry}
+use Rattle.wait_model.specs.{declared.points.Point.Point, declared.points.PageStage.PageStage}
+use Rattle.wait_model.specs.{declared.points.Next.Next, declared.points.Given.Given, declared.watches.Kind.Kind}
+use Rattle.wait_model.specs.{declared.watches.Watch.Watch, Functions.put, Views.View, Queues.place_for}
+use Rattle.wait_model.specs.{Admission.IsStandingKind, declared.points.PagePoint.PagePoint}
+use Rattle.wait_model.specs.{declared.points.FinishPoint.FinishPoint, declared.points.Seen.Seen}
+use Rattle.wait_model.specs.declared.points.Planned.{Planned}
+use Rattle.wait_model.specs.Programs.{program_start, page_event, page_finish_event, page_queue, page_last, call_fails}
+use Rattle.wait_model.specs.Programs.{past}
 use Rattle.wait_model.specs.Reached.{ArePagesHanded, HandsAt, handed_by, IsPlaced, IsSoundCall, IsHome, absent}
 use Rattle.wait_model.specs.Reached.{IsFitted, CountedBy}
 use Rattle.wait_model.specs.Runs.{State, own, is_open, happens, Continues, event_steps, is_publishing, entry_for}
 use Rattle.wait_model.specs.Runs.{progress_at, given_by, progress_after, planned, seen_by}
-use Rattle.wait_model.proofs.Functions.{put_at, put_case, put_same}
-use Rattle.wait_model.proofs.Sameness.{each_kind}
-use Rattle.wait_model.specs.declared.queues.Form.{Form}
-use Rattle.wait_model.specs.declared.queues.Walking.{Walking}
-use Rattle.wait_model.specs.declared.queues.CalledEntry.{CalledEntry}
-use Rattle.wait_model.specs.declared.points.Point.{Point}
-use Rattle.wait_model.specs.declared.points.PageStage.{PageStage}
-use Rattle.wait_model.specs.declared.points.Next.{Next}
-use Rattle.wait_model.specs.declared.points.Given.{Given}
-use Rattle.wait_model.specs.declared.watches.Kind.{Kind}
-use Rattle.wait_model.specs.declared.watches.Watch.{Watch}
-use Rattle.wait_model.specs.Functions.{put}
 use Rattle.wait_model.specs.Watches.{is_page, head_of, kind_for, page, word_of, bit_of, misses, was_clear}
 use Rattle.wait_model.specs.Words.{head_word, bit_at, flag}
-use Rattle.wait_model.specs.Views.{View}
-use Rattle.wait_model.specs.Queues.{place_for}
 use Rattle.wait_model.specs.Tables.{Table, steps, value_of}
 use Rattle.wait_model.specs.Points.{call_watch, kind_at, kind_of, state_in}
-use Rattle.wait_model.specs.Admission.{IsStandingKind}
-use Rattle.wait_model.proofs.RunLaws.OthersEvents.{Changes, own_one}
+use Rattle.wait_model.specs.Tasks.{looks_in, pending, state_mask}
+use Rattle.wait_model.specs.declared.calls.Ran.TheVariants as ran
+use Rattle.wait_model.specs.declared.calls.Call.TheVariants as calls
+use Rattle.wait_model.specs.declared.points.Progress.TheVariants as now
+use Rattle.wait_model.proofs.{Sameness.each_kind, RunLaws.OthersEvents.Changes, RunLaws.OthersEvents.own_one}
+use Rattle.wait_model.proofs.{WordLaws.CondWords.set_rest, HistoryLaws.HoldLooks.looks_same}
+use Rattle.wait_model.proofs.{HistoryLaws.UnlockedLooks.peeks_same, WaitLaws.OutsideStages.either}
+use Rattle.wait_model.proofs.WaitLaws.OutsideStages.{both}
+use Rattle.wait_model.proofs.Functions.{put_at, put_case, put_same}
 use Rattle.wait_model.proofs.RunLaws.PagelessPoints.{IsSober, IsElsewhere, enters_page, IsApart, program_apart}
-use Rattle.wait_model.proofs.WordLaws.CondWords.{set_rest}
-use Rattle.wait_model.proofs.HistoryLaws.HoldLooks.{looks_same}
-use Rattle.wait_model.proofs.HistoryLaws.UnlockedLooks.{peeks_same}
 use Rattle.wait_model.specs.declared.calls.Event.TheVariants as event
 use Rattle.wait_model.specs.declared.points.Point.TheVariants as at
 use Rattle.wait_model.specs.declared.points.WalkPoint.TheVariants as walking
@@ -52,13 +43,7 @@ use Rattle.wait_model.specs.declared.steps.Step.TheVariants as step
 use Rattle.wait_model.specs.declared.watches.Kind.TheVariants as kind
 use Rattle.wait_model.specs.declared.watches.Watch.TheVariants as watch
 use Rattle.wait_model.specs.Tables as tables
-use Rattle.wait_model.specs.declared.points.PagePoint.{PagePoint}
-use Rattle.wait_model.specs.declared.points.FinishPoint.{FinishPoint}
-use Rattle.wait_model.specs.declared.points.Seen.{Seen}
-use Rattle.wait_model.specs.declared.points.Planned.{Planned}
-use Rattle.wait_model.specs.Tasks.{looks_in, pending, state_mask}
 use Rattle.wait_model.specs.declared.points.FinishPoint.TheVariants as finishing
-use Rattle.wait_model.proofs.WaitLaws.OutsideStages.{either, both}
 
 start_hands : (taken : ℕ → Option ℕ) (me : ℕ) (call : Call) → HandsAt taken me (now.Open call (program_start call))
 start_hands taken me calls.Remove = tt

@@ -1,23 +1,16 @@
 -- Each event of a call outside walks, selections and completions is fine.
 use Rattle.std.proofs.Common.{refl, subst, arith}
 use Rattle.std.specs.Prelude.{ℕ, ◌≡◌, ◌<◌, ◌≤◌, true, false}
+use Rattle.wait_model.specs.{declared.calls.Call.Call, declared.points.Planned.Planned, declared.points.Point.Point}
+use Rattle.wait_model.specs.{declared.watches.Watch.Watch, Programs.zero_answer, Queues.has_members, Runs.State}
+use Rattle.wait_model.specs.{Runs.planned, Tables.value_of, Tasks.task_word, Tasks.task_of}
 use Rattle.wait_model.specs.declared.layout.TheConstants.{TASKS, FIRST_DONE, FIRST_BIT_WORD}
-use Rattle.wait_model.specs.declared.calls.Call.{Call}
-use Rattle.wait_model.specs.declared.points.Planned.{Planned}
-use Rattle.wait_model.specs.declared.points.Point.{Point}
-use Rattle.wait_model.specs.declared.watches.Watch.{Watch}
 use Rattle.wait_model.specs.Points.{call_watch, call_head, taken_cond, stored, who_of, given_at}
-use Rattle.wait_model.specs.Programs.{zero_answer}
 use Rattle.wait_model.specs.Reached.{IsPlaced, IsPlain, IsCallSound, IsSound, KeepsCleared, Rests}
-use Rattle.wait_model.specs.Queues.{has_members}
-use Rattle.wait_model.specs.Runs.{State, planned}
-use Rattle.wait_model.specs.Tables.{value_of}
-use Rattle.wait_model.specs.Tasks.{task_word, task_of}
 use Rattle.wait_model.specs.Watches.{IsThere, is_bit, number_of, misses}
-use Rattle.wait_model.proofs.RunLaws.PageEvents.{page_fine}
+use Rattle.wait_model.proofs.{RunLaws.PageEvents.page_fine, WordLaws.CondWords.plain_store}
+use Rattle.wait_model.proofs.{WordLaws.CondWords.take_store, WordLaws.DecodedWords.task_read}
 use Rattle.wait_model.proofs.RunLaws.BitEvents.{bit_fine, publish_fine, members_fine}
-use Rattle.wait_model.proofs.WordLaws.CondWords.{plain_store, take_store}
-use Rattle.wait_model.proofs.WordLaws.DecodedWords.{task_read}
 use Rattle.wait_model.proofs.RunLaws.FineEvents.{Fine, outside, still_fine, store_fine}
 use Rattle.wait_model.proofs.RunLaws.WaitEvents.{own_read, to, loads, load_small, first_fine, prepare_fine, test_fine}
 use Rattle.wait_model.proofs.RunLaws.WaitEvents.{sleep_fine, leave_fine, finish_fine, add_fine, remove_fine, woken_fine}

@@ -3,24 +3,15 @@ use Rattle.std.proofs.lemmas.Bool.{both_ways}
 use Rattle.std.proofs.Common.{refl, sym, ◌∙◌, ap, subst, arith, inl, inr}
 use Rattle.std.proofs.lemmas.Bool.Decides.{nat_tests}
 use Rattle.std.specs.Prelude.{ℕ, ◌≡◌, ◌≢◌, ◌⊎◌, Bool, true, false, ◌==◌, if◌then◌else◌}
-use Rattle.wait_model.specs.declared.calls.Call.{Call}
-use Rattle.wait_model.specs.declared.calls.Event.{Event}
-use Rattle.wait_model.specs.declared.points.Given.{Given}
-use Rattle.wait_model.specs.declared.points.Next.{Next}
-use Rattle.wait_model.specs.declared.points.Point.{Point}
-use Rattle.wait_model.specs.declared.points.Progress.{Progress}
-use Rattle.wait_model.specs.declared.tasks.TaskRecord.{TaskRecord}
+use Rattle.wait_model.specs.{declared.calls.Call.Call, declared.calls.Event.Event, declared.points.Given.Given}
+use Rattle.wait_model.specs.{declared.points.Next.Next, declared.points.Point.Point, declared.points.Progress.Progress}
+use Rattle.wait_model.specs.{declared.tasks.TaskRecord.TaskRecord, Tables.next, Tables.value_of, Words.head_word}
+use Rattle.wait_model.specs.{Points.given_at, Programs.program_start}
 use Rattle.wait_model.specs.Runs.{State, seen_by, planned, progress_at, is_open, after_event}
 use Rattle.wait_model.specs.Reached.{stirs, Rests, IsFitted}
 use Rattle.wait_model.specs.Tasks.{meets, pending, woken, slept, raised, accepted}
-use Rattle.wait_model.specs.Tables.{next, value_of}
-use Rattle.wait_model.specs.Words.{head_word}
-use Rattle.wait_model.specs.Points.{given_at}
-use Rattle.wait_model.specs.Programs.{program_start}
-use Rattle.wait_model.proofs.HistoryLaws.HoldLooks.{looks_same}
-use Rattle.wait_model.proofs.HistoryLaws.UnlockedLooks.{peeks_same}
-use Rattle.wait_model.proofs.WordLaws.CondWords.{set_rest}
-use Rattle.wait_model.proofs.Functions.{put_at, put_same}
+use Rattle.wait_model.proofs.{HistoryLaws.HoldLooks.looks_same, HistoryLaws.UnlockedLooks.peeks_same}
+use Rattle.wait_model.proofs.{WordLaws.CondWords.set_rest, Functions.put_at, Functions.put_same}
 use Rattle.wait_model.proofs.RunLaws.StateMoves.{KeepsState, IsMoved, stirs_next, program_moved}
 use Rattle.wait_model.specs.declared.calls.Event.TheVariants as event
 use Rattle.wait_model.specs.declared.points.Next.TheVariants as next

@@ -2,29 +2,18 @@
 use Rattle.std.proofs.Common.{refl, sym, ◌∙◌, inl, inr}
 use Rattle.std.specs.Prelude.{ℕ, ◌≡◌, ◌⊎◌, Bool, true, false, not, ◌&&◌, if◌then◌else◌, is_some, Option, Some, None}
 use Rattle.std.specs.Prelude.{◌==◌}
-use Rattle.wait_model.specs.declared.queues.CalledEntry.{CalledEntry}
-use Rattle.wait_model.specs.declared.queues.Walking.{Walking}
-use Rattle.wait_model.specs.declared.watches.Kind.{Kind}
-use Rattle.wait_model.specs.declared.calls.Call.{Call}
-use Rattle.wait_model.specs.declared.calls.Event.{Event}
-use Rattle.wait_model.specs.declared.points.Point.{Point}
-use Rattle.wait_model.specs.declared.points.PreparePoint.{PreparePoint}
-use Rattle.wait_model.specs.declared.points.LeavePoint.{LeavePoint}
-use Rattle.wait_model.specs.declared.points.FinishPoint.{FinishPoint}
-use Rattle.wait_model.specs.declared.points.BitPoint.{BitPoint}
-use Rattle.wait_model.specs.declared.points.WalkPoint.{WalkPoint}
-use Rattle.wait_model.specs.declared.points.SelectPoint.{SelectPoint}
-use Rattle.wait_model.specs.declared.points.AwaitPoint.{AwaitPoint}
-use Rattle.wait_model.specs.declared.points.CountPoint.{CountPoint}
-use Rattle.wait_model.specs.declared.points.AddPoint.{AddPoint}
-use Rattle.wait_model.specs.declared.points.RemovePoint.{RemovePoint}
-use Rattle.wait_model.specs.declared.points.WokenPoint.{WokenPoint}
-use Rattle.wait_model.specs.declared.points.Next.{Next}
-use Rattle.wait_model.specs.declared.points.Planned.{Planned}
-use Rattle.wait_model.specs.declared.points.Seen.{Seen}
-use Rattle.wait_model.specs.Reached.{stirs, IsFitted}
+use Rattle.wait_model.specs.{declared.queues.CalledEntry.CalledEntry, declared.queues.Walking.Walking}
+use Rattle.wait_model.specs.{declared.watches.Kind.Kind, declared.calls.Call.Call, declared.calls.Event.Event}
+use Rattle.wait_model.specs.{declared.points.Point.Point, declared.points.PreparePoint.PreparePoint}
+use Rattle.wait_model.specs.{declared.points.LeavePoint.LeavePoint, declared.points.FinishPoint.FinishPoint}
+use Rattle.wait_model.specs.{declared.points.BitPoint.BitPoint, declared.points.WalkPoint.WalkPoint}
+use Rattle.wait_model.specs.{declared.points.SelectPoint.SelectPoint, declared.points.AwaitPoint.AwaitPoint}
+use Rattle.wait_model.specs.{declared.points.CountPoint.CountPoint, declared.points.AddPoint.AddPoint}
+use Rattle.wait_model.specs.{declared.points.RemovePoint.RemovePoint, declared.points.WokenPoint.WokenPoint}
+use Rattle.wait_model.specs.{declared.points.Next.Next, declared.points.Planned.Planned, declared.points.Seen.Seen}
+use Rattle.wait_model.specs.{Reached.stirs, Reached.IsFitted, Watches.mask_of, declared.points.PagePoint.PagePoint}
+use Rattle.wait_model.specs.declared.points.PageStage.{PageStage}
 use Rattle.wait_model.specs.Tasks.{meets, pending, state_mask, looks_in}
-use Rattle.wait_model.specs.Watches.{mask_of}
 use Rattle.wait_model.specs.Points.{call_aim, call_head, is_bit_wait, is_lock, state_in, mode_of}
 use Rattle.wait_model.specs.Programs.{worn_next, program, go, call_fails, load, signalled_at, prepared_at, slept_at}
 use Rattle.wait_model.specs.Programs.{prepare_event, leave_event, finished, finish_event, exchange, ask, bit_event}
@@ -51,8 +40,6 @@ use Rattle.wait_model.specs.declared.watches.Kind.TheVariants as kind
 use Rattle.wait_model.specs.declared.watches.Mode.TheVariants as mode
 use Rattle.wait_model.specs.declared.points.PagePoint.TheVariants as paging
 use Rattle.wait_model.specs.declared.points.PageStage.TheVariants as staging
-use Rattle.wait_model.specs.declared.points.PagePoint.{PagePoint}
-use Rattle.wait_model.specs.declared.points.PageStage.{PageStage}
 
 -- whether the own state may be another than RUNNING after an event, and whether a publish comes next
 abbrev pub stirs_next : Call → Next → Bool

@@ -1,49 +1,36 @@
 -- Each event of a wait, and of a call on an entry that stands, is fine.
 use Rattle.std.proofs.lemmas.Bool.{both_ways}
+use Rattle.wait_model.specs.{declared.calls.Call.Call, declared.points.Point.Point}
+use Rattle.wait_model.specs.{declared.points.PreparePoint.PreparePoint, declared.points.LeavePoint.LeavePoint}
+use Rattle.wait_model.specs.{declared.points.FinishPoint.FinishPoint, declared.points.Next.Next}
+use Rattle.wait_model.specs.{declared.calls.Answer.Answer, declared.points.AddPoint.AddPoint}
+use Rattle.wait_model.specs.{declared.points.RemovePoint.RemovePoint, declared.points.WokenPoint.WokenPoint}
+use Rattle.wait_model.specs.{declared.points.Planned.Planned, declared.watches.Watch.Watch, declared.watches.Kind.Kind}
+use Rattle.wait_model.specs.{declared.watches.Entry.Entry, declared.tasks.SleepState.SleepState, Admission.is_standing}
+use Rattle.wait_model.specs.{Admission.IsStandingKind, Words.Suited, Rows.MaySpend, Rows.Reads, Tables.value_of}
+use Rattle.wait_model.specs.Functions.{put}
 use Rattle.wait_model.specs.declared.layout.TheConstants.{TASKS, PLAIN_CONDITIONS, FIRST_SIMPLE, CONDITIONS}
 use Rattle.wait_model.specs.declared.layout.TheConstants.{FIRST_PLAIN_HEAD, HEADS}
-use Rattle.wait_model.specs.Reached.{is_amid_function}
-use Rattle.std.proofs.Common.{refl, sym, ◌∙◌, ap, subst, arith, inl, inr}
-use Rattle.std.specs.Prelude.{ℕ, ◌≡◌, ◌<◌, ◌+◌, Option, Some, None, Bool, true, false, not, ◌&&◌, if◌then◌else◌}
-use Rattle.std.specs.Prelude.{is_some}
-use Rattle.wait_model.specs.declared.calls.Call.{Call}
-use Rattle.wait_model.specs.declared.points.Point.{Point}
-use Rattle.wait_model.specs.declared.points.PreparePoint.{PreparePoint}
-use Rattle.wait_model.specs.declared.points.LeavePoint.{LeavePoint}
-use Rattle.wait_model.specs.declared.points.FinishPoint.{FinishPoint}
-use Rattle.wait_model.specs.declared.points.Next.{Next}
-use Rattle.wait_model.specs.declared.calls.Answer.{Answer}
-use Rattle.wait_model.specs.declared.points.AddPoint.{AddPoint}
-use Rattle.wait_model.specs.declared.points.RemovePoint.{RemovePoint}
-use Rattle.wait_model.specs.declared.points.WokenPoint.{WokenPoint}
-use Rattle.wait_model.specs.declared.points.Planned.{Planned}
-use Rattle.wait_model.specs.declared.watches.Watch.{Watch}
-use Rattle.wait_model.specs.declared.watches.Kind.{Kind}
-use Rattle.wait_model.specs.declared.watches.Entry.{Entry}
-use Rattle.wait_model.specs.declared.tasks.SleepState.{SleepState}
+use Rattle.wait_model.specs.Reached.{is_amid_function, Zone, absent, waits, free, stands, parts, IsHome, HomeAt, holds}
+use Rattle.wait_model.specs.Reached.{zone, held_at, stands_between, IsPlaced, IsSoundCall, IsCallSound, IsWalkSound}
+use Rattle.wait_model.specs.Reached.{IsFitted, is_preparing, IsSound}
 use Rattle.wait_model.specs.Runs.{State, own, planned, progress_at}
-use Rattle.wait_model.specs.Admission.{is_standing, IsStandingKind}
-use Rattle.wait_model.specs.Reached.{Zone, absent, waits, free, stands, parts, IsHome, HomeAt, holds, zone, held_at}
-use Rattle.wait_model.specs.Reached.{stands_between, IsPlaced, IsSoundCall, IsCallSound, IsWalkSound, IsFitted}
-use Rattle.wait_model.specs.Reached.{is_preparing, IsSound}
 use Rattle.wait_model.specs.Tasks.{IsState, pending, state_mask, looks_in, task_word, task_of}
-use Rattle.wait_model.specs.Words.{Suited}
 use Rattle.wait_model.specs.Watches.{head_of, IsThere, misses, counted, is_page}
 use Rattle.wait_model.specs.Points.{call_watch, call_number, is_bit_wait, is_lock, call_head, state_in, form_of}
 use Rattle.wait_model.specs.Points.{head_at, given_at}
 use Rattle.wait_model.specs.Programs.{go, ends_with, zero_answer, signalled, interrupted, finished, look_event}
 use Rattle.wait_model.specs.Programs.{signalled_at, prepared_at, slept_at, plain_cond, cond_in}
-use Rattle.wait_model.specs.Rows.{MaySpend, Reads}
-use Rattle.wait_model.specs.Tables.{value_of}
-use Rattle.wait_model.specs.Functions.{put}
+use Rattle.std.proofs.Common.{refl, sym, ◌∙◌, ap, subst, arith, inl, inr}
+use Rattle.std.specs.Prelude.{ℕ, ◌≡◌, ◌<◌, ◌+◌, Option, Some, None, Bool, true, false, not, ◌&&◌, if◌then◌else◌}
+use Rattle.std.specs.Prelude.{is_some}
+use Rattle.wait_model.proofs.{RunLaws.OthersEvents.IsGone, Functions.put_same, Functions.both_left}
 use Rattle.wait_model.proofs.WordLaws.DecodedWords.{task_read, head_plain, done_read_back, owner_own}
 use Rattle.wait_model.proofs.WordLaws.CondWords.{head_of_bare, head_below, number_below, head_counted, reads_value}
 use Rattle.wait_model.proofs.WordLaws.CondWords.{waits_suited}
-use Rattle.wait_model.proofs.RunLaws.FineEvents.{Fine, Leads, goes, inside, outside, still_fine, still_on, lock_fine, leads_by}
-use Rattle.wait_model.proofs.RunLaws.FineEvents.{unlock_fine, queue_fine, unqueue_fine, none_there, one_there, read}
-use Rattle.wait_model.proofs.RunLaws.FineEvents.{unflag_fine}
-use Rattle.wait_model.proofs.RunLaws.OthersEvents.{IsGone}
-use Rattle.wait_model.proofs.Functions.{put_same, both_left}
+use Rattle.wait_model.proofs.RunLaws.FineEvents.{Fine, Leads, goes, inside, outside, still_fine, still_on, lock_fine}
+use Rattle.wait_model.proofs.RunLaws.FineEvents.{leads_by, unlock_fine, queue_fine, unqueue_fine, none_there, one_there}
+use Rattle.wait_model.proofs.RunLaws.FineEvents.{read, unflag_fine}
 use Rattle.wait_model.specs.declared.calls.Call.TheVariants as calls
 use Rattle.wait_model.specs.declared.calls.Event.TheVariants as event
 use Rattle.wait_model.specs.declared.points.Point.TheVariants as at

@@ -4,62 +4,46 @@ use Rattle.std.proofs.lemmas.Bool.{both_ways}
 use Rattle.std.proofs.Common.{refl, sym, ◌∙◌, ap, subst, arith, inl, inr}
 use Rattle.std.specs.Prelude.{ℕ, zero, suc, ◌≡◌, ◌≢◌, ◌<◌, Bool, true, false, not, ◌&&◌, ◌||◌, ◌==◌, if◌then◌else◌}
 use Rattle.std.specs.Prelude.{Option, Some, None}
-use Rattle.wait_model.specs.declared.layout.TheConstants.{TASKS, ENTRIES}
-use Rattle.wait_model.specs.declared.watches.Watch.{Watch}
-use Rattle.wait_model.specs.declared.watches.Watch.TheVariants as watch
-use Rattle.wait_model.specs.declared.watches.Kind.{Kind}
-use Rattle.wait_model.specs.declared.watches.Kind.TheVariants as kind
-use Rattle.wait_model.specs.declared.watches.Entry.{Entry}
-use Rattle.wait_model.specs.declared.watches.Aim.{Aim}
-use Rattle.wait_model.specs.declared.queues.CalledEntry.{CalledEntry}
-use Rattle.wait_model.specs.declared.queues.Walking.{Walking}
-use Rattle.wait_model.specs.declared.queues.Mark.{Mark}
-use Rattle.wait_model.specs.declared.calls.Call.{Call}
-use Rattle.wait_model.specs.declared.calls.Event.{Event}
-use Rattle.wait_model.specs.declared.calls.Event.TheVariants as event
-use Rattle.wait_model.specs.declared.points.Point.{Point}
-use Rattle.wait_model.specs.declared.points.Point.TheVariants as at
-use Rattle.wait_model.specs.declared.points.WalkPoint.{WalkPoint}
-use Rattle.wait_model.specs.declared.points.WalkPoint.TheVariants as walking
-use Rattle.wait_model.specs.declared.points.Given.{Given}
-use Rattle.wait_model.specs.declared.points.Seen.{Seen}
-use Rattle.wait_model.specs.declared.points.Next.{Next}
-use Rattle.wait_model.specs.declared.points.Next.TheVariants as next
-use Rattle.wait_model.specs.declared.points.Planned.{Planned}
-use Rattle.wait_model.specs.declared.points.Progress.{Progress}
-use Rattle.wait_model.specs.declared.points.Progress.TheVariants as now
-use Rattle.wait_model.specs.declared.steps.Step.TheVariants as step
-use Rattle.wait_model.specs.Functions.{put}
-use Rattle.wait_model.specs.Runs.{called_of, State, own, entry_for, looks_below, looks, seen_by, event_steps}
-use Rattle.wait_model.specs.Runs.{planned, progress_at, after_event, busy_head}
+use Rattle.wait_model.specs.{declared.layout.TheConstants.TASKS, declared.layout.TheConstants.ENTRIES}
+use Rattle.wait_model.specs.{declared.watches.Watch.Watch, declared.watches.Kind.Kind, declared.watches.Entry.Entry}
+use Rattle.wait_model.specs.{declared.watches.Aim.Aim, declared.queues.CalledEntry.CalledEntry}
+use Rattle.wait_model.specs.{declared.queues.Walking.Walking, declared.queues.Mark.Mark, declared.calls.Call.Call}
+use Rattle.wait_model.specs.{declared.calls.Event.Event, declared.points.Point.Point}
+use Rattle.wait_model.specs.{declared.points.WalkPoint.WalkPoint, declared.points.Given.Given}
+use Rattle.wait_model.specs.{declared.points.Seen.Seen, declared.points.Next.Next, declared.points.Planned.Planned}
+use Rattle.wait_model.specs.{declared.points.Progress.Progress, Functions.put, Admission.is_standing}
+use Rattle.wait_model.specs.{Admission.IsStandingKind, declared.tasks.TaskRecord.TaskRecord, Facts.Agrees, Facts.Facts}
+use Rattle.wait_model.specs.{Tasks.meets, Tables.steps, Tables.value_of, Queues.place_for, Queues.Arrival}
+use Rattle.wait_model.specs.declared.points.PageStage.{PageStage}
+use Rattle.wait_model.specs.Runs.{called_of, State, own, entry_for, looks_below, looks, seen_by, event_steps, planned}
+use Rattle.wait_model.specs.Runs.{progress_at, after_event, busy_head}
 use Rattle.wait_model.specs.Reached.{free, IsHome, held_at, taken_by, IsQueued, IsTaken, IsFlagged, IsPlaced}
 use Rattle.wait_model.specs.Reached.{IsCallSound, WalksFor, IsSelecting, MayEndSpent, CountedAt, CountedBy, IsSound}
-use Rattle.wait_model.specs.Admission.{is_standing, IsStandingKind}
-use Rattle.wait_model.specs.declared.tasks.TaskRecord.{TaskRecord}
-use Rattle.wait_model.specs.Facts.{Agrees, Facts}
-use Rattle.wait_model.specs.Tasks.{meets}
 use Rattle.wait_model.specs.Watches.{same, head_of, counted, is_bit, is_var, mask_of, owner, is_page, page, word_of}
 use Rattle.wait_model.specs.Watches.{bit_of, misses, was_clear}
 use Rattle.wait_model.specs.Words.{entry_word, head_word, Suited, bit_at, flag}
 use Rattle.wait_model.specs.Views.{View, Walk, Look, unseen, off, elsewhere, shown}
 use Rattle.wait_model.specs.Fold.{begun, is_off, picks, after, after_all}
-use Rattle.wait_model.specs.Tables.{steps, value_of}
-use Rattle.wait_model.specs.Tables as tables
 use Rattle.wait_model.specs.Points.{call_aim, call_watch, call_head, mode_of, given_at}
 use Rattle.wait_model.specs.Programs.{go, load, call_fails, past, onward, reached, resumed, wake_event, wake_off_event}
 use Rattle.wait_model.specs.Programs.{tests, call_entry, tests_page}
-use Rattle.wait_model.specs.Queues.{place_for, Arrival}
+use Rattle.wait_model.specs.declared.watches.Watch.TheVariants as watch
+use Rattle.wait_model.specs.declared.watches.Kind.TheVariants as kind
+use Rattle.wait_model.specs.declared.calls.Event.TheVariants as event
+use Rattle.wait_model.specs.declared.points.Point.TheVariants as at
+use Rattle.wait_model.specs.declared.points.WalkPoint.TheVariants as walking
+use Rattle.wait_model.specs.declared.points.Next.TheVariants as next
+use Rattle.wait_model.specs.declared.points.Progress.TheVariants as now
+use Rattle.wait_model.specs.declared.steps.Step.TheVariants as step
+use Rattle.wait_model.specs.Tables as tables
+use Rattle.wait_model.proofs.{RunLaws.OthersEvents.Changes, WordLaws.DecodedWords.task_read}
+use Rattle.wait_model.proofs.{WordLaws.DecodedWords.owner_own, HistoryLaws.HoldLooks.looks_same}
+use Rattle.wait_model.proofs.{HistoryLaws.UnlockedLooks.peeks_same, WordLaws.CondWords.set_rest, Functions.put_at}
+use Rattle.wait_model.proofs.Functions.{both_left}
 use Rattle.wait_model.proofs.QueueLaws.FoundEntries.{IsFoundEntry, breaks_or_calls, calls_on, reach, walk_case}
 use Rattle.wait_model.proofs.QueueLaws.OutsideWalks.{IsOutside, goes_away, program_away}
-use Rattle.wait_model.proofs.RunLaws.OthersEvents.{Changes}
 use Rattle.wait_model.proofs.Sameness.{same_refl, same_head, same_trans, same_bit_is}
-use Rattle.wait_model.proofs.WordLaws.DecodedWords.{task_read, owner_own}
-use Rattle.wait_model.proofs.HistoryLaws.HoldLooks.{looks_same}
-use Rattle.wait_model.proofs.HistoryLaws.UnlockedLooks.{peeks_same}
-use Rattle.wait_model.proofs.WordLaws.CondWords.{set_rest}
-use Rattle.wait_model.proofs.Functions.{put_at, both_left}
 use Rattle.wait_model.specs.declared.points.PageStage.TheVariants as staging
-use Rattle.wait_model.specs.declared.points.PageStage.{PageStage}
 
 -- a place outside walks, or before the lock of one, tells nothing of a count
 away_counted : (entry : ℕ → Option Entry) (v : View) (call : Call) (q : Next) → goes_away q ≡ true

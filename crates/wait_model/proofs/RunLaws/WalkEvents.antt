@@ -2,46 +2,35 @@
 use Rattle.std.proofs.Common.{refl, sym, ◌∙◌, ap, subst, arith, inl, inr}
 use Rattle.std.specs.Prelude.{ℕ, ◌≡◌, ◌+◌, ◌-◌, ◌<◌, ◌≤◌, ◌⊎◌, Option, Some, None, Bool, true, false, ◌&&◌, ◌==◌}
 use Rattle.std.specs.Prelude.{if◌then◌else◌}
+use Rattle.wait_model.specs.{declared.queues.Walking.Walking, declared.queues.CalledEntry.CalledEntry}
+use Rattle.wait_model.specs.{declared.queues.Mark.Mark, declared.calls.Call.Call, declared.points.Point.Point}
+use Rattle.wait_model.specs.{declared.points.WalkPoint.WalkPoint, declared.points.Planned.Planned}
+use Rattle.wait_model.specs.{declared.watches.Kind.Kind, declared.watches.Entry.Entry, declared.points.Seen.Seen}
+use Rattle.wait_model.specs.{declared.watches.Watch.Watch, Views.View, Queues.Arrival, Functions.put, Admission.IsGoing}
+use Rattle.wait_model.specs.{declared.points.PageStage.PageStage, Tables.value_of}
 use Rattle.wait_model.specs.declared.layout.TheConstants.{TASKS, HEADS, PLACES, BREAK}
-use Rattle.wait_model.specs.declared.queues.Walking.{Walking}
-use Rattle.wait_model.specs.declared.queues.CalledEntry.{CalledEntry}
-use Rattle.wait_model.specs.declared.queues.Mark.{Mark}
-use Rattle.wait_model.specs.declared.calls.Call.{Call}
-use Rattle.wait_model.specs.declared.points.Point.{Point}
-use Rattle.wait_model.specs.declared.points.WalkPoint.{WalkPoint}
-use Rattle.wait_model.specs.declared.points.Planned.{Planned}
-use Rattle.wait_model.specs.declared.watches.Kind.{Kind}
-use Rattle.wait_model.specs.declared.watches.Entry.{Entry}
-use Rattle.wait_model.specs.declared.points.Seen.{Seen}
 use Rattle.wait_model.specs.Runs.{State, own, seen_by, planned}
 use Rattle.wait_model.specs.Reached.{HomeAt, holds, is_amid_function, IsTaken, IsFlagged, IsPlaced, IsCounted}
 use Rattle.wait_model.specs.Reached.{CountedAt, WalksFor, MayEndSpent, KeepsCleared, Rests, IsCallSound, IsWalkSound}
 use Rattle.wait_model.specs.Reached.{mark_head, marked_at, IsSound, HandsAt, taken_by}
 use Rattle.wait_model.specs.Tasks.{meets, task_word, task_of}
-use Rattle.wait_model.specs.declared.watches.Watch.{Watch}
-use Rattle.wait_model.specs.declared.watches.Watch.TheVariants as watch
 use Rattle.wait_model.specs.Watches.{same, head_of, counted, is_bit, is_var, IsThere, mask_of, page, word_of, bit_of}
 use Rattle.wait_model.specs.Watches.{is_page, misses}
 use Rattle.wait_model.specs.Words.{Suited, bit_at, flag}
-use Rattle.wait_model.specs.Views.{View}
 use Rattle.wait_model.specs.Rows.{MaySpend, Reads, Allowed}
 use Rattle.wait_model.specs.Points.{call_aim, call_watch, call_head, mode_of, count_of, head_at, given_at}
 use Rattle.wait_model.specs.Programs.{go, load, call_fails, past, reached, wake_event, wake_off_event, call_entry}
 use Rattle.wait_model.specs.Programs.{again, resumed}
-use Rattle.wait_model.specs.Queues.{Arrival}
-use Rattle.wait_model.specs.Functions.{put}
-use Rattle.wait_model.proofs.QueueLaws.FoundEntries.{IsFoundEntry, breaks_or_calls, calls_on, reach, reach_calls, walk_case}
-use Rattle.wait_model.proofs.Sameness.{same_bit, same_bit_is}
-use Rattle.wait_model.proofs.WordLaws.DecodedWords.{task_read}
+use Rattle.wait_model.specs.declared.watches.Watch.TheVariants as watch
+use Rattle.wait_model.proofs.{Sameness.same_bit, Sameness.same_bit_is, WordLaws.DecodedWords.task_read}
+use Rattle.wait_model.proofs.{RunLaws.WaitEvents.no_spend, RunLaws.ProgramEvents.plain_fine}
+use Rattle.wait_model.proofs.{RunLaws.OthersEvents.IsGone, Functions.put_at}
+use Rattle.wait_model.proofs.QueueLaws.FoundEntries.{IsFoundEntry, breaks_or_calls, calls_on, reach, reach_calls}
+use Rattle.wait_model.proofs.QueueLaws.FoundEntries.{walk_case}
 use Rattle.wait_model.proofs.WordLaws.CondWords.{head_below, number_below, reads_value, going_kind}
 use Rattle.wait_model.proofs.RunLaws.FineEvents.{Fine, Leads, inside, still_fine, lock_fine, unlock_fine, unqueue_fine}
 use Rattle.wait_model.proofs.RunLaws.FineEvents.{mark_fine, unmark_fine}
-use Rattle.wait_model.proofs.RunLaws.WaitEvents.{no_spend}
-use Rattle.wait_model.proofs.RunLaws.ProgramEvents.{plain_fine}
 use Rattle.wait_model.proofs.RunLaws.CompletionEvents.{select_fine, await_fine, count_fine}
-use Rattle.wait_model.specs.Admission.{IsGoing}
-use Rattle.wait_model.proofs.RunLaws.OthersEvents.{IsGone}
-use Rattle.wait_model.proofs.Functions.{put_at}
 use Rattle.wait_model.specs.declared.calls.Event.TheVariants as event
 use Rattle.wait_model.specs.declared.points.Point.TheVariants as at
 use Rattle.wait_model.specs.declared.points.WalkPoint.TheVariants as walking
@@ -49,8 +38,6 @@ use Rattle.wait_model.specs.declared.points.Next.TheVariants as next
 use Rattle.wait_model.specs.declared.points.Progress.TheVariants as now
 use Rattle.wait_model.specs.declared.watches.Kind.TheVariants as kind
 use Rattle.wait_model.specs.declared.points.PageStage.TheVariants as staging
-use Rattle.wait_model.specs.declared.points.PageStage.{PageStage}
-use Rattle.wait_model.specs.Tables.{value_of}
 use Rattle.wait_model.specs.declared.steps.Step.TheVariants as step
 
 -- one more entry that was called

@@ -1,25 +1,18 @@
 -- A hold has looked at every entry word, and the entries that a task has stored are its own.
 use Rattle.std.proofs.Common.{refl, sym, ◌∙◌, ap}
 use Rattle.std.specs.Prelude.{ℕ, zero, suc, ◌≡◌, ◌≢◌, ◌<◌, Bool, true, false, ◌==◌, if◌then◌else◌, Option, Some, None}
-use Rattle.wait_model.specs.declared.layout.TheConstants.{ENTRIES}
-use Rattle.wait_model.specs.declared.calls.Event.{Event}
-use Rattle.wait_model.specs.declared.points.Given.{Given}
-use Rattle.wait_model.specs.declared.watches.Entry.{Entry}
+use Rattle.wait_model.specs.{declared.layout.TheConstants.ENTRIES, declared.calls.Event.Event}
+use Rattle.wait_model.specs.{declared.points.Given.Given, declared.watches.Entry.Entry, Reached.HasLookedAtAll}
+use Rattle.wait_model.specs.{Reached.OwnStored, Functions.put, Queues.place_for, Tables.value_of, Watches.head_of}
+use Rattle.wait_model.specs.Watches.{owner}
 use Rattle.wait_model.specs.Runs.{State, own, entry_for, looks_below, looks, peeks_below, all_peeks, is_publishing}
 use Rattle.wait_model.specs.Runs.{event_steps}
-use Rattle.wait_model.specs.Reached.{HasLookedAtAll, OwnStored}
 use Rattle.wait_model.specs.Views.{View, Hold, Bits, Look, unseen, off, elsewhere, shown, blank, look_at}
 use Rattle.wait_model.specs.Fold.{is_off, forgotten, after_unlock, after, after_all}
-use Rattle.wait_model.specs.Functions.{put}
-use Rattle.wait_model.specs.Queues.{place_for}
-use Rattle.wait_model.specs.Tables.{value_of}
-use Rattle.wait_model.specs.Watches.{head_of, owner}
 use Rattle.wait_model.specs.Words.{entry_word, entry_of, head_word}
-use Rattle.wait_model.proofs.WordLaws.DecodedWords.{owner_own}
-use Rattle.wait_model.proofs.Functions.{put_at}
-use Rattle.wait_model.proofs.HistoryLaws.HoldLooks.{AllRead, looks_book}
-use Rattle.wait_model.proofs.HistoryLaws.UnlockedLooks.{peeks_hold}
-use Rattle.wait_model.proofs.StepLaws.UnlockSteps.{unlock_hold, unlock_bits}
+use Rattle.wait_model.proofs.{WordLaws.DecodedWords.owner_own, Functions.put_at, HistoryLaws.HoldLooks.AllRead}
+use Rattle.wait_model.proofs.{HistoryLaws.HoldLooks.looks_book, HistoryLaws.UnlockedLooks.peeks_hold}
+use Rattle.wait_model.proofs.{StepLaws.UnlockSteps.unlock_hold, StepLaws.UnlockSteps.unlock_bits}
 use Rattle.wait_model.specs.declared.calls.Event.TheVariants as event
 use Rattle.wait_model.specs.declared.steps.Step.TheVariants as step
 

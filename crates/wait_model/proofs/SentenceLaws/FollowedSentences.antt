@@ -2,18 +2,12 @@
 use Rattle.std.proofs.lemmas.Bool.{both_ways}
 use Rattle.std.proofs.Common.{refl, sym, ◌∙◌, subst}
 use Rattle.std.specs.Prelude.{ℕ, ◌≡◌, true, false, List, [], ◌∷◌}
-use Rattle.wait_model.specs.declared.calls.Call.{Call}
-use Rattle.wait_model.specs.declared.calls.Event.{Event}
-use Rattle.wait_model.specs.declared.calls.Answer.{Answer}
-use Rattle.wait_model.specs.declared.points.Next.{Next}
-use Rattle.wait_model.specs.declared.points.Next.TheVariants as next
-use Rattle.wait_model.specs.declared.points.Point.{Point}
-use Rattle.wait_model.specs.declared.points.Seen.{Seen}
+use Rattle.wait_model.specs.{declared.calls.Call.Call, declared.calls.Event.Event, declared.calls.Answer.Answer}
+use Rattle.wait_model.specs.{declared.points.Next.Next, declared.points.Point.Point, declared.points.Seen.Seen}
+use Rattle.wait_model.specs.{Points.call_watch, Programs.program, Programs.program_start, Watches.is_done}
 use Rattle.wait_model.specs.Findings.{Noted, none_noted, notes, MayFind}
 use Rattle.wait_model.specs.Making.{goes_to, Makes, ProgramsFollow}
-use Rattle.wait_model.specs.Points.{call_watch}
-use Rattle.wait_model.specs.Programs.{program, program_start}
-use Rattle.wait_model.specs.Watches.{is_done}
+use Rattle.wait_model.specs.declared.points.Next.TheVariants as next
 use Rattle.wait_model.proofs.SentenceLaws.SentenceRests.{Knows, left_at}
 use Rattle.wait_model.proofs.SentenceLaws.SentenceCalls.{rest_of, start_said, says}
 

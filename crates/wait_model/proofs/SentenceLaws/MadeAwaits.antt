@@ -2,34 +2,25 @@
 use Rattle.std.proofs.Common.{refl, sym, ap, ◌∙◌, subst}
 use Rattle.std.specs.Prelude.{ℕ, zero, suc, ◌≡◌, ◌≤◌, ◌==◌, ◌-◌, Bool, true, false, not, List, [], ◌∷◌, Option, Some}
 use Rattle.std.specs.Prelude.{None, if◌then◌else◌}
-use Rattle.wait_model.specs.declared.layout.TheConstants.{ALL_DONE}
-use Rattle.wait_model.specs.declared.calls.Call.{Call}
+use Rattle.wait_model.specs.{declared.layout.TheConstants.ALL_DONE, declared.calls.Call.Call}
+use Rattle.wait_model.specs.{declared.calls.Event.Event, declared.calls.Answer.Answer}
+use Rattle.wait_model.specs.{declared.tasks.SleepState.SleepState, declared.watches.Watch.Watch}
+use Rattle.wait_model.specs.{declared.watches.Entry.Entry, declared.points.Planned.Planned, declared.points.Seen.Seen}
+use Rattle.wait_model.specs.{declared.points.Point.Point, Counts.taken_done, Tasks.looks_in, Watches.head_of}
+use Rattle.wait_model.specs.{Watches.number_of, Sentences.Follows, Making.goes_to, Making.Makes}
+use Rattle.wait_model.specs.Programs.{program, program_start, go, ends_with, zero_answer, await_ends, await_after}
+use Rattle.wait_model.specs.SentenceSteps.{number, unlocks, stores, takes_off}
+use Rattle.wait_model.specs.SentenceCounts.{await_end, lowers, by_signal, by_count}
+use Rattle.wait_model.specs.Findings.{Noted, none_noted, notes, MayFind}
 use Rattle.wait_model.specs.declared.calls.Call.TheVariants as calls
-use Rattle.wait_model.specs.declared.calls.Event.{Event}
 use Rattle.wait_model.specs.declared.calls.Event.TheVariants as event
-use Rattle.wait_model.specs.declared.calls.Answer.{Answer}
-use Rattle.wait_model.specs.declared.tasks.SleepState.{SleepState}
-use Rattle.wait_model.specs.declared.watches.Watch.{Watch}
 use Rattle.wait_model.specs.declared.watches.Watch.TheVariants as watch
-use Rattle.wait_model.specs.declared.watches.Entry.{Entry}
-use Rattle.wait_model.specs.declared.points.Planned.{Planned}
-use Rattle.wait_model.specs.declared.points.Seen.{Seen}
 use Rattle.wait_model.specs.declared.queues.Form.TheVariants as forms
-use Rattle.wait_model.specs.declared.points.Point.{Point}
 use Rattle.wait_model.specs.declared.points.Point.TheVariants as at
 use Rattle.wait_model.specs.declared.points.PreparePoint.TheVariants as preparing
 use Rattle.wait_model.specs.declared.points.AwaitPoint.TheVariants as awaiting
-use Rattle.wait_model.specs.Counts.{taken_done}
-use Rattle.wait_model.specs.Tasks.{looks_in}
-use Rattle.wait_model.specs.Watches.{head_of, number_of}
-use Rattle.wait_model.specs.Programs.{program, program_start, go, ends_with, zero_answer, await_ends, await_after}
 use Rattle.wait_model.specs.Phrases.{Rest, gives, finds, when◌then◌otherwise◌, turns, repeat, ends, repeats, leaves}
 use Rattle.wait_model.specs.Phrases.{◌>>=◌, ◌>>◌}
-use Rattle.wait_model.specs.SentenceSteps.{number, unlocks, stores, takes_off}
-use Rattle.wait_model.specs.SentenceCounts.{await_end, lowers, by_signal, by_count}
-use Rattle.wait_model.specs.Sentences.{Follows}
-use Rattle.wait_model.specs.Making.{goes_to, Makes}
-use Rattle.wait_model.specs.Findings.{Noted, none_noted, notes, MayFind}
 use Rattle.wait_model.proofs.SentenceLaws.SentenceAwaits.{await_rest, shown_count}
 use Rattle.wait_model.proofs.SentenceLaws.SentenceAwaits as awaits
 use Rattle.wait_model.proofs.SentenceLaws.MadeFindings.{sees, fair, fresh, same_count, same_standing}

@@ -1,36 +1,27 @@
 -- The programs of waits for a bit make whatever follows their sentences.
 use Rattle.std.proofs.Common.{refl, sym, ap, ◌∙◌, subst}
 use Rattle.std.specs.Prelude.{ℕ, zero, suc, ◌≡◌, Bool, true, false, not, List, [], ◌∷◌, if◌then◌else◌, ◌&&◌}
-use Rattle.wait_model.specs.declared.calls.Call.{Call}
-use Rattle.wait_model.specs.declared.calls.Call.TheVariants as calls
-use Rattle.wait_model.specs.declared.calls.Event.{Event}
-use Rattle.wait_model.specs.declared.calls.Event.TheVariants as event
-use Rattle.wait_model.specs.declared.calls.Answer.{Answer}
-use Rattle.wait_model.specs.declared.calls.Answer.TheVariants as answer
-use Rattle.wait_model.proofs.SentenceLaws.SentenceWaits.{finish_rest}
-use Rattle.wait_model.specs.declared.watches.Watch.TheVariants as watch
-use Rattle.wait_model.specs.declared.points.Point.{Point}
-use Rattle.wait_model.specs.declared.points.Point.TheVariants as at
-use Rattle.wait_model.specs.declared.tasks.SleepState.{SleepState}
-use Rattle.wait_model.specs.declared.queues.Form.TheVariants as forms
-use Rattle.wait_model.specs.declared.points.PreparePoint.TheVariants as preparing
-use Rattle.wait_model.specs.declared.points.FinishPoint.{FinishPoint}
-use Rattle.wait_model.specs.declared.points.FinishPoint.TheVariants as finishing
-use Rattle.wait_model.specs.declared.points.BitPoint.TheVariants as biting
-use Rattle.wait_model.specs.Tasks.{looks_in}
-use Rattle.wait_model.specs.Words.{bit_at, flag}
-use Rattle.wait_model.specs.Watches.{number_of, misses}
+use Rattle.wait_model.specs.{declared.calls.Call.Call, declared.calls.Event.Event, declared.calls.Answer.Answer}
+use Rattle.wait_model.specs.{declared.points.Point.Point, declared.tasks.SleepState.SleepState}
+use Rattle.wait_model.specs.{declared.points.FinishPoint.FinishPoint, Tasks.looks_in, Words.bit_at, Words.flag}
+use Rattle.wait_model.specs.{Watches.number_of, Watches.misses, Phrases.leaves, Sentences.Follows, Making.Makes}
+use Rattle.wait_model.specs.{Findings.Noted, Findings.none_noted}
 use Rattle.wait_model.specs.Programs.{program_start, go, ends_with, zero_answer, interrupted}
-use Rattle.wait_model.specs.Phrases.{Rest, ◌>>◌, gives, finds, when◌then◌otherwise◌, turns, repeat, ends, repeats}
-use Rattle.wait_model.specs.Phrases.{leaves}
 use Rattle.wait_model.specs.SentenceSteps.{number, minus_4, acts, enters, finishes}
-use Rattle.wait_model.specs.Sentences.{Follows}
-use Rattle.wait_model.specs.Making.{Makes}
-use Rattle.wait_model.specs.Findings.{Noted, none_noted}
-use Rattle.wait_model.proofs.SentenceLaws.SentenceBits as tries
-use Rattle.wait_model.proofs.SentenceLaws.StepEnds.{valued}
+use Rattle.wait_model.specs.declared.calls.Call.TheVariants as calls
+use Rattle.wait_model.specs.declared.calls.Event.TheVariants as event
+use Rattle.wait_model.specs.declared.calls.Answer.TheVariants as answer
+use Rattle.wait_model.proofs.{SentenceLaws.SentenceWaits.finish_rest, SentenceLaws.StepEnds.valued}
 use Rattle.wait_model.proofs.SentenceLaws.MadeFindings.{sees, fair, shown, looking, sleeping}
 use Rattle.wait_model.proofs.SentenceLaws.MadeEvents.{Leads, MakesFirst, all_made, enters_none, made_full, made_queued}
+use Rattle.wait_model.specs.declared.watches.Watch.TheVariants as watch
+use Rattle.wait_model.specs.declared.points.Point.TheVariants as at
+use Rattle.wait_model.specs.declared.queues.Form.TheVariants as forms
+use Rattle.wait_model.specs.declared.points.PreparePoint.TheVariants as preparing
+use Rattle.wait_model.specs.declared.points.FinishPoint.TheVariants as finishing
+use Rattle.wait_model.specs.declared.points.BitPoint.TheVariants as biting
+use Rattle.wait_model.specs.Phrases.{Rest, ◌>>◌, gives, finds, when◌then◌otherwise◌, turns, repeat, ends, repeats}
+use Rattle.wait_model.proofs.SentenceLaws.SentenceBits as tries
 
 module _ (me w b : ℕ) (st : SleepState) where
   abbrev waiter : Call

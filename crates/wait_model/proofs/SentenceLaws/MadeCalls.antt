@@ -1,46 +1,34 @@
 -- The program of each call makes whatever follows its sentence.
 use Rattle.std.proofs.Common.{refl, sym, ap, ◌∙◌, subst}
 use Rattle.std.specs.Prelude.{ℕ, pos, ◌≡◌, Bool, true, false, List, [], ◌∷◌, Some, if◌then◌else◌}
-use Rattle.wait_model.specs.declared.calls.Call.{Call}
-use Rattle.wait_model.specs.declared.calls.Call.TheVariants as calls
-use Rattle.wait_model.specs.declared.calls.Event.{Event}
-use Rattle.wait_model.specs.declared.calls.Event.TheVariants as event
-use Rattle.wait_model.specs.declared.calls.Answer.{Answer}
-use Rattle.wait_model.specs.declared.tasks.TaskRecord.{TaskRecord}
-use Rattle.wait_model.specs.declared.watches.Kind.{Kind}
-use Rattle.wait_model.specs.declared.watches.Mode.{Mode}
-use Rattle.wait_model.specs.declared.watches.Mode.TheVariants as mode
-use Rattle.wait_model.specs.declared.watches.Watch.TheVariants as watch
-use Rattle.wait_model.specs.declared.points.Planned.{Planned}
-use Rattle.wait_model.specs.declared.points.Point.{Point}
-use Rattle.wait_model.specs.declared.points.Point.TheVariants as at
-use Rattle.wait_model.specs.declared.calls.Answer.TheVariants as answer
-use Rattle.wait_model.specs.declared.tasks.SleepState.{SleepState}
-use Rattle.wait_model.specs.declared.tasks.Taken.TheVariants as taken
-use Rattle.wait_model.specs.declared.queues.Form.{Form}
-use Rattle.wait_model.specs.declared.points.WalkPoint.TheVariants as walking
-use Rattle.wait_model.specs.Tasks.{meets, raise_mask}
-use Rattle.wait_model.specs.Words.{bit_at, flag}
+use Rattle.wait_model.specs.{declared.calls.Call.Call, declared.calls.Event.Event, declared.calls.Answer.Answer}
+use Rattle.wait_model.specs.{declared.tasks.TaskRecord.TaskRecord, declared.watches.Kind.Kind}
+use Rattle.wait_model.specs.{declared.watches.Mode.Mode, declared.points.Planned.Planned, declared.points.Point.Point}
+use Rattle.wait_model.specs.{declared.tasks.SleepState.SleepState, declared.queues.Form.Form, Tasks.meets}
+use Rattle.wait_model.specs.{Tasks.raise_mask, Words.bit_at, Words.flag, Points.call_watch, Points.count_of}
+use Rattle.wait_model.specs.{Phrases.Rest, Phrases.ends, Sentences.sentence, Sentences.Follows, SentenceWalks.wakes_one}
+use Rattle.wait_model.specs.SentenceWalks.{walks}
 use Rattle.wait_model.specs.Watches.{head_of, is_done, mask_of}
-use Rattle.wait_model.specs.Points.{call_watch, count_of}
 use Rattle.wait_model.specs.Programs.{program_start, ends_with, kicked}
-use Rattle.wait_model.specs.Phrases.{Rest, ends}
-use Rattle.wait_model.specs.Sentences.{sentence, Follows}
-use Rattle.wait_model.specs.SentenceWalks.{wakes_one, walks}
 use Rattle.wait_model.specs.Making.{goes_to, Makes, SentencesAreMade}
 use Rattle.wait_model.specs.Findings.{Noted, none_noted, notes}
-use Rattle.wait_model.proofs.SentenceLaws.SentenceWalks.{walk_rest}
-use Rattle.wait_model.proofs.SentenceLaws.StepEnds.{valued}
-use Rattle.wait_model.proofs.SentenceLaws.ShortCalls.{short_made}
-use Rattle.wait_model.proofs.SentenceLaws.SentenceWaits.{loop_of}
-use Rattle.wait_model.proofs.SentenceLaws.MadeWaits.{loop_made}
-use Rattle.wait_model.proofs.SentenceLaws.MadeFindings.{sees, fair, shown, some_entry, sleeping}
-use Rattle.wait_model.proofs.SentenceLaws.MadeAwaits.{wait_for_made}
-use Rattle.wait_model.proofs.SentenceLaws.MadeCounts.{select_made, try_made, is_done_made, reinit_made}
-use Rattle.wait_model.proofs.SentenceLaws.MadeBits.{wait_bit_made, lock_bit_made}
-use Rattle.wait_model.proofs.SentenceLaws.MadeWalks.{walk_back, walk_none}
-use Rattle.wait_model.proofs.SentenceLaws.MadeEvents.{MakesFirst, all_made, rousing}
+use Rattle.wait_model.specs.declared.calls.Call.TheVariants as calls
+use Rattle.wait_model.specs.declared.calls.Event.TheVariants as event
+use Rattle.wait_model.specs.declared.watches.Mode.TheVariants as mode
+use Rattle.wait_model.specs.declared.watches.Watch.TheVariants as watch
+use Rattle.wait_model.specs.declared.points.Point.TheVariants as at
+use Rattle.wait_model.specs.declared.calls.Answer.TheVariants as answer
+use Rattle.wait_model.specs.declared.tasks.Taken.TheVariants as taken
+use Rattle.wait_model.specs.declared.points.WalkPoint.TheVariants as walking
+use Rattle.wait_model.proofs.{SentenceLaws.SentenceWalks.walk_rest, SentenceLaws.StepEnds.valued}
+use Rattle.wait_model.proofs.{SentenceLaws.ShortCalls.short_made, SentenceLaws.SentenceWaits.loop_of}
+use Rattle.wait_model.proofs.{SentenceLaws.MadeWaits.loop_made, SentenceLaws.MadeAwaits.wait_for_made}
+use Rattle.wait_model.proofs.{SentenceLaws.MadeBits.wait_bit_made, SentenceLaws.MadeBits.lock_bit_made}
+use Rattle.wait_model.proofs.{SentenceLaws.MadeWalks.walk_back, SentenceLaws.MadeWalks.walk_none}
 use Rattle.wait_model.proofs.SentenceLaws.MadePages.{lock_page_made}
+use Rattle.wait_model.proofs.SentenceLaws.MadeFindings.{sees, fair, shown, some_entry, sleeping}
+use Rattle.wait_model.proofs.SentenceLaws.MadeCounts.{select_made, try_made, is_done_made, reinit_made}
+use Rattle.wait_model.proofs.SentenceLaws.MadeEvents.{MakesFirst, all_made, rousing}
 
 -- a wake walk alone
 module _ (me c n : ℕ) (i : Mode) where

@@ -2,28 +2,22 @@
 use Rattle.std.proofs.Common.{refl, sym, ap, ◌∙◌, subst}
 use Rattle.std.specs.Prelude.{ℕ, pos, zero, suc, ◌≡◌, ◌≤◌, ◌+◌, ◌==◌, ◌-◌, Bool, true, false, List, [], ◌∷◌, Some}
 use Rattle.std.specs.Prelude.{if◌then◌else◌}
-use Rattle.wait_model.specs.declared.layout.TheConstants.{ALL_DONE}
-use Rattle.wait_model.specs.declared.calls.Call.{Call}
-use Rattle.wait_model.specs.declared.calls.Call.TheVariants as calls
-use Rattle.wait_model.specs.declared.calls.Event.{Event}
-use Rattle.wait_model.specs.declared.calls.Event.TheVariants as event
-use Rattle.wait_model.specs.declared.calls.Answer.{Answer}
-use Rattle.wait_model.specs.declared.watches.Mode.TheVariants as mode
-use Rattle.wait_model.specs.declared.watches.Watch.TheVariants as watch
-use Rattle.wait_model.specs.declared.points.Point.{Point}
-use Rattle.wait_model.specs.declared.points.Point.TheVariants as at
-use Rattle.wait_model.specs.declared.points.SelectPoint.TheVariants as selecting
-use Rattle.wait_model.specs.Counts.{raised_done, taken_done}
-use Rattle.wait_model.specs.declared.points.CountPoint.TheVariants as counting
-use Rattle.wait_model.specs.declared.calls.Answer.TheVariants as answer
-use Rattle.wait_model.specs.Tasks.{meets}
+use Rattle.wait_model.specs.{declared.layout.TheConstants.ALL_DONE, declared.calls.Call.Call}
+use Rattle.wait_model.specs.{declared.calls.Event.Event, declared.calls.Answer.Answer, declared.points.Point.Point}
+use Rattle.wait_model.specs.{Counts.raised_done, Counts.taken_done, Tasks.meets, Sentences.Follows, Making.Makes}
 use Rattle.wait_model.specs.Watches.{head_of, number_of, mask_of}
 use Rattle.wait_model.specs.Programs.{program_start, go, ends_with, zero_answer, done_in, select_ends}
-use Rattle.wait_model.specs.Phrases.{Rest, when◌then◌otherwise◌, turns, ends, gives, ◌>>◌}
 use Rattle.wait_model.specs.SentenceSteps.{nothing, number, locks, unlocks, stores}
-use Rattle.wait_model.specs.Sentences.{Follows}
-use Rattle.wait_model.specs.Making.{Makes}
 use Rattle.wait_model.specs.Findings.{Noted, none_noted, notes}
+use Rattle.wait_model.specs.declared.calls.Call.TheVariants as calls
+use Rattle.wait_model.specs.declared.calls.Event.TheVariants as event
+use Rattle.wait_model.specs.declared.watches.Mode.TheVariants as mode
+use Rattle.wait_model.specs.declared.watches.Watch.TheVariants as watch
+use Rattle.wait_model.specs.declared.points.Point.TheVariants as at
+use Rattle.wait_model.specs.declared.points.SelectPoint.TheVariants as selecting
+use Rattle.wait_model.specs.declared.points.CountPoint.TheVariants as counting
+use Rattle.wait_model.specs.declared.calls.Answer.TheVariants as answer
+use Rattle.wait_model.specs.Phrases.{Rest, when◌then◌otherwise◌, turns, ends, gives, ◌>>◌}
 use Rattle.wait_model.proofs.SentenceLaws.SentenceAwaits.{shown_count}
 use Rattle.wait_model.proofs.SentenceLaws.SentenceCounts.{select_rest, one_rest, count_rest, tries_taking, over_by}
 use Rattle.wait_model.proofs.SentenceLaws.SentenceCounts.{more, more_by, less_by, never}

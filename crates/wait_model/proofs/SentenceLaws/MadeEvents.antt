@@ -1,27 +1,15 @@
 -- A program that makes each first event of what is left makes all that is left.
 use Rattle.std.proofs.Common.{refl, sym, subst}
 use Rattle.std.specs.Prelude.{ℕ, ◌≡◌, Bool, true, false, List, [], ◌∷◌, Some}
-use Rattle.wait_model.specs.declared.calls.Call.{Call}
-use Rattle.wait_model.specs.declared.calls.Event.{Event}
-use Rattle.wait_model.specs.declared.calls.Answer.{Answer}
-use Rattle.wait_model.specs.declared.tasks.TaskRecord.{TaskRecord}
-use Rattle.wait_model.specs.declared.tasks.SleepState.{SleepState}
-use Rattle.wait_model.specs.declared.queues.CalledEntry.{CalledEntry}
-use Rattle.wait_model.specs.declared.queues.Form.{Form}
-use Rattle.wait_model.specs.declared.watches.Watch.{Watch}
-use Rattle.wait_model.specs.declared.watches.Kind.TheVariants as kind
-use Rattle.wait_model.specs.declared.watches.Mode.{Mode}
-use Rattle.wait_model.specs.declared.watches.Mode.TheVariants as mode
-use Rattle.wait_model.specs.declared.points.Planned.{Planned}
-use Rattle.wait_model.specs.declared.points.Seen.{Seen}
-use Rattle.wait_model.specs.declared.points.Point.{Point}
-use Rattle.wait_model.specs.Tasks.{meets}
-use Rattle.wait_model.specs.Watches.{mask_of}
-use Rattle.wait_model.specs.Programs.{program}
-use Rattle.wait_model.specs.Phrases.{Rest}
-use Rattle.wait_model.specs.Making.{goes_to, Makes}
-use Rattle.wait_model.specs.SentenceSteps.{enters}
+use Rattle.wait_model.specs.{declared.calls.Call.Call, declared.calls.Event.Event, declared.calls.Answer.Answer}
+use Rattle.wait_model.specs.{declared.tasks.TaskRecord.TaskRecord, declared.tasks.SleepState.SleepState}
+use Rattle.wait_model.specs.{declared.queues.CalledEntry.CalledEntry, declared.queues.Form.Form}
+use Rattle.wait_model.specs.{declared.watches.Watch.Watch, declared.watches.Mode.Mode, declared.points.Planned.Planned}
+use Rattle.wait_model.specs.{declared.points.Seen.Seen, declared.points.Point.Point, Tasks.meets, Watches.mask_of}
+use Rattle.wait_model.specs.{Programs.program, Phrases.Rest, Making.goes_to, Making.Makes, SentenceSteps.enters}
 use Rattle.wait_model.specs.Findings.{Noted, notes, MayComeTo, MayFind}
+use Rattle.wait_model.specs.declared.watches.Kind.TheVariants as kind
+use Rattle.wait_model.specs.declared.watches.Mode.TheVariants as mode
 use Rattle.wait_model.proofs.SentenceLaws.MadeFindings.{carried, sees, fair, standing, some_entry}
 
 -- an event leads on by a planned one

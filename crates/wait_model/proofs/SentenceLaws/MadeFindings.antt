@@ -1,28 +1,19 @@
 -- Findings by which a program makes the events that it may make.
 use Rattle.std.proofs.Common.{refl, arith}
 use Rattle.std.specs.Prelude.{ℕ, ◌≡◌, ◌≤◌, Bool, true, false, List, Some, None, if◌then◌else◌}
-use Rattle.wait_model.specs.declared.layout.TheConstants.{ALL_DONE}
-use Rattle.wait_model.specs.declared.calls.Call.{Call}
-use Rattle.wait_model.specs.declared.calls.Event.{Event}
-use Rattle.wait_model.specs.declared.calls.Answer.{Answer}
-use Rattle.wait_model.specs.declared.tasks.Sleep.{Sleep}
+use Rattle.wait_model.specs.{declared.layout.TheConstants.ALL_DONE, declared.calls.Call.Call}
+use Rattle.wait_model.specs.{declared.calls.Event.Event, declared.calls.Answer.Answer, declared.tasks.Sleep.Sleep}
+use Rattle.wait_model.specs.{declared.tasks.SleepState.SleepState, declared.tasks.TaskRecord.TaskRecord}
+use Rattle.wait_model.specs.{declared.watches.Entry.Entry, declared.points.Next.Next, declared.points.Seen.Seen}
+use Rattle.wait_model.specs.{declared.points.Point.Point, Watches.is_done, Points.call_watch, Phrases.Rest}
+use Rattle.wait_model.specs.Making.{goes_to}
+use Rattle.wait_model.specs.Tasks.{state_mask, looks_in, pending, meets, sleep_of}
+use Rattle.wait_model.specs.Findings.{Noted, Fair, IsRanged, CountStays}
 use Rattle.wait_model.specs.declared.tasks.Sleep.TheVariants as sleep
-use Rattle.wait_model.specs.declared.tasks.SleepState.{SleepState}
 use Rattle.wait_model.specs.declared.tasks.SleepState.TheVariants as states
-use Rattle.wait_model.specs.declared.tasks.TaskRecord.{TaskRecord}
-use Rattle.wait_model.specs.declared.watches.Entry.{Entry}
 use Rattle.wait_model.specs.declared.watches.Kind.TheVariants as kind
 use Rattle.wait_model.specs.declared.watches.Watch.TheVariants as watch
-use Rattle.wait_model.specs.declared.points.Next.{Next}
 use Rattle.wait_model.specs.declared.points.Next.TheVariants as next
-use Rattle.wait_model.specs.declared.points.Seen.{Seen}
-use Rattle.wait_model.specs.declared.points.Point.{Point}
-use Rattle.wait_model.specs.Tasks.{state_mask, looks_in, pending, meets, sleep_of}
-use Rattle.wait_model.specs.Watches.{is_done}
-use Rattle.wait_model.specs.Points.{call_watch}
-use Rattle.wait_model.specs.Phrases.{Rest}
-use Rattle.wait_model.specs.Findings.{Noted, Fair, IsRanged, CountStays}
-use Rattle.wait_model.specs.Making.{goes_to}
 
 pub carried : (R S : Point → Rest) (n : Next) (w : List Event) (a : Answer) → ((q : Point) → R q w a → S q w a)
     → goes_to R n w a → goes_to S n w a

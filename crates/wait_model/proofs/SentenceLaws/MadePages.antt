@@ -1,27 +1,19 @@
 -- The program of a wait for a page makes whatever follows its sentence.
 use Rattle.std.proofs.Common.{refl, sym, ap, ◌∙◌, subst}
 use Rattle.std.specs.Prelude.{ℕ, zero, suc, ◌≡◌, Bool, true, false, not, List, [], ◌∷◌, if◌then◌else◌}
-use Rattle.wait_model.specs.declared.calls.Call.{Call}
-use Rattle.wait_model.specs.declared.calls.Call.TheVariants as calls
-use Rattle.wait_model.specs.declared.calls.Event.{Event}
-use Rattle.wait_model.specs.declared.calls.Event.TheVariants as event
-use Rattle.wait_model.specs.declared.calls.Answer.{Answer}
-use Rattle.wait_model.specs.declared.calls.Answer.TheVariants as answer
-use Rattle.wait_model.specs.declared.points.Point.{Point}
-use Rattle.wait_model.specs.declared.points.Point.TheVariants as at
-use Rattle.wait_model.specs.declared.tasks.SleepState.{SleepState}
-use Rattle.wait_model.specs.declared.points.FinishPoint.{FinishPoint}
-use Rattle.wait_model.specs.declared.points.FinishPoint.TheVariants as finishing
-use Rattle.wait_model.specs.declared.points.PagePoint.{PagePoint}
-use Rattle.wait_model.specs.declared.points.PagePoint.TheVariants as paging
-use Rattle.wait_model.specs.Tasks.{looks_in}
-use Rattle.wait_model.specs.Words.{bit_at, flag}
+use Rattle.wait_model.specs.{declared.calls.Call.Call, declared.calls.Event.Event, declared.calls.Answer.Answer}
+use Rattle.wait_model.specs.{declared.points.Point.Point, declared.tasks.SleepState.SleepState}
+use Rattle.wait_model.specs.{declared.points.FinishPoint.FinishPoint, declared.points.PagePoint.PagePoint}
+use Rattle.wait_model.specs.{Tasks.looks_in, Words.bit_at, Words.flag, SentenceSteps.number, Sentences.Follows}
+use Rattle.wait_model.specs.{Making.Makes, Findings.Noted, Findings.none_noted}
 use Rattle.wait_model.specs.Programs.{program_start, go, ends_with, zero_answer, page_last}
+use Rattle.wait_model.specs.declared.calls.Call.TheVariants as calls
+use Rattle.wait_model.specs.declared.calls.Event.TheVariants as event
+use Rattle.wait_model.specs.declared.calls.Answer.TheVariants as answer
+use Rattle.wait_model.specs.declared.points.Point.TheVariants as at
+use Rattle.wait_model.specs.declared.points.FinishPoint.TheVariants as finishing
+use Rattle.wait_model.specs.declared.points.PagePoint.TheVariants as paging
 use Rattle.wait_model.specs.Phrases.{Rest, gives, finds, when◌then◌otherwise◌, ends}
-use Rattle.wait_model.specs.SentenceSteps.{number}
-use Rattle.wait_model.specs.Sentences.{Follows}
-use Rattle.wait_model.specs.Making.{Makes}
-use Rattle.wait_model.specs.Findings.{Noted, none_noted}
 use Rattle.wait_model.proofs.SentenceLaws.SentencePages as tries
 use Rattle.wait_model.proofs.SentenceLaws.StepEnds.{valued}
 use Rattle.wait_model.proofs.SentenceLaws.MadeFindings.{sees, fair, shown, looking, sleeping}

@@ -2,29 +2,22 @@
 use Rattle.std.proofs.lemmas.Bool.{both_ways}
 use Rattle.std.proofs.Common.{refl, sym, ap, ◌∙◌, subst}
 use Rattle.std.specs.Prelude.{ℕ, zero, suc, ◌≡◌, Bool, true, false, not, List, [], ◌∷◌, Some, if◌then◌else◌, ◌&&◌}
-use Rattle.wait_model.specs.declared.calls.Call.{Call}
-use Rattle.wait_model.specs.declared.calls.Event.{Event}
+use Rattle.wait_model.specs.{declared.calls.Call.Call, declared.calls.Event.Event, declared.calls.Answer.Answer}
+use Rattle.wait_model.specs.{declared.points.Planned.Planned, declared.points.Next.Next, declared.points.Seen.Seen}
+use Rattle.wait_model.specs.{declared.points.Point.Point, declared.points.FinishPoint.FinishPoint, Tasks.looks_in}
+use Rattle.wait_model.specs.{Watches.misses, Watches.number_of, Making.goes_to, Making.Makes}
+use Rattle.wait_model.specs.Points.{form_of, is_lock, call_watch, call_head, state_in}
+use Rattle.wait_model.specs.Programs.{worn_next, exchange, program, go, ends_with, zero_answer, signalled, signalled_at}
+use Rattle.wait_model.specs.SentenceSteps.{is_ready, is_signalled, is_worn, minus_4, unlocks, number}
+use Rattle.wait_model.specs.Findings.{Noted, notes, MayFind}
 use Rattle.wait_model.specs.declared.calls.Event.TheVariants as event
-use Rattle.wait_model.specs.declared.calls.Answer.{Answer}
 use Rattle.wait_model.specs.declared.calls.Answer.TheVariants as answer
-use Rattle.wait_model.specs.declared.points.Planned.{Planned}
-use Rattle.wait_model.specs.declared.points.Next.{Next}
-use Rattle.wait_model.specs.declared.points.Seen.{Seen}
-use Rattle.wait_model.specs.declared.points.Point.{Point}
 use Rattle.wait_model.specs.declared.points.Point.TheVariants as at
 use Rattle.wait_model.specs.declared.points.PreparePoint.TheVariants as preparing
 use Rattle.wait_model.specs.declared.points.LeavePoint.TheVariants as leaving
-use Rattle.wait_model.specs.declared.points.FinishPoint.{FinishPoint}
 use Rattle.wait_model.specs.declared.points.FinishPoint.TheVariants as finishing
-use Rattle.wait_model.specs.Tasks.{looks_in}
-use Rattle.wait_model.specs.Watches.{misses, number_of}
-use Rattle.wait_model.specs.Points.{form_of, is_lock, call_watch, call_head, state_in}
-use Rattle.wait_model.specs.Programs.{worn_next, exchange, program, go, ends_with, zero_answer, signalled, signalled_at}
 use Rattle.wait_model.specs.Phrases.{Rest, gives, finds, when◌then◌otherwise◌, turns, repeat, ends}
-use Rattle.wait_model.specs.SentenceSteps.{is_ready, is_signalled, is_worn, minus_4, unlocks, number}
-use Rattle.wait_model.specs.Making.{goes_to, Makes}
 use Rattle.wait_model.proofs.SentenceLaws.MadeFindings.{sees, fair, standing, shown, some_entry, looking, sleeping}
-use Rattle.wait_model.specs.Findings.{Noted, notes, MayFind}
 use Rattle.wait_model.proofs.SentenceLaws.SentenceWaits.{IsLoop, finish_rest, loop_rest}
 use Rattle.wait_model.proofs.SentenceLaws.MadeEvents.{Leads, all_made, enters_none, made_full, made_queued}
 use Rattle.wait_model.proofs.SentenceLaws.SentenceWaits as loops

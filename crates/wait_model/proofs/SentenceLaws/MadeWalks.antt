@@ -2,37 +2,28 @@
 use Rattle.std.proofs.Common.{arith, refl, sym, ◌∙◌, subst}
 use Rattle.std.specs.Prelude.{ℕ, ◌≤◌, zero, suc, ◌≡◌, ◌==◌, Bool, true, false, not, List, [], ◌∷◌, Some, if◌then◌else◌}
 use Rattle.std.specs.Prelude.{◌&&◌}
-use Rattle.wait_model.specs.declared.calls.Call.{Call}
-use Rattle.wait_model.specs.declared.calls.Event.{Event}
-use Rattle.wait_model.specs.declared.calls.Event.TheVariants as event
-use Rattle.wait_model.specs.declared.calls.Answer.{Answer}
-use Rattle.wait_model.specs.declared.tasks.TaskRecord.{TaskRecord}
-use Rattle.wait_model.specs.declared.queues.CalledEntry.{CalledEntry}
-use Rattle.wait_model.specs.declared.watches.Watch.{Watch}
-use Rattle.wait_model.specs.declared.watches.Watch.TheVariants as watch
-use Rattle.wait_model.specs.declared.watches.Kind.{Kind}
-use Rattle.wait_model.specs.declared.watches.Kind.TheVariants as kind
-use Rattle.wait_model.specs.declared.points.Seen.{Seen}
-use Rattle.wait_model.specs.declared.points.Point.{Point}
-use Rattle.wait_model.specs.declared.points.Point.TheVariants as at
-use Rattle.wait_model.specs.declared.queues.Walking.{Walking}
-use Rattle.wait_model.specs.declared.queues.End.TheVariants as end_as
-use Rattle.wait_model.specs.declared.points.WalkPoint.{WalkPoint}
-use Rattle.wait_model.specs.declared.points.WalkPoint.TheVariants as walking
-use Rattle.wait_model.specs.Tasks.{meets}
+use Rattle.wait_model.specs.{declared.calls.Call.Call, declared.calls.Event.Event, declared.calls.Answer.Answer}
+use Rattle.wait_model.specs.{declared.tasks.TaskRecord.TaskRecord, declared.queues.CalledEntry.CalledEntry}
+use Rattle.wait_model.specs.{declared.watches.Watch.Watch, declared.watches.Kind.Kind, declared.points.Seen.Seen}
+use Rattle.wait_model.specs.{declared.points.Point.Point, declared.queues.Walking.Walking}
+use Rattle.wait_model.specs.{declared.points.WalkPoint.WalkPoint, Tasks.meets, Findings.Noted, Findings.MayFind}
+use Rattle.wait_model.specs.{Words.flag, Words.bit_at}
 use Rattle.wait_model.specs.Watches.{is_done, number_of, mask_of, misses, is_page, word_of, bit_of}
 use Rattle.wait_model.specs.Points.{call_aim, call_watch, call_head, mode_of}
-use Rattle.wait_model.specs.Programs.{go, walk_event, past, onward, reached, call_entry}
-use Rattle.wait_model.specs.Programs.{again as next_hold}
-use Rattle.wait_model.specs.Phrases.{Rest, ◌>>◌, makes, gives, when◌then◌otherwise◌, repeats, leaves}
+use Rattle.wait_model.specs.Programs.{go, walk_event, past, onward, reached, call_entry, again as next_hold}
 use Rattle.wait_model.specs.SentenceWalks.{tallied, walked, wakes_off, hands_over, takes_page, calls_function}
 use Rattle.wait_model.specs.SentenceWalks.{WalkTally, Ahead, a_break, the_end, an_entry, comes_to, passes, shares_head}
-use Rattle.wait_model.specs.Findings.{Noted, MayFind}
+use Rattle.wait_model.specs.declared.calls.Event.TheVariants as event
+use Rattle.wait_model.specs.declared.watches.Watch.TheVariants as watch
+use Rattle.wait_model.specs.declared.watches.Kind.TheVariants as kind
+use Rattle.wait_model.specs.declared.points.Point.TheVariants as at
+use Rattle.wait_model.specs.declared.queues.End.TheVariants as end_as
+use Rattle.wait_model.specs.declared.points.WalkPoint.TheVariants as walking
+use Rattle.wait_model.specs.Phrases.{Rest, ◌>>◌, makes, gives, when◌then◌otherwise◌, repeats, leaves}
 use Rattle.wait_model.proofs.SentenceLaws.SentenceWalks as walks
 use Rattle.wait_model.proofs.SentenceLaws.SentenceWalks.{walk_rest, tally}
 use Rattle.wait_model.proofs.SentenceLaws.MadeFindings.{sees, fair, shown}
 use Rattle.wait_model.proofs.SentenceLaws.MadeEvents.{Leads, rousing}
-use Rattle.wait_model.specs.Words.{flag, bit_at}
 use Rattle.wait_model.specs.declared.points.PageStage.TheVariants as staging
 use Rattle.wait_model.specs.declared.watches.Mode.TheVariants as mode
 

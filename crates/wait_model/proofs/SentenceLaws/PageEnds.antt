@@ -3,23 +3,17 @@ use Rattle.std.specs.Prelude.{ℕ, true, false, if◌then◌else◌, ◌∷◌}
 use Rattle.wait_model.specs.declared.calls.Event.TheVariants as event
 use Rattle.wait_model.specs.declared.calls.Answer.TheVariants as answer
 use Rattle.wait_model.specs.declared.tasks.Sleep.TheVariants as sleep
-use Rattle.wait_model.specs.declared.tasks.SleepState.{SleepState}
-use Rattle.wait_model.specs.declared.points.Point.{Point}
-use Rattle.wait_model.specs.declared.points.Point.TheVariants as at
-use Rattle.wait_model.specs.declared.points.FinishPoint.{FinishPoint}
-use Rattle.wait_model.specs.declared.points.FinishPoint.TheVariants as finishing
-use Rattle.wait_model.specs.declared.points.PagePoint.{PagePoint}
-use Rattle.wait_model.specs.declared.points.PagePoint.TheVariants as paging
-use Rattle.wait_model.specs.Tasks.{state_mask}
-use Rattle.wait_model.specs.Watches.{head_of}
-use Rattle.wait_model.specs.Phrases.{finds, ends}
-use Rattle.wait_model.specs.SentenceSteps.{number, minus_4, unlocks, locks}
-use Rattle.wait_model.specs.SentenceBits.{awaits_page}
+use Rattle.wait_model.specs.{declared.tasks.SleepState.SleepState, declared.points.Point.Point}
+use Rattle.wait_model.specs.{declared.points.FinishPoint.FinishPoint, declared.points.PagePoint.PagePoint}
+use Rattle.wait_model.specs.{Tasks.state_mask, Watches.head_of, Phrases.finds, Phrases.ends, SentenceBits.awaits_page}
 use Rattle.wait_model.specs.Findings.{Noted}
+use Rattle.wait_model.specs.SentenceSteps.{number, minus_4, unlocks, locks}
+use Rattle.wait_model.specs.declared.points.Point.TheVariants as at
+use Rattle.wait_model.specs.declared.points.FinishPoint.TheVariants as finishing
+use Rattle.wait_model.specs.declared.points.PagePoint.TheVariants as paging
+use Rattle.wait_model.proofs.{SentenceLaws.SentenceWaits.finish_rest, SentenceLaws.StepEnds.some}
+use Rattle.wait_model.proofs.{SentenceLaws.StepEnds.tried, SentenceLaws.WaitEnds.finish_end}
 use Rattle.wait_model.proofs.SentenceLaws.SentenceRests.{CanEnd, over, unsaid, first, found}
-use Rattle.wait_model.proofs.SentenceLaws.SentenceWaits.{finish_rest}
-use Rattle.wait_model.proofs.SentenceLaws.StepEnds.{some, tried}
-use Rattle.wait_model.proofs.SentenceLaws.WaitEnds.{finish_end}
 use Rattle.wait_model.proofs.SentenceLaws.SentencePages as tries
 use Rattle.std.proofs.Common.{refl}
 use Rattle.wait_model.specs.declared.queues.Form.TheVariants as forms

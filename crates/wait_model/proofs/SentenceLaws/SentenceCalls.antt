@@ -1,40 +1,30 @@
 -- What is left of the sentence of each call at each point of its program.
 use Rattle.std.proofs.Common.{refl, subst}
 use Rattle.std.specs.Prelude.{ℕ, ◌≡◌, pos, Bool, true, false, List, if◌then◌else◌}
-use Rattle.wait_model.specs.declared.calls.Call.{Call}
-use Rattle.wait_model.specs.declared.calls.Call.TheVariants as calls
-use Rattle.wait_model.specs.declared.calls.Event.{Event}
-use Rattle.wait_model.specs.declared.calls.Event.TheVariants as event
-use Rattle.wait_model.specs.declared.calls.Answer.{Answer}
-use Rattle.wait_model.specs.declared.calls.Answer.TheVariants as answer
-use Rattle.wait_model.specs.declared.tasks.SleepState.{SleepState}
-use Rattle.wait_model.specs.declared.tasks.Taken.{Taken}
-use Rattle.wait_model.specs.declared.tasks.Taken.TheVariants as taken
-use Rattle.wait_model.specs.declared.watches.Watch.TheVariants as watch
-use Rattle.wait_model.specs.declared.queues.Form.{Form}
-use Rattle.wait_model.specs.declared.watches.Kind.{Kind}
-use Rattle.wait_model.specs.declared.points.Seen.{Seen}
-use Rattle.wait_model.specs.declared.points.Point.{Point}
-use Rattle.wait_model.specs.declared.points.Point.TheVariants as at
-use Rattle.wait_model.specs.declared.points.WokenPoint.{WokenPoint}
-use Rattle.wait_model.specs.declared.points.WokenPoint.TheVariants as hearing
-use Rattle.wait_model.specs.declared.points.AddPoint.{AddPoint}
-use Rattle.wait_model.specs.declared.points.AddPoint.TheVariants as adding
-use Rattle.wait_model.specs.declared.points.RemovePoint.{RemovePoint}
-use Rattle.wait_model.specs.declared.points.RemovePoint.TheVariants as removing
-use Rattle.wait_model.specs.declared.points.BitPoint.TheVariants as biting
+use Rattle.wait_model.specs.{declared.calls.Call.Call, declared.calls.Event.Event, declared.calls.Answer.Answer}
+use Rattle.wait_model.specs.{declared.tasks.SleepState.SleepState, declared.tasks.Taken.Taken}
+use Rattle.wait_model.specs.{declared.queues.Form.Form, declared.watches.Kind.Kind, declared.points.Seen.Seen}
+use Rattle.wait_model.specs.{declared.points.Point.Point, declared.points.WokenPoint.WokenPoint}
+use Rattle.wait_model.specs.{declared.points.AddPoint.AddPoint, declared.points.RemovePoint.RemovePoint, Words.bit_at}
+use Rattle.wait_model.specs.{Words.flag, Watches.head_of, Watches.mask_of, Sentences.sentence, Sentences.Follows}
+use Rattle.wait_model.specs.{SentenceWaits.waits_woken, Findings.Noted, Findings.none_noted}
 use Rattle.wait_model.specs.Tasks.{sleep_of, taken_of, meets, raise_mask}
-use Rattle.wait_model.specs.Words.{bit_at, flag}
-use Rattle.wait_model.specs.Watches.{head_of, mask_of}
 use Rattle.wait_model.specs.Points.{call_watch, count_of, mode_of}
 use Rattle.wait_model.specs.Programs.{program, program_start, go, ends_with, woken_event, remove_event, active_event}
 use Rattle.wait_model.specs.Programs.{taken_answer, kicked, cond_in}
-use Rattle.wait_model.specs.Phrases.{Rest, makes, finds, when◌then◌otherwise◌, ends}
-use Rattle.wait_model.specs.Sentences.{sentence, Follows}
 use Rattle.wait_model.specs.SentenceSteps.{puts_in, nothing, number, sleeps, unlocks}
-use Rattle.wait_model.specs.SentenceWaits.{waits_woken}
 use Rattle.wait_model.specs.SentenceWalks.{wakes, wakes_one, walks}
-use Rattle.wait_model.specs.Findings.{Noted, none_noted}
+use Rattle.wait_model.specs.declared.calls.Call.TheVariants as calls
+use Rattle.wait_model.specs.declared.calls.Event.TheVariants as event
+use Rattle.wait_model.specs.declared.calls.Answer.TheVariants as answer
+use Rattle.wait_model.specs.declared.tasks.Taken.TheVariants as taken
+use Rattle.wait_model.specs.declared.watches.Watch.TheVariants as watch
+use Rattle.wait_model.specs.declared.points.Point.TheVariants as at
+use Rattle.wait_model.specs.declared.points.WokenPoint.TheVariants as hearing
+use Rattle.wait_model.specs.declared.points.AddPoint.TheVariants as adding
+use Rattle.wait_model.specs.declared.points.RemovePoint.TheVariants as removing
+use Rattle.wait_model.specs.declared.points.BitPoint.TheVariants as biting
+use Rattle.wait_model.specs.Phrases.{Rest, makes, finds, when◌then◌otherwise◌, ends}
 use Rattle.wait_model.proofs.SentenceLaws.SentenceRests.{Knows, Says, anything}
 use Rattle.wait_model.proofs.SentenceLaws.ShortCalls.{short_rest, short_said}
 use Rattle.wait_model.proofs.SentenceLaws.SentenceWaits.{loop_of, loop_rest, loop_said}

@@ -2,38 +2,28 @@
 use Rattle.std.proofs.Common.{refl, ◌∙◌, ap, subst}
 use Rattle.std.specs.Prelude.{ℕ, zero, suc, ◌≡◌, ◌==◌, ◌≤◌, ◌+◌, ◌-◌, Bool, true, false, not, List, Option, Some, None}
 use Rattle.std.specs.Prelude.{if◌then◌else◌, ◌&&◌}
-use Rattle.wait_model.specs.declared.layout.TheConstants.{ALL_DONE}
-use Rattle.wait_model.specs.declared.calls.Call.{Call}
-use Rattle.wait_model.specs.declared.calls.Call.TheVariants as calls
-use Rattle.wait_model.specs.declared.calls.Event.{Event}
-use Rattle.wait_model.specs.declared.calls.Event.TheVariants as event
-use Rattle.wait_model.specs.declared.calls.Answer.{Answer}
-use Rattle.wait_model.specs.declared.queues.CalledEntry.{CalledEntry}
-use Rattle.wait_model.specs.declared.watches.Watch.{Watch}
-use Rattle.wait_model.specs.declared.watches.Watch.TheVariants as watch
-use Rattle.wait_model.specs.declared.points.Planned.{Planned}
-use Rattle.wait_model.specs.declared.points.Seen.{Seen}
-use Rattle.wait_model.specs.declared.points.Point.{Point}
-use Rattle.wait_model.specs.declared.points.Point.TheVariants as at
-use Rattle.wait_model.specs.declared.points.SelectPoint.{SelectPoint}
-use Rattle.wait_model.specs.declared.points.SelectPoint.TheVariants as selecting
-use Rattle.wait_model.specs.declared.points.CountPoint.{CountPoint}
-use Rattle.wait_model.specs.declared.points.CountPoint.TheVariants as counting
-use Rattle.wait_model.specs.declared.watches.Mode.TheVariants as mode
-use Rattle.wait_model.specs.Counts.{taken_done, raised_done}
-use Rattle.wait_model.specs.Tasks.{meets}
+use Rattle.wait_model.specs.{declared.layout.TheConstants.ALL_DONE, declared.calls.Call.Call}
+use Rattle.wait_model.specs.{declared.calls.Event.Event, declared.calls.Answer.Answer}
+use Rattle.wait_model.specs.{declared.queues.CalledEntry.CalledEntry, declared.watches.Watch.Watch}
+use Rattle.wait_model.specs.{declared.points.Planned.Planned, declared.points.Seen.Seen, declared.points.Point.Point}
+use Rattle.wait_model.specs.{declared.points.SelectPoint.SelectPoint, declared.points.CountPoint.CountPoint}
+use Rattle.wait_model.specs.{Counts.taken_done, Counts.raised_done, Tasks.meets, Points.call_watch, Points.count_of}
+use Rattle.wait_model.specs.{Sentences.sentence, SentenceCounts.counts, SentenceCounts.lowers, SentenceWalks.selects}
+use Rattle.wait_model.specs.Findings.{Noted}
 use Rattle.wait_model.specs.Watches.{head_of, number_of, mask_of}
-use Rattle.wait_model.specs.Points.{call_watch, count_of}
 use Rattle.wait_model.specs.Programs.{go, ends_with, zero_answer, is_enough, selected_answer, select_ends, select_next}
 use Rattle.wait_model.specs.Programs.{select_event, count_event}
-use Rattle.wait_model.specs.Phrases.{Rest, Phrase, ◌>>=◌, ◌>>◌, gives, makes, when◌then◌otherwise◌, first_is, Turn}
 use Rattle.wait_model.specs.Phrases.{repeats, leaves, turns, ends}
-use Rattle.wait_model.specs.Sentences.{sentence}
 use Rattle.wait_model.specs.SentenceSteps.{nothing, number, yes_or_no, locks, unlocks, stores}
-use Rattle.wait_model.specs.SentenceCounts.{counts, lowers}
-use Rattle.wait_model.specs.SentenceWalks.{selects}
+use Rattle.wait_model.specs.declared.calls.Call.TheVariants as calls
+use Rattle.wait_model.specs.declared.calls.Event.TheVariants as event
+use Rattle.wait_model.specs.declared.watches.Watch.TheVariants as watch
+use Rattle.wait_model.specs.declared.points.Point.TheVariants as at
+use Rattle.wait_model.specs.declared.points.SelectPoint.TheVariants as selecting
+use Rattle.wait_model.specs.declared.points.CountPoint.TheVariants as counting
+use Rattle.wait_model.specs.declared.watches.Mode.TheVariants as mode
+use Rattle.wait_model.specs.Phrases.{Rest, Phrase, ◌>>=◌, ◌>>◌, gives, makes, when◌then◌otherwise◌, first_is, Turn}
 use Rattle.wait_model.specs.declared.points.Next.TheVariants as next
-use Rattle.wait_model.specs.Findings.{Noted}
 use Rattle.wait_model.proofs.SentenceLaws.SentenceRests.{Knows, Says, AfterLoad, left_at, anything, Some_turns}
 use Rattle.wait_model.proofs.SentenceLaws.SentenceAwaits.{shown_count}
 

@@ -1,55 +1,43 @@
 -- At each point of a call's program some events are left that come to the end of its sentence.
 use Rattle.std.proofs.Common.{refl, arith}
 use Rattle.std.specs.Prelude.{ℕ, zero, suc, ◌+◌, ◌==◌, Bool, true, false, if◌then◌else◌, [], ◌∷◌}
-use Rattle.wait_model.specs.declared.layout.TheConstants.{ALL_DONE}
-use Rattle.wait_model.specs.declared.calls.Call.{Call}
+use Rattle.wait_model.specs.{declared.layout.TheConstants.ALL_DONE, declared.calls.Call.Call}
+use Rattle.wait_model.specs.{declared.calls.Answer.Answer, declared.queues.CalledEntry.CalledEntry}
+use Rattle.wait_model.specs.{declared.queues.Walking.Walking, declared.watches.Watch.Watch, declared.points.Point.Point}
+use Rattle.wait_model.specs.{declared.points.SelectPoint.SelectPoint, declared.points.WalkPoint.WalkPoint}
+use Rattle.wait_model.specs.{Counts.raised_done, Counts.taken_done, Sentences.taken_number, Tasks.state_mask}
+use Rattle.wait_model.specs.{Programs.no_walk, Programs.again as next_hold, Phrases.repeats, SentenceCounts.counts}
+use Rattle.wait_model.specs.{Findings.Noted, Words.flag, Words.bit_at, declared.points.PageStage.PageStage}
+use Rattle.wait_model.specs.Watches.{head_of, number_of, word_of, bit_of, misses}
+use Rattle.wait_model.specs.Points.{call_watch, call_head, count_of}
+use Rattle.wait_model.specs.SentenceSteps.{nothing, number, yes_or_no, unlocks, stores}
+use Rattle.wait_model.specs.SentenceWalks.{WalkTally, the_end, walked, tallied, wakes_off, wakes_one, hands_over}
 use Rattle.wait_model.specs.declared.calls.Call.TheVariants as calls
 use Rattle.wait_model.specs.declared.calls.Event.TheVariants as event
-use Rattle.wait_model.specs.declared.calls.Answer.{Answer}
-use Rattle.wait_model.specs.declared.queues.CalledEntry.{CalledEntry}
-use Rattle.wait_model.specs.declared.queues.Walking.{Walking}
 use Rattle.wait_model.specs.declared.tasks.Sleep.TheVariants as sleep
 use Rattle.wait_model.specs.declared.tasks.Taken.TheVariants as taken
-use Rattle.wait_model.specs.declared.watches.Watch.{Watch}
 use Rattle.wait_model.specs.declared.watches.Watch.TheVariants as watch
-use Rattle.wait_model.specs.declared.points.Point.{Point}
 use Rattle.wait_model.specs.declared.points.Point.TheVariants as at
 use Rattle.wait_model.specs.declared.points.BitPoint.TheVariants as biting
 use Rattle.wait_model.specs.declared.points.CountPoint.TheVariants as counting
-use Rattle.wait_model.specs.declared.points.SelectPoint.{SelectPoint}
 use Rattle.wait_model.specs.declared.points.SelectPoint.TheVariants as selecting
-use Rattle.wait_model.specs.declared.points.WalkPoint.{WalkPoint}
 use Rattle.wait_model.specs.declared.points.WalkPoint.TheVariants as walking
 use Rattle.wait_model.specs.declared.points.AddPoint.TheVariants as adding
 use Rattle.wait_model.specs.declared.points.RemovePoint.TheVariants as removing
 use Rattle.wait_model.specs.declared.points.WokenPoint.TheVariants as hearing
-use Rattle.wait_model.specs.Counts.{raised_done, taken_done}
-use Rattle.wait_model.specs.Sentences.{taken_number}
-use Rattle.wait_model.specs.Tasks.{state_mask}
-use Rattle.wait_model.specs.Watches.{head_of, number_of, word_of, bit_of, misses}
-use Rattle.wait_model.specs.Points.{call_watch, call_head, count_of}
-use Rattle.wait_model.specs.Programs.{no_walk, again as next_hold}
 use Rattle.wait_model.specs.Phrases.{makes, ◌>>◌, gives, finds, when◌then◌otherwise◌, first_is, turns, ends, leaves}
-use Rattle.wait_model.specs.Phrases.{repeats}
-use Rattle.wait_model.specs.SentenceSteps.{nothing, number, yes_or_no, unlocks, stores}
-use Rattle.wait_model.specs.SentenceWalks.{WalkTally, the_end, walked, tallied, wakes_off, wakes_one, hands_over}
 use Rattle.wait_model.specs.declared.queues.End.TheVariants as end_as
-use Rattle.wait_model.specs.SentenceCounts.{counts}
-use Rattle.wait_model.specs.Findings.{Noted}
+use Rattle.wait_model.proofs.{SentenceLaws.ShortCalls.short_end, SentenceLaws.SentenceCalls.heard}
+use Rattle.wait_model.proofs.{SentenceLaws.SentenceCalls.rest_of, SentenceLaws.PageEnds.page_rest_end}
 use Rattle.wait_model.proofs.SentenceLaws.SentenceRests.{CanEnd, over, unsaid, first, found}
-use Rattle.wait_model.proofs.SentenceLaws.ShortCalls.{short_end}
 use Rattle.wait_model.proofs.SentenceLaws.SentenceWalks.{walk_rest, tally, passed}
-use Rattle.wait_model.proofs.SentenceLaws.SentenceWalks as walk
 use Rattle.wait_model.proofs.SentenceLaws.SentenceCounts.{one_rest, all_rest, select_rest, count_rest, more, over_by}
 use Rattle.wait_model.proofs.SentenceLaws.SentenceCounts.{taken}
-use Rattle.wait_model.proofs.SentenceLaws.SentenceCalls.{heard, rest_of}
 use Rattle.wait_model.proofs.SentenceLaws.StepEnds.{some, loaded, count_loaded, lowered, tried}
 use Rattle.wait_model.proofs.SentenceLaws.WaitEnds.{loop_end, await_rest_end, wait_rest_end, lock_rest_end}
-use Rattle.wait_model.specs.Words.{flag, bit_at}
-use Rattle.wait_model.specs.declared.points.PageStage.{PageStage}
+use Rattle.wait_model.proofs.SentenceLaws.SentenceWalks as walk
 use Rattle.wait_model.specs.declared.points.PageStage.TheVariants as staging
 use Rattle.std.specs.Prelude.{◌&&◌}
-use Rattle.wait_model.proofs.SentenceLaws.PageEnds.{page_rest_end}
 
 -- a walk, whose queue has no further member
 module _ (call : Call) where

@@ -4,58 +4,41 @@ use Rattle.std.proofs.lemmas.Bool.Decides.{eqb_tells, nat_tests}
 use Rattle.std.proofs.Common.{refl, sym, ap, ◌∙◌, subst, arith, inl, inr}
 use Rattle.std.specs.Prelude.{ℕ, ◌≡◌, ◌≢◌, ◌==◌, ◌+◌, ◌<◌, ◌≤◌, nat_lt, Bool, true, false, ◌&&◌, if◌then◌else◌, List}
 use Rattle.std.specs.Prelude.{[], ◌∷◌, Option, Some, None, is_some}
+use Rattle.wait_model.specs.{declared.calls.Call.Call, declared.calls.Event.Event, declared.calls.Ran.Ran}
+use Rattle.wait_model.specs.{declared.points.Given.Given, declared.points.Next.Next, declared.points.Point.Point}
+use Rattle.wait_model.specs.{declared.points.Progress.Progress, declared.queues.Member.Member, declared.steps.Step.Step}
+use Rattle.wait_model.specs.{declared.watches.Entry.Entry, declared.watches.Watch.Watch, DoneCounts.IsDoneStore}
+use Rattle.wait_model.specs.{Facts.Kept, Facts.Facts, Programs.program_start, declared.watches.Kind.Kind}
+use Rattle.wait_model.specs.{SentenceWalks.shares_head, Fold.after, Words.head_word, Words.Suited, Views.View}
+use Rattle.wait_model.specs.Tasks.{task_word}
 use Rattle.wait_model.specs.declared.layout.TheConstants.{BREAK, ALL_DONE, EVENTS}
-use Rattle.wait_model.specs.declared.calls.Call.{Call}
-use Rattle.wait_model.specs.declared.calls.Call.TheVariants as calls
-use Rattle.wait_model.specs.declared.calls.Event.{Event}
-use Rattle.wait_model.specs.declared.calls.Event.TheVariants as event
-use Rattle.wait_model.specs.declared.calls.Ran.{Ran}
-use Rattle.wait_model.specs.declared.calls.Ran.TheVariants as ran
-use Rattle.wait_model.specs.declared.points.Given.{Given}
-use Rattle.wait_model.specs.declared.points.Next.{Next}
-use Rattle.wait_model.specs.declared.points.Next.TheVariants as next
-use Rattle.wait_model.specs.declared.points.Point.{Point}
-use Rattle.wait_model.specs.declared.points.Point.TheVariants as at
-use Rattle.wait_model.specs.declared.points.WalkPoint.TheVariants as walking
-use Rattle.wait_model.specs.declared.points.Progress.{Progress}
-use Rattle.wait_model.specs.declared.points.Progress.TheVariants as now
-use Rattle.wait_model.specs.declared.queues.Member.{Member}
-use Rattle.wait_model.specs.declared.steps.Step.{Step}
-use Rattle.wait_model.specs.declared.steps.Step.TheVariants as step
-use Rattle.wait_model.specs.declared.watches.Entry.{Entry}
-use Rattle.wait_model.specs.declared.watches.Watch.{Watch}
-use Rattle.wait_model.specs.declared.watches.Watch.TheVariants as watch
-use Rattle.wait_model.specs.DoneCounts.{IsDoneStore}
-use Rattle.wait_model.specs.Facts.{Kept, Facts}
 use Rattle.wait_model.specs.Points.{call_watch, call_head, given_at}
-use Rattle.wait_model.specs.Programs.{program_start}
-use Rattle.wait_model.specs.declared.watches.Kind.{Kind}
-use Rattle.wait_model.specs.SentenceWalks.{shares_head}
-use Rattle.wait_model.proofs.QueueLaws.Arrivals.{from_in}
-use Rattle.wait_model.proofs.QueueLaws.MemberStands.{member_is}
 use Rattle.wait_model.specs.Queues.{IsIn, Arrival, arrive, is_entry, members_from, rank_at}
 use Rattle.wait_model.specs.Reached.{IsMember, IsLinked, IsSoundCall, IsSound, HomeAt, held_at}
 use Rattle.wait_model.specs.Rows.{Reads, Allowed, AllAllowed}
 use Rattle.wait_model.specs.Runs.{State, own, given_by, event_steps, planned, seen_by, happens, arrives_from}
 use Rattle.wait_model.specs.Runs.{progress_at, progress_after, called_by, Continues, IsItem, IsRunFrom, IsRun, made_in}
 use Rattle.wait_model.specs.Runs.{start_state}
-use Rattle.wait_model.specs.Fold.{after}
-use Rattle.wait_model.specs.Words.{head_word, Suited}
 use Rattle.wait_model.specs.Tables.{Table, Words, value_of, next as step_to, steps}
-use Rattle.wait_model.specs.Views.{View}
 use Rattle.wait_model.specs.Watches.{counted, same, IsThere, head_of, is_done, is_for, owner}
-use Rattle.wait_model.specs.Tasks.{task_word}
-use Rattle.wait_model.proofs.WordLaws.CondWords.{set_rest, head_counted}
-use Rattle.wait_model.proofs.WordLaws.DecodedWords.{owner_own}
-use Rattle.wait_model.proofs.AccountLaws.DoneStores.{event_stored}
+use Rattle.wait_model.specs.Findings.{Noted, none_noted, notes, is_waiting, MayComeTo}
+use Rattle.wait_model.specs.declared.calls.Call.TheVariants as calls
+use Rattle.wait_model.specs.declared.calls.Event.TheVariants as event
+use Rattle.wait_model.specs.declared.calls.Ran.TheVariants as ran
+use Rattle.wait_model.specs.declared.points.Next.TheVariants as next
+use Rattle.wait_model.specs.declared.points.Point.TheVariants as at
+use Rattle.wait_model.specs.declared.points.WalkPoint.TheVariants as walking
+use Rattle.wait_model.specs.declared.points.Progress.TheVariants as now
+use Rattle.wait_model.specs.declared.steps.Step.TheVariants as step
+use Rattle.wait_model.specs.declared.watches.Watch.TheVariants as watch
+use Rattle.wait_model.proofs.{QueueLaws.Arrivals.from_in, QueueLaws.MemberStands.member_is, WordLaws.CondWords.set_rest}
+use Rattle.wait_model.proofs.{WordLaws.CondWords.head_counted, WordLaws.DecodedWords.owner_own}
+use Rattle.wait_model.proofs.{AccountLaws.DoneStores.event_stored, StepLaws.KeptLaws.step_keeps}
+use Rattle.wait_model.proofs.{HistoryLaws.HoldLooks.looks_same, HistoryLaws.HoldLooks.steps_other}
+use Rattle.wait_model.proofs.{HistoryLaws.UnlockedLooks.peeks_same, StepLaws.TableLaws.AllSteps}
+use Rattle.wait_model.proofs.SentenceLaws.SentenceRests.{Knows}
 use Rattle.wait_model.proofs.RunLaws.EveryRun.{IsMade, made_of, made_sound, opened_sound, start_sound}
 use Rattle.wait_model.proofs.Functions.{put_at, put_same, put_other}
-use Rattle.wait_model.proofs.StepLaws.KeptLaws.{step_keeps}
-use Rattle.wait_model.proofs.HistoryLaws.HoldLooks.{looks_same, steps_other}
-use Rattle.wait_model.proofs.HistoryLaws.UnlockedLooks.{peeks_same}
-use Rattle.wait_model.proofs.StepLaws.TableLaws.{AllSteps}
-use Rattle.wait_model.specs.Findings.{Noted, none_noted, notes, is_waiting, MayComeTo}
-use Rattle.wait_model.proofs.SentenceLaws.SentenceRests.{Knows}
 
 -- what is known of a task that stands at this progress
 abbrev pub ReadyBy : Table → ℕ → Noted → Progress → Type 0

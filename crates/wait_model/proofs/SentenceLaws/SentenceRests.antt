@@ -1,22 +1,15 @@
 -- What is left of a sentence after its first events, and how an event of a program begins what is left.
 use Rattle.std.specs.Prelude.{ℕ, ◌≡◌, ◌≤◌, true, false, List, [], ◌∷◌, Some, None}
-use Rattle.wait_model.specs.declared.layout.TheConstants.{ALL_DONE}
-use Rattle.wait_model.specs.declared.calls.Call.{Call}
-use Rattle.wait_model.specs.declared.calls.Event.{Event}
-use Rattle.wait_model.specs.declared.calls.Answer.{Answer}
-use Rattle.wait_model.specs.declared.points.Planned.{Planned}
-use Rattle.wait_model.specs.declared.points.Next.{Next}
-use Rattle.wait_model.specs.declared.points.Next.TheVariants as next
-use Rattle.wait_model.specs.declared.points.Seen.{Seen}
-use Rattle.wait_model.specs.declared.points.Point.{Point}
-use Rattle.wait_model.specs.Watches.{is_done}
-use Rattle.wait_model.specs.Points.{call_watch, call_head}
-use Rattle.wait_model.specs.Reached.{held_at}
-use Rattle.wait_model.specs.declared.points.Progress.TheVariants as now
-use Rattle.std.proofs.Common.{refl}
+use Rattle.wait_model.specs.{declared.layout.TheConstants.ALL_DONE, declared.calls.Call.Call}
+use Rattle.wait_model.specs.{declared.calls.Event.Event, declared.calls.Answer.Answer, declared.points.Planned.Planned}
+use Rattle.wait_model.specs.{declared.points.Next.Next, declared.points.Seen.Seen, declared.points.Point.Point}
+use Rattle.wait_model.specs.{Watches.is_done, Points.call_watch, Points.call_head, Reached.held_at}
 use Rattle.wait_model.specs.SentenceSteps.{number}
 use Rattle.wait_model.specs.Phrases.{Rest, first_is, finds, ends}
 use Rattle.wait_model.specs.Findings.{Noted, notes, is_waiting, MayComeTo}
+use Rattle.wait_model.specs.declared.points.Next.TheVariants as next
+use Rattle.wait_model.specs.declared.points.Progress.TheVariants as now
+use Rattle.std.proofs.Common.{refl}
 
 -- what a call knows of what it finds: the own entry is off until the call queues it, a count is in its range, and it
 -- stays as it was loaded while the head is held

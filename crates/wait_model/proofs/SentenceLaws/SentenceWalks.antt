@@ -2,40 +2,29 @@
 use Rattle.std.proofs.Common.{refl, subst}
 use Rattle.std.specs.Prelude.{ℕ, zero, suc, ◌≡◌, ◌==◌, ◌≤◌, ◌<◌, Bool, true, false, not, List, Option, Some, None}
 use Rattle.std.specs.Prelude.{is_some, if◌then◌else◌, ◌&&◌}
-use Rattle.wait_model.specs.declared.layout.TheConstants.{BREAK}
-use Rattle.wait_model.specs.declared.calls.Call.{Call}
-use Rattle.wait_model.specs.declared.calls.Event.{Event}
-use Rattle.wait_model.specs.declared.calls.Event.TheVariants as event
-use Rattle.wait_model.specs.declared.calls.Answer.{Answer}
-use Rattle.wait_model.specs.declared.queues.CalledEntry.{CalledEntry}
-use Rattle.wait_model.specs.declared.queues.Walking.{Walking}
-use Rattle.wait_model.specs.declared.queues.Mark.{Mark}
-use Rattle.wait_model.specs.declared.queues.End.TheVariants as end_as
-use Rattle.wait_model.specs.declared.watches.Watch.{Watch}
-use Rattle.wait_model.specs.declared.watches.Watch.TheVariants as watch
-use Rattle.wait_model.specs.declared.watches.Kind.{Kind}
-use Rattle.wait_model.specs.declared.watches.Kind.TheVariants as kind
-use Rattle.wait_model.specs.declared.points.Planned.{Planned}
-use Rattle.wait_model.specs.declared.points.Seen.{Seen}
-use Rattle.wait_model.specs.declared.points.Point.{Point}
-use Rattle.wait_model.specs.declared.points.Point.TheVariants as at
-use Rattle.wait_model.specs.declared.points.WalkPoint.{WalkPoint}
-use Rattle.wait_model.specs.declared.points.WalkPoint.TheVariants as walking
-use Rattle.wait_model.specs.Tasks.{meets}
+use Rattle.wait_model.specs.{declared.layout.TheConstants.BREAK, declared.calls.Call.Call, declared.calls.Event.Event}
+use Rattle.wait_model.specs.{declared.calls.Answer.Answer, declared.queues.CalledEntry.CalledEntry}
+use Rattle.wait_model.specs.{declared.queues.Walking.Walking, declared.queues.Mark.Mark, declared.watches.Watch.Watch}
+use Rattle.wait_model.specs.{declared.watches.Kind.Kind, declared.points.Planned.Planned, declared.points.Seen.Seen}
+use Rattle.wait_model.specs.{declared.points.Point.Point, declared.points.WalkPoint.WalkPoint, Tasks.meets}
+use Rattle.wait_model.specs.{SentenceSteps.locks, SentenceSteps.unlocks, Findings.Noted, Findings.MayComeTo, Words.flag}
+use Rattle.wait_model.specs.{Words.bit_at, declared.points.PageStage.PageStage}
 use Rattle.wait_model.specs.Watches.{number_of, mask_of, misses, is_page, word_of, bit_of}
 use Rattle.wait_model.specs.Points.{call_aim, call_watch, call_head, count_of, mode_of}
 use Rattle.wait_model.specs.Programs.{go, walk_event, past, onward, reached, resumed, call_next, call_entry}
 use Rattle.wait_model.specs.Programs.{again as next_hold}
-use Rattle.wait_model.specs.Phrases.{Rest, Phrase, ◌>>◌, gives, makes, finds, when◌then◌otherwise◌, first_is, Turn}
 use Rattle.wait_model.specs.Phrases.{repeats, leaves, after_turn, turns, ends}
-use Rattle.wait_model.specs.SentenceSteps.{locks, unlocks}
 use Rattle.wait_model.specs.SentenceWalks.{WalkTally, tallied, walked, wakes_off, hands_over, takes_page, at_stop}
 use Rattle.wait_model.specs.SentenceWalks.{calls_function, Ahead, a_break, the_end, an_entry, comes_to, passes}
 use Rattle.wait_model.specs.SentenceWalks.{shares_head, walk_turn, walks}
-use Rattle.wait_model.specs.Findings.{Noted, MayComeTo}
+use Rattle.wait_model.specs.declared.calls.Event.TheVariants as event
+use Rattle.wait_model.specs.declared.queues.End.TheVariants as end_as
+use Rattle.wait_model.specs.declared.watches.Watch.TheVariants as watch
+use Rattle.wait_model.specs.declared.watches.Kind.TheVariants as kind
+use Rattle.wait_model.specs.declared.points.Point.TheVariants as at
+use Rattle.wait_model.specs.declared.points.WalkPoint.TheVariants as walking
+use Rattle.wait_model.specs.Phrases.{Rest, Phrase, ◌>>◌, gives, makes, finds, when◌then◌otherwise◌, first_is, Turn}
 use Rattle.wait_model.proofs.SentenceLaws.SentenceRests.{Says, Some_turns, first_more}
-use Rattle.wait_model.specs.Words.{flag, bit_at}
-use Rattle.wait_model.specs.declared.points.PageStage.{PageStage}
 use Rattle.wait_model.specs.declared.points.PageStage.TheVariants as staging
 use Rattle.wait_model.specs.declared.watches.Mode.TheVariants as mode
 

@@ -1,23 +1,16 @@
 -- The calls of one event: what is left of each, that its program says it, comes to its end, and makes it.
 use Rattle.std.proofs.Common.{refl}
 use Rattle.std.specs.Prelude.{ℕ, ◌≡◌, Bool, true, false, List, [], ◌∷◌}
-use Rattle.wait_model.specs.declared.calls.Call.{Call}
+use Rattle.wait_model.specs.{declared.calls.Call.Call, declared.calls.Event.Event, declared.calls.Answer.Answer}
+use Rattle.wait_model.specs.{declared.points.Seen.Seen, declared.points.Point.Point, Watches.number_of}
+use Rattle.wait_model.specs.{Programs.program, Programs.program_start, Sentences.sentence, Sentences.Follows}
+use Rattle.wait_model.specs.{SentenceSteps.number, Making.Makes, Findings.Noted, Findings.none_noted}
+use Rattle.wait_model.specs.Phrases.{Rest, finds, ends}
 use Rattle.wait_model.specs.declared.calls.Call.TheVariants as calls
-use Rattle.wait_model.specs.declared.calls.Event.{Event}
 use Rattle.wait_model.specs.declared.calls.Event.TheVariants as event
-use Rattle.wait_model.specs.declared.calls.Answer.{Answer}
 use Rattle.wait_model.specs.declared.calls.Answer.TheVariants as answer
-use Rattle.wait_model.specs.declared.points.Seen.{Seen}
-use Rattle.wait_model.specs.declared.points.Point.{Point}
 use Rattle.wait_model.specs.declared.points.Point.TheVariants as at
 use Rattle.wait_model.specs.declared.watches.Watch.TheVariants as watch
-use Rattle.wait_model.specs.Watches.{number_of}
-use Rattle.wait_model.specs.Programs.{program, program_start}
-use Rattle.wait_model.specs.Phrases.{Rest, finds, ends}
-use Rattle.wait_model.specs.Sentences.{sentence, Follows}
-use Rattle.wait_model.specs.SentenceSteps.{number}
-use Rattle.wait_model.specs.Making.{Makes}
-use Rattle.wait_model.specs.Findings.{Noted, none_noted}
 use Rattle.wait_model.proofs.SentenceLaws.MadeFindings.{sees, fair, shown}
 use Rattle.wait_model.proofs.SentenceLaws.SentenceRests.{Says, anything, CanEnd, over, unsaid, first, found}
 

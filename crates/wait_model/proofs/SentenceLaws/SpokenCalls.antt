@@ -3,26 +3,19 @@ use Rattle.std.proofs.lemmas.Bool.Decides.{eqb_tells}
 use Rattle.std.proofs.Common.{refl, sym, subst, inl, inr}
 use mathlib.Core.List.{append_assoc}
 use Rattle.std.specs.Prelude.{ℕ, ◌≡◌, ◌==◌, Bool, true, false, if◌then◌else◌, List, [], ◌∷◌, ◌++◌}
-use Rattle.wait_model.specs.declared.calls.Call.{Call}
-use Rattle.wait_model.specs.declared.calls.Event.{Event}
-use Rattle.wait_model.specs.declared.calls.Answer.{Answer}
-use Rattle.wait_model.specs.declared.calls.Ran.{Ran}
-use Rattle.wait_model.specs.declared.calls.Ran.TheVariants as ran
-use Rattle.wait_model.specs.declared.points.Progress.{Progress}
-use Rattle.wait_model.specs.declared.points.Progress.TheVariants as now
-use Rattle.wait_model.specs.declared.points.Next.{Next}
-use Rattle.wait_model.specs.declared.points.Next.TheVariants as next
-use Rattle.wait_model.specs.declared.points.Point.{Point}
+use Rattle.wait_model.specs.{declared.calls.Call.Call, declared.calls.Event.Event, declared.calls.Answer.Answer}
+use Rattle.wait_model.specs.{declared.calls.Ran.Ran, declared.points.Progress.Progress, declared.points.Next.Next}
+use Rattle.wait_model.specs.{declared.points.Point.Point, Programs.program_start, Sentences.Follows, Sentences.Begins}
 use Rattle.wait_model.specs.Runs.{State, planned, seen_by, happens, state_after, state_of, start_state, progress_at}
 use Rattle.wait_model.specs.Runs.{progress_after, Continues, IsItem, IsRunFrom}
-use Rattle.wait_model.specs.Programs.{program_start}
-use Rattle.wait_model.specs.Sentences.{Follows, Begins}
 use Rattle.wait_model.specs.Spoken.{said_by, said_after, said_in, CallsFollowSentences, OpenCallsBegin}
 use Rattle.wait_model.specs.Findings.{Noted, none_noted, notes}
-use Rattle.wait_model.proofs.SentenceLaws.SentenceRests.{left_at}
+use Rattle.wait_model.specs.declared.calls.Ran.TheVariants as ran
+use Rattle.wait_model.specs.declared.points.Progress.TheVariants as now
+use Rattle.wait_model.specs.declared.points.Next.TheVariants as next
+use Rattle.wait_model.proofs.SentenceLaws.SentenceRests.{left_at, CanEnd}
 use Rattle.wait_model.proofs.SentenceLaws.SentenceFindings.{noted_by, KnowsBy, KnownFinding, knows_all}
 use Rattle.wait_model.proofs.SentenceLaws.SentenceEnds.{can_end}
-use Rattle.wait_model.proofs.SentenceLaws.SentenceRests.{CanEnd}
 use Rattle.wait_model.proofs.SentenceLaws.SentenceCalls.{rest_of, start_said, says}
 
 abbrev pub noted_after : ℕ → Noted → List Ran → Noted

@@ -4,18 +4,14 @@ use Rattle.std.proofs.lemmas.Nat.Bits.{bit_at-pow_same}
 use Rattle.std.proofs.Common.{ap, refl, sym, subst, arith, inl, inr}
 use Rattle.std.proofs.lemmas.Bool.Decides.{eqb_tells, nat_tests}
 use Rattle.std.specs.Prelude.{◌<◌, ◌/◌, ◌%◌, ◌^◌, ℕ, ◌≡◌, ◌+◌, ◌-◌, ◌==◌, Bool, true, false, not, if◌then◌else◌, ◌∷◌}
-use Rattle.wait_model.specs.declared.layout.TheConstants.{ALL_DONE}
-use Rattle.wait_model.specs.declared.calls.Event.TheVariants as event
-use Rattle.wait_model.specs.declared.queues.Form.{Form}
-use Rattle.wait_model.specs.declared.watches.Watch.{Watch}
-use Rattle.wait_model.specs.declared.watches.Watch.TheVariants as watch
-use Rattle.wait_model.specs.Words.{flag, bit_at}
+use Rattle.wait_model.specs.{declared.layout.TheConstants.ALL_DONE, declared.queues.Form.Form}
+use Rattle.wait_model.specs.{declared.watches.Watch.Watch, Words.flag, Words.bit_at, SentenceBits.tries}
+use Rattle.wait_model.specs.{SentenceCounts.counts, SentenceCounts.lowers, Findings.Noted}
 use Rattle.wait_model.specs.Watches.{head_of, number_of, misses}
-use Rattle.wait_model.specs.Phrases.{Rest, gives, finds, when◌then◌otherwise◌}
 use Rattle.wait_model.specs.SentenceSteps.{is_met, queues, takes_off, unlocks, stores}
-use Rattle.wait_model.specs.SentenceBits.{tries}
-use Rattle.wait_model.specs.SentenceCounts.{counts, lowers}
-use Rattle.wait_model.specs.Findings.{Noted}
+use Rattle.wait_model.specs.declared.calls.Event.TheVariants as event
+use Rattle.wait_model.specs.declared.watches.Watch.TheVariants as watch
+use Rattle.wait_model.specs.Phrases.{Rest, gives, finds, when◌then◌otherwise◌}
 use Rattle.wait_model.proofs.SentenceLaws.SentenceRests.{AfterLoad, Some_turns, CanEnd, first, found}
 
 pub some : (R : ℕ → Rest) (n : ℕ) → CanEnd (R n) → CanEnd (Some_turns R)

@@ -1,33 +1,27 @@
 -- At each point of a wait some events are left that come to the end of its sentence.
 use Rattle.std.proofs.Common.{refl}
 use Rattle.std.specs.Prelude.{ℕ, Bool, true, false, if◌then◌else◌, ◌∷◌}
-use Rattle.wait_model.specs.declared.calls.Call.{Call}
+use Rattle.wait_model.specs.{declared.calls.Call.Call, declared.tasks.SleepState.SleepState}
+use Rattle.wait_model.specs.{declared.watches.Watch.Watch, declared.points.Point.Point}
+use Rattle.wait_model.specs.{declared.points.FinishPoint.FinishPoint, Tasks.state_mask, Tasks.looks_in, Watches.head_of}
+use Rattle.wait_model.specs.{Phrases.turns, Phrases.ends, SentenceWaits.may_stand, Findings.Noted}
+use Rattle.wait_model.specs.Points.{call_watch, call_head, state_in, form_of}
+use Rattle.wait_model.specs.SentenceSteps.{Prepared, is_ready, is_signalled, is_worn, number, minus_4, enters}
+use Rattle.wait_model.specs.SentenceSteps.{takes_off, unlocks, looks, acts, finishes}
+use Rattle.wait_model.specs.SentenceCounts.{counts, by_signal, by_count}
 use Rattle.wait_model.specs.declared.calls.Call.TheVariants as calls
 use Rattle.wait_model.specs.declared.calls.Event.TheVariants as event
 use Rattle.wait_model.specs.declared.queues.Form.TheVariants as forms
 use Rattle.wait_model.specs.declared.tasks.Sleep.TheVariants as sleep
-use Rattle.wait_model.specs.declared.tasks.SleepState.{SleepState}
-use Rattle.wait_model.specs.declared.watches.Watch.{Watch}
 use Rattle.wait_model.specs.declared.watches.Watch.TheVariants as watch
-use Rattle.wait_model.specs.declared.points.Point.{Point}
 use Rattle.wait_model.specs.declared.points.Point.TheVariants as at
 use Rattle.wait_model.specs.declared.points.PreparePoint.TheVariants as preparing
 use Rattle.wait_model.specs.declared.points.LeavePoint.TheVariants as leaving
-use Rattle.wait_model.specs.declared.points.FinishPoint.{FinishPoint}
 use Rattle.wait_model.specs.declared.points.FinishPoint.TheVariants as finishing
 use Rattle.wait_model.specs.declared.points.AwaitPoint.TheVariants as awaiting
 use Rattle.wait_model.specs.declared.points.BitPoint.TheVariants as biting
 use Rattle.wait_model.specs.declared.calls.Answer.TheVariants as answer
-use Rattle.wait_model.specs.Tasks.{state_mask, looks_in}
-use Rattle.wait_model.specs.Watches.{head_of}
-use Rattle.wait_model.specs.Points.{call_watch, call_head, state_in, form_of}
 use Rattle.wait_model.specs.Phrases.{Rest, makes, ◌>>◌, gives, finds, when◌then◌otherwise◌, repeat, repeats, leaves}
-use Rattle.wait_model.specs.Phrases.{turns, ends}
-use Rattle.wait_model.specs.SentenceSteps.{Prepared, is_ready, is_signalled, is_worn, number, minus_4, enters}
-use Rattle.wait_model.specs.SentenceSteps.{takes_off, unlocks, looks, acts, finishes}
-use Rattle.wait_model.specs.SentenceWaits.{may_stand}
-use Rattle.wait_model.specs.SentenceCounts.{counts, by_signal, by_count}
-use Rattle.wait_model.specs.Findings.{Noted}
 use Rattle.wait_model.proofs.SentenceLaws.SentenceRests.{CanEnd, over, unsaid, first, found}
 use Rattle.wait_model.proofs.SentenceLaws.SentenceWaits.{entered_rest, finish_rest, loop_rest}
 use Rattle.wait_model.proofs.SentenceLaws.SentenceWaits as waiting

@@ -1,21 +1,17 @@
 -- The laws on bits, and the law of no lost wake, from what a step does to each part.
 use Rattle.std.proofs.Common.{refl, sym, ◌∙◌, subst, inl, inr}
 use Rattle.std.specs.Prelude.{ℕ, ◌≡◌, ◌≢◌, ◌⊎◌, Some, None, true, false, IsTrue}
-use Rattle.wait_model.specs.declared.watches.Watch.{Watch}
-use Rattle.wait_model.specs.declared.watches.Entry.{Entry}
-use Rattle.wait_model.specs.declared.steps.Step.{Step}
+use Rattle.wait_model.specs.{declared.watches.Watch.Watch, declared.watches.Entry.Entry, declared.steps.Step.Step}
+use Rattle.wait_model.specs.{Fold.after, Functions.put}
 use Rattle.wait_model.specs.Facts.{Facts, Roused, Selected, Kept}
 use Rattle.wait_model.specs.Views.{Walk, View, covers}
-use Rattle.wait_model.specs.Fold.{after}
 use Rattle.wait_model.specs.Watches.{same, head_of, is_bit}
 use Rattle.wait_model.specs.Tables.{Table, met, next}
 use Rattle.wait_model.specs.Laws.{Waits, Covered, Spent, Tried, Excused, NoLostWake, Others}
-use Rattle.wait_model.specs.Functions.{put}
-use Rattle.wait_model.proofs.StepLaws.OwnSteps.{TriedMoves}
+use Rattle.wait_model.proofs.{StepLaws.OwnSteps.TriedMoves, StepLaws.OtherViews.apart, Functions.put_case}
+use Rattle.wait_model.proofs.Functions.{put_at}
 use Rattle.wait_model.proofs.StepLaws.UntouchedParts.{Ended, Carried, Free, Outcome, Moves, own_view}
 use Rattle.wait_model.proofs.Sameness.{same_head, same_bit, same_bit_is, bit_not_counted}
-use Rattle.wait_model.proofs.StepLaws.OtherViews.{apart}
-use Rattle.wait_model.proofs.Functions.{put_case, put_at}
 use Rattle.wait_model.specs.declared.steps.Step.TheVariants as step
 
 -- an entry for a bit stands for that bit alone

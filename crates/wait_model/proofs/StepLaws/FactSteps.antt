@@ -2,25 +2,21 @@
 use Rattle.std.proofs.Common.{refl, sym, ◌∙◌, ap, subst, arith, inl, inr}
 use Rattle.std.specs.Prelude.{ℕ, ◌≡◌, ◌≢◌, ◌<◌, ◌≤◌, Option, Some, None, Bool, true, false, not, ◌&&◌, ◌||◌}
 use Rattle.std.specs.Prelude.{if◌then◌else◌}
-use Rattle.wait_model.specs.declared.layout.TheConstants.{ENTRIES}
-use Rattle.wait_model.specs.declared.watches.Watch.{Watch}
-use Rattle.wait_model.specs.declared.watches.Entry.{Entry}
-use Rattle.wait_model.specs.declared.watches.Aim.{Aim}
-use Rattle.wait_model.specs.declared.steps.Step.{Step}
+use Rattle.wait_model.specs.{declared.layout.TheConstants.ENTRIES, declared.watches.Watch.Watch}
+use Rattle.wait_model.specs.{declared.watches.Entry.Entry, declared.watches.Aim.Aim, declared.steps.Step.Step}
+use Rattle.wait_model.specs.Functions.{put}
 use Rattle.wait_model.specs.Facts.{Agrees, OfView, Facts, BitFacts}
 use Rattle.wait_model.specs.Views.{Look, unseen, off, elsewhere, shown, Walk, Hold, View, no_hold, concerns, all_passed}
 use Rattle.wait_model.specs.Fold.{paused, after_unlock, after}
 use Rattle.wait_model.specs.Watches.{same, head_of, is_done, is_bit, page}
 use Rattle.wait_model.specs.Tables.{Words, Table, met, publish, consume, raised_spent, next}
-use Rattle.wait_model.specs.Functions.{put}
 use Rattle.wait_model.specs.Rows.{Lowers, Suits, MayPublish, Allowed}
+use Rattle.wait_model.proofs.{StepLaws.UnlockSteps.unlock_hold, StepLaws.UnlockSteps.spent_rises, Functions.put_at}
 use Rattle.wait_model.proofs.StepLaws.OwnViews.{of_unlocked, of_publish, unmet_stays, of_consume, of_tas_for, of_queue}
 use Rattle.wait_model.proofs.StepLaws.OwnViews.{of_unqueue, of_lock}
 use Rattle.wait_model.proofs.Sameness.{same_head, publish_other, consume_sets_none, same_bit_is}
-use Rattle.wait_model.proofs.StepLaws.UnlockSteps.{unlock_hold, spent_rises}
 use Rattle.wait_model.proofs.StepLaws.OtherViews.{other_holder, other_entry, other_words, apart, one_holder_from}
 use Rattle.wait_model.proofs.StepLaws.OtherViews.{all_views}
-use Rattle.wait_model.proofs.Functions.{put_at}
 use Rattle.wait_model.specs.declared.watches.Watch.TheVariants as watch
 use Rattle.wait_model.specs.declared.steps.Step.TheVariants as step
 

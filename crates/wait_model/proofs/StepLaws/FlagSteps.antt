@@ -1,23 +1,15 @@
 -- The law of no lost flag, step by step, but for publish and unlock.
 use Rattle.std.proofs.Common.{refl, sym, ◌∙◌, ap, subst, arith, inl, inr}
 use Rattle.std.specs.Prelude.{ℕ, ◌≡◌, ◌≢◌, ◌-◌, ◌^◌, ◌<◌, ◌⊎◌, Option, Some, None, Bool, true, false, not, ◌&&◌, IsTrue}
-use Rattle.wait_model.specs.declared.watches.Watch.{Watch}
-use Rattle.wait_model.specs.declared.watches.Entry.{Entry}
-use Rattle.wait_model.specs.declared.watches.Aim.{Aim}
-use Rattle.wait_model.specs.declared.steps.Step.{Step}
-use Rattle.wait_model.specs.Facts.{Facts}
+use Rattle.wait_model.specs.{declared.watches.Watch.Watch, declared.watches.Entry.Entry, declared.watches.Aim.Aim}
+use Rattle.wait_model.specs.{declared.steps.Step.Step, Facts.Facts, Fold.after, Words.flag, Words.entry_of}
+use Rattle.wait_model.specs.{Laws.Unheard, Laws.NoLostFlag, Functions.put, Rows.Reads, Rows.Lowers}
 use Rattle.wait_model.specs.Views.{View, ahead, warns}
-use Rattle.wait_model.specs.Fold.{after}
 use Rattle.wait_model.specs.Watches.{head_of, failing, owner, page}
 use Rattle.wait_model.specs.Tables.{Words, Table, met, next}
-use Rattle.wait_model.specs.Words.{flag, entry_of}
-use Rattle.wait_model.specs.Laws.{Unheard, NoLostFlag}
-use Rattle.wait_model.specs.Functions.{put}
-use Rattle.wait_model.specs.Rows.{Reads, Lowers}
-use Rattle.wait_model.proofs.StepLaws.WakeSteps.{ahead_begun}
-use Rattle.wait_model.proofs.StepLaws.LoadSteps.{owes_peeked}
+use Rattle.wait_model.proofs.{StepLaws.WakeSteps.ahead_begun, StepLaws.LoadSteps.owes_peeked}
+use Rattle.wait_model.proofs.{Sameness.consume_sets_none, Sameness.failing_unmet}
 use Rattle.wait_model.proofs.StepLaws.UntouchedParts.{back_view, flag_framed, at_view}
-use Rattle.wait_model.proofs.Sameness.{consume_sets_none, failing_unmet}
 use Rattle.wait_model.proofs.Functions.{put_case, put_at, bool_or}
 use Rattle.wait_model.specs.declared.steps.Step.TheVariants as step
 

@@ -1,27 +1,24 @@
 -- Each step that a task may make leads from a table that meets the laws to such a table again.
 use Rattle.std.proofs.Common.{refl, ◌∙◌}
 use Rattle.std.specs.Prelude.{ℕ, ◌≡◌, Some, None}
-use Rattle.wait_model.specs.declared.steps.Step.{Step}
-use Rattle.wait_model.specs.Rows.{Allowed}
-use Rattle.wait_model.specs.Facts.{OfView, Facts, Kept, StepKeeps, PageFacts}
-use Rattle.wait_model.specs.Fold.{after}
-use Rattle.wait_model.specs.Tables.{Table, next}
-use Rattle.wait_model.specs.Words.{flag}
+use Rattle.wait_model.specs.{declared.steps.Step.Step, Rows.Allowed, Fold.after, Tables.Table, Tables.next, Words.flag}
 use Rattle.wait_model.specs.Laws.{NoLostFlag}
-use Rattle.wait_model.proofs.BitLaws.PickedEntries.{unqueue_bits}
+use Rattle.wait_model.specs.Facts.{OfView, Facts, Kept, StepKeeps, PageFacts}
+use Rattle.wait_model.proofs.{BitLaws.PickedEntries.unqueue_bits, StepLaws.WakeSteps.wake_moves}
+use Rattle.wait_model.proofs.{StepLaws.WakeSteps.lock_moves, StepLaws.PublishSteps.publish_moves}
+use Rattle.wait_model.proofs.{StepLaws.PublishSteps.publish_flags, StepLaws.LoadSteps.load_moves}
+use Rattle.wait_model.proofs.{StepLaws.LoadSteps.peek_moves, StepLaws.UntouchedParts.Moves}
+use Rattle.wait_model.proofs.{StepLaws.UnlockSteps.unlock_moves, StepLaws.UnlockSteps.unlock_flags}
+use Rattle.wait_model.proofs.{StepLaws.CombinedLaws.no_lost_from, BitLaws.PageSteps.pages_next}
 use Rattle.wait_model.proofs.StepLaws.StoreSteps.{state_moves, queue_moves, flag_moves}
 use Rattle.wait_model.proofs.StepLaws.OwnViews.{of_state, of_wake, of_saw, of_peek, of_load, of_woken, of_unflag}
 use Rattle.wait_model.proofs.StepLaws.OwnViews.{of_flag, of_mark}
 use Rattle.wait_model.proofs.StepLaws.QuietSteps.{slept_moves, signal_moves, accept_moves, look_moves, mark_moves}
 use Rattle.wait_model.proofs.StepLaws.QuietSteps.{unmark_moves, saw_moves, woken_moves, unqueue_moves, consume_moves}
 use Rattle.wait_model.proofs.StepLaws.QuietSteps.{unflag_moves, tas_for_moves, handed_moves}
-use Rattle.wait_model.proofs.StepLaws.WakeSteps.{wake_moves, lock_moves}
-use Rattle.wait_model.proofs.StepLaws.PublishSteps.{publish_moves, publish_flags}
 use Rattle.wait_model.proofs.StepLaws.OwnSteps.{TriedMoves, tried_quiet, tried_stored, tried_unlocked, tried_saw}
 use Rattle.wait_model.proofs.StepLaws.OwnSteps.{tried_peeked, tried_loaded, tried_consumed, tried_queued}
 use Rattle.wait_model.proofs.StepLaws.OwnSteps.{tried_unqueued}
-use Rattle.wait_model.proofs.StepLaws.LoadSteps.{load_moves, peek_moves}
-use Rattle.wait_model.proofs.StepLaws.UntouchedParts.{Moves}
 use Rattle.wait_model.proofs.BitLaws.BitSteps.{state_bits, wake_bits, lock_bits, unlock_bit_facts, queue_bits}
 use Rattle.wait_model.proofs.BitLaws.BitSteps.{publish_bits, consume_bits, tas_for_bits, unflag_bits}
 use Rattle.wait_model.proofs.StepLaws.FlagSteps.{state_flags, sleep_flags, wake_flags, signal_flags, accept_flags}
@@ -29,14 +26,11 @@ use Rattle.wait_model.proofs.StepLaws.FlagSteps.{look_flags, saw_flags, mark_fla
 use Rattle.wait_model.proofs.StepLaws.FlagSteps.{lock_flags, unqueue_flags, consume_flags, load_flags, peek_flags}
 use Rattle.wait_model.proofs.StepLaws.FlagSteps.{queue_flags, unflag_flags, woken_flags, tas_for_flags, handed_flags}
 use Rattle.wait_model.proofs.StepLaws.ScanSteps.{of_scan, scan_moves, scan_flags, scan_bits}
-use Rattle.wait_model.proofs.StepLaws.UnlockSteps.{unlock_moves, unlock_flags}
 use Rattle.wait_model.proofs.StepLaws.FactSteps.{quiet_facts, lock_facts, unlock_facts, queue_facts, unqueue_facts}
 use Rattle.wait_model.proofs.StepLaws.FactSteps.{publish_facts, consume_facts, tas_for_facts}
 use Rattle.wait_model.proofs.BitLaws.BitRecords.{BitStep, bits_from, sleep_bits, signal_bits, accept_bits, look_bits}
 use Rattle.wait_model.proofs.BitLaws.BitRecords.{load_bits, woken_bits, handed_bits, flag_bits, mark_bits, unmark_bits}
 use Rattle.wait_model.proofs.BitLaws.BitRecords.{saw_bits, peek_bits}
-use Rattle.wait_model.proofs.StepLaws.CombinedLaws.{no_lost_from}
-use Rattle.wait_model.proofs.BitLaws.PageSteps.{pages_next}
 use Rattle.wait_model.specs.declared.steps.Step.TheVariants as step
 
 -- the laws from what the step does to each part, to the trying of bits, to the facts and to the facts on bits

@@ -2,21 +2,15 @@
 use Rattle.std.proofs.Common.{refl, ap, subst, arith, inl, inr}
 use Rattle.std.specs.Prelude.{ℕ, ◌≡◌, ◌≢◌, ◌<◌, ◌⊎◌, Option, Some, None, Bool, true, false, not, ◌&&◌, ◌||◌, IsTrue}
 use Rattle.std.specs.Prelude.{◌==◌}
-use Rattle.wait_model.specs.declared.layout.TheConstants.{ENTRIES}
-use Rattle.wait_model.specs.declared.watches.Watch.{Watch}
-use Rattle.wait_model.specs.declared.watches.Entry.{Entry}
-use Rattle.wait_model.specs.Facts.{Facts}
+use Rattle.wait_model.specs.{declared.layout.TheConstants.ENTRIES, declared.watches.Watch.Watch}
+use Rattle.wait_model.specs.{declared.watches.Entry.Entry, Facts.Facts, Tables.Table, Tables.met, Words.entry_of}
+use Rattle.wait_model.specs.Rows.{Reads}
 use Rattle.wait_model.specs.Views.{Walk, View, checked, gone, ahead, covers, all_cleared}
 use Rattle.wait_model.specs.Fold.{finds_bit_set, peeks, after}
 use Rattle.wait_model.specs.Watches.{head_of, is_bit, is_simple, failing}
-use Rattle.wait_model.specs.Tables.{Table, met}
-use Rattle.wait_model.specs.Words.{entry_of}
-use Rattle.wait_model.specs.Rows.{Reads}
-use Rattle.wait_model.proofs.StepLaws.QuietSteps.{back_waits}
-use Rattle.wait_model.proofs.StepLaws.UntouchedParts.{Moves, framed}
+use Rattle.wait_model.proofs.{StepLaws.QuietSteps.back_waits, StepLaws.UntouchedParts.Moves}
+use Rattle.wait_model.proofs.{StepLaws.UntouchedParts.framed, Functions.bool_or, StepLaws.PastEntries.all_cleared_not}
 use Rattle.wait_model.proofs.Sameness.{same_bit, failing_unmet, same_bit_failing, same_bit_is}
-use Rattle.wait_model.proofs.Functions.{bool_or}
-use Rattle.wait_model.proofs.StepLaws.PastEntries.{all_cleared_not}
 use Rattle.wait_model.specs.declared.steps.Step.TheVariants as step
 
 pub loaded_checked : (v : View) (l : Watch) (r x : ℕ) (e : Entry) (on : Watch) (m : ℕ) → failing l r on ≡ false

@@ -1,21 +1,15 @@
 -- A task that is trying a bit goes on to, as long as the bit is clear.
 use Rattle.std.proofs.Common.{refl, sym, ◌∙◌, ap, subst, arith, inl, inr}
 use Rattle.std.specs.Prelude.{ℕ, ◌≡◌, ◌≢◌, ◌⊎◌, Option, Some, None, Bool, true, false, cond, not, ◌&&◌, ◌||◌}
-use Rattle.wait_model.specs.declared.watches.Watch.{Watch}
-use Rattle.wait_model.specs.declared.watches.Entry.{Entry}
-use Rattle.wait_model.specs.declared.steps.Step.{Step}
-use Rattle.wait_model.specs.Facts.{Facts}
+use Rattle.wait_model.specs.{declared.watches.Watch.Watch, declared.watches.Entry.Entry, declared.steps.Step.Step}
+use Rattle.wait_model.specs.{Facts.Facts, Words.entry_of, Functions.put, Rows.Reads, Rows.Allowed}
 use Rattle.wait_model.specs.Views.{Bits, View, is_trying_for}
 use Rattle.wait_model.specs.Fold.{after_unlock, is_off, settled, forgotten, after}
 use Rattle.wait_model.specs.Watches.{same, head_of, is_bit, failing, owner}
 use Rattle.wait_model.specs.Tables.{Table, met, consume, next}
-use Rattle.wait_model.specs.Words.{entry_of}
 use Rattle.wait_model.specs.Laws.{TryingBy, Trying, Tried}
-use Rattle.wait_model.specs.Functions.{put}
-use Rattle.wait_model.specs.Rows.{Reads, Allowed}
-use Rattle.wait_model.proofs.Sameness.{failing_unmet, tas_unmet}
-use Rattle.wait_model.proofs.StepLaws.UnlockSteps.{unlock_bits}
-use Rattle.wait_model.proofs.Functions.{put_case, put_at}
+use Rattle.wait_model.proofs.{Sameness.failing_unmet, Sameness.tas_unmet, StepLaws.UnlockSteps.unlock_bits}
+use Rattle.wait_model.proofs.{Functions.put_case, Functions.put_at}
 use Rattle.wait_model.specs.declared.steps.Step.TheVariants as step
 
 abbrev pub TriedMoves : Table → ℕ → Step → Type 0

@@ -2,16 +2,12 @@
 use Rattle.std.proofs.lemmas.Option.{none-some}
 use Rattle.std.proofs.Common.{refl, sym, ◌∙◌, ap, subst, arith, inl, inr}
 use Rattle.std.specs.Prelude.{ℕ, ◌≡◌, ◌≢◌, ◌≤◌, ◌⊎◌, Option, Some, None, Bool, true, false, cond, not, ◌&&◌, ◌||◌, ◌==◌}
-use Rattle.wait_model.specs.declared.watches.Watch.{Watch}
-use Rattle.wait_model.specs.declared.watches.Entry.{Entry}
-use Rattle.wait_model.specs.declared.watches.Aim.{Aim}
-use Rattle.wait_model.specs.Facts.{Agrees, OfView}
+use Rattle.wait_model.specs.{declared.watches.Watch.Watch, declared.watches.Entry.Entry, declared.watches.Aim.Aim}
+use Rattle.wait_model.specs.{Facts.Agrees, Facts.OfView, Words.entry_of, Words.spent_of, Functions.put}
 use Rattle.wait_model.specs.Views.{Look, off, elsewhere, shown, Walk, View, no_hold, look_at}
 use Rattle.wait_model.specs.Fold.{begun, begun_anew, holding, is_off, forgotten, after, takes_note}
 use Rattle.wait_model.specs.Watches.{same, head_of, is_done, is_bit, mask_of, failing, was_clear, page}
 use Rattle.wait_model.specs.Tables.{Words, met, publish, consume}
-use Rattle.wait_model.specs.Words.{entry_of, spent_of}
-use Rattle.wait_model.specs.Functions.{put}
 use Rattle.wait_model.specs.Rows.{Reads, Lowers, AimsAt}
 use Rattle.wait_model.proofs.Sameness.{same_head, publish_other, consume_sets_none, failing_unmet, tas_unmet}
 use Rattle.wait_model.proofs.Sameness.{same_bit_is}

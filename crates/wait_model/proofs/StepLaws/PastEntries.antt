@@ -2,9 +2,7 @@
 use Rattle.std.proofs.lemmas.Bool.Decides.{eqb_tells}
 use Rattle.std.proofs.Common.{refl, subst, arith, inl, inr}
 use Rattle.std.specs.Prelude.{ℕ, zero, suc, ◌≡◌, ◌<◌, Option, Some, Bool, true, false, not, ◌&&◌, ◌||◌, nat_le, nat_lt}
-use Rattle.wait_model.specs.declared.layout.TheConstants.{ENTRIES}
-use Rattle.wait_model.specs.declared.watches.Entry.{Entry}
-use Rattle.wait_model.specs.Facts.{Agrees}
+use Rattle.wait_model.specs.{declared.layout.TheConstants.ENTRIES, declared.watches.Entry.Entry, Facts.Agrees}
 use Rattle.wait_model.specs.Views.{Look, unseen, off, elsewhere, shown, Walk, View, gone, passed, all_below, all_passed}
 use Rattle.wait_model.specs.Views.{all_cleared}
 use Rattle.wait_model.specs.Watches.{same, head_of, is_simple}

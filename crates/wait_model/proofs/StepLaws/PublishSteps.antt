@@ -1,18 +1,13 @@
 -- A publish: the publisher owes the watch and covers every entry.
 use Rattle.std.proofs.Common.{refl, sym, ◌∙◌, arith, inl, inr}
 use Rattle.std.specs.Prelude.{ℕ, ◌≡◌, ◌⊎◌, Option, Some, None, Bool, true, false, not, ◌&&◌, ◌||◌, IsTrue}
-use Rattle.wait_model.specs.declared.watches.Watch.{Watch}
-use Rattle.wait_model.specs.declared.watches.Entry.{Entry}
+use Rattle.wait_model.specs.{declared.watches.Watch.Watch, declared.watches.Entry.Entry, Fold.begun_anew, Fold.after}
+use Rattle.wait_model.specs.{Tables.Table, Tables.next, Laws.NoLostFlag, Rows.MayPublish}
 use Rattle.wait_model.specs.Views.{Walk, View, gone, ahead, covers, warns}
-use Rattle.wait_model.specs.Fold.{begun_anew, after}
 use Rattle.wait_model.specs.Watches.{same, is_bit, is_simple, owner}
-use Rattle.wait_model.specs.Tables.{Table, next}
-use Rattle.wait_model.specs.Laws.{NoLostFlag}
-use Rattle.wait_model.specs.Rows.{MayPublish}
-use Rattle.wait_model.proofs.StepLaws.QuietSteps.{back_waits}
-use Rattle.wait_model.proofs.StepLaws.UntouchedParts.{back_view, Moves, framed, flag_framed, own_view}
-use Rattle.wait_model.proofs.Sameness.{publish_other, same_trans}
+use Rattle.wait_model.proofs.{StepLaws.QuietSteps.back_waits, Sameness.publish_other, Sameness.same_trans}
 use Rattle.wait_model.proofs.Functions.{bool_or}
+use Rattle.wait_model.proofs.StepLaws.UntouchedParts.{back_view, Moves, framed, flag_framed, own_view}
 use Rattle.wait_model.specs.declared.watches.Watch.TheVariants as watch
 use Rattle.wait_model.specs.declared.steps.Step.TheVariants as step
 

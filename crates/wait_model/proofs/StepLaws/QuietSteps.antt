@@ -2,18 +2,14 @@
 use Rattle.std.proofs.Common.{refl, sym, ap, subst, arith, ◌∙◌, false, inl, inr}
 use Rattle.std.specs.Prelude.{ℕ, ◌≡◌, ◌≢◌, ◌-◌, ◌^◌, ◌<◌, ◌⊎◌, Option, Some, Bool, true, IsTrue, false, not, ◌&&◌, ◌||◌}
 use Rattle.std.specs.Prelude.{cond, None}
-use Rattle.wait_model.specs.declared.watches.Watch.{Watch}
-use Rattle.wait_model.specs.declared.watches.Entry.{Entry}
-use Rattle.wait_model.specs.declared.steps.Step.{Step}
-use Rattle.wait_model.specs.declared.tasks.TaskRecord.{TaskRecord}
-use Rattle.wait_model.specs.Tasks.{raised, accepted}
+use Rattle.wait_model.specs.{declared.watches.Watch.Watch, declared.watches.Entry.Entry, declared.steps.Step.Step}
+use Rattle.wait_model.specs.{declared.tasks.TaskRecord.TaskRecord, Tasks.raised, Tasks.accepted, Laws.Waits}
+use Rattle.wait_model.specs.Rows.{Lowers}
 use Rattle.wait_model.specs.Views.{View, checked, covers, Walk, gone, ahead}
 use Rattle.wait_model.specs.Fold.{after, is_for_page, after_tas_for}
 use Rattle.wait_model.specs.Watches.{head_of, owner, is_bit, same, page, is_woken, is_page, is_done, is_simple}
 use Rattle.wait_model.specs.Watches.{was_clear}
 use Rattle.wait_model.specs.Tables.{Words, Table, met, next, consume}
-use Rattle.wait_model.specs.Laws.{Waits}
-use Rattle.wait_model.specs.Rows.{Lowers}
 use Rattle.wait_model.proofs.StepLaws.UntouchedParts.{back_view, Moves, framed}
 use Rattle.wait_model.proofs.Sameness.{consume_sets_none, tas_unmet, same_trans, same_of_page}
 use Rattle.wait_model.proofs.Functions.{put_at, bool_or}

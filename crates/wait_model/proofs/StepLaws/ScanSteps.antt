@@ -3,24 +3,18 @@
 use Rattle.std.proofs.Common.{refl, ap, arith, inl, inr}
 use Rattle.std.specs.Prelude.{ℕ, ◌≡◌, ◌<◌, ◌⊎◌, Option, Some, None, Bool, true, false, not, ◌&&◌, ◌||◌, IsTrue, ◌==◌}
 use Rattle.std.specs.Prelude.{if◌then◌else◌}
-use Rattle.wait_model.specs.declared.layout.TheConstants.{ENTRIES}
-use Rattle.wait_model.specs.declared.watches.Watch.{Watch}
-use Rattle.wait_model.specs.declared.watches.Entry.{Entry}
+use Rattle.wait_model.specs.{declared.layout.TheConstants.ENTRIES, declared.watches.Watch.Watch}
+use Rattle.wait_model.specs.{declared.watches.Entry.Entry, Fold.scanned, Fold.after, Rows.Allowed, Rows.IsUntested}
 use Rattle.wait_model.specs.Facts.{Facts, OfView, BitFacts}
 use Rattle.wait_model.specs.Views.{View, checked, gone, ahead, covers, warns, all_cleared}
-use Rattle.wait_model.specs.Fold.{scanned, after}
 use Rattle.wait_model.specs.Watches.{head_of, is_bit, is_done, is_simple, is_woken, is_page, owner, part_of}
 use Rattle.wait_model.specs.Tables.{Table, Words, next}
 use Rattle.wait_model.specs.Laws.{Waits, Unheard, Spent, NoLostFlag}
-use Rattle.wait_model.specs.Rows.{Allowed, IsUntested}
-use Rattle.wait_model.proofs.StepLaws.QuietSteps.{back_waits}
+use Rattle.wait_model.proofs.{StepLaws.QuietSteps.back_waits, StepLaws.FlagSteps.back_unheard}
+use Rattle.wait_model.proofs.{StepLaws.StoreSteps.zero_covers, BitLaws.BitRecords.BitStep}
+use Rattle.wait_model.proofs.{BitLaws.BitRecords.quiet_bits, Functions.bool_or, Functions.put_at, Sameness.same_bit}
+use Rattle.wait_model.proofs.{Sameness.not_both, StepLaws.PastEntries.all_cleared_not}
 use Rattle.wait_model.proofs.StepLaws.UntouchedParts.{Moves, Outcome, framed, flag_framed}
-use Rattle.wait_model.proofs.StepLaws.FlagSteps.{back_unheard}
-use Rattle.wait_model.proofs.StepLaws.StoreSteps.{zero_covers}
-use Rattle.wait_model.proofs.BitLaws.BitRecords.{BitStep, quiet_bits}
-use Rattle.wait_model.proofs.Functions.{bool_or, put_at}
-use Rattle.wait_model.proofs.Sameness.{same_bit, not_both}
-use Rattle.wait_model.proofs.StepLaws.PastEntries.{all_cleared_not}
 use Rattle.wait_model.specs.declared.steps.Step.TheVariants as step
 
 -- the load finds no bit in the word of the entry's index, at its head

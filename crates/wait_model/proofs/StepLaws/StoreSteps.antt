@@ -1,18 +1,12 @@
 -- The stores of the own state and entry, and the load of the own flag.
 use Rattle.std.proofs.Common.{refl, sym, ◌∙◌, ap, subst, arith, inl, inr}
 use Rattle.std.specs.Prelude.{ℕ, ◌≡◌, ◌≢◌, ◌⊎◌, Option, Some, None, Bool, true, false, not, ◌&&◌, ◌||◌, IsTrue}
-use Rattle.wait_model.specs.declared.watches.Watch.{Watch}
-use Rattle.wait_model.specs.declared.watches.Entry.{Entry}
-use Rattle.wait_model.specs.declared.steps.Step.{Step}
-use Rattle.wait_model.specs.declared.tasks.TaskRecord.{TaskRecord}
-use Rattle.wait_model.specs.Facts.{Facts, Kept}
+use Rattle.wait_model.specs.{declared.watches.Watch.Watch, declared.watches.Entry.Entry, declared.steps.Step.Step}
+use Rattle.wait_model.specs.{declared.tasks.TaskRecord.TaskRecord, Facts.Facts, Facts.Kept, Fold.after, Words.flag_of}
+use Rattle.wait_model.specs.{Laws.Unheard, Rows.Allowed}
 use Rattle.wait_model.specs.Views.{Walk, View, checked, gone, ahead, covers, warns}
-use Rattle.wait_model.specs.Fold.{after}
 use Rattle.wait_model.specs.Watches.{same, head_of, is_done, is_bit, is_woken, is_simple, owner, is_page}
 use Rattle.wait_model.specs.Tables.{Table, met, next}
-use Rattle.wait_model.specs.Words.{flag_of}
-use Rattle.wait_model.specs.Laws.{Unheard}
-use Rattle.wait_model.specs.Rows.{Allowed}
 use Rattle.wait_model.proofs.StepLaws.QuietSteps.{back_waits}
 use Rattle.wait_model.proofs.StepLaws.UntouchedParts.{Free, Moves, framed, own_view, own_now, at_view, Outcome}
 use Rattle.wait_model.proofs.StepLaws.UntouchedParts.{back_view}

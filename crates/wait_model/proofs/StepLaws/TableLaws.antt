@@ -1,20 +1,16 @@
 -- What the start has and each allowed step keeps holds in every state that a run reaches.
 use Rattle.std.proofs.Common.{refl, arith}
 use Rattle.std.specs.Prelude.{ℕ, ◌+◌, ◌<◌, ◌≤◌, List, [], ◌∷◌}
-use Rattle.wait_model.specs.declared.layout.TheConstants.{TASKS, EVENTS}
-use Rattle.wait_model.specs.declared.calls.Ran.{Ran}
-use Rattle.wait_model.specs.declared.calls.Ran.TheVariants as ran
-use Rattle.wait_model.specs.declared.steps.Step.{Step}
-use Rattle.wait_model.specs.Facts.{Kept}
-use Rattle.wait_model.specs.Reached.{IsSound}
-use Rattle.wait_model.specs.Rows.{Allowed, AllAllowed}
+use Rattle.wait_model.specs.{declared.layout.TheConstants.TASKS, declared.layout.TheConstants.EVENTS}
+use Rattle.wait_model.specs.{declared.calls.Ran.Ran, declared.steps.Step.Step, Facts.Kept, Reached.IsSound}
+use Rattle.wait_model.specs.{Rows.Allowed, Rows.AllAllowed}
 use Rattle.wait_model.specs.Tables.{Table, next, start, steps}
 use Rattle.wait_model.specs.Runs.{State, given_by, event_steps, happens, start_state, state_after, state_of, IsRunFrom}
 use Rattle.wait_model.specs.Runs.{IsRun, made_in}
+use Rattle.wait_model.specs.declared.calls.Ran.TheVariants as ran
+use Rattle.wait_model.proofs.{StepLaws.KeptLaws.step_keeps, HistoryLaws.HoldLooks.IsLookTold}
+use Rattle.wait_model.proofs.{HistoryLaws.HoldLooks.told_next, HistoryLaws.ViewsTold.told_happens}
 use Rattle.wait_model.proofs.RunLaws.EveryRun.{made_of, made_sound, opened_sound, start_sound}
-use Rattle.wait_model.proofs.StepLaws.KeptLaws.{step_keeps}
-use Rattle.wait_model.proofs.HistoryLaws.HoldLooks.{IsLookTold, told_next}
-use Rattle.wait_model.proofs.HistoryLaws.ViewsTold.{told_happens}
 
 -- each allowed step that is a Q keeps the property P, where the laws hold and the views are those of the
 -- histories

@@ -2,22 +2,17 @@
 use Rattle.std.proofs.Common.{refl, sym, ◌∙◌, ap, subst, arith, inl, inr}
 use Rattle.std.specs.Prelude.{ℕ, ◌≡◌, ◌-◌, ◌^◌, ◌<◌, ◌≤◌, ◌⊎◌, Option, Some, None, Bool, true, false, cond, not, ◌&&◌}
 use Rattle.std.specs.Prelude.{◌||◌, IsTrue, nat_le, if◌then◌else◌}
-use Rattle.wait_model.specs.declared.watches.Watch.{Watch}
-use Rattle.wait_model.specs.declared.watches.Entry.{Entry}
-use Rattle.wait_model.specs.Facts.{Facts, Kept}
+use Rattle.wait_model.specs.{declared.watches.Watch.Watch, declared.watches.Entry.Entry, Facts.Facts, Facts.Kept}
+use Rattle.wait_model.specs.{Fold.paused, Fold.after_unlock, Functions.put, Rows.MaySpend, Rows.Allowed}
 use Rattle.wait_model.specs.Views.{Walk, Hold, Checks, View, no_hold, checked, concerns, gone, ahead, covers, warns}
 use Rattle.wait_model.specs.Views.{all_passed}
-use Rattle.wait_model.specs.Fold.{paused, after_unlock}
 use Rattle.wait_model.specs.Watches.{same, head_of, is_done, is_bit, is_woken, is_simple, owner, is_page}
 use Rattle.wait_model.specs.Tables.{Table, raised_spent, next}
 use Rattle.wait_model.specs.Laws.{Waits, Spent, NoLostFlag}
-use Rattle.wait_model.specs.Functions.{put}
-use Rattle.wait_model.specs.Rows.{MaySpend, Allowed}
-use Rattle.wait_model.proofs.StepLaws.QuietSteps.{back_waits}
+use Rattle.wait_model.proofs.{StepLaws.QuietSteps.back_waits, Functions.bool_or, StepLaws.PastEntries.passed_not}
+use Rattle.wait_model.proofs.StepLaws.PastEntries.{all_passed_not}
 use Rattle.wait_model.proofs.StepLaws.UntouchedParts.{Ended, back_view, Moves, framed_or_spent, flag_framed_or_spent}
 use Rattle.wait_model.proofs.Sameness.{same_head, same_counted, same_bit}
-use Rattle.wait_model.proofs.Functions.{bool_or}
-use Rattle.wait_model.proofs.StepLaws.PastEntries.{passed_not, all_passed_not}
 use Rattle.wait_model.specs.declared.steps.Step.TheVariants as step
 
 -- what holds of a view with no walk, where the walk is over, and where it goes on holds after an unlock

@@ -1,14 +1,10 @@
 -- A wake, and a lock.
 use Rattle.std.proofs.Common.{refl, subst, arith, sym, ◌∙◌}
 use Rattle.std.specs.Prelude.{ℕ, ◌≡◌, ◌≢◌, Option, Some, None, Bool, true, false, IsTrue}
-use Rattle.wait_model.specs.declared.watches.Watch.{Watch}
-use Rattle.wait_model.specs.declared.watches.Entry.{Entry}
-use Rattle.wait_model.specs.declared.watches.Aim.{Aim}
-use Rattle.wait_model.specs.Tasks.{meets}
+use Rattle.wait_model.specs.{declared.watches.Watch.Watch, declared.watches.Entry.Entry, declared.watches.Aim.Aim}
+use Rattle.wait_model.specs.{Tasks.meets, Watches.owner, Watches.is_page, Tables.Table, Tables.next}
 use Rattle.wait_model.specs.Views.{Walk, View, gone, ahead, covers}
 use Rattle.wait_model.specs.Fold.{begun, hits, after}
-use Rattle.wait_model.specs.Watches.{owner, is_page}
-use Rattle.wait_model.specs.Tables.{Table, next}
 use Rattle.wait_model.proofs.StepLaws.QuietSteps.{back_waits}
 use Rattle.wait_model.proofs.StepLaws.UntouchedParts.{Moves, framed}
 use Rattle.wait_model.specs.declared.steps.Step.TheVariants as step

@@ -1,37 +1,28 @@
 -- What an event of a task leaves of its wait, and the events that leave it outside of all stages.
 use Rattle.std.proofs.lemmas.Option.{none-some}
 use Rattle.std.proofs.lemmas.Bool.{both_ways}
-use Rattle.wait_model.specs.Admission.{IsGoing}
-use Rattle.std.proofs.lemmas.List.{append_assoc}
-use Rattle.std.proofs.Common.{refl, sym, ◌∙◌, ap, subst, arith}
-use Rattle.std.specs.Prelude.{ℕ, ◌≡◌, ◌≢◌, ◌⊎◌, Bool, true, false, ◌==◌, if◌then◌else◌, Option, Some, None, List, []}
-use Rattle.std.specs.Prelude.{◌∷◌, ◌++◌}
-use Rattle.wait_model.specs.declared.watches.Watch.{Watch}
-use Rattle.wait_model.specs.declared.watches.Kind.{Kind}
-use Rattle.wait_model.specs.declared.watches.Kind.TheVariants as kind
-use Rattle.wait_model.specs.declared.watches.Entry.{Entry}
-use Rattle.wait_model.specs.declared.tasks.TaskRecord.{TaskRecord}
-use Rattle.wait_model.specs.declared.queues.CalledEntry.{CalledEntry}
-use Rattle.wait_model.specs.declared.queues.Walking.{Walking}
-use Rattle.wait_model.specs.declared.steps.Step.{Step}
-use Rattle.wait_model.specs.declared.steps.Step.TheVariants as step
-use Rattle.wait_model.specs.declared.calls.Call.{Call}
-use Rattle.wait_model.specs.declared.calls.Event.{Event}
-use Rattle.wait_model.specs.declared.calls.Event.TheVariants as event
-use Rattle.wait_model.specs.declared.points.Seen.{Seen}
-use Rattle.wait_model.specs.declared.points.Planned.{Planned}
-use Rattle.wait_model.specs.declared.points.Point.{Point}
-use Rattle.wait_model.specs.declared.points.Point.TheVariants as at
-use Rattle.wait_model.specs.declared.points.WalkPoint.TheVariants as walking
-use Rattle.wait_model.specs.declared.points.Progress.{Progress}
-use Rattle.wait_model.specs.declared.points.Progress.TheVariants as now
+use Rattle.wait_model.specs.{Admission.IsGoing, declared.watches.Watch.Watch, declared.watches.Kind.Kind}
+use Rattle.wait_model.specs.{declared.watches.Entry.Entry, declared.tasks.TaskRecord.TaskRecord}
+use Rattle.wait_model.specs.{declared.queues.CalledEntry.CalledEntry, declared.queues.Walking.Walking}
+use Rattle.wait_model.specs.{declared.steps.Step.Step, declared.calls.Call.Call, declared.calls.Event.Event}
+use Rattle.wait_model.specs.{declared.points.Seen.Seen, declared.points.Planned.Planned, declared.points.Point.Point}
+use Rattle.wait_model.specs.{declared.points.Progress.Progress, Watches.head_of, Watches.is_page, Readings.Quiet}
+use Rattle.wait_model.specs.Readings.{FailedLoad}
 use Rattle.wait_model.specs.Tasks.{meets, pending, woken, slept}
-use Rattle.wait_model.specs.Watches.{head_of, is_page}
-use Rattle.wait_model.specs.Readings.{Quiet, FailedLoad}
 use Rattle.wait_model.specs.Points.{call_aim, called_task, given_at}
 use Rattle.wait_model.specs.Programs.{go, call_fails, load, call_next, call_entry, onward, past, wake_off_event}
 use Rattle.wait_model.specs.Runs.{State, own, progress_at, after_event}
 use Rattle.wait_model.specs.Reached.{taken_off, taken_by, handed_by}
+use Rattle.std.proofs.lemmas.List.{append_assoc}
+use Rattle.std.proofs.Common.{refl, sym, ◌∙◌, ap, subst, arith}
+use Rattle.std.specs.Prelude.{ℕ, ◌≡◌, ◌≢◌, ◌⊎◌, Bool, true, false, ◌==◌, if◌then◌else◌, Option, Some, None, List, []}
+use Rattle.std.specs.Prelude.{◌∷◌, ◌++◌}
+use Rattle.wait_model.specs.declared.watches.Kind.TheVariants as kind
+use Rattle.wait_model.specs.declared.steps.Step.TheVariants as step
+use Rattle.wait_model.specs.declared.calls.Event.TheVariants as event
+use Rattle.wait_model.specs.declared.points.Point.TheVariants as at
+use Rattle.wait_model.specs.declared.points.WalkPoint.TheVariants as walking
+use Rattle.wait_model.specs.declared.points.Progress.TheVariants as now
 use Rattle.wait_model.proofs.Functions.{put_same}
 use Rattle.wait_model.proofs.WaitLaws.WaitStages.{Stage, outside, dozing, stage, IsAt, IsStaged, FitsStage, IsAwake}
 use Rattle.wait_model.proofs.WaitLaws.WaitStages.{own_up}

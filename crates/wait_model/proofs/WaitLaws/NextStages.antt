@@ -1,77 +1,58 @@
 -- A task's own event takes its wait to the next stage.
 use Rattle.std.proofs.lemmas.Option.{none-some}
-use Rattle.wait_model.proofs.WordLaws.CondWords.{head_of_bare}
-use Rattle.wait_model.specs.Tables.{value_of}
-use Rattle.wait_model.specs.Counts.{taken_done}
-use Rattle.std.proofs.lemmas.Bool.Decides.{nat_tests}
-use Rattle.std.proofs.Common.{refl, sym, ◌∙◌, ap, subst, arith, inl, inr}
-use Rattle.std.specs.Prelude.{ℕ, ◌≡◌, ◌≢◌, Bool, true, false, not, ◌&&◌, ◌==◌, if◌then◌else◌, is_some, Option, Some}
-use Rattle.std.specs.Prelude.{None, List, [], ◌∷◌, ◌++◌}
-use Rattle.wait_model.specs.declared.watches.Watch.{Watch}
-use Rattle.wait_model.specs.declared.watches.Watch.TheVariants as watch
-use Rattle.wait_model.specs.declared.watches.Entry.{Entry}
-use Rattle.wait_model.specs.declared.tasks.TaskRecord.{TaskRecord}
-use Rattle.wait_model.specs.declared.queues.CalledEntry.{CalledEntry}
-use Rattle.wait_model.specs.declared.steps.Step.{Step}
-use Rattle.wait_model.specs.declared.steps.Step.TheVariants as step
-use Rattle.wait_model.specs.declared.calls.Call.{Call}
-use Rattle.wait_model.specs.declared.calls.Event.{Event}
-use Rattle.wait_model.specs.declared.calls.Event.TheVariants as event
-use Rattle.wait_model.specs.declared.points.SelectPoint.{SelectPoint}
-use Rattle.wait_model.specs.declared.points.SelectPoint.TheVariants as selecting
-use Rattle.wait_model.specs.declared.points.AwaitPoint.{AwaitPoint}
-use Rattle.wait_model.specs.declared.points.AwaitPoint.TheVariants as awaiting
-use Rattle.wait_model.specs.declared.points.CountPoint.{CountPoint}
-use Rattle.wait_model.specs.declared.points.CountPoint.TheVariants as counting
-use Rattle.wait_model.specs.declared.points.BitPoint.{BitPoint}
-use Rattle.wait_model.specs.declared.points.BitPoint.TheVariants as biting
-use Rattle.wait_model.specs.declared.points.Seen.{Seen}
-use Rattle.wait_model.specs.declared.calls.Answer.TheVariants as answer
-use Rattle.wait_model.specs.declared.calls.Call.TheVariants as calls
-use Rattle.wait_model.specs.declared.watches.Mode.TheVariants as mode
-use Rattle.wait_model.specs.declared.points.Given.{Given}
-use Rattle.wait_model.specs.declared.points.Point.{Point}
-use Rattle.wait_model.specs.declared.points.Point.TheVariants as at
-use Rattle.wait_model.specs.declared.points.PreparePoint.{PreparePoint}
-use Rattle.wait_model.specs.declared.points.PreparePoint.TheVariants as preparing
-use Rattle.wait_model.specs.declared.points.LeavePoint.{LeavePoint}
-use Rattle.wait_model.specs.declared.points.LeavePoint.TheVariants as leaving
-use Rattle.wait_model.specs.declared.points.FinishPoint.{FinishPoint}
-use Rattle.wait_model.specs.declared.points.FinishPoint.TheVariants as finishing
-use Rattle.wait_model.specs.declared.points.WalkPoint.{WalkPoint}
-use Rattle.wait_model.specs.declared.points.WalkPoint.TheVariants as walking
-use Rattle.wait_model.specs.declared.points.AddPoint.{AddPoint}
-use Rattle.wait_model.specs.declared.points.AddPoint.TheVariants as adding
-use Rattle.wait_model.specs.declared.points.RemovePoint.{RemovePoint}
-use Rattle.wait_model.specs.declared.points.RemovePoint.TheVariants as removing
-use Rattle.wait_model.specs.declared.points.WokenPoint.{WokenPoint}
-use Rattle.wait_model.specs.declared.points.WokenPoint.TheVariants as hearing
-use Rattle.wait_model.specs.declared.points.Progress.TheVariants as now
-use Rattle.wait_model.specs.Functions.{put}
-use Rattle.wait_model.specs.Tasks.{IsLawful, sleep_of, meets, pending, slept, task_word, state_mask, looks_in}
-use Rattle.wait_model.specs.Watches.{head_of, bare, mask_of, misses, failing, word_of, bit_of, is_page}
-use Rattle.wait_model.specs.Readings.{FailedLoad}
-use Rattle.wait_model.specs.Points.{call_number, is_bit_wait, is_lock, call_watch, call_head, form_of, state_in}
-use Rattle.wait_model.specs.Points.{mode_of, called_task, given_at}
-use Rattle.wait_model.specs.Programs.{signalled_at, prepared_at, slept_at, signalled, finished, exchange, ask}
-use Rattle.wait_model.specs.Programs.{publishing_event, active_event, is_enough, is_at_end, done_in, select_from}
-use Rattle.wait_model.specs.Programs.{select_next, reached, go, ends_with, zero_answer, load, look_event, past}
-use Rattle.wait_model.specs.Queues.{place_for}
-use Rattle.wait_model.specs.Runs.{State, own, entry_for, called_at, seen_by, planned}
-use Rattle.wait_model.specs.Reached.{held_at, taken_off, HomeAt, IsHome, pages}
-use Rattle.wait_model.proofs.Functions.{put_same}
-use Rattle.wait_model.proofs.RunLaws.OthersEvents.{goes_not_stands}
+use Rattle.wait_model.proofs.{WordLaws.CondWords.head_of_bare, Functions.put_same, RunLaws.OthersEvents.goes_not_stands}
 use Rattle.wait_model.proofs.WaitLaws.OutsideStages.{unset}
 use Rattle.wait_model.proofs.WaitLaws.LeavingStages.{failed_more, slept_down, then_by, Takes, Stores, IsGood, calm}
 use Rattle.wait_model.proofs.WaitLaws.LeavingStages.{either, onward_good, off_good, next_good, awake_good}
 use Rattle.wait_model.proofs.WaitLaws.WaitStages.{Stage, outside, tested, dozing, stage, IsTested, IsAt, IsStaged}
 use Rattle.wait_model.proofs.WaitLaws.WaitStages.{FitsStage, IsAwake, own_up, napping, low_woken}
-use Rattle.wait_model.specs.declared.points.PagePoint.{PagePoint}
-use Rattle.wait_model.specs.declared.points.PageStage.{PageStage}
+use Rattle.wait_model.specs.{Tables.value_of, Counts.taken_done, declared.watches.Watch.Watch}
+use Rattle.wait_model.specs.{declared.watches.Entry.Entry, declared.tasks.TaskRecord.TaskRecord}
+use Rattle.wait_model.specs.{declared.queues.CalledEntry.CalledEntry, declared.steps.Step.Step}
+use Rattle.wait_model.specs.{declared.calls.Call.Call, declared.calls.Event.Event}
+use Rattle.wait_model.specs.{declared.points.SelectPoint.SelectPoint, declared.points.AwaitPoint.AwaitPoint}
+use Rattle.wait_model.specs.{declared.points.CountPoint.CountPoint, declared.points.BitPoint.BitPoint}
+use Rattle.wait_model.specs.{declared.points.Seen.Seen, declared.points.Given.Given, declared.points.Point.Point}
+use Rattle.wait_model.specs.{declared.points.PreparePoint.PreparePoint, declared.points.LeavePoint.LeavePoint}
+use Rattle.wait_model.specs.{declared.points.FinishPoint.FinishPoint, declared.points.WalkPoint.WalkPoint}
+use Rattle.wait_model.specs.{declared.points.AddPoint.AddPoint, declared.points.RemovePoint.RemovePoint}
+use Rattle.wait_model.specs.{declared.points.WokenPoint.WokenPoint, Functions.put, Readings.FailedLoad}
+use Rattle.wait_model.specs.{Queues.place_for, declared.points.PagePoint.PagePoint, declared.points.PageStage.PageStage}
+use Rattle.wait_model.specs.{Words.flag, Words.bit_at, declared.queues.Walking.Walking}
+use Rattle.wait_model.specs.Tasks.{IsLawful, sleep_of, meets, pending, slept, task_word, state_mask, looks_in}
+use Rattle.wait_model.specs.Watches.{head_of, bare, mask_of, misses, failing, word_of, bit_of, is_page}
+use Rattle.wait_model.specs.Points.{call_number, is_bit_wait, is_lock, call_watch, call_head, form_of, state_in}
+use Rattle.wait_model.specs.Points.{mode_of, called_task, given_at}
+use Rattle.wait_model.specs.Programs.{signalled_at, prepared_at, slept_at, signalled, finished, exchange, ask}
+use Rattle.wait_model.specs.Programs.{publishing_event, active_event, is_enough, is_at_end, done_in, select_from}
+use Rattle.wait_model.specs.Programs.{select_next, reached, go, ends_with, zero_answer, load, look_event, past}
+use Rattle.wait_model.specs.Runs.{State, own, entry_for, called_at, seen_by, planned}
+use Rattle.wait_model.specs.Reached.{held_at, taken_off, HomeAt, IsHome, pages}
+use Rattle.std.proofs.lemmas.Bool.Decides.{nat_tests}
+use Rattle.std.proofs.Common.{refl, sym, ◌∙◌, ap, subst, arith, inl, inr}
+use Rattle.std.specs.Prelude.{ℕ, ◌≡◌, ◌≢◌, Bool, true, false, not, ◌&&◌, ◌==◌, if◌then◌else◌, is_some, Option, Some}
+use Rattle.std.specs.Prelude.{None, List, [], ◌∷◌, ◌++◌}
+use Rattle.wait_model.specs.declared.watches.Watch.TheVariants as watch
+use Rattle.wait_model.specs.declared.steps.Step.TheVariants as step
+use Rattle.wait_model.specs.declared.calls.Event.TheVariants as event
+use Rattle.wait_model.specs.declared.points.SelectPoint.TheVariants as selecting
+use Rattle.wait_model.specs.declared.points.AwaitPoint.TheVariants as awaiting
+use Rattle.wait_model.specs.declared.points.CountPoint.TheVariants as counting
+use Rattle.wait_model.specs.declared.points.BitPoint.TheVariants as biting
+use Rattle.wait_model.specs.declared.calls.Answer.TheVariants as answer
+use Rattle.wait_model.specs.declared.calls.Call.TheVariants as calls
+use Rattle.wait_model.specs.declared.watches.Mode.TheVariants as mode
+use Rattle.wait_model.specs.declared.points.Point.TheVariants as at
+use Rattle.wait_model.specs.declared.points.PreparePoint.TheVariants as preparing
+use Rattle.wait_model.specs.declared.points.LeavePoint.TheVariants as leaving
+use Rattle.wait_model.specs.declared.points.FinishPoint.TheVariants as finishing
+use Rattle.wait_model.specs.declared.points.WalkPoint.TheVariants as walking
+use Rattle.wait_model.specs.declared.points.AddPoint.TheVariants as adding
+use Rattle.wait_model.specs.declared.points.RemovePoint.TheVariants as removing
+use Rattle.wait_model.specs.declared.points.WokenPoint.TheVariants as hearing
+use Rattle.wait_model.specs.declared.points.Progress.TheVariants as now
 use Rattle.wait_model.specs.declared.points.PageStage.TheVariants as staging
 use Rattle.wait_model.specs.declared.points.PagePoint.TheVariants as paging
-use Rattle.wait_model.specs.Words.{flag, bit_at}
-use Rattle.wait_model.specs.declared.queues.Walking.{Walking}
 
 -- where a wait stores a state that is not RUNNING it holds its entry's head
 store_held : (s : State) (me : ℕ) (call : Call) (e : Entry)

@@ -2,38 +2,30 @@
 -- that leads to such a place, holds of the events at all points from which nothing else follows.
 use Rattle.std.proofs.Common.{refl}
 use Rattle.std.specs.Prelude.{ℕ, ◌≡◌, Bool, true, false, not, ◌==◌, if◌then◌else◌, is_some, Option, Some, None}
-use Rattle.wait_model.specs.declared.calls.Call.{Call}
-use Rattle.wait_model.specs.declared.calls.Event.{Event}
+use Rattle.wait_model.specs.{declared.calls.Call.Call, declared.calls.Event.Event, declared.calls.Answer.Answer}
+use Rattle.wait_model.specs.{declared.queues.Walking.Walking, declared.queues.CalledEntry.CalledEntry}
+use Rattle.wait_model.specs.{declared.watches.Kind.Kind, declared.points.Planned.Planned, declared.points.Seen.Seen}
+use Rattle.wait_model.specs.{declared.points.Point.Point, declared.points.WalkPoint.WalkPoint}
+use Rattle.wait_model.specs.{declared.points.SelectPoint.SelectPoint, Tasks.meets, Watches.mask_of, Watches.misses}
+use Rattle.wait_model.specs.Tables.{value_of}
+use Rattle.wait_model.specs.Points.{is_lock, call_aim, call_watch, mode_of}
+use Rattle.wait_model.specs.Programs.{go, ends_with, past, onward, reached, call_entry, call_next, active_event}
+use Rattle.wait_model.specs.Programs.{select_next, is_at_end, is_enough}
+use Rattle.wait_model.specs.Runs.{State, own, seen_by, planned}
 use Rattle.wait_model.specs.declared.calls.Event.TheVariants as event
-use Rattle.wait_model.specs.declared.calls.Answer.{Answer}
-use Rattle.wait_model.specs.declared.queues.Walking.{Walking}
-use Rattle.wait_model.specs.declared.queues.CalledEntry.{CalledEntry}
-use Rattle.wait_model.specs.declared.watches.Kind.{Kind}
 use Rattle.wait_model.specs.declared.watches.Kind.TheVariants as kind
-use Rattle.wait_model.specs.declared.points.Planned.{Planned}
-use Rattle.wait_model.specs.declared.points.Seen.{Seen}
-use Rattle.wait_model.specs.declared.points.Point.{Point}
 use Rattle.wait_model.specs.declared.points.Point.TheVariants as at
 use Rattle.wait_model.specs.declared.points.PreparePoint.TheVariants as preparing
 use Rattle.wait_model.specs.declared.points.LeavePoint.TheVariants as leaving
 use Rattle.wait_model.specs.declared.points.FinishPoint.TheVariants as finishing
-use Rattle.wait_model.specs.declared.points.WalkPoint.{WalkPoint}
 use Rattle.wait_model.specs.declared.points.WalkPoint.TheVariants as walking
 use Rattle.wait_model.specs.declared.points.AddPoint.TheVariants as adding
 use Rattle.wait_model.specs.declared.points.RemovePoint.TheVariants as removing
 use Rattle.wait_model.specs.declared.points.WokenPoint.TheVariants as hearing
-use Rattle.wait_model.specs.declared.points.SelectPoint.{SelectPoint}
 use Rattle.wait_model.specs.declared.points.SelectPoint.TheVariants as selecting
 use Rattle.wait_model.specs.declared.points.AwaitPoint.TheVariants as awaiting
 use Rattle.wait_model.specs.declared.points.CountPoint.TheVariants as counting
 use Rattle.wait_model.specs.declared.points.BitPoint.TheVariants as biting
-use Rattle.wait_model.specs.Tasks.{meets}
-use Rattle.wait_model.specs.Watches.{mask_of, misses}
-use Rattle.wait_model.specs.Points.{is_lock, call_aim, call_watch, mode_of}
-use Rattle.wait_model.specs.Tables.{value_of}
-use Rattle.wait_model.specs.Programs.{go, ends_with, past, onward, reached, call_entry, call_next, active_event}
-use Rattle.wait_model.specs.Programs.{select_next, is_at_end, is_enough}
-use Rattle.wait_model.specs.Runs.{State, own, seen_by, planned}
 use Rattle.wait_model.specs.declared.points.PageStage.TheVariants as staging
 use Rattle.wait_model.specs.declared.points.PagePoint.TheVariants as paging
 

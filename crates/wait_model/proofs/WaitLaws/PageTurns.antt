@@ -5,23 +5,27 @@ use Rattle.std.proofs.lemmas.Bool.Decides.{nat_tests}
 use Rattle.std.proofs.Common.{refl, sym, ◌∙◌, ap, subst, arith, inl, inr}
 use Rattle.std.specs.Prelude.{ℕ, ◌≡◌, ◌≢◌, ◌⊎◌, Bool, true, false, ◌||◌, ◌==◌, if◌then◌else◌, is_some, Option}
 use Rattle.std.specs.Prelude.{Some, None}
-use Rattle.wait_model.specs.declared.watches.Watch.{Watch}
+use Rattle.wait_model.specs.{declared.watches.Watch.Watch, declared.watches.Entry.Entry}
+use Rattle.wait_model.specs.{declared.tasks.TaskRecord.TaskRecord, declared.calls.Call.Call, declared.calls.Event.Event}
+use Rattle.wait_model.specs.{declared.points.Given.Given, declared.points.Planned.Planned, declared.points.Seen.Seen}
+use Rattle.wait_model.specs.{declared.points.Next.Next, declared.points.Point.Point}
+use Rattle.wait_model.specs.{declared.points.PagePoint.PagePoint, declared.points.Progress.Progress, Words.head_word}
+use Rattle.wait_model.specs.{Views.View, Views.Checks, Fold.after_all, Fold.found_set, Tables.Table, Tables.value_of}
+use Rattle.wait_model.specs.{Queues.place_for, Selections.is_page_lock}
+use Rattle.wait_model.specs.Tasks.{meets, IsLawful, pending, looks_in, state_mask, slept, woken}
+use Rattle.wait_model.specs.Watches.{is_page, is_bit, misses, word_of, page, mask_of}
+use Rattle.wait_model.specs.Points.{call_watch, call_head, state_in, given_at}
+use Rattle.wait_model.specs.Programs.{go, ends_with, exchange, zero_answer, interrupted, page_event, page_queue}
+use Rattle.wait_model.specs.Programs.{call_fails}
+use Rattle.wait_model.specs.Reached.{handed_by, HomeAt, IsHome, pages, seated, zone}
+use Rattle.wait_model.specs.Runs.{State, own, planned, seen_by, progress_at, event_steps, is_publishing, after_event}
+use Rattle.wait_model.specs.Runs.{entry_for}
 use Rattle.wait_model.specs.declared.watches.Mode.TheVariants as mode
-use Rattle.wait_model.specs.declared.watches.Entry.{Entry}
-use Rattle.wait_model.specs.declared.tasks.TaskRecord.{TaskRecord}
 use Rattle.wait_model.specs.declared.steps.Step.TheVariants as step
-use Rattle.wait_model.specs.declared.calls.Call.{Call}
 use Rattle.wait_model.specs.declared.calls.Call.TheVariants as calls
-use Rattle.wait_model.specs.declared.calls.Event.{Event}
 use Rattle.wait_model.specs.declared.calls.Event.TheVariants as event
-use Rattle.wait_model.specs.declared.points.Given.{Given}
-use Rattle.wait_model.specs.declared.points.Planned.{Planned}
-use Rattle.wait_model.specs.declared.points.Seen.{Seen}
-use Rattle.wait_model.specs.declared.points.Next.{Next}
 use Rattle.wait_model.specs.declared.points.Next.TheVariants as next
-use Rattle.wait_model.specs.declared.points.Point.{Point}
 use Rattle.wait_model.specs.declared.points.Point.TheVariants as at
-use Rattle.wait_model.specs.declared.points.PagePoint.{PagePoint}
 use Rattle.wait_model.specs.declared.points.PagePoint.TheVariants as paging
 use Rattle.wait_model.specs.declared.points.PageStage.TheVariants as staging
 use Rattle.wait_model.specs.declared.points.WalkPoint.TheVariants as walking
@@ -31,32 +35,14 @@ use Rattle.wait_model.specs.declared.points.AddPoint.TheVariants as adding
 use Rattle.wait_model.specs.declared.points.RemovePoint.TheVariants as removing
 use Rattle.wait_model.specs.declared.points.AwaitPoint.TheVariants as awaiting
 use Rattle.wait_model.specs.declared.points.BitPoint.TheVariants as biting
-use Rattle.wait_model.specs.declared.points.Progress.{Progress}
 use Rattle.wait_model.specs.declared.points.Progress.TheVariants as now
-use Rattle.wait_model.specs.Tasks.{meets, IsLawful, pending, looks_in, state_mask, slept, woken}
-use Rattle.wait_model.specs.Words.{head_word}
-use Rattle.wait_model.specs.Watches.{is_page, is_bit, misses, word_of, page, mask_of}
-use Rattle.wait_model.specs.Views.{View, Checks}
-use Rattle.wait_model.specs.Fold.{after_all, found_set}
-use Rattle.wait_model.specs.Tables.{Table, value_of}
 use Rattle.wait_model.specs.Tables as tables
-use Rattle.wait_model.specs.Points.{call_watch, call_head, state_in, given_at}
-use Rattle.wait_model.specs.Programs.{go, ends_with, exchange, zero_answer, interrupted, page_event, page_queue}
-use Rattle.wait_model.specs.Programs.{call_fails}
-use Rattle.wait_model.specs.Reached.{handed_by, HomeAt, IsHome, pages, seated, zone}
-use Rattle.wait_model.specs.Runs.{State, own, planned, seen_by, progress_at, event_steps, is_publishing, after_event}
-use Rattle.wait_model.specs.Runs.{entry_for}
-use Rattle.wait_model.specs.Queues.{place_for}
-use Rattle.wait_model.specs.Selections.{is_page_lock}
+use Rattle.wait_model.proofs.{HistoryLaws.HoldLooks.looks_same, HistoryLaws.UnlockedLooks.peeks_same}
+use Rattle.wait_model.proofs.{StepLaws.UnlockSteps.unlock_checks, WordLaws.CondWords.set_rest}
+use Rattle.wait_model.proofs.{RunLaws.OthersEvents.own_one, RunLaws.PagelessPoints.IsElsewhere}
+use Rattle.wait_model.proofs.RunLaws.PagelessPoints.{enters_page}
 use Rattle.wait_model.proofs.Functions.{put_at, put_case, put_same}
-use Rattle.wait_model.proofs.HistoryLaws.HoldLooks.{looks_same}
-use Rattle.wait_model.proofs.HistoryLaws.UnlockedLooks.{peeks_same}
-use Rattle.wait_model.proofs.StepLaws.UnlockSteps.{unlock_checks}
-use Rattle.wait_model.proofs.WordLaws.CondWords.{set_rest}
-use Rattle.wait_model.proofs.RunLaws.OthersEvents.{own_one}
-use Rattle.wait_model.proofs.RunLaws.PagelessPoints.{IsElsewhere, enters_page}
-use Rattle.wait_model.proofs.WaitLaws.WaitStages.{IsListening, IsAwake, IsRoused, own_up}
-use Rattle.wait_model.proofs.WaitLaws.WaitStages.{low_woken}
+use Rattle.wait_model.proofs.WaitLaws.WaitStages.{IsListening, IsAwake, IsRoused, own_up, low_woken}
 
 -- whom a walk has told that it took a page for it, and whom it has woken since
 abbrev pub told_by : Progress → Option ℕ

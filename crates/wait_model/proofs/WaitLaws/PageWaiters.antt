@@ -5,48 +5,35 @@ use Rattle.std.proofs.lemmas.Bool.Decides.{eqb_tells}
 use Rattle.std.proofs.Common.{refl, sym, ◌∙◌, ap, subst, arith, inl, inr}
 use Rattle.std.specs.Prelude.{ℕ, ◌≡◌, ◌≢◌, ◌+◌, ◌≤◌, Bool, true, false, if◌then◌else◌, Option, Some, None, List, []}
 use Rattle.std.specs.Prelude.{◌∷◌}
-use Rattle.wait_model.specs.declared.layout.TheConstants.{EVENTS}
-use Rattle.wait_model.specs.declared.watches.Mode.TheVariants as mode
-use Rattle.wait_model.specs.declared.watches.Entry.{Entry}
-use Rattle.wait_model.specs.declared.tasks.TaskRecord.{TaskRecord}
-use Rattle.wait_model.specs.declared.calls.Call.{Call}
-use Rattle.wait_model.specs.declared.calls.Call.TheVariants as calls
-use Rattle.wait_model.specs.declared.calls.Event.{Event}
-use Rattle.wait_model.specs.declared.calls.Event.TheVariants as event
-use Rattle.wait_model.specs.declared.calls.Ran.{Ran}
-use Rattle.wait_model.specs.declared.calls.Ran.TheVariants as ran
-use Rattle.wait_model.specs.declared.queues.Walking.{Walking}
-use Rattle.wait_model.specs.declared.queues.CalledEntry.{CalledEntry}
-use Rattle.wait_model.specs.declared.points.Given.{Given}
-use Rattle.wait_model.specs.declared.points.Next.{Next}
-use Rattle.wait_model.specs.declared.points.Next.TheVariants as next
-use Rattle.wait_model.specs.declared.points.Point.{Point}
-use Rattle.wait_model.specs.declared.points.Point.TheVariants as at
-use Rattle.wait_model.specs.declared.points.PagePoint.{PagePoint}
-use Rattle.wait_model.specs.declared.points.PageStage.{PageStage}
-use Rattle.wait_model.specs.declared.points.PageStage.TheVariants as staging
-use Rattle.wait_model.specs.declared.points.WalkPoint.TheVariants as walking
-use Rattle.wait_model.specs.declared.points.Progress.{Progress}
-use Rattle.wait_model.specs.declared.points.Progress.TheVariants as now
-use Rattle.wait_model.specs.Functions.{put}
-use Rattle.wait_model.specs.Tasks.{woken}
+use Rattle.wait_model.specs.{declared.layout.TheConstants.EVENTS, declared.watches.Entry.Entry}
+use Rattle.wait_model.specs.{declared.tasks.TaskRecord.TaskRecord, declared.calls.Call.Call, declared.calls.Event.Event}
+use Rattle.wait_model.specs.{declared.calls.Ran.Ran, declared.queues.Walking.Walking}
+use Rattle.wait_model.specs.{declared.queues.CalledEntry.CalledEntry, declared.points.Given.Given}
+use Rattle.wait_model.specs.{declared.points.Next.Next, declared.points.Point.Point}
+use Rattle.wait_model.specs.{declared.points.PagePoint.PagePoint, declared.points.PageStage.PageStage}
+use Rattle.wait_model.specs.{declared.points.Progress.Progress, Functions.put, Tasks.woken, Views.View, Tables.Table}
+use Rattle.wait_model.specs.{Tables.value_of, Points.call_watch, Points.given_at, Programs.program_start, Programs.past}
 use Rattle.wait_model.specs.Watches.{is_page, misses, word_of, page, mask_of}
-use Rattle.wait_model.specs.Views.{View}
-use Rattle.wait_model.specs.Tables.{Table, value_of}
-use Rattle.wait_model.specs.Points.{call_watch, given_at}
-use Rattle.wait_model.specs.Programs.{program_start, past}
 use Rattle.wait_model.specs.Reached.{held_at, handed_by, HomeAt, IsTaken, IsSound, IsSoundCall, zone}
 use Rattle.wait_model.specs.Runs.{State, own, given_by, planned, seen_by, progress_at, progress_after, event_steps}
 use Rattle.wait_model.specs.Runs.{happens, start_state, state_after, state_of, Continues, IsItem, IsRunFrom, IsRun}
 use Rattle.wait_model.specs.Runs.{made_in}
+use Rattle.wait_model.specs.declared.watches.Mode.TheVariants as mode
+use Rattle.wait_model.specs.declared.calls.Call.TheVariants as calls
+use Rattle.wait_model.specs.declared.calls.Event.TheVariants as event
+use Rattle.wait_model.specs.declared.calls.Ran.TheVariants as ran
+use Rattle.wait_model.specs.declared.points.Next.TheVariants as next
+use Rattle.wait_model.specs.declared.points.Point.TheVariants as at
+use Rattle.wait_model.specs.declared.points.PageStage.TheVariants as staging
+use Rattle.wait_model.specs.declared.points.WalkPoint.TheVariants as walking
+use Rattle.wait_model.specs.declared.points.Progress.TheVariants as now
 use Rattle.wait_model.proofs.Functions.{put_at, put_same, put_other}
 use Rattle.wait_model.proofs.HistoryLaws.HoldLooks.{steps_own, steps_other}
 use Rattle.wait_model.proofs.RunLaws.OthersEvents.{Changes}
 use Rattle.wait_model.proofs.RunLaws.EveryRun.{IsMade, made_of, opened_sound, made_sound, start_sound}
 use Rattle.wait_model.proofs.RunLaws.PagelessPoints.{IsElsewhere, IsApart, program_apart}
 use Rattle.wait_model.proofs.RunLaws.PagesHanded.{IsHanding, handing_of, standing_plain}
-use Rattle.wait_model.proofs.WaitLaws.WaitStages.{FitsStage, IsRoused, others_roused, own_up, roused_up}
-use Rattle.wait_model.proofs.WaitLaws.WaitStages.{low_woken}
+use Rattle.wait_model.proofs.WaitLaws.WaitStages.{FitsStage, IsRoused, others_roused, own_up, roused_up, low_woken}
 use Rattle.wait_model.proofs.WaitLaws.Waiters.{TakesAt, IsAlert, IsTurn, turn_of, made_alert, opened_alert, start_alert}
 use Rattle.wait_model.proofs.WaitLaws.Waiters.{closed_up, page_zone}
 use Rattle.wait_model.proofs.WaitLaws.PageTurns.{A, X, N, B, V, Lands, told_by, roused_by, has_asked, is_turning, IsUp}

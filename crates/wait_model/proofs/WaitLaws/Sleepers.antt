@@ -3,48 +3,34 @@ use Rattle.std.proofs.lemmas.Bool.{both_ways}
 use Rattle.std.proofs.lemmas.Bool.Decides.{nat_tests}
 use Rattle.std.proofs.Common.{refl, sym, ◌∙◌, ap, subst, arith}
 use Rattle.std.specs.Prelude.{ℕ, ◌≡◌, ◌≢◌, ◌≤◌, Bool, true, false, if◌then◌else◌, Option, Some, None, List}
-use Rattle.wait_model.specs.declared.layout.TheConstants.{EVENTS}
-use Rattle.wait_model.specs.declared.watches.Watch.{Watch}
+use Rattle.wait_model.specs.{declared.layout.TheConstants.EVENTS, declared.watches.Watch.Watch}
+use Rattle.wait_model.specs.{declared.watches.Kind.Kind, declared.watches.Entry.Entry, declared.steps.Step.Step}
+use Rattle.wait_model.specs.{declared.calls.Call.Call, declared.calls.Ran.Ran, declared.points.Point.Point}
+use Rattle.wait_model.specs.{declared.points.Progress.Progress, Views.View, Fold.view_of, Histories.Since}
+use Rattle.wait_model.specs.{Selections.is_page_lock, Wakes.Sleeps, Findings.is_waiting}
+use Rattle.wait_model.specs.Watches.{same, bare, kind_for, is_done, is_woken, is_page}
+use Rattle.wait_model.specs.Points.{call_watch, is_await, is_bit_wait}
+use Rattle.wait_model.specs.Runs.{State, own, IsRun, state_of, made_in}
+use Rattle.wait_model.specs.Reached.{HomeAt, IsFitted, IsSoundCall, IsSound}
+use Rattle.wait_model.specs.Readings.{FailedBy, finds_set, queues}
+use Rattle.wait_model.specs.Waiters.{WaitsFor, IsSafe, NoRunLosesWaiter}
 use Rattle.wait_model.specs.declared.watches.Watch.TheVariants as watch
-use Rattle.wait_model.specs.declared.watches.Kind.{Kind}
 use Rattle.wait_model.specs.declared.watches.Kind.TheVariants as kind
-use Rattle.wait_model.specs.declared.watches.Entry.{Entry}
-use Rattle.wait_model.specs.declared.steps.Step.{Step}
-use Rattle.wait_model.specs.declared.calls.Call.{Call}
 use Rattle.wait_model.specs.declared.calls.Call.TheVariants as calls
-use Rattle.wait_model.specs.declared.calls.Ran.{Ran}
-use Rattle.wait_model.specs.declared.points.Point.{Point}
 use Rattle.wait_model.specs.declared.points.Point.TheVariants as at
 use Rattle.wait_model.specs.declared.points.PreparePoint.TheVariants as preparing
 use Rattle.wait_model.specs.declared.points.WokenPoint.TheVariants as hearing
 use Rattle.wait_model.specs.declared.points.AwaitPoint.TheVariants as awaiting
 use Rattle.wait_model.specs.declared.points.BitPoint.TheVariants as biting
-use Rattle.wait_model.specs.declared.points.Progress.{Progress}
 use Rattle.wait_model.specs.declared.points.Progress.TheVariants as now
-use Rattle.wait_model.specs.Watches.{same, bare, kind_for, is_done, is_woken, is_page}
-use Rattle.wait_model.specs.Views.{View}
-use Rattle.wait_model.specs.Fold.{view_of}
-use Rattle.wait_model.specs.Points.{call_watch, is_await, is_bit_wait}
-use Rattle.wait_model.specs.Runs.{State, own, IsRun, state_of, made_in}
-use Rattle.wait_model.specs.Reached.{HomeAt, IsFitted, IsSoundCall, IsSound}
-use Rattle.wait_model.specs.Histories.{Since}
-use Rattle.wait_model.specs.Readings.{FailedBy, finds_set, queues}
-use Rattle.wait_model.specs.Selections.{is_page_lock}
-use Rattle.wait_model.specs.Wakes.{Sleeps}
-use Rattle.wait_model.specs.Findings.{is_waiting}
-use Rattle.wait_model.specs.Waiters.{WaitsFor, IsSafe, NoRunLosesWaiter}
-use Rattle.wait_model.proofs.WordLaws.DecodedWords.{owner_own}
-use Rattle.wait_model.proofs.Sameness.{each_kind}
-use Rattle.wait_model.proofs.RunLaws.EveryRun.{sound_of}
-use Rattle.wait_model.proofs.HistoryLaws.ViewsTold.{views_told}
-use Rattle.wait_model.proofs.HistoryLaws.NoLostWake.{no_run_loses_wake, tas_told}
-use Rattle.wait_model.proofs.HistoryLaws.ZeroLoads.{zero_told}
-use Rattle.wait_model.proofs.WaitLaws.WaitStages.{dozing, stage, IsTested, IsListening}
-use Rattle.wait_model.proofs.WaitLaws.Waiters.{IsDownInWait, down_of}
-use Rattle.wait_model.proofs.WaitLaws.PageTurns.{ArePagesTold, FoundSet, IsPaged, is_paging, is_turning}
-use Rattle.wait_model.proofs.WaitLaws.PageWaiters.{told_of}
-use Rattle.wait_model.proofs.WaitLaws.ZeroCounts.{IsZero, ZeroAt, zero_of}
+use Rattle.wait_model.proofs.{WordLaws.DecodedWords.owner_own, Sameness.each_kind, RunLaws.EveryRun.sound_of}
+use Rattle.wait_model.proofs.{HistoryLaws.ViewsTold.views_told, HistoryLaws.NoLostWake.no_run_loses_wake}
+use Rattle.wait_model.proofs.{HistoryLaws.NoLostWake.tas_told, HistoryLaws.ZeroLoads.zero_told}
+use Rattle.wait_model.proofs.{WaitLaws.Waiters.IsDownInWait, WaitLaws.Waiters.down_of, WaitLaws.PageWaiters.told_of}
 use Rattle.wait_model.proofs.RunLaws.PagesHanded.{kind_plain}
+use Rattle.wait_model.proofs.WaitLaws.WaitStages.{dozing, stage, IsTested, IsListening}
+use Rattle.wait_model.proofs.WaitLaws.PageTurns.{ArePagesTold, FoundSet, IsPaged, is_paging, is_turning}
+use Rattle.wait_model.proofs.WaitLaws.ZeroCounts.{IsZero, ZeroAt, zero_of}
 use Rattle.wait_model.specs.declared.points.PagePoint.TheVariants as paging
 
 -- the call of a task that waits

@@ -1,36 +1,27 @@
 -- What the stages of a wait say of its task, and what the events of others do to it.
 use Rattle.std.proofs.Common.{refl, sym, ◌∙◌, ap, subst, inl, inr}
 use Rattle.std.specs.Prelude.{ℕ, ◌≡◌, ◌≢◌, ◌⊎◌, Bool, true, false, if◌then◌else◌, is_some, Option, List}
+use Rattle.wait_model.specs.{declared.watches.Entry.Entry, declared.tasks.TaskRecord.TaskRecord}
+use Rattle.wait_model.specs.{declared.steps.Step.Step, declared.calls.Call.Call, declared.calls.Event.Event}
+use Rattle.wait_model.specs.{declared.points.Point.Point, declared.points.Progress.Progress}
+use Rattle.wait_model.specs.{declared.points.Given.Given, Words.head_word, Tables.next, Tables.value_of}
+use Rattle.wait_model.specs.{Watches.mask_of, Points.call_watch, Points.is_await, Readings.FailedLoad, Runs.State}
+use Rattle.wait_model.specs.Runs.{after_event}
 use Rattle.wait_model.specs.declared.layout.TheConstants.{INTERRUPTIBLE, UNINTERRUPTIBLE, KILLABLE, NORMAL}
-use Rattle.wait_model.specs.declared.watches.Entry.{Entry}
+use Rattle.wait_model.specs.Tasks.{IsLawful, meets, woken, raised}
 use Rattle.wait_model.specs.declared.watches.Mode.TheVariants as mode
-use Rattle.wait_model.specs.declared.tasks.TaskRecord.{TaskRecord}
-use Rattle.wait_model.specs.declared.steps.Step.{Step}
 use Rattle.wait_model.specs.declared.steps.Step.TheVariants as step
-use Rattle.wait_model.specs.declared.calls.Call.{Call}
 use Rattle.wait_model.specs.declared.calls.Call.TheVariants as calls
-use Rattle.wait_model.specs.declared.calls.Event.{Event}
 use Rattle.wait_model.specs.declared.calls.Event.TheVariants as event
-use Rattle.wait_model.specs.declared.points.Point.{Point}
 use Rattle.wait_model.specs.declared.points.Point.TheVariants as at
 use Rattle.wait_model.specs.declared.points.PreparePoint.TheVariants as preparing
 use Rattle.wait_model.specs.declared.points.WokenPoint.TheVariants as hearing
 use Rattle.wait_model.specs.declared.points.AwaitPoint.TheVariants as awaiting
 use Rattle.wait_model.specs.declared.points.BitPoint.TheVariants as biting
-use Rattle.wait_model.specs.declared.points.Progress.{Progress}
 use Rattle.wait_model.specs.declared.points.Progress.TheVariants as now
-use Rattle.wait_model.specs.declared.points.Given.{Given}
-use Rattle.wait_model.specs.Tasks.{IsLawful, meets, woken, raised}
-use Rattle.wait_model.specs.Words.{head_word}
-use Rattle.wait_model.specs.Tables.{next, value_of}
-use Rattle.wait_model.specs.Watches.{mask_of}
-use Rattle.wait_model.specs.Points.{call_watch, is_await}
-use Rattle.wait_model.proofs.WordLaws.CondWords.{set_rest}
-use Rattle.wait_model.specs.Readings.{FailedLoad}
-use Rattle.wait_model.specs.Runs.{State, after_event}
-use Rattle.wait_model.proofs.Functions.{put_at, put_same, put_other}
-use Rattle.wait_model.proofs.HistoryLaws.HoldLooks.{looks_same}
+use Rattle.wait_model.proofs.{WordLaws.CondWords.set_rest, HistoryLaws.HoldLooks.looks_same}
 use Rattle.wait_model.proofs.HistoryLaws.UnlockedLooks.{peeks_same}
+use Rattle.wait_model.proofs.Functions.{put_at, put_same, put_other}
 use Rattle.wait_model.specs.declared.points.PagePoint.TheVariants as paging
 
 -- how far a wait is: outside, in the hold in which it stores its state, before the load, between the load and

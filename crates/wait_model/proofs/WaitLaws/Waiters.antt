@@ -1,69 +1,52 @@
 -- What every run keeps of its waits: only after its sleep is a wait's task down, and then its entry is queued.
 use Rattle.std.proofs.lemmas.Option.{none-some}
 use Rattle.std.proofs.lemmas.Bool.{both_ways}
-use Rattle.wait_model.specs.declared.layout.TheConstants.{EVENTS}
-use Rattle.wait_model.specs.Tables.{value_of}
-use Rattle.wait_model.specs.Admission.{IsGoing}
-use Rattle.wait_model.proofs.WordLaws.CondWords.{head_of_bare, set_rest}
-use Rattle.wait_model.specs.Watches.{bare, kind_for, is_page}
-use Rattle.std.proofs.lemmas.Bool.Decides.{eqb_tells}
-use Rattle.std.proofs.Common.{refl, sym, ◌∙◌, ap, subst, arith, inl, inr}
-use Rattle.std.specs.Prelude.{ℕ, ◌≡◌, ◌≢◌, ◌+◌, ◌≤◌, ◌⊎◌, Bool, true, false, ◌==◌, if◌then◌else◌, is_some, Option, Some}
-use Rattle.std.specs.Prelude.{None, List, [], ◌∷◌, ◌++◌}
-use Rattle.wait_model.specs.declared.watches.Entry.{Entry}
-use Rattle.wait_model.specs.declared.tasks.TaskRecord.{TaskRecord}
-use Rattle.wait_model.specs.declared.steps.Step.{Step}
-use Rattle.wait_model.specs.declared.steps.Step.TheVariants as step
-use Rattle.wait_model.specs.declared.calls.Call.{Call}
-use Rattle.wait_model.specs.declared.calls.Call.TheVariants as calls
-use Rattle.wait_model.specs.declared.calls.Event.{Event}
-use Rattle.wait_model.specs.declared.calls.Event.TheVariants as event
-use Rattle.wait_model.specs.declared.calls.Ran.{Ran}
-use Rattle.wait_model.specs.declared.calls.Ran.TheVariants as ran
-use Rattle.wait_model.specs.declared.points.Point.{Point}
-use Rattle.wait_model.specs.declared.points.Point.TheVariants as at
-use Rattle.wait_model.specs.declared.points.PreparePoint.{PreparePoint}
-use Rattle.wait_model.specs.declared.points.PreparePoint.TheVariants as preparing
-use Rattle.wait_model.specs.declared.points.AwaitPoint.{AwaitPoint}
-use Rattle.wait_model.specs.declared.points.AwaitPoint.TheVariants as awaiting
-use Rattle.wait_model.specs.declared.points.BitPoint.{BitPoint}
-use Rattle.wait_model.specs.declared.points.BitPoint.TheVariants as biting
-use Rattle.wait_model.specs.declared.points.WokenPoint.{WokenPoint}
-use Rattle.wait_model.specs.declared.points.WokenPoint.TheVariants as hearing
-use Rattle.wait_model.specs.declared.points.Given.{Given}
-use Rattle.wait_model.specs.declared.points.Progress.{Progress}
-use Rattle.wait_model.specs.declared.points.Progress.TheVariants as now
-use Rattle.wait_model.specs.Functions.{put}
+use Rattle.wait_model.specs.{declared.layout.TheConstants.EVENTS, Admission.IsGoing, declared.watches.Entry.Entry}
+use Rattle.wait_model.specs.{declared.tasks.TaskRecord.TaskRecord, declared.steps.Step.Step, declared.calls.Call.Call}
+use Rattle.wait_model.specs.{declared.calls.Event.Event, declared.calls.Ran.Ran, declared.points.Point.Point}
+use Rattle.wait_model.specs.{declared.points.PreparePoint.PreparePoint, declared.points.AwaitPoint.AwaitPoint}
+use Rattle.wait_model.specs.{declared.points.BitPoint.BitPoint, declared.points.WokenPoint.WokenPoint}
+use Rattle.wait_model.specs.{declared.points.Given.Given, declared.points.Progress.Progress, Functions.put}
+use Rattle.wait_model.specs.{Words.head_word, Points.call_watch, Programs.program_start}
+use Rattle.wait_model.specs.{declared.points.PagePoint.PagePoint, declared.watches.Watch.Watch}
+use Rattle.wait_model.specs.Tables.{value_of, Table, next, steps}
+use Rattle.wait_model.specs.Watches.{bare, kind_for, is_page, head_of}
 use Rattle.wait_model.specs.Tasks.{IsLawful, meets, pending, woken, slept}
-use Rattle.wait_model.specs.Words.{head_word}
-use Rattle.wait_model.specs.Watches.{head_of}
-use Rattle.wait_model.specs.Tables.{Table, next, steps}
-use Rattle.wait_model.specs.Points.{call_watch}
-use Rattle.wait_model.specs.Programs.{program_start}
 use Rattle.wait_model.specs.Runs.{State, given_by, own, event_steps, planned, progress_after, after_event, happens}
 use Rattle.wait_model.specs.Runs.{start_state, state_after, state_of, is_open, Continues, IsItem, IsRunFrom, IsRun}
 use Rattle.wait_model.specs.Runs.{made_in}
 use Rattle.wait_model.specs.Reached.{held_at, taken_by, HomeAt, IsTaken, IsPlaced, IsSound, handed_by, Zone, absent}
 use Rattle.wait_model.specs.Reached.{waits, free, stands, parts, pages, seated, zone, IsHome}
+use Rattle.wait_model.proofs.{WordLaws.CondWords.head_of_bare, WordLaws.CondWords.set_rest}
+use Rattle.wait_model.proofs.{HistoryLaws.HoldLooks.looks_same, HistoryLaws.UnlockedLooks.peeks_same}
+use Rattle.wait_model.proofs.{RunLaws.OthersEvents.own_one, RunLaws.OthersEvents.Changes, RunLaws.FineEvents.one_there}
+use Rattle.wait_model.proofs.WaitLaws.NextStages.{good}
 use Rattle.wait_model.proofs.Functions.{put_at, put_case, put_same, put_other}
-use Rattle.wait_model.proofs.HistoryLaws.HoldLooks.{looks_same}
-use Rattle.wait_model.proofs.HistoryLaws.UnlockedLooks.{peeks_same}
-use Rattle.wait_model.proofs.RunLaws.OthersEvents.{own_one, Changes}
-use Rattle.wait_model.proofs.RunLaws.FineEvents.{one_there}
 use Rattle.wait_model.proofs.RunLaws.EveryRun.{IsMade, made_of, opened_sound, made_sound, start_sound}
 use Rattle.wait_model.proofs.WaitLaws.WaitStages.{Stage, outside, inside, testing, tested, dozing, napping, stage}
 use Rattle.wait_model.proofs.WaitLaws.WaitStages.{IsTested, IsAt, IsStaged, IsListening, FitsStage, IsUpInStage}
 use Rattle.wait_model.proofs.WaitLaws.WaitStages.{IsRoused, IsLeftStage, roused_up, staged_still, others_roused}
 use Rattle.wait_model.proofs.WaitLaws.LeavingStages.{stage_in, Takes, Stores, IsGood}
-use Rattle.wait_model.proofs.WaitLaws.NextStages.{good}
+use Rattle.wait_model.proofs.RunLaws.PagesHanded.{IsHanding, handing_of, kind_plain, standing_plain}
+use Rattle.std.proofs.lemmas.Bool.Decides.{eqb_tells}
+use Rattle.std.proofs.Common.{refl, sym, ◌∙◌, ap, subst, arith, inl, inr}
+use Rattle.std.specs.Prelude.{ℕ, ◌≡◌, ◌≢◌, ◌+◌, ◌≤◌, ◌⊎◌, Bool, true, false, ◌==◌, if◌then◌else◌, is_some, Option, Some}
+use Rattle.std.specs.Prelude.{None, List, [], ◌∷◌, ◌++◌}
+use Rattle.wait_model.specs.declared.steps.Step.TheVariants as step
+use Rattle.wait_model.specs.declared.calls.Call.TheVariants as calls
+use Rattle.wait_model.specs.declared.calls.Event.TheVariants as event
+use Rattle.wait_model.specs.declared.calls.Ran.TheVariants as ran
+use Rattle.wait_model.specs.declared.points.Point.TheVariants as at
+use Rattle.wait_model.specs.declared.points.PreparePoint.TheVariants as preparing
+use Rattle.wait_model.specs.declared.points.AwaitPoint.TheVariants as awaiting
+use Rattle.wait_model.specs.declared.points.BitPoint.TheVariants as biting
+use Rattle.wait_model.specs.declared.points.WokenPoint.TheVariants as hearing
+use Rattle.wait_model.specs.declared.points.Progress.TheVariants as now
 use Rattle.wait_model.specs.declared.points.PagePoint.TheVariants as paging
 use Rattle.wait_model.specs.declared.points.LeavePoint.TheVariants as leaving
 use Rattle.wait_model.specs.declared.points.FinishPoint.TheVariants as finishing
 use Rattle.wait_model.specs.declared.points.AddPoint.TheVariants as adding
 use Rattle.wait_model.specs.declared.points.RemovePoint.TheVariants as removing
-use Rattle.wait_model.specs.declared.points.PagePoint.{PagePoint}
-use Rattle.wait_model.proofs.RunLaws.PagesHanded.{IsHanding, handing_of, kind_plain, standing_plain}
-use Rattle.wait_model.specs.declared.watches.Watch.{Watch}
 
 -- what holds of the waits in every state of a run
 pub record IsAlert (s : State) : Type 0 where

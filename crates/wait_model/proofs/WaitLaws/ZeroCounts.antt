@@ -5,29 +5,12 @@ use Rattle.std.proofs.lemmas.Bool.Decides.{nat_tests}
 use Rattle.std.proofs.Common.{refl, sym, ◌∙◌, ap, subst, arith}
 use Rattle.std.specs.Prelude.{ℕ, ◌≡◌, ◌+◌, ◌≤◌, Bool, true, false, not, ◌&&◌, ◌==◌, if◌then◌else◌, is_some}
 use Rattle.std.specs.Prelude.{Some, List, [], ◌∷◌}
-use Rattle.wait_model.specs.declared.layout.TheConstants.{EVENTS}
-use Rattle.wait_model.specs.declared.calls.Call.{Call}
-use Rattle.wait_model.specs.declared.calls.Call.TheVariants as calls
-use Rattle.wait_model.specs.declared.calls.Event.{Event}
-use Rattle.wait_model.specs.declared.calls.Event.TheVariants as event
-use Rattle.wait_model.specs.declared.calls.Ran.{Ran}
-use Rattle.wait_model.specs.declared.calls.Ran.TheVariants as ran
-use Rattle.wait_model.specs.declared.steps.Step.{Step}
-use Rattle.wait_model.specs.declared.points.Planned.{Planned}
-use Rattle.wait_model.specs.declared.points.Progress.{Progress}
-use Rattle.wait_model.specs.declared.points.Progress.TheVariants as now
-use Rattle.wait_model.specs.declared.points.Point.{Point}
-use Rattle.wait_model.specs.declared.points.Point.TheVariants as at
-use Rattle.wait_model.specs.declared.points.PreparePoint.TheVariants as preparing
-use Rattle.wait_model.specs.declared.points.LeavePoint.TheVariants as leaving
-use Rattle.wait_model.specs.declared.points.FinishPoint.TheVariants as finishing
-use Rattle.wait_model.specs.declared.points.AwaitPoint.TheVariants as awaiting
-use Rattle.wait_model.specs.declared.points.BitPoint.TheVariants as biting
+use Rattle.wait_model.specs.{declared.layout.TheConstants.EVENTS, declared.calls.Call.Call, declared.calls.Event.Event}
+use Rattle.wait_model.specs.{declared.calls.Ran.Ran, declared.steps.Step.Step, declared.points.Planned.Planned}
+use Rattle.wait_model.specs.{declared.points.Progress.Progress, declared.points.Point.Point, Tables.value_of}
+use Rattle.wait_model.specs.{Tables.steps, Views.View, Fold.after_all, Fold.holding}
 use Rattle.wait_model.specs.Tasks.{pending, state_mask, looks_in}
 use Rattle.wait_model.specs.Watches.{head_of, misses, failing}
-use Rattle.wait_model.specs.Tables.{value_of, steps}
-use Rattle.wait_model.specs.Views.{View}
-use Rattle.wait_model.specs.Fold.{after_all, holding}
 use Rattle.wait_model.specs.Points.{call_watch, call_head, call_number, is_await, is_bit_wait, is_lock, state_in}
 use Rattle.wait_model.specs.Points.{given_at}
 use Rattle.wait_model.specs.Programs.{program_start, signalled_at, prepared_at, slept_at, ask, acted, finished}
@@ -35,12 +18,20 @@ use Rattle.wait_model.specs.Programs.{look_event}
 use Rattle.wait_model.specs.Runs.{State, own, given_by, seen_by, event_steps, planned, progress_at, progress_after}
 use Rattle.wait_model.specs.Runs.{happens, start_state, state_after, state_of, Continues, IsRunFrom, IsRun, made_in}
 use Rattle.wait_model.specs.Reached.{IsFitted, IsSoundCall, IsSound, held_at}
-use Rattle.wait_model.proofs.Functions.{put_at}
-use Rattle.wait_model.proofs.HistoryLaws.HoldLooks.{steps_own, steps_other}
+use Rattle.wait_model.specs.declared.calls.Call.TheVariants as calls
+use Rattle.wait_model.specs.declared.calls.Event.TheVariants as event
+use Rattle.wait_model.specs.declared.calls.Ran.TheVariants as ran
+use Rattle.wait_model.specs.declared.points.Progress.TheVariants as now
+use Rattle.wait_model.specs.declared.points.Point.TheVariants as at
+use Rattle.wait_model.specs.declared.points.PreparePoint.TheVariants as preparing
+use Rattle.wait_model.specs.declared.points.LeavePoint.TheVariants as leaving
+use Rattle.wait_model.specs.declared.points.FinishPoint.TheVariants as finishing
+use Rattle.wait_model.specs.declared.points.AwaitPoint.TheVariants as awaiting
+use Rattle.wait_model.specs.declared.points.BitPoint.TheVariants as biting
+use Rattle.wait_model.proofs.{Functions.put_at, HistoryLaws.HoldLooks.steps_own, HistoryLaws.HoldLooks.steps_other}
+use Rattle.wait_model.proofs.{WaitLaws.NextStages.misses_fails, StepLaws.UnlockSteps.unlock_checks}
 use Rattle.wait_model.proofs.RunLaws.EveryRun.{opened_sound, made_sound, start_sound}
 use Rattle.wait_model.proofs.WaitLaws.OutsideStages.{either, both, unset, is_aside, aside_step}
-use Rattle.wait_model.proofs.WaitLaws.NextStages.{misses_fails}
-use Rattle.wait_model.proofs.StepLaws.UnlockSteps.{unlock_checks}
 
 -- in its hold the view has a load of the count that found 0, and after the store of a state it keeps it
 abbrev pub FoundZero : Call → View → Type 0

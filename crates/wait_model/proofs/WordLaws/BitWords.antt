@@ -9,12 +9,10 @@ use Rattle.std.proofs.lemmas.Nat.Bits.{same_from_bits_below}
 use Rattle.std.specs.Int as int
 use Rattle.std.specs.Prelude.{ℕ, zero, suc, ◌≡◌, ◌≢◌, ◌<◌, ◌≤◌, ◌⊎◌, ◌+◌, ◌-◌, ◌*◌, ◌/◌, ◌%◌, ◌^◌, Bool, true, false}
 use Rattle.std.specs.Prelude.{◌==◌, if◌then◌else◌, bit_and, bit_or, min, max}
-use Rattle.wait_model.specs.declared.layout.TheConstants.{WORD_BITS}
-use Rattle.wait_model.specs.declared.watches.Watch.TheVariants as watch
-use Rattle.wait_model.specs.Functions.{put}
-use Rattle.wait_model.specs.Rows.{Reads}
+use Rattle.wait_model.specs.{declared.layout.TheConstants.WORD_BITS, Functions.put, Rows.Reads}
 use Rattle.wait_model.specs.Tables.{AreBitsLow, Words, publish, consume}
 use Rattle.wait_model.specs.Words.{bit_at, flag, bit_word}
+use Rattle.wait_model.specs.declared.watches.Watch.TheVariants as watch
 use Rattle.wait_model.proofs.Functions.{put_at, put_case, put_same, put_other}
 
 pub bit_word_small : (n : ℕ) (f : ℕ → Bool) → bit_word n f < 2 ^ n

@@ -3,35 +3,25 @@ use Rattle.std.proofs.lemmas.Bool.Decides.{nat_tests}
 use Rattle.std.proofs.Common.{refl, ap, arith, inl, inr}
 use Rattle.std.specs.Prelude.{ℕ, ◌≡◌, ◌+◌, ◌-◌, ◌*◌, ◌<◌, Bool, true, false, ◌||◌, ◌==◌, nat_lt, if◌then◌else◌, Some}
 use Rattle.std.specs.Prelude.{None}
+use Rattle.wait_model.specs.{declared.watches.Watch.Watch, declared.watches.Kind.Kind, declared.calls.Call.Call}
+use Rattle.wait_model.specs.{Queues.is_exclusive, Words.Suited, Runs.is_publishing, Runs.set_step, Rows.Reads}
+use Rattle.wait_model.specs.{Rows.Allowed, Reached.IsPlain, Reached.IsSimpleHead, Admission.IsGoing, Programs.done_in}
+use Rattle.wait_model.specs.{DoneCounts.IsStored, Counts.raised_done, Counts.taken_done, Views.View, Fold.after}
 use Rattle.wait_model.specs.declared.layout.TheConstants.{PLAIN_CONDITIONS, FIRST_SIMPLE, COMPLETIONS, BIT_WORDS}
 use Rattle.wait_model.specs.declared.layout.TheConstants.{WORD_BITS, VARIABLES, FIRST_DONE, FIRST_BIT_WORD}
 use Rattle.wait_model.specs.declared.layout.TheConstants.{FIRST_VARIABLE, CONDITIONS, HASHED_HEADS, HEADS, CONDITION_AT}
 use Rattle.wait_model.specs.declared.layout.TheConstants.{ALL_DONE}
-use Rattle.wait_model.specs.declared.watches.Watch.{Watch}
-use Rattle.wait_model.specs.declared.watches.Watch.TheVariants as watch
-use Rattle.wait_model.specs.declared.watches.Kind.{Kind}
-use Rattle.wait_model.specs.declared.watches.Kind.TheVariants as kind
-use Rattle.wait_model.specs.declared.steps.Step.TheVariants as step
 use Rattle.wait_model.specs.Watches.{hashed, head_of, IsThere, number_of, bare, kind_for, counted, is_done, is_bit}
 use Rattle.wait_model.specs.Watches.{is_var, is_woken, is_simple, is_page}
-use Rattle.wait_model.specs.declared.calls.Call.{Call}
-use Rattle.wait_model.specs.declared.calls.Call.TheVariants as calls
 use Rattle.wait_model.specs.Points.{call_watch, is_await, form_of}
-use Rattle.wait_model.specs.Queues.{is_exclusive}
-use Rattle.wait_model.specs.Words.{Suited}
 use Rattle.wait_model.specs.Tables.{AreBitsLow, Words, Table, next, value_of}
 use Rattle.wait_model.specs.Locations.{Plain, Done, Bits, Var, IsLocation, position_of, cond_at, word_in}
-use Rattle.wait_model.specs.Runs.{is_publishing, set_step}
-use Rattle.wait_model.specs.Rows.{Reads, Allowed}
-use Rattle.wait_model.specs.Reached.{IsPlain, IsSimpleHead}
+use Rattle.wait_model.specs.declared.watches.Watch.TheVariants as watch
+use Rattle.wait_model.specs.declared.watches.Kind.TheVariants as kind
+use Rattle.wait_model.specs.declared.steps.Step.TheVariants as step
+use Rattle.wait_model.specs.declared.calls.Call.TheVariants as calls
 use Rattle.wait_model.proofs.WordLaws.BitWords.{bit_word_reads}
-use Rattle.wait_model.specs.Admission.{IsGoing}
-use Rattle.wait_model.specs.Programs.{done_in}
-use Rattle.wait_model.specs.DoneCounts.{IsStored}
-use Rattle.wait_model.specs.Counts.{raised_done, taken_done}
 use Rattle.std.specs.Prelude.{min, ◌≢◌}
-use Rattle.wait_model.specs.Views.{View}
-use Rattle.wait_model.specs.Fold.{after}
 
 -- the number of a condition word, its place, and its value
 pub cond_located : (c : ℕ) → c < CONDITIONS → IsLocation (cond_at c)

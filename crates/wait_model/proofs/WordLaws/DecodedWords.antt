@@ -2,18 +2,12 @@
 use Rattle.std.proofs.Common.{refl, sym, ◌∙◌, ap, subst, arith, inl, inr}
 use Rattle.std.specs.Prelude.{ℕ, ◌≡◌, ◌+◌, ◌-◌, ◌*◌, ◌/◌, ◌%◌, ◌^◌, ◌<◌, ◌⊎◌, Some, None, Bool, true, false, ◌==◌}
 use Rattle.std.specs.Prelude.{nat_lt, if◌then◌else◌, ◌||◌}
+use Rattle.wait_model.specs.{declared.watches.Watch.Watch, declared.watches.Kind.Kind, declared.watches.Entry.Entry}
+use Rattle.wait_model.specs.{declared.tasks.TaskRecord.TaskRecord, Runs.own, Watches.head_of, Watches.owner}
+use Rattle.wait_model.specs.{declared.queues.Mark.Mark, Tables.mark_of, Locations.mark_word}
 use Rattle.wait_model.specs.declared.layout.TheConstants.{PLAIN_CONDITIONS, WORD_BITS, FIRST_PLAIN_HEAD, PLACES, STATES}
 use Rattle.wait_model.specs.declared.layout.TheConstants.{RUNNABLE, SIGNAL, FATAL}
-use Rattle.wait_model.specs.declared.watches.Watch.{Watch}
-use Rattle.wait_model.specs.declared.watches.Kind.{Kind}
-use Rattle.wait_model.specs.declared.watches.Entry.{Entry}
-use Rattle.wait_model.specs.declared.tasks.TaskRecord.{TaskRecord}
-use Rattle.wait_model.specs.Runs.{own}
 use Rattle.wait_model.specs.Tasks.{bit, task_word, task_of, IsLawful}
-use Rattle.wait_model.specs.Watches.{head_of, owner}
-use Rattle.wait_model.specs.declared.queues.Mark.{Mark}
-use Rattle.wait_model.specs.Tables.{mark_of}
-use Rattle.wait_model.specs.Locations.{mark_word}
 use Rattle.wait_model.specs.Words.{flag, kind_code, kind_numbered, key_of, watch_at, entry_word, Suited, IsLawfulEntry}
 use Rattle.wait_model.specs.Words.{entry_of, head_word, held_of, spent_of, flag_of, flag_word, done_word}
 use Rattle.wait_model.specs.declared.watches.Watch.TheVariants as watch

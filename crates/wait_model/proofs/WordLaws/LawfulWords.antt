@@ -2,24 +2,17 @@
 use Rattle.std.proofs.lemmas.Bool.Decides.{nat_tests}
 use Rattle.std.proofs.Common.{refl, sym, subst, arith, inl}
 use Rattle.std.specs.Prelude.{ℕ, ◌≡◌, ◌≢◌, ◌+◌, ◌<◌, Option, Bool, true, false, ◌==◌, if◌then◌else◌, List}
-use Rattle.wait_model.specs.declared.layout.TheConstants.{TASKS, EVENTS}
-use Rattle.wait_model.specs.declared.calls.Event.{Event}
-use Rattle.wait_model.specs.declared.watches.Entry.{Entry}
-use Rattle.wait_model.specs.declared.tasks.TaskRecord.{TaskRecord}
-use Rattle.wait_model.specs.declared.queues.Member.{Member}
-use Rattle.wait_model.specs.declared.queues.Mark.{Mark}
+use Rattle.wait_model.specs.{declared.layout.TheConstants.TASKS, declared.layout.TheConstants.EVENTS}
+use Rattle.wait_model.specs.{declared.calls.Event.Event, declared.watches.Entry.Entry}
+use Rattle.wait_model.specs.{declared.tasks.TaskRecord.TaskRecord, declared.queues.Member.Member}
+use Rattle.wait_model.specs.{declared.queues.Mark.Mark, declared.points.Given.Given, Words.head_word}
 use Rattle.wait_model.specs.Runs.{State, own, looks, all_peeks, after_event}
-use Rattle.wait_model.specs.declared.points.Given.{Given}
 use Rattle.wait_model.specs.Reached.{IsLinked, Allows, Joins}
 use Rattle.wait_model.specs.Tasks.{meets, pending, woken, slept, raised, accepted, IsLawful, IsState}
 use Rattle.wait_model.specs.Tables.{Table, next, steps, value_of}
-use Rattle.wait_model.specs.Words.{head_word}
-use Rattle.wait_model.proofs.HistoryLaws.HoldLooks.{looks_same}
-use Rattle.wait_model.proofs.HistoryLaws.UnlockedLooks.{peeks_same}
-use Rattle.wait_model.proofs.Functions.{put_at}
+use Rattle.wait_model.proofs.{HistoryLaws.HoldLooks.looks_same, HistoryLaws.UnlockedLooks.peeks_same, Functions.put_at}
+use Rattle.wait_model.proofs.{RunLaws.OthersEvents.Changes, WordLaws.CondWords.set_rest}
 use Rattle.wait_model.proofs.QueueLaws.LinkedQueues.{later, form_linked, linked_removed, mark_linked, unmark_linked}
-use Rattle.wait_model.proofs.RunLaws.OthersEvents.{Changes}
-use Rattle.wait_model.proofs.WordLaws.CondWords.{set_rest}
 use Rattle.wait_model.specs.declared.calls.Event.TheVariants as event
 use Rattle.wait_model.specs.declared.steps.Step.TheVariants as step
 

@@ -3,30 +3,23 @@ use Rattle.std.proofs.lemmas.Bool.Decides.{eqb_tells}
 use Rattle.std.proofs.Common.{refl, sym, ◌∙◌, ap, subst, arith, inl, inr, get_or-set_other, get_or-set_same, length-set}
 use Rattle.std.specs.Prelude.{ℕ, zero, suc, ◌≡◌, ◌≢◌, ◌+◌, ◌*◌, ◌<◌, ◌≤◌, ◌⊎◌, Option, Bool, true, false, ◌==◌, List}
 use Rattle.std.specs.Prelude.{length, slice_set, slice_index, if◌then◌else◌}
+use Rattle.wait_model.specs.{declared.calls.Event.Event, declared.points.Given.Given, declared.queues.Mark.Mark}
+use Rattle.wait_model.specs.{declared.steps.Step.Step, declared.watches.Watch.Watch, Reached.Allows, Reached.Joins}
+use Rattle.wait_model.specs.{Tasks.task_word, Views.View, Functions.put}
 use Rattle.wait_model.specs.declared.layout.TheConstants.{TASKS, SLOTS, BIT_WORDS, WORD_BITS, FIRST_BIT_WORD, TASK_AT}
 use Rattle.wait_model.specs.declared.layout.TheConstants.{ENTRY_AT, CONDITION_AT, WORDS, RUNNABLE}
-use Rattle.wait_model.specs.declared.calls.Event.{Event}
-use Rattle.wait_model.specs.declared.points.Given.{Given}
-use Rattle.wait_model.specs.declared.watches.Entry as entries
-use Rattle.wait_model.specs.declared.queues.Mark.{Mark}
-use Rattle.wait_model.specs.declared.steps.Step.{Step}
-use Rattle.wait_model.specs.declared.tasks.TaskRecord as tasks
-use Rattle.wait_model.specs.declared.watches.Watch.{Watch}
 use Rattle.wait_model.specs.Watches.{IsThere, is_bit, number_of, page}
 use Rattle.wait_model.specs.Runs.{State, is_publishing, set_step, after_event, found_by, left_of}
-use Rattle.wait_model.specs.Reached.{Allows, Joins}
-use Rattle.wait_model.specs.Tasks.{task_word}
 use Rattle.wait_model.specs.Tables.{Words, Table, next, value_of, publish, consume, start}
 use Rattle.wait_model.specs.Words.{entry_word, head_word, bit_word, done_word}
 use Rattle.wait_model.specs.Locations.{Location, Base, Task, Entry, Flag, Bookmark, Head, Plain, Done, Bits, Var, Tally}
 use Rattle.wait_model.specs.Locations.{Cell, Claim, Member, Next, Serving, IsLocation, position_of, word_in}
 use Rattle.wait_model.specs.Locations.{location_of, cond_at, mark_word, Shows}
-use Rattle.wait_model.specs.Views.{View}
-use Rattle.wait_model.specs.Functions.{put}
+use Rattle.wait_model.specs.declared.watches.Entry as entries
+use Rattle.wait_model.specs.declared.tasks.TaskRecord as tasks
+use Rattle.wait_model.proofs.{Functions.put_same, Functions.put_other, HistoryLaws.UnlockedLooks.peeks_same}
 use Rattle.wait_model.proofs.HistoryLaws.HoldLooks.{SameWords, looks_same, same_words, same_through}
-use Rattle.wait_model.proofs.Functions.{put_same, put_other}
 use Rattle.wait_model.proofs.WordLaws.CondWords.{cond_located, plain_at, done_at, var_at}
-use Rattle.wait_model.proofs.HistoryLaws.UnlockedLooks.{peeks_same}
 use Rattle.wait_model.specs.declared.calls.Event.TheVariants as event
 use Rattle.wait_model.specs.declared.steps.Step.TheVariants as step
 use Rattle.wait_model.specs.declared.watches.Watch.TheVariants as watch

@@ -2,19 +2,15 @@
 use Rattle.std.proofs.Common.{refl, sym, ◌∙◌, ap, subst, arith}
 use Rattle.std.specs.Prelude.{ℕ, zero, suc, ◌≡◌, ◌<◌, Bool, true, false, ◌&&◌, if◌then◌else◌, nat_lt, is_none, List, []}
 use Rattle.std.specs.Prelude.{◌∷◌, ◌++◌, Option, Some, None}
-use Rattle.wait_model.specs.declared.layout.TheConstants.{TASKS}
-use Rattle.wait_model.specs.declared.calls.Call.{Call}
-use Rattle.wait_model.specs.declared.calls.Ran.{Ran}
-use Rattle.wait_model.specs.declared.calls.Ran.TheVariants as ran
-use Rattle.wait_model.specs.declared.points.Progress.{Progress}
-use Rattle.wait_model.specs.declared.points.Progress.TheVariants as now
-use Rattle.wait_model.specs.declared.points.Planned.{Planned}
+use Rattle.wait_model.specs.{declared.layout.TheConstants.TASKS, declared.calls.Call.Call, declared.calls.Ran.Ran}
+use Rattle.wait_model.specs.{declared.points.Progress.Progress, declared.points.Planned.Planned, Tasks.meets}
 use Rattle.wait_model.specs.Runs.{State, looks, planned, busy_head, found_by, happens, start_state, state_of, Continues}
 use Rattle.wait_model.specs.Runs.{IsItem, IsRun}
 use Rattle.wait_model.specs.Watches.{hashed, head_of, owner}
-use Rattle.wait_model.specs.Tasks.{meets}
 use Rattle.wait_model.specs.Worked.{Line, opens, runs, Replay, may_open, opened_call, next_of, with_event, makes_events}
 use Rattle.wait_model.specs.Worked.{line_done, lines_done, replay, replayed, IsOver, ReplaysRun, WorkedScripts}
+use Rattle.wait_model.specs.declared.calls.Ran.TheVariants as ran
+use Rattle.wait_model.specs.declared.points.Progress.TheVariants as now
 use Rattle.wait_model.proofs.RunLaws.EveryRun.{state_after-push, run_push}
 
 -- a replay whose list of items is a run, and whose state is the one after it

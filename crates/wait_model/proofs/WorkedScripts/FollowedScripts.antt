@@ -1,9 +1,15 @@
 -- Worked scripts of setters that are followed through time, computed.
 use Rattle.std.proofs.Common.{refl, sym, subst}
 use Rattle.std.specs.Prelude.{◌≡◌, ◌+◌, ◌&&◌, Bool, true, false, pos, Some, List, [], ◌∷◌, ◌++◌, take}
+use Rattle.wait_model.specs.{declared.watches.Watch.Watch, declared.calls.Ran.Ran, Tables.met, Tasks.meets}
+use Rattle.wait_model.specs.{Followed.StaysMet, Followed.IsFollowed, Worked.replay}
 use Rattle.wait_model.specs.declared.layout.TheConstants.{FIRST_PLACE, FIRST_PLAIN_HEAD, FIRST_DONE_HEAD, FIRST_DONE}
 use Rattle.wait_model.specs.declared.layout.TheConstants.{ALL_DONE, UNINTERRUPTIBLE, RUNNABLE}
-use Rattle.wait_model.specs.declared.watches.Watch.{Watch}
+use Rattle.wait_model.specs.Runs.{State, looks, all_peeks, happens, state_of}
+use Rattle.wait_model.specs.Watches.{hashed, head_of, owner}
+use Rattle.wait_model.specs.Words.{bit_at, bit_word, entry_of, entry_word}
+use Rattle.wait_model.specs.WorkedFollowed.{cleared_alone, completed_for_all, set_and_woken, until_set, until_woken}
+use Rattle.wait_model.specs.WorkedFollowed.{whole_run, WorkedFollowed}
 use Rattle.wait_model.specs.declared.watches.Watch.TheVariants as watch
 use Rattle.wait_model.specs.declared.watches.Mode.TheVariants as modes
 use Rattle.wait_model.specs.declared.watches.Kind.TheVariants as kind
@@ -14,20 +20,10 @@ use Rattle.wait_model.specs.declared.tasks.SleepState.TheVariants as states
 use Rattle.wait_model.specs.declared.calls.Call.TheVariants as calls
 use Rattle.wait_model.specs.declared.calls.Event.TheVariants as event
 use Rattle.wait_model.specs.declared.calls.Answer.TheVariants as answers
-use Rattle.wait_model.specs.declared.calls.Ran.{Ran}
 use Rattle.wait_model.specs.declared.calls.Ran.TheVariants as ran
 use Rattle.wait_model.specs.declared.points.Point.TheVariants as at
 use Rattle.wait_model.specs.declared.points.WalkPoint.TheVariants as walking
 use Rattle.wait_model.specs.declared.points.SelectPoint.TheVariants as selecting
-use Rattle.wait_model.specs.Runs.{State, looks, all_peeks, happens, state_of}
-use Rattle.wait_model.specs.Tables.{met}
-use Rattle.wait_model.specs.Watches.{hashed, head_of, owner}
-use Rattle.wait_model.specs.Words.{bit_at, bit_word, entry_of, entry_word}
-use Rattle.wait_model.specs.Tasks.{meets}
-use Rattle.wait_model.specs.Followed.{StaysMet, IsFollowed}
-use Rattle.wait_model.specs.Worked.{replay}
-use Rattle.wait_model.specs.WorkedFollowed.{cleared_alone, completed_for_all, set_and_woken, until_set, until_woken}
-use Rattle.wait_model.specs.WorkedFollowed.{whole_run, WorkedFollowed}
 use Rattle.wait_model.proofs.Functions.{both_left, both_right}
 
 -- the watch is set all the while

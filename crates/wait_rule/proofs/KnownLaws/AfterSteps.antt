@@ -1,14 +1,11 @@
 -- What a task knows after a step.
 use Rattle.std.proofs.Common.{refl, sym, ◌∙◌, ap, append-nil}
 use Rattle.std.specs.Prelude.{ℕ, ◌≡◌, List, [], ◌∷◌, ◌++◌}
-use Rattle.wait_rule.specs.declared.journal.Item.{Item}
-use Rattle.wait_rule.specs.declared.journal.Item.TheVariants as item
-use Rattle.wait_rule.specs.Items.{steps_of}
+use Rattle.wait_rule.specs.{declared.journal.Item.Item, Items.steps_of, Known.Known}
 use Rattle.wait_rule.specs.Notes.{Notes, notes_of, notes_from, note, tell, no_notes}
-use Rattle.wait_rule.specs.Known.{Known}
 use Rattle.wait_rule.specs.Says.{added, told_of, noted}
-use Rattle.wait_model.specs.Views.{View as Told, blank}
-use Rattle.wait_model.specs.Fold.{after_all, view_of}
+use Rattle.wait_rule.specs.declared.journal.Item.TheVariants as item
+use Rattle.wait_model.specs.{Views.View as Told, Views.blank, Fold.after_all, Fold.view_of}
 use Rattle.wait_model.proofs.HistoryLaws.HoldLooks.{after_snoc}
 use Rattle.wait_rule.proofs.TableSteps.ItemLists.{steps_append}
 

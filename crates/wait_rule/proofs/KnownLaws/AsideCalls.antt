@@ -1,45 +1,32 @@
 -- What stays of a task over calls that are about other things.
 use Rattle.std.proofs.Common.{refl, sym, ◌∙◌, ap, subst, arith, append_assoc, append-nil}
 use Rattle.std.specs.Prelude.{ℕ, ◌≡◌, ◌==◌, ◌&&◌, not, if◌then◌else◌, Bool, true, false, Option, List, [], ◌∷◌, ◌++◌}
-use Rattle.wait_model.specs.declared.calls.Event.{Event}
+use Rattle.wait_model.specs.{declared.calls.Event.Event, declared.points.Given.Given, declared.points.Next.Next}
+use Rattle.wait_model.specs.{declared.points.Point.Point, declared.points.Seen.Seen, declared.steps.Step.Step}
+use Rattle.wait_model.specs.{Fold.view_of, Runs.own, Views.blank}
+use Rattle.wait_model.specs.Permits.{Dealt, dealt, deals, none_dealt}
 use Rattle.wait_model.specs.declared.calls.Event.TheVariants as event
-use Rattle.wait_model.specs.declared.points.Given.{Given}
-use Rattle.wait_model.specs.declared.points.Next.{Next}
 use Rattle.wait_model.specs.declared.points.Next.TheVariants as next
-use Rattle.wait_model.specs.declared.points.Point.{Point}
-use Rattle.wait_model.specs.declared.points.Seen.{Seen}
-use Rattle.wait_model.specs.declared.steps.Step.{Step}
 use Rattle.wait_model.specs.declared.steps.Step.TheVariants as step
 use Rattle.wait_model.specs.declared.watches.Watch.TheVariants as watch
-use Rattle.wait_model.specs.Fold.{view_of}
-use Rattle.wait_model.specs.Permits.{Dealt, dealt, deals, none_dealt}
-use Rattle.wait_model.specs.Runs.{own}
-use Rattle.wait_model.specs.Views.{blank}
 use Rattle.wait_model.proofs.PermitLaws.OwnTurns.{deals_snoc}
-use Rattle.wait_rule.specs.declared.journal.Item.{Item}
-use Rattle.wait_rule.specs.declared.journal.Item.TheVariants as item
-use Rattle.wait_rule.specs.declared.journal.Journal.{Journal}
+use Rattle.wait_rule.specs.{declared.journal.Item.Item, declared.journal.Journal.Journal, LeftEntries.LeftOff}
+use Rattle.wait_rule.specs.{Items.AddsNone, Items.steps_of, Journals.pushed, Known.Known, Says.added, Says.history_of}
+use Rattle.wait_rule.specs.Tallies.{amounts_of}
 use Rattle.wait_rule.specs.Aside.{CallsGrowAside, GrowsAside, IsAsideStep, ItemsStayOff, WalksGrowAside, raised_by}
 use Rattle.wait_rule.specs.Aside.{signals_of}
-use Rattle.wait_rule.specs.LeftEntries.{LeftOff}
-use Rattle.wait_rule.specs.Items.{AddsNone, steps_of}
-use Rattle.wait_rule.specs.Journals.{pushed}
-use Rattle.wait_rule.specs.Known.{Known}
 use Rattle.wait_rule.specs.Pipes.{End, after_end_look, after_end_publish, end_from, end_of, end_step, if_mine}
 use Rattle.wait_rule.specs.Pipes.{if_unclosed, no_end, other_end}
-use Rattle.wait_rule.specs.Says.{added, history_of}
-use Rattle.wait_rule.specs.Tallies.{amounts_of}
 use Rattle.wait_rule.specs.Transitions.{AreLooks, AreScansOf, Goes, IsMadeFor, IsStepFor, OnlyLooks, Program}
 use Rattle.wait_rule.specs.Transitions.{StepOrLook, Transition, after_step_or_look, after_transition, by_look, by_step}
 use Rattle.wait_rule.specs.Transitions.{call_program, walk_point, walk_program, with_lock}
-use Rattle.wait_rule.proofs.KnownLaws.CalledPermits.{order_as}
-use Rattle.wait_rule.proofs.KnownLaws.CarriedEnds.{looks_ends, scans_ends}
-use Rattle.wait_rule.proofs.KnownLaws.CountedTallies.{amounts_none, looks_add, scans_add}
-use Rattle.wait_rule.proofs.KnownLaws.HandedSteps.{order_front}
-use Rattle.wait_rule.proofs.KnownLaws.PipeItems.{end_append}
-use Rattle.wait_rule.proofs.KnownLaws.SilentCalls.{GoesElsewhere, RaisesNone, goes_elsewhere, program_quiet, walk_quiet}
-use Rattle.wait_rule.proofs.KnownLaws.TallySteps.{amounts_append}
+use Rattle.wait_rule.specs.declared.journal.Item.TheVariants as item
+use Rattle.wait_rule.proofs.{KnownLaws.CalledPermits.order_as, KnownLaws.CarriedEnds.looks_ends}
+use Rattle.wait_rule.proofs.{KnownLaws.CarriedEnds.scans_ends, KnownLaws.HandedSteps.order_front}
+use Rattle.wait_rule.proofs.{KnownLaws.PipeItems.end_append, KnownLaws.TallySteps.amounts_append}
 use Rattle.wait_rule.proofs.TableSteps.ItemLists.{steps_append}
+use Rattle.wait_rule.proofs.KnownLaws.CountedTallies.{amounts_none, looks_add, scans_add}
+use Rattle.wait_rule.proofs.KnownLaws.SilentCalls.{GoesElsewhere, RaisesNone, goes_elsewhere, program_quiet, walk_quiet}
 
 signals_append : (xs ys : List Item) → signals_of (xs ++ ys) ≡ signals_of xs ++ signals_of ys
 signals_append [] ys = refl

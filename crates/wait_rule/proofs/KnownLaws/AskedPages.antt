@@ -3,25 +3,19 @@ use Rattle.std.proofs.Common.{refl, sym, ◌∙◌, ap, subst, inl, inr}
 use Rattle.std.specs.Prelude.{ℕ, ◌≡◌, ◌≢◌, ◌⊎◌, ◌&&◌, not, Bool, true, false, if◌then◌else◌, Some, None}
 use Rattle.std.specs.Prelude.{List, [], ◌∷◌, ◌++◌}
 use mathlib.Core.Path.{fun_ext}
-use Rattle.wait_model.specs.declared.watches.Entry.{Entry}
-use Rattle.wait_model.specs.declared.steps.Step.{Step}
-use Rattle.wait_model.specs.declared.steps.Step.TheVariants as step
-use Rattle.wait_model.specs.Functions.{put}
+use Rattle.wait_model.specs.{declared.watches.Entry.Entry, declared.steps.Step.Step, Functions.put, Words.entry_of}
+use Rattle.wait_model.specs.{Fold.is_off, Tables.Table}
 use Rattle.wait_model.specs.Watches.{is_page, was_clear, owner, page, word_of}
-use Rattle.wait_model.specs.Words.{entry_of}
-use Rattle.wait_model.specs.Fold.{is_off}
-use Rattle.wait_model.specs.Tables.{Table}
+use Rattle.wait_model.specs.declared.steps.Step.TheVariants as step
 use Rattle.wait_model.proofs.Functions.{put_case, put_same, put_other}
-use Rattle.wait_rule.specs.declared.journal.Item.{Item}
-use Rattle.wait_rule.specs.declared.journal.Item.TheVariants as item
+use Rattle.wait_rule.specs.{declared.journal.Item.Item, MemberWords.index_named, Known.Known}
 use Rattle.wait_rule.specs.Items.{Difference, nothing, at_entry, at_mark, page_taken, page_told, steps_of}
-use Rattle.wait_rule.specs.MemberWords.{index_named}
 use Rattle.wait_rule.specs.Asked.{Asked, nothing_asked, waits_for, was_given, given_if, ask_step, after_item}
 use Rattle.wait_rule.specs.Asked.{asked_from, asked_by_items, all_asked, is_asking}
-use Rattle.wait_rule.specs.Known.{Known}
 use Rattle.wait_rule.specs.Pages.{taken_entry, IsHandedBy, ArePageStates}
 use Rattle.wait_rule.specs.Says.{AsksNoPage, Debts, Obligation, Excuse, added, asks_for, excuses, has_duty, no_excuse}
 use Rattle.wait_rule.specs.Says.{page_asked}
+use Rattle.wait_rule.specs.declared.journal.Item.TheVariants as item
 use Rattle.wait_rule.proofs.KnownLaws.PageStates.{none_some, IsSameAt, hands_still, state_still}
 use Rattle.wait_rule.proofs.KnownLaws.MemberSteps.{put_again}
 

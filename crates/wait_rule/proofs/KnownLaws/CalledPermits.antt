@@ -2,16 +2,12 @@
 -- steps say.
 use Rattle.std.proofs.Common.{refl, sym, ◌∙◌, ap, subst, append_assoc, append-nil}
 use Rattle.std.specs.Prelude.{ℕ, ◌≡◌, ◌⊎◌, false, Option, None, List, [], ◌∷◌, ◌++◌}
-use Rattle.wait_model.specs.declared.steps.Step.{Step}
-use Rattle.wait_model.specs.declared.steps.Step.TheVariants as step
-use Rattle.wait_model.specs.declared.watches.Aim.{Aim}
+use Rattle.wait_model.specs.{declared.steps.Step.Step, declared.watches.Aim.Aim, Runs.own}
 use Rattle.wait_model.specs.Permits.{ShowsNobody, dealt, done_head, shows_at}
-use Rattle.wait_model.specs.Runs.{own}
+use Rattle.wait_model.specs.declared.steps.Step.TheVariants as step
+use Rattle.wait_rule.specs.{Interleavings.table_of, Known.Known, Says.history_of, Says.told_of}
 use Rattle.wait_rule.specs.HandedPermits.{NewcomersLeaveNone, OwesNoPermit, StaysOff}
 use Rattle.wait_rule.specs.LeftEntries.{LeftOff, Order, OrderOf, ShowsNoOwn}
-use Rattle.wait_rule.specs.Interleavings.{table_of}
-use Rattle.wait_rule.specs.Known.{Known}
-use Rattle.wait_rule.specs.Says.{history_of, told_of}
 use Rattle.wait_rule.proofs.KnownLaws.HandedSteps.{AddsLow, AllAddLow, IsAwayAt, away_all, order_front, order_step}
 use Rattle.wait_rule.proofs.KnownLaws.HeldPermits.{AreInside, IsInside, Owing, owed_by, owes_none, owing_all}
 use Rattle.wait_rule.proofs.KnownLaws.HeldPermits.{owing_lock}

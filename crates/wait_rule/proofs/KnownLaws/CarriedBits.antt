@@ -1,21 +1,18 @@
 -- What the steps of a task on bits leave as it was.
 use Rattle.std.proofs.Common.{◌∙◌, ap, sym, refl, subst}
 use Rattle.std.specs.Prelude.{ℕ, ◌≡◌, ◌&&◌, ◌||◌, not, Bool, true, false}
-use Rattle.wait_model.specs.declared.watches.Watch.{Watch}
+use Rattle.wait_model.specs.{declared.watches.Watch.Watch, Watches.same, Watches.was_clear, Views.View as Told}
+use Rattle.wait_model.specs.{Views.is_trying_for, Fold.after}
 use Rattle.wait_model.specs.declared.watches.Watch.TheVariants as watch
 use Rattle.wait_model.specs.declared.watches.Mode.TheVariants as mode
 use Rattle.wait_model.specs.declared.steps.Step.TheVariants as step
-use Rattle.wait_model.specs.Watches.{same, was_clear}
-use Rattle.wait_model.specs.Views.{View as Told, is_trying_for}
-use Rattle.wait_model.specs.Fold.{after}
 use Rattle.wait_model.proofs.Sameness.{same_refl}
 use Rattle.wait_rule.specs.declared.journal.Item.TheVariants as item
 use Rattle.wait_rule.specs.Known.{Known}
 use Rattle.wait_rule.specs.Says.{Excuse, IsOutBut, OwesBut, added, told_of}
 use Rattle.wait_rule.specs.Stays.{with_bit, with_bits, with_wakes}
 use Rattle.wait_rule.specs.Bits.{ClearsBit, SetsBit, StaysBeside, taken_bits}
-use Rattle.wait_rule.proofs.KnownLaws.AfterSteps.{told_added}
-use Rattle.wait_rule.proofs.KnownLaws.CarriedTasks.{kept_still}
+use Rattle.wait_rule.proofs.{KnownLaws.AfterSteps.told_added, KnownLaws.CarriedTasks.kept_still}
 use Rattle.wait_rule.proofs.KnownLaws.StayingBeside.{stays_beside}
 use Rattle.wait_rule.proofs.KnownLaws.Debts.{entries_debts, publish_debts, step_debts}
 

@@ -3,34 +3,24 @@ use Rattle.std.proofs.Common.{refl, sym, ◌∙◌, ap, subst, arith}
 use Rattle.std.specs.Prelude.{ℕ, ◌≡◌, ◌≢◌, ◌+◌, ◌-◌, ◌/◌, ◌%◌, ◌==◌, ◌&&◌, not, if◌then◌else◌, Bool, true, false}
 use Rattle.std.specs.Prelude.{Option, None, List, [], ◌∷◌}
 use Rattle.std.proofs.lemmas.Bool.Decides.{nat_tests}
-use Rattle.wait_model.specs.declared.layout.TheConstants.{PIPE_ENDS}
-use Rattle.wait_model.specs.declared.calls.Event.{Event}
-use Rattle.wait_model.specs.declared.calls.Event.TheVariants as event
-use Rattle.wait_model.specs.declared.points.Next.{Next}
-use Rattle.wait_model.specs.declared.points.Next.TheVariants as next
-use Rattle.wait_model.specs.declared.points.Given.{Given}
-use Rattle.wait_model.specs.declared.points.Point.{Point}
-use Rattle.wait_model.specs.declared.points.Seen.{Seen}
-use Rattle.wait_model.specs.declared.steps.Step.{Step}
-use Rattle.wait_model.specs.declared.steps.Step.TheVariants as step
-use Rattle.wait_model.specs.declared.watches.Watch.{Watch}
-use Rattle.wait_model.specs.declared.watches.Watch.TheVariants as watch
+use Rattle.wait_model.specs.{declared.layout.TheConstants.PIPE_ENDS, declared.calls.Event.Event}
+use Rattle.wait_model.specs.{declared.points.Next.Next, declared.points.Given.Given, declared.points.Point.Point}
+use Rattle.wait_model.specs.{declared.points.Seen.Seen, declared.steps.Step.Step, declared.watches.Watch.Watch}
 use Rattle.wait_model.specs.Programs.{walk_event}
-use Rattle.wait_rule.specs.declared.journal.Item.{Item}
-use Rattle.wait_rule.specs.declared.journal.Item.TheVariants as item
-use Rattle.wait_rule.specs.Known.{Known}
+use Rattle.wait_model.specs.declared.calls.Event.TheVariants as event
+use Rattle.wait_model.specs.declared.points.Next.TheVariants as next
+use Rattle.wait_model.specs.declared.steps.Step.TheVariants as step
+use Rattle.wait_model.specs.declared.watches.Watch.TheVariants as watch
+use Rattle.wait_rule.specs.{declared.journal.Item.Item, Known.Known, Aside.ProgramsLeaveEnds, PipeSays.KeepsEnd}
+use Rattle.wait_rule.specs.{PipeSays.end_at, PipeLaws.ProgramsKeepEnds, PipeLaws.WalksKeepEnds, Says.added}
 use Rattle.wait_rule.specs.Pipes.{End, after_end_look, after_end_publish, end_from, end_step, if_mine, if_unclosed}
 use Rattle.wait_rule.specs.Pipes.{no_end, other_end}
-use Rattle.wait_rule.specs.Aside.{ProgramsLeaveEnds}
-use Rattle.wait_rule.specs.PipeSays.{KeepsEnd, end_at}
-use Rattle.wait_rule.specs.PipeLaws.{ProgramsKeepEnds, WalksKeepEnds}
-use Rattle.wait_rule.specs.Says.{added}
 use Rattle.wait_rule.specs.Transitions.{AreLooks, AreScansOf, Goes, IsMadeFor, IsStepFor, OnlyLooks, Program}
 use Rattle.wait_rule.specs.Transitions.{StepOrLook, Transition, after_step_or_look, after_transition, by_look, by_step}
 use Rattle.wait_rule.specs.Transitions.{walk_point, walk_program, with_lock}
-use Rattle.wait_rule.proofs.KnownLaws.PipeItems.{end_append}
-use Rattle.wait_rule.proofs.KnownLaws.PipeWords.{test_off}
-use Rattle.wait_rule.proofs.KnownLaws.SilentCalls.{StoresNone, walk_quiet}
+use Rattle.wait_rule.specs.declared.journal.Item.TheVariants as item
+use Rattle.wait_rule.proofs.{KnownLaws.PipeItems.end_append, KnownLaws.PipeWords.test_off}
+use Rattle.wait_rule.proofs.{KnownLaws.SilentCalls.StoresNone, KnownLaws.SilentCalls.walk_quiet}
 
 -- looks tell nothing of ends
 pub looks_ends : (k : ℕ) (e : End) (xs : List Item) → AreLooks xs → end_from k e xs ≡ e

@@ -3,9 +3,7 @@ use Rattle.std.proofs.Common.{ap, refl}
 use Rattle.std.specs.Prelude.{ℕ, ◌≡◌, None}
 use Rattle.wait_model.specs.declared.steps.Step.TheVariants as step
 use Rattle.wait_rule.specs.declared.journal.Item.TheVariants as item
-use Rattle.wait_rule.specs.Known.{Known}
-use Rattle.wait_rule.specs.Says.{added, told_of}
-use Rattle.wait_rule.specs.Stays.{Carries, unchanged}
+use Rattle.wait_rule.specs.{Known.Known, Says.added, Says.told_of, Stays.Carries, Stays.unchanged}
 use Rattle.wait_rule.proofs.KnownLaws.CarriedTasks.{or_none, step_carried, step_owing}
 
 pub flag_carried : (old new : Known) (i w : ℕ) → new ≡ added old (item.Made (step.Flag i w)) → Carries unchanged old new

@@ -2,19 +2,14 @@
 use Rattle.std.proofs.Common.{◌∙◌, ap, refl, arith}
 use Rattle.std.proofs.lemmas.Bool.Decides.{nat_tests}
 use Rattle.std.specs.Prelude.{ℕ, ◌≡◌, ◌||◌, ◌==◌, Bool, true, false, Some}
-use Rattle.wait_model.specs.declared.watches.Entry.{Entry}
+use Rattle.wait_model.specs.{declared.watches.Entry.Entry, Views.View as Told, Fold.after, Fold.met_task}
+use Rattle.wait_model.specs.Watches.{mask_of, page, same}
 use Rattle.wait_model.specs.declared.watches.Mode.TheVariants as mode
 use Rattle.wait_model.specs.declared.steps.Step.TheVariants as step
-use Rattle.wait_model.specs.Views.{View as Told}
-use Rattle.wait_model.specs.Fold.{after, met_task}
-use Rattle.wait_model.specs.Watches.{mask_of, page, same}
 use Rattle.wait_model.proofs.Sameness.{same_refl}
 use Rattle.wait_rule.specs.declared.journal.Item.TheVariants as item
-use Rattle.wait_rule.specs.Bits.{KeepsBitOf}
-use Rattle.wait_rule.specs.Known.{Known}
-use Rattle.wait_rule.specs.Notes.{Notes, notes_after_wake}
-use Rattle.wait_rule.specs.PageCalls.{HasTold}
-use Rattle.wait_rule.specs.Queues.{ShowsEntry, index}
+use Rattle.wait_rule.specs.{Bits.KeepsBitOf, Known.Known, Notes.Notes, Notes.notes_after_wake, PageCalls.HasTold}
+use Rattle.wait_rule.specs.{Queues.ShowsEntry, Queues.index}
 use Rattle.wait_rule.specs.Says.{added, noted, told_of}
 use Rattle.wait_rule.proofs.KnownLaws.AfterSteps.{noted_added, told_added}
 

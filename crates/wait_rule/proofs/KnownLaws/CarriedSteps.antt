@@ -2,29 +2,22 @@
 -- hold tells other tasks.
 use Rattle.std.proofs.Common.{◌∙◌, ap, sym, refl, subst}
 use Rattle.std.specs.Prelude.{ℕ, ◌≡◌, ◌&&◌, ◌||◌, ◌==◌, not, Bool, true, false, if◌then◌else◌, Option, Some, None}
-use Rattle.wait_model.specs.declared.watches.Aim.{Aim}
-use Rattle.wait_model.specs.declared.steps.Step.TheVariants as step
-use Rattle.wait_model.specs.declared.tasks.Sleep.{Sleep}
-use Rattle.wait_model.specs.declared.tasks.Sleep.TheVariants as sleep
-use Rattle.wait_model.specs.Tasks.{task_of, sleep_of}
-use Rattle.wait_model.specs.Watches.{page, same}
+use Rattle.wait_model.specs.{declared.watches.Aim.Aim, declared.tasks.Sleep.Sleep, Tasks.task_of, Tasks.sleep_of}
+use Rattle.wait_model.specs.{Watches.page, Watches.same, Fold.after, Fold.view_of}
 use Rattle.wait_model.specs.Views.{View as Told, Bits, Hold, is_trying_for}
+use Rattle.wait_model.specs.declared.steps.Step.TheVariants as step
+use Rattle.wait_model.specs.declared.tasks.Sleep.TheVariants as sleep
 use Rattle.wait_model.proofs.StepLaws.UnlockSteps.{unlock_bits, unlock_hold}
-use Rattle.wait_rule.specs.declared.journal.Item.{Item}
-use Rattle.wait_rule.specs.declared.journal.Item.TheVariants as item
-use Rattle.wait_rule.specs.declared.journal.Journal.{Journal}
+use Rattle.wait_rule.specs.{declared.journal.Item.Item, declared.journal.Journal.Journal, Bits.NotesPage, Known.Known}
+use Rattle.wait_rule.specs.{Notes.tell, Queues.at_head, Queues.index}
 use Rattle.wait_rule.specs.Asked.{Asked, was_given_at, is_asking, nothing_asked, took_note, waits_for, was_given}
-use Rattle.wait_rule.specs.Bits.{NotesPage}
 use Rattle.wait_rule.specs.Items.{Book, after_awake, after_sleep, steps_of}
-use Rattle.wait_rule.specs.Known.{Known}
-use Rattle.wait_rule.specs.Notes.{tell}
-use Rattle.wait_rule.specs.Queues.{at_head, index}
 use Rattle.wait_rule.specs.Says.{Debts, Obligation, Excuse, IsOutBut, OwesBut, added, asks_for, end_unclosed, excuses}
 use Rattle.wait_rule.specs.Says.{has_duty, has_end, is_excused, page_asked, told_of, wake_of}
 use Rattle.wait_rule.specs.Stays.{Carries, StaysOwing, give_change, lock_change, rise_change, sleep_change}
 use Rattle.wait_rule.specs.Stays.{ticket_change, unchanged, with_bit, with_bits, with_page}
 use Rattle.wait_rule.specs.Tickets.{Ticket, after_serving, drawn, given, no_ticket, taken}
-use Rattle.wait_model.specs.Fold.{after, view_of}
+use Rattle.wait_rule.specs.declared.journal.Item.TheVariants as item
 use Rattle.wait_rule.proofs.KnownLaws.AfterSteps.{told_added}
 use Rattle.wait_rule.proofs.KnownLaws.AskedPages.{asked_added}
 use Rattle.wait_rule.proofs.KnownLaws.CarriedBits.{held_more, or_false}

@@ -1,33 +1,27 @@
 -- What a task carries on over stores of own words in a hold, with and without the store of the member bit.
 use Rattle.std.proofs.Common.{◌∙◌, ap, sym, refl, subst, eq-eqb}
 use Rattle.std.specs.Prelude.{ℕ, ◌≡◌, ◌≢◌, ◌<◌, ◌&&◌, ◌||◌, ◌==◌, not, Bool, true, false, is_some, Option, Some, None}
-use Rattle.wait_model.specs.declared.layout.TheConstants.{FIRST_DONE_HEAD}
-use Rattle.wait_model.specs.declared.watches.Watch.{Watch}
-use Rattle.wait_model.specs.declared.watches.Entry.{Entry}
-use Rattle.wait_model.specs.declared.queues.Mark.{Mark}
-use Rattle.wait_model.specs.declared.steps.Step.{Step}
-use Rattle.wait_model.specs.declared.steps.Step.TheVariants as step
-use Rattle.wait_model.specs.Fold.{after}
-use Rattle.wait_model.specs.Functions.{put}
+use Rattle.wait_model.specs.{declared.layout.TheConstants.FIRST_DONE_HEAD, declared.watches.Watch.Watch}
+use Rattle.wait_model.specs.{declared.watches.Entry.Entry, declared.queues.Mark.Mark, declared.steps.Step.Step}
+use Rattle.wait_model.specs.{Fold.after, Functions.put}
 use Rattle.wait_model.specs.Views.{Duty, View as Told, is_trying_for}
 use Rattle.wait_model.specs.Watches.{head_of, is_bit, is_page, same}
+use Rattle.wait_model.specs.declared.steps.Step.TheVariants as step
 use Rattle.wait_model.proofs.Functions.{put_at, put_other, put_same}
 use Rattle.wait_rule.specs.declared.journal.Item.TheVariants as item
+use Rattle.wait_rule.specs.{Known.Known, Queues.index, Queues.marked, Asked.is_asking}
 use Rattle.wait_rule.specs.Items.{Book, Difference, nothing, at_entry, at_mark, learn_step, with_difference}
-use Rattle.wait_rule.specs.Known.{Known}
-use Rattle.wait_rule.specs.Queues.{index, marked}
-use Rattle.wait_rule.specs.Says.{Debts, Obligation, Excuse, IsOutBut, OwesBut, added, asks_for, end_unclosed, excuses, has_duty, is_excused, page_asked, stored_with, told_of, wake_of}
-use Rattle.wait_rule.specs.Asked.{is_asking}
+use Rattle.wait_rule.specs.Says.{Debts, Obligation, Excuse, IsOutBut, OwesBut, added, asks_for, end_unclosed, excuses}
+use Rattle.wait_rule.specs.Says.{has_duty, is_excused, page_asked, stored_with, told_of, wake_of}
 use Rattle.wait_rule.specs.Stays.{Carries, only, put_change, take_off_change, unchanged, with_entry, with_left_entry}
 use Rattle.wait_rule.specs.Stays.{with_page}
 use Rattle.wait_rule.specs.Stores.{StaysOver, StoresEntry, StoresMark, TriesNoBit, place_of_mark}
-use Rattle.wait_rule.proofs.KnownLaws.AfterSteps.{told_added}
-use Rattle.wait_rule.proofs.KnownLaws.CarriedTasks.{unchanged_first}
+use Rattle.wait_rule.proofs.{KnownLaws.AfterSteps.told_added, KnownLaws.CarriedTasks.unchanged_first}
+use Rattle.wait_rule.proofs.{KnownLaws.MemberBits.told_stored, KnownLaws.StayingParts.owes_also}
+use Rattle.wait_rule.proofs.KnownLaws.StayingParts.{owes_out}
 use Rattle.wait_rule.proofs.KnownLaws.Debts.{LeavesNone, added_debts, begins_none, end_added, entries_debts}
 use Rattle.wait_rule.proofs.KnownLaws.Debts.{leaves_added, leaves_of, list_debts, queued_left, queues_quiet, step_debts}
 use Rattle.wait_rule.proofs.KnownLaws.Debts.{stored_debts}
-use Rattle.wait_rule.proofs.KnownLaws.MemberBits.{told_stored}
-use Rattle.wait_rule.proofs.KnownLaws.StayingParts.{owes_also, owes_out}
 
 -- what such a store leaves of the book
 record Beside (old new : Known) : Type 0 where

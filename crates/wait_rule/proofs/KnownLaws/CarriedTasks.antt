@@ -2,33 +2,28 @@
 use Rattle.std.proofs.Common.{◌∙◌, ap, sym, refl, subst, inl, inr, append-nil, eq-eqb}
 use Rattle.std.specs.Prelude.{ℕ, ◌≡◌, ◌<◌, ◌⊎◌, ◌&&◌, ◌||◌, not, Bool, true, false, Option, Some, None, List, ◌++◌}
 use Rattle.std.specs.Prelude.{if◌then◌else◌}
-use Rattle.wait_model.specs.declared.watches.Watch.{Watch}
-use Rattle.wait_model.specs.declared.watches.Watch.TheVariants as watch
-use Rattle.wait_model.specs.declared.watches.Entry.{Entry}
-use Rattle.wait_model.specs.declared.watches.Mode.TheVariants as mode
-use Rattle.wait_model.specs.declared.steps.Step.{Step}
-use Rattle.wait_model.specs.declared.steps.Step.TheVariants as step
-use Rattle.wait_model.specs.declared.tasks.Sleep.{Sleep}
-use Rattle.wait_model.specs.declared.tasks.Sleep.TheVariants as sleep
+use Rattle.wait_model.specs.{declared.watches.Watch.Watch, declared.watches.Entry.Entry, declared.steps.Step.Step}
+use Rattle.wait_model.specs.{declared.tasks.Sleep.Sleep, Words.entry_of}
 use Rattle.wait_model.specs.Tasks.{meets, task_of, sleep_of}
 use Rattle.wait_model.specs.Watches.{same, mask_of, failing, head_of}
-use Rattle.wait_model.specs.Words.{entry_of}
 use Rattle.wait_model.specs.Views.{View as Told, is_trying_for, shown, elsewhere, look_at, all_cleared}
 use Rattle.wait_model.specs.Fold.{after, after_look, peeks, scanned, view_of}
+use Rattle.wait_model.specs.declared.watches.Watch.TheVariants as watch
+use Rattle.wait_model.specs.declared.watches.Mode.TheVariants as mode
+use Rattle.wait_model.specs.declared.steps.Step.TheVariants as step
+use Rattle.wait_model.specs.declared.tasks.Sleep.TheVariants as sleep
 use Rattle.wait_model.proofs.Functions.{put_same}
 use Rattle.wait_rule.specs.declared.journal.Item.TheVariants as item
+use Rattle.wait_rule.specs.{Tickets.Ticket, Known.Known}
 use Rattle.wait_rule.specs.Items.{Book, after_sleep, after_awake, learn_step, steps_of}
-use Rattle.wait_rule.specs.Tickets.{Ticket}
-use Rattle.wait_rule.specs.Known.{Known}
 use Rattle.wait_rule.specs.Says.{Debts, Excuse, IsAwakeAgain, IsOutBut, OwesBut, added, is_excused, told_of, wake_of}
-use Rattle.wait_rule.proofs.KnownLaws.Debts.{begins_none, publish_debts, step_debts, wakes_after, wakes_debts}
 use Rattle.wait_rule.specs.Queues.{KnewEntry, MayUnqueue, index, saw}
 use Rattle.wait_rule.specs.Stays.{Stays, StaysOwing, no_entries, with_entry, with_wakes, Change, Carries, FindsOwnWord}
 use Rattle.wait_rule.specs.Stays.{unchanged, only_looks, publish_change, head_stored, is_on}
-use Rattle.wait_rule.proofs.KnownLaws.AfterSteps.{told_added}
-use Rattle.wait_rule.proofs.TableSteps.ItemLists.{steps_append}
-use Rattle.wait_rule.proofs.KnownLaws.SettledTasks.{owes_after, owes_looks, owes_told}
+use Rattle.wait_rule.proofs.{KnownLaws.AfterSteps.told_added, TableSteps.ItemLists.steps_append}
 use Rattle.wait_rule.proofs.KnownLaws.StayingBeside.{beside_carried}
+use Rattle.wait_rule.proofs.KnownLaws.Debts.{begins_none, publish_debts, step_debts, wakes_after, wakes_debts}
+use Rattle.wait_rule.proofs.KnownLaws.SettledTasks.{owes_after, owes_looks, owes_told}
 use Rattle.wait_rule.proofs.KnownLaws.StayingParts.{stays_bits, stays_same, stays_owing, look_stays, look_out, owes_out}
 
 -- whoever is excused of more wakes owes no more

@@ -1,30 +1,23 @@
 -- How the amounts in the lists of a journal are counted.
 use Rattle.std.proofs.Common.{◌∙◌, ap, sym, refl, subst, arith, append_assoc, eq-eqb, ne_eqb}
 use Rattle.std.specs.Prelude.{ℕ, zero, suc, ◌≡◌, ◌+◌, ◌&&◌, Bool, Option, true, false, cond, eqb, List, [], ◌∷◌, ◌++◌}
-use Rattle.wait_model.specs.declared.layout.TheConstants.{TASKS}
-use Rattle.wait_model.specs.declared.calls.Event.{Event}
-use Rattle.wait_model.specs.declared.calls.Event.TheVariants as event
-use Rattle.wait_model.specs.declared.points.Given.{Given}
-use Rattle.wait_model.specs.declared.points.Next.TheVariants as next
-use Rattle.wait_model.specs.declared.steps.Step.{Step}
-use Rattle.wait_model.specs.declared.steps.Step.TheVariants as step
-use Rattle.wait_model.specs.declared.points.Next.{Next}
+use Rattle.wait_model.specs.{declared.layout.TheConstants.TASKS, declared.calls.Event.Event}
+use Rattle.wait_model.specs.{declared.points.Given.Given, declared.steps.Step.Step, declared.points.Next.Next}
 use Rattle.wait_model.specs.Totals.{sum_below}
+use Rattle.wait_model.specs.declared.calls.Event.TheVariants as event
+use Rattle.wait_model.specs.declared.points.Next.TheVariants as next
+use Rattle.wait_model.specs.declared.steps.Step.TheVariants as step
 use Rattle.wait_model.proofs.HistoryLaws.StepTotals.{sum_same, sum_zero, sum_grown}
-use Rattle.wait_rule.specs.declared.journal.Item.{Item}
-use Rattle.wait_rule.specs.declared.journal.Item.TheVariants as item
-use Rattle.wait_rule.specs.declared.journal.Journal.{Journal}
-use Rattle.wait_rule.specs.declared.journal.Part.{Part}
-use Rattle.wait_rule.specs.Items.{IsNoAdd, AddsNone}
+use Rattle.wait_rule.specs.{declared.journal.Item.Item, declared.journal.Journal.Journal, declared.journal.Part.Part}
+use Rattle.wait_rule.specs.{Items.IsNoAdd, Items.AddsNone, Known.Known, Says.added, Tallies.amount_of}
+use Rattle.wait_rule.specs.Tallies.{amounts_of}
 use Rattle.wait_rule.specs.Journals.{owns, has_of, items_in, part_in, pushed, joined_with}
-use Rattle.wait_rule.specs.Known.{Known}
-use Rattle.wait_rule.specs.Says.{added}
-use Rattle.wait_rule.specs.Tallies.{amount_of, amounts_of}
 use Rattle.wait_rule.specs.Transitions.{IsLook, AreLooks, OnlyLooks, Program, StepOrLook, by_step, by_look, Transition}
 use Rattle.wait_rule.specs.Transitions.{with_lock, after_step_or_look, after_transition, IsScanOf, AreScansOf}
 use Rattle.wait_rule.specs.Transitions.{IsMadeFor, Goes}
 use Rattle.wait_rule.specs.TallyLaws.{tally_in, AddsCount, JoinsCount, NewcomersCountNone, ForksCountNone}
 use Rattle.wait_rule.specs.TallyLaws.{ProgramsAddNone, ProgramsKeepNumbers}
+use Rattle.wait_rule.specs.declared.journal.Item.TheVariants as item
 use Rattle.wait_rule.proofs.KnownLaws.TallySteps.{amounts_append}
 
 -- sums of sums

@@ -4,27 +4,19 @@ use Rattle.std.proofs.Common.{◌∙◌, ap, sym, refl, subst, append_assoc, app
 use Rattle.std.specs.Prelude.{ℕ, ◌≡◌, ◌==◌, ◌%◌, ◌<◌, ◌++◌, ◌&&◌, ◌||◌, not, Bool, true, false, if◌then◌else◌, nat_lt}
 use Rattle.std.specs.Prelude.{Option, Some, None, List, [], ◌∷◌}
 use Rattle.std.proofs.lemmas.Bool.Decides.{nat_tests}
-use Rattle.wait_model.specs.declared.layout.TheConstants.{FIRST_DONE_HEAD}
-use Rattle.wait_model.specs.declared.watches.Watch.{Watch}
-use Rattle.wait_model.specs.declared.watches.Watch.TheVariants as watch
-use Rattle.wait_model.specs.declared.watches.Entry.{Entry}
-use Rattle.wait_model.specs.declared.watches.Mode.TheVariants as mode
-use Rattle.wait_model.specs.declared.steps.Step.{Step}
-use Rattle.wait_model.specs.declared.steps.Step.TheVariants as step
-use Rattle.wait_model.specs.Tasks.{meets}
+use Rattle.wait_model.specs.{declared.layout.TheConstants.FIRST_DONE_HEAD, declared.watches.Watch.Watch}
+use Rattle.wait_model.specs.{declared.watches.Entry.Entry, declared.steps.Step.Step, Tasks.meets, Words.entry_of}
 use Rattle.wait_model.specs.Watches.{same, mask_of, is_page, head_of}
-use Rattle.wait_model.specs.Words.{entry_of}
 use Rattle.wait_model.specs.Views.{View as Told, Walk, all_cleared, all_passed, concerns}
 use Rattle.wait_model.specs.Fold.{after, after_unlock, peeks, scanned}
+use Rattle.wait_model.specs.declared.watches.Watch.TheVariants as watch
+use Rattle.wait_model.specs.declared.watches.Mode.TheVariants as mode
+use Rattle.wait_model.specs.declared.steps.Step.TheVariants as step
 use Rattle.wait_rule.specs.declared.journal.EndAct.TheVariants as act
-use Rattle.wait_rule.specs.declared.journal.Item.{Item}
-use Rattle.wait_rule.specs.declared.journal.Item.TheVariants as item
-use Rattle.wait_rule.specs.declared.journal.Journal.{Journal}
+use Rattle.wait_rule.specs.{declared.journal.Item.Item, declared.journal.Journal.Journal, Journals.pushed, Known.Known}
+use Rattle.wait_rule.specs.{Notes.tell, Transitions.AreLooks, Transitions.OnlyLooks}
 use Rattle.wait_rule.specs.Items.{AddsNone, Book, steps_of}
-use Rattle.wait_rule.specs.Journals.{pushed}
-use Rattle.wait_rule.specs.Known.{Known}
 use Rattle.wait_rule.specs.LeftEntries.{HasLeftNone, Order, OrderOf, ShowsNoOwn}
-use Rattle.wait_rule.specs.Notes.{tell}
 use Rattle.wait_rule.specs.Asked.{Asked, after_item, ask_step, is_asking}
 use Rattle.wait_rule.specs.Says.{Debts, Obligation, Excuse, added, asks_for, end_unclosed, excuses, grown, has_duty}
 use Rattle.wait_rule.specs.Says.{has_end, history_of, is_excused, page_asked, seen_with, stored_with, told_of}
@@ -32,13 +24,12 @@ use Rattle.wait_rule.specs.Says.{unlocked_with, wake_of}
 use Rattle.wait_rule.specs.Pipes.{End, after_end_look, after_end_publish, claimed, end_item, end_of, end_step, if_mine}
 use Rattle.wait_rule.specs.Pipes.{new_end, no_end, other_end, with_cell}
 use Rattle.wait_rule.specs.Stays.{with_end, with_left_entry, with_wakes}
-use Rattle.wait_rule.specs.Transitions.{AreLooks, OnlyLooks}
-use Rattle.wait_rule.proofs.KnownLaws.AfterSteps.{told_added}
+use Rattle.wait_rule.specs.declared.journal.Item.TheVariants as item
+use Rattle.wait_rule.proofs.{KnownLaws.AfterSteps.told_added, KnownLaws.PipeItems.end_append}
+use Rattle.wait_rule.proofs.{KnownLaws.PipeWords.test_on, KnownLaws.PipeWords.test_off}
+use Rattle.wait_rule.proofs.TableSteps.ItemLists.{steps_append}
 use Rattle.wait_rule.proofs.KnownLaws.AskedPages.{asked_added, asks_nothing, asks_nothing_of}
 use Rattle.wait_rule.proofs.KnownLaws.HandedSteps.{AddsLow, AllAddLow, IsAwayAt, away_all, order_front}
-use Rattle.wait_rule.proofs.KnownLaws.PipeItems.{end_append}
-use Rattle.wait_rule.proofs.KnownLaws.PipeWords.{test_on, test_off}
-use Rattle.wait_rule.proofs.TableSteps.ItemLists.{steps_append}
 
 tested : (a b : ℕ) → (a == b) ≡ true → a ≡ b
 tested a b is = grind (arith, nat_tests)

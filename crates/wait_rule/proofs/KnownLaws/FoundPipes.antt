@@ -2,37 +2,29 @@
 use Rattle.std.proofs.Common.{◌∙◌, ap, sym, refl, subst, add-zero, arith}
 use Rattle.std.specs.Prelude.{ℕ, ◌≡◌, ◌==◌, ◌+◌, ◌/◌, ◌%◌, ◌<◌, ◌≤◌, ◌&&◌, ◌||◌, not, if◌then◌else◌, Bool, true, false}
 use Rattle.std.specs.Prelude.{List, [], ◌∷◌}
+use Rattle.wait_model.specs.{declared.watches.Watch.Watch, Watches.same, Views.View as Told, Views.is_trying_for}
 use Rattle.wait_model.specs.declared.layout.TheConstants.{PIPES, PIPE_CELLS, PIPE_ENDS, TASKS}
 use Rattle.wait_model.specs.declared.watches.Watch.TheVariants as watch
 use Rattle.wait_model.specs.declared.steps.Step.TheVariants as step
 use Rattle.wait_model.specs.Locations as place
-use Rattle.wait_model.specs.declared.watches.Watch.{Watch}
 use Rattle.wait_model.specs.declared.watches.Mode.TheVariants as mode
-use Rattle.wait_model.specs.Watches.{same}
-use Rattle.wait_model.specs.Views.{View as Told, is_trying_for}
 use Rattle.wait_model.proofs.Functions.{put_same}
-use Rattle.wait_rule.specs.declared.journal.EndAct.{EndAct}
-use Rattle.wait_rule.specs.declared.journal.EndAct.TheVariants as act
-use Rattle.wait_rule.specs.declared.journal.Item.{Item}
-use Rattle.wait_rule.specs.declared.journal.Item.TheVariants as item
-use Rattle.wait_rule.specs.Journals.{has_of}
-use Rattle.wait_rule.specs.Known.{Known}
+use Rattle.wait_rule.specs.{declared.journal.EndAct.EndAct, declared.journal.Item.Item, Journals.has_of, Known.Known}
+use Rattle.wait_rule.specs.{PipeSays.EndBecomes, PipeSays.end_at, LookCounts.Looked, LookCounts.looks_made}
 use Rattle.wait_rule.specs.Pipes.{Delivers, End, IsPipe, after_end_publish, end_act, end_item, end_of, if_mine, no_end}
 use Rattle.wait_rule.specs.Pipes.{advanced, end_word, read_end, was_refused, write_end}
-use Rattle.wait_rule.specs.PipeSays.{EndBecomes, end_at}
 use Rattle.wait_rule.specs.PipeLaws.{RuleDelivers, RuleRefuses, JoinedDeliver, JoinedRefuse}
 use Rattle.wait_rule.specs.Says.{Debts, Excuse, IsOutBut, OwesBut, added, told_of}
 use Rattle.wait_rule.specs.Stays.{Carries, claim_change, close_change, unchanged, with_end, with_wakes}
-use Rattle.wait_rule.specs.LookCounts.{Looked, looks_made}
-use Rattle.wait_rule.proofs.KnownLaws.AfterSteps.{told_added}
+use Rattle.wait_rule.specs.declared.journal.EndAct.TheVariants as act
+use Rattle.wait_rule.specs.declared.journal.Item.TheVariants as item
+use Rattle.wait_rule.proofs.{KnownLaws.AfterSteps.told_added, KnownLaws.LookCounts.looked_none}
+use Rattle.wait_rule.proofs.{KnownLaws.CarriedTasks.kept_still, KnownLaws.CarriedTasks.published_carried}
+use Rattle.wait_rule.proofs.{KnownLaws.StayingBeside.beside_carried, KnownLaws.PipeFlows.delivers}
+use Rattle.wait_rule.proofs.{KnownLaws.PipeFlows.publish_is, KnownLaws.PipeItems.end_append}
+use Rattle.wait_rule.proofs.{KnownLaws.PipeWords.test_on, KnownLaws.PipeWords.test_off}
 use Rattle.wait_rule.proofs.KnownLaws.Debts.{added_debts, close_debts, got_debts, item_begins_none, refused_debts}
-use Rattle.wait_rule.proofs.KnownLaws.LookCounts.{looked_none}
-use Rattle.wait_rule.proofs.KnownLaws.CarriedTasks.{kept_still, published_carried}
-use Rattle.wait_rule.proofs.KnownLaws.StayingBeside.{beside_carried}
-use Rattle.wait_rule.proofs.KnownLaws.PipeFlows.{delivers, publish_is}
 use Rattle.wait_rule.proofs.KnownLaws.PipeEnds.{by_side, own_w, own_r}
-use Rattle.wait_rule.proofs.KnownLaws.PipeItems.{end_append}
-use Rattle.wait_rule.proofs.KnownLaws.PipeWords.{test_on, test_off}
 
 -- of one pipe
 pipe_delivers : (word : place.Location → ℕ) (items : ℕ → List Item) (p t u : ℕ) → p < PIPES → IsPipe word items p

@@ -1,22 +1,15 @@
 -- What a tally tells, and what stays of a task that adds to one.
 use Rattle.std.proofs.Common.{◌∙◌, ap, sym, refl, add-zero}
 use Rattle.std.specs.Prelude.{ℕ, ◌≡◌, ◌%◌, ◌^◌, false}
-use Rattle.wait_model.specs.declared.layout.TheConstants.{TASKS}
+use Rattle.wait_model.specs.{declared.layout.TheConstants.TASKS, Views.View as Told}
 use Rattle.wait_model.specs.Locations as place
-use Rattle.wait_model.specs.Views.{View as Told}
 use Rattle.wait_model.proofs.HistoryLaws.StepTotals.{sum_same}
 use Rattle.wait_rule.specs.declared.journal.Item.TheVariants as item
-use Rattle.wait_rule.specs.Journals.{has_of}
-use Rattle.wait_rule.specs.Known.{Known}
-use Rattle.wait_rule.specs.Tallies.{amounts_of}
-use Rattle.wait_rule.specs.Says.{added, told_of}
-use Rattle.wait_rule.specs.Stays.{Carries, unchanged}
-use Rattle.wait_rule.specs.LookCounts.{Looked, looks_made}
-use Rattle.wait_rule.specs.TallyLaws.{RuleSumsTallies, AllSumTallies}
-use Rattle.wait_rule.proofs.KnownLaws.AfterSteps.{told_added}
-use Rattle.wait_rule.proofs.KnownLaws.Debts.{added_debts}
-use Rattle.wait_rule.proofs.KnownLaws.LookCounts.{looked_none}
-use Rattle.wait_rule.proofs.KnownLaws.StayingParts.{stays_bits}
+use Rattle.wait_rule.specs.{Journals.has_of, Known.Known, Tallies.amounts_of, Says.added, Says.told_of, Stays.Carries}
+use Rattle.wait_rule.specs.{Stays.unchanged, LookCounts.Looked, LookCounts.looks_made, TallyLaws.RuleSumsTallies}
+use Rattle.wait_rule.specs.TallyLaws.{AllSumTallies}
+use Rattle.wait_rule.proofs.{KnownLaws.AfterSteps.told_added, KnownLaws.Debts.added_debts}
+use Rattle.wait_rule.proofs.{KnownLaws.LookCounts.looked_none, KnownLaws.StayingParts.stays_bits}
 use Rattle.wait_rule.proofs.KnownLaws.CarriedTasks.{stays_carried}
 
 pub rule_sums_tallies : RuleSumsTallies

@@ -2,16 +2,11 @@
 use Rattle.std.proofs.Common.{refl, sym, ◌∙◌, ap, subst, inl, inr}
 use Rattle.std.proofs.lemmas.Bool.Decides.{eqb_tells}
 use Rattle.std.specs.Prelude.{ℕ, ◌≡◌, ◌≢◌, ◌⊎◌, Bool, true, false, ◌==◌, if◌then◌else◌, Option, Some, None}
-use Rattle.wait_model.specs.declared.watches.Watch.{Watch}
-use Rattle.wait_model.specs.declared.watches.Entry.{Entry}
-use Rattle.wait_model.specs.declared.steps.Step.{Step}
-use Rattle.wait_model.specs.declared.steps.Step.TheVariants as step
-use Rattle.wait_model.specs.Functions.{put}
+use Rattle.wait_model.specs.{declared.watches.Watch.Watch, declared.watches.Entry.Entry, declared.steps.Step.Step}
+use Rattle.wait_model.specs.{Functions.put, Views.View as Told, Tables.Table, Tables.next, Rows.Allowed}
 use Rattle.wait_model.specs.Watches.{head_of, is_page, was_clear, owner, page, word_of}
-use Rattle.wait_model.specs.Views.{View as Told}
 use Rattle.wait_model.specs.Fold.{after, is_off, forgotten}
-use Rattle.wait_model.specs.Tables.{Table, next}
-use Rattle.wait_model.specs.Rows.{Allowed}
+use Rattle.wait_model.specs.declared.steps.Step.TheVariants as step
 use Rattle.wait_model.proofs.Functions.{put_case, put_at, put_same, put_other, bool_or}
 use Rattle.wait_rule.specs.Items.{Difference, nothing, page_taken, page_told, after_try, Book, learn_step}
 use Rattle.wait_rule.specs.Asked.{Asked, given_if, took_note, ask_step, waits_at, was_given_at}

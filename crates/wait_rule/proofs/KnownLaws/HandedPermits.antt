@@ -2,32 +2,23 @@
 use Rattle.std.proofs.Common.{refl, sym, ◌∙◌, ap, subst, arith, inl, inr}
 use Rattle.std.specs.Prelude.{ℕ, ◌≡◌, ◌<◌, ◌-◌, ◌&&◌, ◌==◌, Bool, true, false, if◌then◌else◌, Option, Some, None, List}
 use Rattle.std.specs.Prelude.{[], ◌∷◌}
-use Rattle.wait_model.specs.declared.layout.TheConstants.{FIRST_DONE_HEAD}
-use Rattle.wait_model.specs.declared.steps.Step.{Step}
-use Rattle.wait_model.specs.declared.steps.Step.TheVariants as step
-use Rattle.wait_model.specs.declared.watches.Entry.{Entry}
-use Rattle.wait_model.specs.declared.watches.Watch.TheVariants as watch
+use Rattle.wait_model.specs.{declared.layout.TheConstants.FIRST_DONE_HEAD, declared.steps.Step.Step}
+use Rattle.wait_model.specs.{declared.watches.Entry.Entry, PermitFacts.IsAccounted, Runs.own, Tables.Table}
+use Rattle.wait_model.specs.Watches.{head_of}
 use Rattle.wait_model.specs.Fold.{after, after_all, view_of}
 use Rattle.wait_model.specs.Permits.{Dealt, HandsOn, MayGiveBack, PermitsAreHanded, count_after, deals, deals_all}
 use Rattle.wait_model.specs.Permits.{dealt, done_head, is_in, none_dealt}
-use Rattle.wait_model.specs.PermitFacts.{IsAccounted}
-use Rattle.wait_model.specs.Runs.{own}
-use Rattle.wait_model.specs.Tables.{Table}
 use Rattle.wait_model.specs.Views.{Hold, View, blank}
-use Rattle.wait_model.specs.Watches.{head_of}
-use Rattle.wait_model.proofs.PermitLaws.OwnTurns.{held_is}
+use Rattle.wait_model.specs.declared.steps.Step.TheVariants as step
+use Rattle.wait_model.specs.declared.watches.Watch.TheVariants as watch
+use Rattle.wait_model.proofs.{PermitLaws.OwnTurns.held_is, StepLaws.UnlockSteps.unlock_hold}
 use Rattle.wait_model.proofs.PermitLaws.PermitSteps.{accounted_handed, accounted_start, accounted_step}
-use Rattle.wait_model.proofs.StepLaws.UnlockSteps.{unlock_hold}
-use Rattle.wait_rule.specs.declared.journal.Item.{Item}
-use Rattle.wait_rule.specs.HandedPermits.{AllHandPermitsOn, FoundNoPermit, OwesNoPermit, RuleHandsPermitsOn, StepsHandPermitsOn, cell_of_head}
-use Rattle.wait_rule.specs.LeftEntries.{OrderOf, dealt_of}
+use Rattle.wait_rule.specs.{declared.journal.Item.Item, LeftEntries.OrderOf, LeftEntries.dealt_of, Items.steps_of}
+use Rattle.wait_rule.specs.{Known.Known, Queues.index, Rule.IsRuled, Says.history_of, Says.told_of}
+use Rattle.wait_rule.specs.HandedPermits.{AllHandPermitsOn, FoundNoPermit, OwesNoPermit, RuleHandsPermitsOn}
+use Rattle.wait_rule.specs.HandedPermits.{StepsHandPermitsOn, cell_of_head}
 use Rattle.wait_rule.specs.HeldValues.{count_in, value_after, value_from}
 use Rattle.wait_rule.specs.Interleavings.{AreAllowed, AreHanded, TaskStep, table_of}
-use Rattle.wait_rule.specs.Items.{steps_of}
-use Rattle.wait_rule.specs.Known.{Known}
-use Rattle.wait_rule.specs.Queues.{index}
-use Rattle.wait_rule.specs.Rule.{IsRuled}
-use Rattle.wait_rule.specs.Says.{history_of, told_of}
 use Rattle.wait_rule.proofs.KnownLaws.Moments.{kept_of}
 
 -- the account of permits after each order of steps that meet their conditions

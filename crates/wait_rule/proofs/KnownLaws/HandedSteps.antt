@@ -2,25 +2,17 @@
 use Rattle.std.proofs.Common.{refl, sym, ◌∙◌, ap, subst, arith, append_assoc, append-nil, inl, inr}
 use Rattle.std.specs.Prelude.{ℕ, ◌≡◌, ◌<◌, ◌==◌, Bool, true, false, if◌then◌else◌, Option, Some, None, List}
 use Rattle.std.specs.Prelude.{[], ◌∷◌, ◌++◌}
-use Rattle.wait_model.specs.declared.layout.TheConstants.{FIRST_DONE_HEAD}
-use Rattle.wait_model.specs.declared.steps.Step.{Step}
-use Rattle.wait_model.specs.declared.steps.Step.TheVariants as step
-use Rattle.wait_model.specs.declared.watches.Entry.{Entry}
-use Rattle.wait_model.specs.Fold.{after, view_of}
+use Rattle.wait_model.specs.{declared.layout.TheConstants.FIRST_DONE_HEAD, declared.steps.Step.Step}
+use Rattle.wait_model.specs.{declared.watches.Entry.Entry, Fold.after, Fold.view_of, PermitFacts.is_settled}
+use Rattle.wait_model.specs.{Rows.Allowed, Runs.own, Tables.Table, Watches.head_of, Watches.stands_at, Words.entry_of}
 use Rattle.wait_model.specs.Permits.{Dealt, dealt, deals, done_head, is_in, is_seen, none_dealt, shows_at}
-use Rattle.wait_model.specs.PermitFacts.{is_settled}
-use Rattle.wait_model.specs.Rows.{Allowed}
-use Rattle.wait_model.specs.Runs.{own}
-use Rattle.wait_model.specs.Tables.{Table}
 use Rattle.wait_model.specs.Views.{View, Hold, Look, off, elsewhere, shown, look_at, blank}
-use Rattle.wait_model.specs.Watches.{head_of, stands_at}
-use Rattle.wait_model.specs.Words.{entry_of}
-use Rattle.wait_model.proofs.Functions.{both_left, both_right, put_at}
-use Rattle.wait_model.proofs.HistoryLaws.HoldLooks.{after_snoc}
-use Rattle.wait_model.proofs.PermitLaws.OwnTurns.{clash, deals_snoc, in_is}
-use Rattle.wait_model.proofs.PermitLaws.PermitTurns.{not_unseen, seen_shows}
-use Rattle.wait_model.proofs.StepLaws.UnlockSteps.{unlock_hold}
+use Rattle.wait_model.specs.declared.steps.Step.TheVariants as step
+use Rattle.wait_model.proofs.{HistoryLaws.HoldLooks.after_snoc, PermitLaws.PermitTurns.not_unseen}
+use Rattle.wait_model.proofs.{PermitLaws.PermitTurns.seen_shows, StepLaws.UnlockSteps.unlock_hold}
 use Rattle.wait_model.proofs.WordLaws.DecodedWords.{owner_own}
+use Rattle.wait_model.proofs.Functions.{both_left, both_right, put_at}
+use Rattle.wait_model.proofs.PermitLaws.OwnTurns.{clash, deals_snoc, in_is}
 use Rattle.wait_rule.specs.LeftEntries.{Order}
 use Rattle.wait_rule.specs.Interleavings.{AreAllowed, AreHanded, TaskStep, table_of}
 use Rattle.wait_rule.proofs.KnownLaws.HandedPermits.{accounted_of, none_done}

@@ -3,22 +3,17 @@ use Rattle.std.proofs.Common.{refl, sym, ◌∙◌, ap, subst, inl, inr}
 use Rattle.std.specs.Prelude.{ℕ, ◌≡◌, ◌≢◌, ◌⊎◌, Bool, true, false, ◌==◌, if◌then◌else◌, Option, Some, None, List, []}
 use Rattle.std.specs.Prelude.{◌∷◌, ◌++◌}
 use mathlib.Core.Path.{fun_ext}
-use Rattle.wait_model.specs.declared.watches.Aim.{Aim}
-use Rattle.wait_model.specs.declared.steps.Step.{Step}
-use Rattle.wait_model.specs.declared.steps.Step.TheVariants as step
-use Rattle.wait_model.specs.Functions.{put}
-use Rattle.wait_model.specs.Watches.{mask_of}
+use Rattle.wait_model.specs.{declared.watches.Aim.Aim, declared.steps.Step.Step, Functions.put, Watches.mask_of}
 use Rattle.wait_model.specs.Views.{View as Told}
 use Rattle.wait_model.specs.Fold.{after, met_task, view_of}
 use Rattle.wait_model.specs.Tables.{Table, next, word_step}
+use Rattle.wait_model.specs.declared.steps.Step.TheVariants as step
 use Rattle.wait_model.proofs.Functions.{put_case, put_at, put_same, put_other}
-use Rattle.wait_rule.specs.declared.journal.Item.{Item}
-use Rattle.wait_rule.specs.declared.journal.Item.TheVariants as item
-use Rattle.wait_rule.specs.Items.{steps_of}
+use Rattle.wait_rule.specs.{declared.journal.Item.Item, Items.steps_of, Members.MarkAgrees, Rule.AreLinked}
+use Rattle.wait_rule.specs.Rule.{all_notes}
 use Rattle.wait_rule.specs.Notes.{Notes, Glance, note_step, notes_after_wake, after_noted_call, after_telling, callee}
 use Rattle.wait_rule.specs.Notes.{is_for_look, notes_of}
-use Rattle.wait_rule.specs.Members.{MarkAgrees}
-use Rattle.wait_rule.specs.Rule.{AreLinked, all_notes}
+use Rattle.wait_rule.specs.declared.journal.Item.TheVariants as item
 use Rattle.wait_rule.proofs.KnownLaws.AfterSteps.{notes_after}
 
 -- two functions that are changed at one place

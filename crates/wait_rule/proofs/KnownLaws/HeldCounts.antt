@@ -3,16 +3,13 @@ use Rattle.std.proofs.Common.{refl, sym, ◌∙◌, ap, inl, inr}
 use Rattle.std.proofs.lemmas.Bool.Decides.{eqb_tells}
 use Rattle.std.specs.Prelude.{ℕ, ◌≡◌, ◌≢◌, ◌⊎◌, Bool, true, false, ◌||◌, ◌==◌, if◌then◌else◌, Option, Some, None, List}
 use Rattle.std.specs.Prelude.{[], ◌∷◌, ◌++◌}
-use Rattle.wait_model.specs.declared.watches.Watch.{Watch}
-use Rattle.wait_model.specs.declared.watches.Watch.TheVariants as watch
-use Rattle.wait_model.specs.declared.steps.Step.{Step}
-use Rattle.wait_model.specs.declared.steps.Step.TheVariants as step
-use Rattle.wait_model.specs.Functions.{put}
-use Rattle.wait_model.specs.Watches.{head_of}
+use Rattle.wait_model.specs.{declared.watches.Watch.Watch, declared.steps.Step.Step, Functions.put, Watches.head_of}
+use Rattle.wait_model.specs.{Fold.after, Fold.after_unlock}
 use Rattle.wait_model.specs.Views.{View as Told, Walk, all_passed}
-use Rattle.wait_model.specs.Fold.{after, after_unlock}
 use Rattle.wait_model.specs.Tables.{Table, next, word_step}
 use Rattle.wait_model.specs.Rows.{Allowed, Reads, MayPublish, MayConsume}
+use Rattle.wait_model.specs.declared.watches.Watch.TheVariants as watch
+use Rattle.wait_model.specs.declared.steps.Step.TheVariants as step
 use Rattle.wait_model.proofs.Functions.{put_case, put_same, put_other}
 use Rattle.wait_rule.specs.HeldValues.{value_after, value_from, count_in, CountsStand}
 

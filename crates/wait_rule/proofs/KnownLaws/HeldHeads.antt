@@ -1,13 +1,11 @@
 -- The head that a book says is held is the one that the history tells.
 use Rattle.std.proofs.Common.{refl, sym, ◌∙◌, ap}
 use Rattle.std.specs.Prelude.{◌≡◌, Bool, true, false, List, [], ◌∷◌}
-use Rattle.wait_model.specs.declared.steps.Step.{Step}
-use Rattle.wait_model.specs.declared.steps.Step.TheVariants as step
-use Rattle.wait_model.specs.declared.tasks.Sleep.{Sleep}
-use Rattle.wait_model.specs.declared.tasks.Sleep.TheVariants as sleep
-use Rattle.wait_model.specs.Tasks.{task_of, sleep_of}
+use Rattle.wait_model.specs.{declared.steps.Step.Step, declared.tasks.Sleep.Sleep, Tasks.task_of, Tasks.sleep_of}
 use Rattle.wait_model.specs.Views.{View, Hold, blank}
 use Rattle.wait_model.specs.Fold.{after, after_all, view_of}
+use Rattle.wait_model.specs.declared.steps.Step.TheVariants as step
+use Rattle.wait_model.specs.declared.tasks.Sleep.TheVariants as sleep
 use Rattle.wait_model.proofs.StepLaws.UnlockSteps.{unlock_hold}
 use Rattle.wait_rule.specs.declared.journal.Item.{Item}
 use Rattle.wait_rule.specs.declared.journal.Item.TheVariants as item

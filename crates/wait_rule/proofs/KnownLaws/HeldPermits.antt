@@ -3,25 +3,18 @@ use Rattle.std.proofs.Common.{refl, sym, ◌∙◌, ap, subst, arith, append_ass
 use Rattle.std.proofs.lemmas.Bool.Decides.{eqb_tells}
 use Rattle.std.specs.Prelude.{ℕ, ◌≡◌, ◌+◌, ◌-◌, ◌⊎◌, ◌==◌, ◌&&◌, not, Bool, true, false, if◌then◌else◌, Option, Some}
 use Rattle.std.specs.Prelude.{List, [], ◌∷◌, ◌++◌}
-use Rattle.wait_model.specs.declared.steps.Step.{Step}
-use Rattle.wait_model.specs.declared.steps.Step.TheVariants as step
-use Rattle.wait_model.specs.declared.watches.Aim.{Aim}
-use Rattle.wait_model.specs.declared.watches.Entry.{Entry}
-use Rattle.wait_model.specs.declared.watches.Watch.TheVariants as watch
-use Rattle.wait_model.specs.Fold.{after, view_of}
+use Rattle.wait_model.specs.{declared.steps.Step.Step, declared.watches.Aim.Aim, declared.watches.Entry.Entry}
+use Rattle.wait_model.specs.{Fold.after, Fold.view_of, Runs.own, Views.View, Views.blank, Watches.head_of}
+use Rattle.wait_model.specs.{Watches.stands_at, Words.entry_of, Words.flag}
 use Rattle.wait_model.specs.Permits.{Dealt, MayGiveBack, ShowsNobody, after_read, after_store, dealt, debt_after}
 use Rattle.wait_model.specs.Permits.{done_head, is_in, is_seen, none_dealt}
-use Rattle.wait_model.specs.Runs.{own}
-use Rattle.wait_model.specs.Views.{View, blank}
-use Rattle.wait_model.specs.Watches.{head_of, stands_at}
-use Rattle.wait_model.specs.Words.{entry_of, flag}
+use Rattle.wait_model.specs.declared.steps.Step.TheVariants as step
+use Rattle.wait_model.specs.declared.watches.Watch.TheVariants as watch
 use Rattle.wait_model.proofs.HistoryLaws.HoldLooks.{after_snoc}
 use Rattle.wait_model.proofs.PermitLaws.OwnTurns.{clash, deals_snoc}
-use Rattle.wait_rule.specs.HandedPermits.{OwesNoPermit}
+use Rattle.wait_rule.specs.{HandedPermits.OwesNoPermit, Interleavings.table_of, Known.Known, Says.history_of}
+use Rattle.wait_rule.specs.Says.{told_of}
 use Rattle.wait_rule.specs.LeftEntries.{Order, OrderOf, dealt_of}
-use Rattle.wait_rule.specs.Interleavings.{table_of}
-use Rattle.wait_rule.specs.Known.{Known}
-use Rattle.wait_rule.specs.Says.{history_of, told_of}
 use Rattle.wait_rule.proofs.KnownLaws.HandedPermits.{cell_is}
 use Rattle.wait_rule.proofs.KnownLaws.HandedSteps.{AddsLow, IsAwayAt, OrderStep, away_next, off_there, order_step}
 use Rattle.wait_rule.proofs.KnownLaws.HandedSteps.{order_view}

@@ -2,16 +2,11 @@
 use Rattle.std.proofs.Common.{refl, ◌∙◌, ap, arith}
 use Rattle.std.specs.Prelude.{ℕ, zero, suc, ◌≡◌, ◌+◌, ◌-◌, ◌*◌, ◌≤◌, Bool, true, false, nat_lt, Option, Some, None}
 use Rattle.std.specs.Prelude.{List, [], ◌∷◌, ◌++◌}
-use Rattle.wait_model.specs.declared.layout.TheConstants.{ENTRIES, WORD_BITS}
-use Rattle.wait_model.specs.Words.{bit_at}
-use Rattle.wait_rule.specs.declared.journal.Item.{Item}
-use Rattle.wait_rule.specs.declared.journal.Item.TheVariants as item
-use Rattle.wait_rule.specs.Items.{Book}
-use Rattle.wait_rule.specs.Known.{Known}
-use Rattle.wait_rule.specs.Says.{added, grown}
-use Rattle.wait_rule.specs.Queues.{saw}
+use Rattle.wait_model.specs.{declared.layout.TheConstants.ENTRIES, declared.layout.TheConstants.WORD_BITS, Words.bit_at}
+use Rattle.wait_rule.specs.{declared.journal.Item.Item, Items.Book, Known.Known, Says.added, Says.grown, Queues.saw}
 use Rattle.wait_rule.specs.LookCounts.{looks_with, looks_from, looks_made, Looked, LooksAtMost}
 use Rattle.wait_rule.specs.MemberLooks.{SawKind, SawBits, SawWord}
+use Rattle.wait_rule.specs.declared.journal.Item.TheVariants as item
 
 pub looks_append : (n : ℕ) (xs ys : List Item) → looks_from n (xs ++ ys) ≡ looks_from (looks_from n xs) ys
 looks_append n [] ys = refl

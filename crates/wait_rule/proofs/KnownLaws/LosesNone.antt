@@ -2,25 +2,16 @@
 use Rattle.std.proofs.Common.{◌∙◌, ap, refl, subst, inl, inr}
 use Rattle.std.proofs.lemmas.Bool.Decides.{eqb_tells}
 use Rattle.std.specs.Prelude.{ℕ, ◌≡◌, ◌≢◌, ◌⊎◌, Bool, true, false, not, ◌&&◌, ◌||◌, eqb, List}
-use Rattle.wait_model.specs.declared.watches.Watch.{Watch}
-use Rattle.wait_model.specs.declared.watches.Entry.{Entry}
-use Rattle.wait_model.specs.declared.watches.Mode.{Mode}
-use Rattle.wait_model.specs.declared.watches.Mode.TheVariants as mode
-use Rattle.wait_model.specs.Coverings.{Covering}
-use Rattle.wait_model.specs.Tables.{Table, met}
-use Rattle.wait_model.specs.Tasks.{meets}
+use Rattle.wait_model.specs.{declared.watches.Watch.Watch, declared.watches.Entry.Entry, declared.watches.Mode.Mode}
+use Rattle.wait_model.specs.{Coverings.Covering, Tables.Table, Tables.met, Tasks.meets, Owed.Owes as OwesWake}
 use Rattle.wait_model.specs.Watches.{same, mask_of, owner}
-use Rattle.wait_model.specs.Owed.{Owes as OwesWake}
 use Rattle.wait_model.specs.Wakes.{IsCovered, IsTried, UsedUp}
+use Rattle.wait_model.specs.declared.watches.Mode.TheVariants as mode
 use Rattle.wait_model.proofs.Sameness.{same_trans}
-use Rattle.wait_rule.specs.declared.journal.Item.{Item}
-use Rattle.wait_rule.specs.Items.{steps_of}
-use Rattle.wait_rule.specs.Known.{Known}
+use Rattle.wait_rule.specs.{declared.journal.Item.Item, Items.steps_of, Known.Known, Rule.IsRuled}
 use Rattle.wait_rule.specs.LosesNone.{IsCoveredByOther, OwersLeaveNone, OwesBeside, OwesNoneOf, SettledLeaveNone}
-use Rattle.wait_rule.specs.Rule.{IsRuled}
 use Rattle.wait_rule.specs.Says.{Excuse, history_of, told_of, wake_of}
-use Rattle.wait_rule.proofs.KnownLaws.PlainDebts.{rule_tells_debts}
-use Rattle.wait_rule.proofs.KnownLaws.TableLaws.{rule_loses_none}
+use Rattle.wait_rule.proofs.{KnownLaws.PlainDebts.rule_tells_debts, KnownLaws.TableLaws.rule_loses_none}
 
 -- who covers an entry on the watch owes its wake, so a task that owes none is another
 covers_none : (c : Watch) (m : Mode) (k : Known) → OwesNoneOf c m k → (s : Table) (items : ℕ → List Item)

@@ -2,20 +2,14 @@
 use Rattle.std.proofs.Common.{refl, ◌∙◌, ap}
 use Rattle.std.specs.Prelude.{ℕ, ◌≡◌, ◌+◌, ◌/◌, ◌%◌, ◌^◌, Bool, true, false, not, ◌==◌, if◌then◌else◌, Option, Some}
 use Rattle.std.specs.Prelude.{None, [], ◌∷◌}
-use Rattle.wait_model.specs.declared.layout.TheConstants.{ENTRIES}
-use Rattle.wait_model.specs.declared.queues.Mark.{Mark}
-use Rattle.wait_model.specs.declared.steps.Step.{Step}
-use Rattle.wait_model.specs.Fold.{after}
-use Rattle.wait_model.specs.Tables.{mark_of}
-use Rattle.wait_rule.specs.declared.journal.Item.{Item}
-use Rattle.wait_rule.specs.declared.journal.Item.TheVariants as item
+use Rattle.wait_model.specs.{declared.layout.TheConstants.ENTRIES, declared.queues.Mark.Mark, declared.steps.Step.Step}
+use Rattle.wait_model.specs.{Fold.after, Tables.mark_of}
+use Rattle.wait_rule.specs.{declared.journal.Item.Item, Notes.note_step, MemberWords.index_named, MemberWords.is_put}
+use Rattle.wait_rule.specs.{Known.Known, Transitions.OnlyLooks}
 use Rattle.wait_rule.specs.Items.{Book, learn, learn_step}
-use Rattle.wait_rule.specs.Notes.{note_step}
-use Rattle.wait_rule.specs.MemberWords.{index_named, is_put}
-use Rattle.wait_rule.specs.Known.{Known}
 use Rattle.wait_rule.specs.Says.{added, stored_with, told_of, noted}
 use Rattle.wait_rule.specs.Queues.{IsAgreed, marked, MayStoreMember}
-use Rattle.wait_rule.specs.Transitions.{OnlyLooks}
+use Rattle.wait_rule.specs.declared.journal.Item.TheVariants as item
 use Rattle.wait_rule.proofs.KnownLaws.AfterSteps.{told_added, noted_added}
 
 -- after a store of a word its bit may be stored

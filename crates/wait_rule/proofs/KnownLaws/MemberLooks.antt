@@ -1,20 +1,14 @@
 -- Looks at the members of a head, one more at a time.
 use Rattle.std.proofs.Common.{refl, ◌∙◌, ap, arith}
 use Rattle.std.specs.Prelude.{ℕ, ◌≡◌, ◌+◌, ◌*◌, ◌/◌, ◌%◌, ◌<◌, Bool, true, false, Option, Some, None}
-use Rattle.wait_model.specs.declared.watches.Entry.{Entry}
-use Rattle.wait_model.specs.declared.steps.Step.TheVariants as step
-use Rattle.wait_model.specs.EntryWords.{is_shown}
-use Rattle.wait_model.specs.Words.{entry_of}
+use Rattle.wait_model.specs.{declared.watches.Entry.Entry, EntryWords.is_shown, Words.entry_of, Tables.mark_of}
 use Rattle.wait_model.specs.Views.{View as Told, Look, off, look_at}
-use Rattle.wait_model.specs.Tables.{mark_of}
+use Rattle.wait_model.specs.declared.steps.Step.TheVariants as step
 use Rattle.wait_model.proofs.Functions.{put_at}
 use Rattle.wait_rule.specs.declared.journal.Item.TheVariants as item
+use Rattle.wait_rule.specs.{Known.Known, Asked.ask_step, Queues.saw, Looking.HasSeenEntries, Looking.HasSeenMarks}
 use Rattle.wait_rule.specs.Notes.{Notes, Glance, away, glance_at}
-use Rattle.wait_rule.specs.Known.{Known}
-use Rattle.wait_rule.specs.Asked.{ask_step}
 use Rattle.wait_rule.specs.Says.{added, asks_for, told_of, noted}
-use Rattle.wait_rule.specs.Queues.{saw}
-use Rattle.wait_rule.specs.Looking.{HasSeenEntries, HasSeenMarks}
 use Rattle.wait_rule.proofs.KnownLaws.AfterSteps.{told_added, noted_added}
 use Rattle.wait_rule.proofs.KnownLaws.AskedPages.{asked_added, asks_nothing}
 

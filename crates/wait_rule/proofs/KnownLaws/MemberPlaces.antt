@@ -3,29 +3,21 @@ use Rattle.std.proofs.Common.{refl, sym, ◌∙◌, ap, subst, arith, inl, inr}
 use Rattle.std.specs.Prelude.{ℕ, ◌≡◌, ◌≢◌, ◌+◌, ◌-◌, ◌%◌, ◌<◌, ◌≤◌, ◌⊎◌, Bool, true, false, nat_lt, if◌then◌else◌, ◌==◌}
 use Rattle.std.specs.Prelude.{Option, Some, None, List}
 use Rattle.std.proofs.lemmas.Bool.Decides.{nat_tests}
+use Rattle.wait_model.specs.{declared.watches.Entry.Entry, declared.queues.Mark.Mark, declared.steps.Step.Step}
+use Rattle.wait_model.specs.{Functions.put, Watches.head_of, Words.flag, Facts.Agrees, Queues.even_below}
+use Rattle.wait_model.specs.Queues.{even_above}
 use Rattle.wait_model.specs.declared.layout.TheConstants.{TASKS, ENTRIES, MEMBERS, PLACES, MIDDLE, FIRST_PRIORITY}
 use Rattle.wait_model.specs.declared.layout.TheConstants.{FIRST_PLACE}
-use Rattle.wait_model.specs.declared.watches.Entry.{Entry}
-use Rattle.wait_model.specs.declared.queues.Mark.{Mark}
-use Rattle.wait_model.specs.declared.steps.Step.{Step}
-use Rattle.wait_model.specs.declared.steps.Step.TheVariants as step
-use Rattle.wait_model.specs.Functions.{put}
-use Rattle.wait_model.specs.Watches.{head_of}
-use Rattle.wait_model.specs.Words.{flag}
 use Rattle.wait_model.specs.Views.{View as Told, Look, unseen, off, elsewhere, shown}
 use Rattle.wait_model.specs.Tables.{Table, next, word_step}
-use Rattle.wait_model.specs.Facts.{Agrees}
-use Rattle.wait_model.specs.Queues.{even_below, even_above}
 use Rattle.wait_model.specs.Places.{within, front_for, tail_for, priority_for}
-use Rattle.wait_model.proofs.Functions.{put_case, put_at}
-use Rattle.wait_model.proofs.HistoryLaws.StepTotals.{total_grown}
+use Rattle.wait_model.specs.declared.steps.Step.TheVariants as step
+use Rattle.wait_model.proofs.{Functions.put_case, Functions.put_at, HistoryLaws.StepTotals.total_grown}
+use Rattle.wait_rule.specs.{declared.journal.Item.Item, Known.Known, Says.told_of, Says.noted}
 use Rattle.wait_rule.specs.Notes.{Notes, Glance, unknown, away, there, look_place, glance_place}
 use Rattle.wait_rule.specs.Members.{IsStanding, IsStandingMark, MarkAgrees}
 use Rattle.wait_rule.specs.Places.{AreApart, queues_at, queued_at, first_for, IsNear, ArePlaced}
-use Rattle.wait_rule.specs.declared.journal.Item.{Item}
 use Rattle.wait_rule.specs.Rule.{IsLawfulTable, IsWhole, AreLinked, IsRuled, all_notes}
-use Rattle.wait_rule.specs.Known.{Known}
-use Rattle.wait_rule.specs.Says.{told_of, noted}
 use Rattle.wait_rule.specs.Queues.{place_by, IsWholeBook, StandsIn, IsLowest, IsHighest, IsFrontPlace, IsTailPlace}
 use Rattle.wait_rule.specs.Queues.{IsPriorityPlace, IsPlaceFor, IsBefore}
 

@@ -4,31 +4,21 @@ use Rattle.std.specs.Prelude.{ℕ, ◌≡◌, ◌≢◌, ◌+◌, ◌-◌, ◌<�
 use Rattle.std.specs.Prelude.{Some, None, List, ◌++◌, ◌&&◌, ◌||◌, not}
 use Rattle.std.proofs.lemmas.Bool.Decides.{eqb_tells, nat_tests}
 use mathlib.Core.Path.{fun_ext}
-use Rattle.wait_model.specs.declared.layout.TheConstants.{ENTRIES}
-use Rattle.wait_model.specs.declared.watches.Entry.{Entry}
-use Rattle.wait_model.specs.declared.watches.Kind.TheVariants as kind
-use Rattle.wait_model.specs.declared.queues.Mark.{Mark}
-use Rattle.wait_model.specs.declared.steps.Step.{Step}
-use Rattle.wait_model.specs.declared.steps.Step.TheVariants as step
-use Rattle.wait_model.specs.declared.tasks.Sleep.{Sleep}
-use Rattle.wait_model.specs.declared.tasks.Sleep.TheVariants as sleep
-use Rattle.wait_model.specs.Tasks.{task_of, sleep_of}
-use Rattle.wait_model.specs.Functions.{put}
-use Rattle.wait_model.specs.declared.watches.Watch.{Watch}
+use Rattle.wait_model.specs.{declared.layout.TheConstants.ENTRIES, declared.watches.Entry.Entry}
+use Rattle.wait_model.specs.{declared.queues.Mark.Mark, declared.steps.Step.Step, declared.tasks.Sleep.Sleep}
+use Rattle.wait_model.specs.{Tasks.task_of, Tasks.sleep_of, Functions.put, declared.watches.Watch.Watch}
+use Rattle.wait_model.specs.{Views.View as Told, Fold.after, Fold.is_held, Tables.Table, Tables.next, Rows.Allowed}
+use Rattle.wait_model.specs.Rows.{IsUntested}
 use Rattle.wait_model.specs.Watches.{head_of, is_bit, was_clear, owner, stands_at, is_page, page, word_of}
 use Rattle.wait_model.specs.Watches.{same as same_watch}
-use Rattle.wait_model.specs.Views.{View as Told}
-use Rattle.wait_model.specs.Fold.{after, is_held}
-use Rattle.wait_model.specs.Tables.{Table, next}
-use Rattle.wait_model.specs.Rows.{Allowed, IsUntested}
+use Rattle.wait_model.specs.declared.watches.Kind.TheVariants as kind
+use Rattle.wait_model.specs.declared.steps.Step.TheVariants as step
+use Rattle.wait_model.specs.declared.tasks.Sleep.TheVariants as sleep
 use Rattle.wait_model.specs.Locations as place
 use Rattle.wait_model.proofs.Functions.{put_case, put_at, put_same, put_other}
-use Rattle.wait_rule.specs.declared.journal.Item.{Item}
+use Rattle.wait_rule.specs.{declared.journal.Item.Item, Notes.is_at, Pages.uses_flag, Pages.IsPageless, Tickets.served}
 use Rattle.wait_rule.specs.Items.{Difference, nothing, at_entry, at_mark, page_taken, page_told, after_try, Book}
 use Rattle.wait_rule.specs.Items.{first_book, learn_step, after_sleep, book_from, book_of}
-use Rattle.wait_rule.specs.Notes.{is_at}
-use Rattle.wait_rule.specs.Pages.{uses_flag, IsPageless}
-use Rattle.wait_rule.specs.Tickets.{served}
 use Rattle.wait_rule.specs.MemberWords.{names, index_named, is_put, all_differences, AreMembers}
 use Rattle.wait_rule.proofs.TableSteps.ItemLists.{book_append}
 

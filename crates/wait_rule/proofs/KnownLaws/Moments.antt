@@ -2,23 +2,14 @@
 use Rattle.std.proofs.lemmas.Option.{none-some}
 use Rattle.std.proofs.Common.{refl, sym, ◌∙◌, ap, subst, append-nil, inl, inr}
 use Rattle.std.specs.Prelude.{ℕ, ◌≡◌, ◌≢◌, ◌<◌, ◌⊎◌, Option, Some, None, List, [], ◌∷◌, ◌++◌}
-use Rattle.wait_model.specs.declared.layout.TheConstants.{TASKS}
-use Rattle.wait_model.specs.declared.steps.Step.{Step}
-use Rattle.wait_model.specs.declared.steps.Step.TheVariants as step
-use Rattle.wait_model.specs.Functions.{put}
-use Rattle.wait_model.specs.Watches.{head_of}
-use Rattle.wait_model.specs.Words.{entry_of}
+use Rattle.wait_model.specs.{declared.layout.TheConstants.TASKS, declared.steps.Step.Step, Functions.put}
+use Rattle.wait_model.specs.{Watches.head_of, Words.entry_of, Fold.after, Fold.view_of, Tables.Table, Tables.next}
+use Rattle.wait_model.specs.{Permits.HandsOn, Rows.Allowed, Facts.Kept}
 use Rattle.wait_model.specs.Views.{View as Told, Hold, Look, unseen, look_at}
-use Rattle.wait_model.specs.Fold.{after, view_of}
-use Rattle.wait_model.specs.Tables.{Table, next}
-use Rattle.wait_model.specs.Permits.{HandsOn}
-use Rattle.wait_model.specs.Rows.{Allowed}
-use Rattle.wait_model.specs.Facts.{Kept}
-use Rattle.wait_model.proofs.Functions.{put_case, put_at}
-use Rattle.wait_model.proofs.HistoryLaws.HoldLooks.{IsLookTold, told_next}
-use Rattle.wait_model.proofs.StepLaws.StartLaws.{start_kept}
-use Rattle.wait_model.proofs.StepLaws.KeptLaws.{step_keeps}
-use Rattle.wait_model.proofs.StepLaws.UnlockSteps.{unlock_hold}
+use Rattle.wait_model.specs.declared.steps.Step.TheVariants as step
+use Rattle.wait_model.proofs.{Functions.put_case, Functions.put_at, HistoryLaws.HoldLooks.IsLookTold}
+use Rattle.wait_model.proofs.{HistoryLaws.HoldLooks.told_next, StepLaws.StartLaws.start_kept}
+use Rattle.wait_model.proofs.{StepLaws.KeptLaws.step_keeps, StepLaws.UnlockSteps.unlock_hold}
 use Rattle.wait_rule.specs.Interleavings.{TaskStep, table_of, AreAllowed, IsInterleaved}
 
 pub interleaved_next : (s : Table) (a : ℕ) (e : Step) → a < TASKS → Allowed s a e → HandsOn s a e → IsInterleaved s

@@ -2,29 +2,20 @@
 use Rattle.std.proofs.lemmas.Option.{none-some}
 use Rattle.std.proofs.Common.{refl, sym, ◌∙◌, ap, subst, append_assoc, inl, inr}
 use Rattle.std.specs.Prelude.{ℕ, ◌≡◌, ◌<◌, Option, Some, None, List, [], ◌∷◌, ◌++◌}
-use Rattle.wait_model.specs.declared.calls.Event.{Event}
+use Rattle.wait_model.specs.{declared.calls.Event.Event, declared.layout.TheConstants.FIRST_DONE_HEAD}
+use Rattle.wait_model.specs.{declared.points.Next.Next, declared.points.Point.Point, declared.steps.Step.Step}
+use Rattle.wait_model.specs.{declared.watches.Entry.Entry, declared.watches.Watch.Watch, Watches.bare, Watches.head_of}
 use Rattle.wait_model.specs.declared.calls.Event.TheVariants as event
-use Rattle.wait_model.specs.declared.layout.TheConstants.{FIRST_DONE_HEAD}
-use Rattle.wait_model.specs.declared.points.Next.{Next}
 use Rattle.wait_model.specs.declared.points.Next.TheVariants as next
-use Rattle.wait_model.specs.declared.points.Point.{Point}
-use Rattle.wait_model.specs.declared.steps.Step.{Step}
 use Rattle.wait_model.specs.declared.steps.Step.TheVariants as step
-use Rattle.wait_model.specs.declared.watches.Entry.{Entry}
-use Rattle.wait_model.specs.declared.watches.Watch.{Watch}
 use Rattle.wait_model.specs.declared.watches.Watch.TheVariants as watch
-use Rattle.wait_model.specs.Watches.{bare, head_of}
-use Rattle.wait_rule.specs.declared.journal.Item.{Item}
-use Rattle.wait_rule.specs.declared.journal.Item.TheVariants as item
-use Rattle.wait_rule.specs.HandedPermits.{OthersStayOff}
-use Rattle.wait_rule.specs.Items.{steps_of}
-use Rattle.wait_rule.specs.Known.{Known}
-use Rattle.wait_rule.specs.Says.{added, history_of}
+use Rattle.wait_rule.specs.{declared.journal.Item.Item, HandedPermits.OthersStayOff, Items.steps_of, Known.Known}
+use Rattle.wait_rule.specs.{Says.added, Says.history_of}
 use Rattle.wait_rule.specs.Transitions.{AreLooks, AreScansOf, Goes, IsMadeFor, IsStepFor, OnlyLooks, Program}
 use Rattle.wait_rule.specs.Transitions.{StepOrLook, Transition, after_step_or_look, after_transition, by_look, by_step}
-use Rattle.wait_rule.proofs.KnownLaws.CalledPermits.{left_on}
-use Rattle.wait_rule.proofs.KnownLaws.HandedSteps.{AddsLow, AllAddLow}
-use Rattle.wait_rule.proofs.KnownLaws.TaskHistories.{history_after}
+use Rattle.wait_rule.specs.declared.journal.Item.TheVariants as item
+use Rattle.wait_rule.proofs.{KnownLaws.CalledPermits.left_on, KnownLaws.HandedSteps.AddsLow}
+use Rattle.wait_rule.proofs.{KnownLaws.HandedSteps.AllAddLow, KnownLaws.TaskHistories.history_after}
 use Rattle.wait_rule.proofs.TableSteps.ItemLists.{steps_append}
 
 -- A step queues no entry but such a one, and so do steps.

@@ -1,21 +1,14 @@
 -- What a step does to own entries that their tasks alone take off.
 use Rattle.std.proofs.Common.{refl, sym, ◌∙◌, ap, inl, inr}
 use Rattle.std.specs.Prelude.{ℕ, ◌≡◌, ◌≢◌, ◌⊎◌, Bool, true, false, ◌||◌, if◌then◌else◌, Option, Some, None}
-use Rattle.wait_model.specs.declared.watches.Entry.{Entry}
-use Rattle.wait_model.specs.declared.steps.Step.{Step}
-use Rattle.wait_model.specs.declared.steps.Step.TheVariants as step
-use Rattle.wait_model.specs.Functions.{put}
-use Rattle.wait_model.specs.Watches.{owner}
-use Rattle.wait_model.specs.Words.{entry_of}
+use Rattle.wait_model.specs.{declared.watches.Entry.Entry, declared.steps.Step.Step, Functions.put, Watches.owner}
+use Rattle.wait_model.specs.{Words.entry_of, Rows.Allowed, DoneCounts.IsDoneStore, Permits.HandsOn}
 use Rattle.wait_model.specs.Views.{View as Told, Walk, all_passed}
 use Rattle.wait_model.specs.Fold.{after, after_unlock, forgotten, is_off}
 use Rattle.wait_model.specs.Tables.{Table, next, word_step}
-use Rattle.wait_model.specs.Rows.{Allowed}
-use Rattle.wait_model.specs.DoneCounts.{IsDoneStore}
-use Rattle.wait_model.specs.Permits.{HandsOn}
+use Rattle.wait_model.specs.declared.steps.Step.TheVariants as step
 use Rattle.wait_model.proofs.Functions.{put_case, put_at}
-use Rattle.wait_rule.specs.Members.{IsOwnKind}
-use Rattle.wait_rule.specs.Rule.{OwnStand}
+use Rattle.wait_rule.specs.{Members.IsOwnKind, Rule.OwnStand}
 
 -- What the calls' steps keep beside the model's conditions: of stores in done counts; of entries that a task takes off:
 -- it is the own one, or none that its task alone takes off; and of permits, where a head is given back or an entry is

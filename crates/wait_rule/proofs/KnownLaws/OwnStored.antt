@@ -1,19 +1,12 @@
 -- A task's history stores own entries alone.
 use Rattle.std.proofs.Common.{◌∙◌, ap, refl, sym, subst}
 use Rattle.std.specs.Prelude.{ℕ, ◌≡◌, ◌≢◌, Bool, true, false, if◌then◌else◌, Option, Some, None, List, [], ◌∷◌}
-use Rattle.wait_model.specs.declared.watches.Entry.{Entry}
-use Rattle.wait_model.specs.declared.steps.Step.{Step}
-use Rattle.wait_model.specs.declared.steps.Step.TheVariants as step
-use Rattle.wait_model.specs.Functions.{put}
-use Rattle.wait_model.specs.Watches.{owner}
-use Rattle.wait_model.specs.Words.{entry_of}
-use Rattle.wait_model.specs.Views.{View as Told, Bits}
-use Rattle.wait_model.specs.Fold.{after, forgotten, is_off}
-use Rattle.wait_model.specs.Tables.{Table}
-use Rattle.wait_model.specs.Rows.{Allowed}
+use Rattle.wait_model.specs.{declared.watches.Entry.Entry, declared.steps.Step.Step, Functions.put, Watches.owner}
+use Rattle.wait_model.specs.{Words.entry_of, Views.View as Told, Views.Bits, Tables.Table, Rows.Allowed}
 use Rattle.wait_model.specs.Reached.{OwnStored}
-use Rattle.wait_model.proofs.Functions.{put_at}
-use Rattle.wait_model.proofs.StepLaws.UnlockSteps.{unlock_bits}
+use Rattle.wait_model.specs.Fold.{after, forgotten, is_off}
+use Rattle.wait_model.specs.declared.steps.Step.TheVariants as step
+use Rattle.wait_model.proofs.{Functions.put_at, StepLaws.UnlockSteps.unlock_bits}
 use Rattle.wait_rule.specs.Interleavings.{TaskStep, table_of, AreAllowed, IsInterleaved}
 
 forgets : (a : ℕ) (v : Told) (x : ℕ) (f : Option Entry) → OwnStored a v → (y : ℕ) → owner y ≢ a

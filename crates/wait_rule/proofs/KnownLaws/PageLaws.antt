@@ -1,15 +1,11 @@
 -- The laws of pages that are handed over, by the rule.
 use Rattle.std.proofs.Common.{refl, sym, ◌∙◌, ap, inl, inr}
 use Rattle.std.specs.Prelude.{ℕ, ◌≡◌, Option, Some}
+use Rattle.wait_model.specs.{Words.bit_at, Words.entry_of, BitKeepers.HoldsBit}
 use Rattle.wait_model.specs.Watches.{head_of, owner, page}
-use Rattle.wait_model.specs.Words.{bit_at, entry_of}
-use Rattle.wait_model.specs.BitKeepers.{HoldsBit}
-use Rattle.wait_rule.specs.MemberWords.{all_differences}
-use Rattle.wait_rule.specs.Asked.{all_asked}
-use Rattle.wait_rule.specs.Pages.{IsAskedAt, IsPageState}
+use Rattle.wait_rule.specs.{MemberWords.all_differences, Asked.all_asked, Pages.IsAskedAt, Pages.IsPageState}
 use Rattle.wait_rule.specs.PageLaws.{IsHandedWhole, RuleTakesForWaiters, RuleHandsWhole, RuleLeavesNone, WorkedPages}
-use Rattle.wait_rule.proofs.KnownLaws.PageStates.{none_some}
-use Rattle.wait_rule.proofs.KnownLaws.PageSteps.{not_both}
+use Rattle.wait_rule.proofs.{KnownLaws.PageStates.none_some, KnownLaws.PageSteps.not_both}
 use Rattle.wait_rule.proofs.KnownLaws.StandingKinds.{asks_none}
 
 same_page : (p q : ℕ) → ◌≡◌ {A = Option ℕ} (Some p) (Some q) → p ≡ q

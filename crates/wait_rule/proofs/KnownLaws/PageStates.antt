@@ -2,9 +2,7 @@
 use Rattle.std.proofs.Common.{refl, sym, ◌∙◌, ap, subst, arith, inl, inr}
 use Rattle.std.proofs.lemmas.Bool.Decides.{eqb_tells, nat_tests}
 use Rattle.std.specs.Prelude.{ℕ, ◌≡◌, ◌≢◌, Bool, true, false, ◌==◌, if◌then◌else◌, Option, Some, None}
-use Rattle.wait_model.specs.declared.watches.Entry.{Entry}
-use Rattle.wait_model.specs.Watches.{owner}
-use Rattle.wait_model.specs.Tables.{Table}
+use Rattle.wait_model.specs.{declared.watches.Entry.Entry, Watches.owner, Tables.Table}
 use Rattle.wait_rule.specs.Items.{Difference}
 use Rattle.wait_rule.specs.Asked.{Asked, nothing_asked, waits_for, was_given, given_if, took_off, took_note, waits_at}
 use Rattle.wait_rule.specs.Asked.{was_given_at}

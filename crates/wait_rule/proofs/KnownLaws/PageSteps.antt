@@ -3,15 +3,11 @@ use Rattle.std.proofs.lemmas.Bool.{both_ways}
 use Rattle.std.proofs.Common.{refl, sym, ◌∙◌, ap, subst, inl, inr}
 use Rattle.std.proofs.lemmas.Bool.Decides.{eqb_tells}
 use Rattle.std.specs.Prelude.{ℕ, ◌≡◌, ◌≢◌, ◌⊎◌, Bool, true, false, ◌==◌, ◌||◌, if◌then◌else◌, Option, Some, None}
-use Rattle.wait_model.specs.declared.watches.Watch.{Watch}
-use Rattle.wait_model.specs.declared.watches.Entry.{Entry}
-use Rattle.wait_model.specs.declared.watches.Kind.{Kind}
-use Rattle.wait_model.specs.declared.steps.Step.{Step}
-use Rattle.wait_model.specs.Functions.{put}
+use Rattle.wait_model.specs.{declared.watches.Watch.Watch, declared.watches.Entry.Entry, declared.watches.Kind.Kind}
+use Rattle.wait_model.specs.{declared.steps.Step.Step, Functions.put, Fold.after, Fold.after_unlock, Tables.Table}
+use Rattle.wait_model.specs.Tables.{next}
 use Rattle.wait_model.specs.Watches.{head_of, is_page, is_woken, owner}
 use Rattle.wait_model.specs.Views.{View as Told, Walk, off, all_passed}
-use Rattle.wait_model.specs.Fold.{after, after_unlock}
-use Rattle.wait_model.specs.Tables.{Table, next}
 use Rattle.wait_model.proofs.Functions.{put_case, put_at, put_same, put_other, bool_or}
 use Rattle.wait_rule.specs.Items.{Difference, nothing, Book, learn_step}
 use Rattle.wait_rule.specs.Asked.{Asked, ask_step, waits_at, was_given_at}

@@ -4,22 +4,18 @@ use Rattle.std.proofs.Common.{subst, arith}
 use Rattle.std.specs.Prelude.{if◌then◌else◌}
 use mathlib.Core.Logic.{dite}
 use native.Mathlib.Decide.{ℕ_discrete}
+use Rattle.wait_model.specs.{Functions.put, Words.flag, Locations.Location}
 use Rattle.wait_model.specs.declared.layout.TheConstants.{PIPES, PIPE_ENDS, PIPE_CELLS, TASKS}
 use Rattle.wait_model.specs.declared.watches.Watch.TheVariants as watch
 use Rattle.wait_model.specs.declared.steps.Step.TheVariants as step
-use Rattle.wait_model.specs.Functions.{put}
-use Rattle.wait_model.specs.Words.{flag}
 use Rattle.wait_model.specs.Locations as place
-use Rattle.wait_model.specs.Locations.{Location}
 use Rattle.wait_model.proofs.Functions.{put_at}
-use Rattle.wait_rule.specs.declared.journal.EndAct.{EndAct}
-use Rattle.wait_rule.specs.declared.journal.EndAct.TheVariants as act
-use Rattle.wait_rule.specs.declared.journal.Item.{Item}
-use Rattle.wait_rule.specs.declared.journal.Item.TheVariants as item
+use Rattle.wait_rule.specs.{declared.journal.EndAct.EndAct, declared.journal.Item.Item, PipeSays.IsSoundEnd}
 use Rattle.wait_rule.specs.Pipes.{write_end, read_end, cell_of, end_word, IsCell, End, no_end, new_end, with_cell}
 use Rattle.wait_rule.specs.Pipes.{claimed, after_end_publish, advanced, if_mine, end_act, end_item, end_of, IsFlow}
 use Rattle.wait_rule.specs.Pipes.{IsPipe}
-use Rattle.wait_rule.specs.PipeSays.{IsSoundEnd}
+use Rattle.wait_rule.specs.declared.journal.EndAct.TheVariants as act
+use Rattle.wait_rule.specs.declared.journal.Item.TheVariants as item
 use Rattle.wait_rule.proofs.KnownLaws.PipeFlows.{counts, flow_words, get_flow, get_whole, put_flow, publish_w_flow}
 use Rattle.wait_rule.proofs.KnownLaws.PipeFlows.{publish_r_flow, publish_is, open_w_flow, open_r_flow}
 use Rattle.wait_rule.proofs.KnownLaws.PipeItems.{ends_apart, now, others, owner, refuses, begins, pipe_stays}

@@ -4,20 +4,17 @@ use Rattle.std.proofs.Common.{arith, true≢false, inl, inr}
 use Rattle.std.specs.Prelude.{◌==◌, ◌&&◌, ◌||◌, ◌⊎◌, not, if◌then◌else◌}
 use mathlib.Core.Logic.{dite}
 use native.Mathlib.Decide.{ℕ_discrete}
-use Rattle.wait_model.specs.declared.layout.TheConstants.{PIPE_ENDS}
-use Rattle.wait_model.specs.declared.watches.Watch.TheVariants as watch
-use Rattle.wait_model.specs.declared.steps.Step.{Step}
-use Rattle.wait_model.specs.declared.steps.Step.TheVariants as step
-use Rattle.wait_model.specs.Functions.{put}
+use Rattle.wait_model.specs.{declared.layout.TheConstants.PIPE_ENDS, declared.steps.Step.Step, Functions.put}
 use Rattle.wait_model.specs.Locations.{Location}
+use Rattle.wait_model.specs.declared.watches.Watch.TheVariants as watch
+use Rattle.wait_model.specs.declared.steps.Step.TheVariants as step
 use Rattle.wait_model.proofs.Functions.{put_same, put_other}
-use Rattle.wait_rule.specs.declared.journal.EndAct.{EndAct}
-use Rattle.wait_rule.specs.declared.journal.EndAct.TheVariants as act
-use Rattle.wait_rule.specs.declared.journal.Item.{Item}
-use Rattle.wait_rule.specs.declared.journal.Item.TheVariants as item
+use Rattle.wait_rule.specs.{declared.journal.EndAct.EndAct, declared.journal.Item.Item}
 use Rattle.wait_rule.specs.Pipes.{write_end, read_end, other_end, End, no_end, new_end, after_end_look}
 use Rattle.wait_rule.specs.Pipes.{after_end_publish, end_act, end_item, end_step, end_from, end_of, refused_item}
 use Rattle.wait_rule.specs.Pipes.{was_refused, IsFlow, IsPipe}
+use Rattle.wait_rule.specs.declared.journal.EndAct.TheVariants as act
+use Rattle.wait_rule.specs.declared.journal.Item.TheVariants as item
 use Rattle.wait_rule.proofs.KnownLaws.PipeFlows.{flow_words}
 use Rattle.wait_rule.proofs.KnownLaws.PipeWords.{SameWords, test_on, test_off}
 

@@ -4,12 +4,11 @@ use Rattle.std.proofs.Common.{true≢false}
 use Rattle.std.specs.Prelude.{◌==◌, ◌&&◌, not, if◌then◌else◌}
 use mathlib.Core.Logic.{dite}
 use native.Mathlib.Decide.{ℕ_discrete}
+use Rattle.wait_model.specs.{declared.steps.Step.Step, Locations.Location}
 use Rattle.wait_model.specs.declared.layout.TheConstants.{PIPES, PIPE_ENDS, PIPE_CELLS}
 use Rattle.wait_model.specs.declared.watches.Watch.TheVariants as watch
-use Rattle.wait_model.specs.declared.steps.Step.{Step}
 use Rattle.wait_model.specs.declared.steps.Step.TheVariants as step
 use Rattle.wait_model.specs.Locations as place
-use Rattle.wait_model.specs.Locations.{Location}
 use Rattle.wait_rule.specs.declared.journal.EndAct.{EndAct}
 use Rattle.wait_rule.specs.declared.journal.EndAct.TheVariants as act
 use Rattle.wait_rule.specs.declared.journal.Item.{Item}

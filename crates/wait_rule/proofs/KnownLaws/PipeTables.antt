@@ -2,20 +2,16 @@
 use Rattle.std.proofs.lemmas.Bool.{both_ways}
 use Rattle.std.proofs.Common.{refl, sym, ◌∙◌, ap, arith, inl, inr, true≢false}
 use Rattle.std.specs.Prelude.{ℕ, ◌≡◌, ◌≢◌, ◌/◌, ◌<◌, ◌⊎◌, Bool, true, false, List, [], ◌∷◌, ◌++◌}
+use Rattle.wait_model.specs.{declared.steps.Step.Step, Functions.put, Tables.Table, Tables.next, Rows.Allowed}
+use Rattle.wait_model.specs.Locations.{Location}
 use Rattle.wait_model.specs.declared.layout.TheConstants.{PIPES, PIPE_ENDS, CLAIMS}
 use Rattle.wait_model.specs.declared.watches.Watch.TheVariants as watch
-use Rattle.wait_model.specs.declared.steps.Step.{Step}
 use Rattle.wait_model.specs.declared.steps.Step.TheVariants as step
-use Rattle.wait_model.specs.Functions.{put}
-use Rattle.wait_model.specs.Tables.{Table, next}
-use Rattle.wait_model.specs.Rows.{Allowed}
 use Rattle.wait_model.specs.Locations as place
-use Rattle.wait_model.specs.Locations.{Location}
 use Rattle.wait_model.proofs.Functions.{put_at, put_same}
-use Rattle.wait_rule.specs.declared.journal.Item.{Item}
-use Rattle.wait_rule.specs.declared.journal.Item.TheVariants as item
-use Rattle.wait_rule.specs.MemberWords.{word_with}
+use Rattle.wait_rule.specs.{declared.journal.Item.Item, MemberWords.word_with}
 use Rattle.wait_rule.specs.Pipes.{write_end, read_end, End, no_end, end_from, end_of, was_refused, IsPipe, ArePipes}
+use Rattle.wait_rule.specs.declared.journal.Item.TheVariants as item
 use Rattle.wait_rule.proofs.KnownLaws.PipeFlows.{flow_words}
 use Rattle.wait_rule.proofs.KnownLaws.PipeSteps.{ReadsEnd, step_pipe}
 use Rattle.wait_rule.proofs.KnownLaws.PipeItems.{end_append, refused_append}

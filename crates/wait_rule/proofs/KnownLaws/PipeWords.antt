@@ -2,10 +2,9 @@
 use Rattle.std.proofs.Common.{◌≡◌, ℕ, ◌+◌, ◌*◌, ◌/◌, ◌%◌, ◌<◌, ◌≤◌, ◌≢◌, Bool, true, false, refl, ap, arith}
 use Rattle.std.specs.Prelude.{◌==◌}
 use Rattle.std.proofs.lemmas.Bool.Decides.{nat_tests}
-use Rattle.wait_model.specs.declared.layout.TheConstants.{PIPE_ENDS, PIPE_CELLS}
-use Rattle.wait_model.specs.Words.{flag}
+use Rattle.wait_model.specs.{declared.layout.TheConstants.PIPE_ENDS, declared.layout.TheConstants.PIPE_CELLS}
+use Rattle.wait_model.specs.{Words.flag, Locations.Location}
 use Rattle.wait_model.specs.Locations as place
-use Rattle.wait_model.specs.Locations.{Location}
 use Rattle.wait_rule.specs.Pipes.{write_end, read_end, cell_of, word_counts, end_word, count_on}
 
 pub test_on : (a b : ℕ) → a ≡ b → (a == b) ≡ true

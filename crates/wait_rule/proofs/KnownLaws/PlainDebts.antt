@@ -3,20 +3,11 @@ use Rattle.std.proofs.Common.{◌∙◌, ap, sym, subst, inr}
 use Rattle.std.specs.Prelude.{ℕ, ◌≡◌, Bool, true, false, not, ◌&&◌, ◌||◌, List}
 use Rattle.wait_model.specs.declared.watches.Mode.TheVariants as mode
 use Rattle.wait_model.specs.declared.steps.Step.TheVariants as step
-use Rattle.wait_model.specs.Tasks.{meets}
-use Rattle.wait_model.specs.Watches.{mask_of}
-use Rattle.wait_model.specs.Views.{View}
-use Rattle.wait_model.specs.Histories.{UnlocksHeld}
-use Rattle.wait_model.specs.Tables.{Table}
-use Rattle.wait_model.proofs.HistoryLaws.HoldBooks.{lock_held}
-use Rattle.wait_model.proofs.HistoryLaws.OwedWakes.{owes_told}
+use Rattle.wait_model.specs.{Tasks.meets, Watches.mask_of, Views.View, Histories.UnlocksHeld, Tables.Table}
+use Rattle.wait_model.proofs.{HistoryLaws.HoldBooks.lock_held, HistoryLaws.OwedWakes.owes_told}
 use Rattle.wait_model.proofs.HistoryLaws.PlainReadings.{owing_told}
-use Rattle.wait_rule.specs.declared.journal.Item.{Item}
-use Rattle.wait_rule.specs.DebtLaws.{CleanOwesNothing, RuleTellsDebts}
-use Rattle.wait_rule.specs.Interleavings.{IsInterleaved}
-use Rattle.wait_rule.specs.Items.{steps_of}
-use Rattle.wait_rule.specs.Known.{Known}
-use Rattle.wait_rule.specs.Rule.{IsRuled}
+use Rattle.wait_rule.specs.{declared.journal.Item.Item, DebtLaws.CleanOwesNothing, DebtLaws.RuleTellsDebts}
+use Rattle.wait_rule.specs.{Interleavings.IsInterleaved, Items.steps_of, Known.Known, Rule.IsRuled}
 use Rattle.wait_rule.specs.Says.{history_of, told_of, wake_of}
 use Rattle.wait_rule.proofs.KnownLaws.Moments.{next_step}
 

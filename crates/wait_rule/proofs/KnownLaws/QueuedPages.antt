@@ -1,16 +1,11 @@
 -- What a step does to pages that are handed over: entries that are queued and taken off, and all steps.
 use Rattle.std.proofs.Common.{refl, sym, ◌∙◌, ap, subst, inl, inr}
 use Rattle.std.specs.Prelude.{ℕ, ◌≡◌, ◌≢◌, ◌⊎◌, Bool, true, false, ◌||◌, if◌then◌else◌, Option, Some, None}
-use Rattle.wait_model.specs.declared.watches.Entry.{Entry}
-use Rattle.wait_model.specs.declared.steps.Step.{Step}
-use Rattle.wait_model.specs.declared.steps.Step.TheVariants as step
-use Rattle.wait_model.specs.Functions.{put}
-use Rattle.wait_model.specs.Tasks.{task_of, sleep_of}
+use Rattle.wait_model.specs.{declared.watches.Entry.Entry, declared.steps.Step.Step, Functions.put, Tasks.task_of}
+use Rattle.wait_model.specs.{Tasks.sleep_of, Views.View as Told, Tables.Table, Tables.next, Rows.Allowed}
 use Rattle.wait_model.specs.Watches.{head_of, is_page, is_woken, owner, word_of}
-use Rattle.wait_model.specs.Views.{View as Told}
 use Rattle.wait_model.specs.Fold.{after, is_off, forgotten}
-use Rattle.wait_model.specs.Tables.{Table, next}
-use Rattle.wait_model.specs.Rows.{Allowed}
+use Rattle.wait_model.specs.declared.steps.Step.TheVariants as step
 use Rattle.wait_model.proofs.Functions.{put_case, put_same, put_other, bool_or}
 use Rattle.wait_rule.specs.Items.{Difference, nothing, Book, learn_step}
 use Rattle.wait_rule.specs.Asked.{Asked, waits_for, given_if, took_off, ask_step, waits_at, was_given_at}

@@ -3,17 +3,11 @@ use Rattle.std.proofs.Common.{◌∙◌, ap, sym, refl, subst, inl, inr}
 use Rattle.std.proofs.lemmas.Bool.Decides.{eqb_tells}
 use Rattle.std.specs.Prelude.{ℕ, ◌≡◌, ◌≢◌, ◌⊎◌, ◌&&◌, ◌||◌, ◌==◌, not, Bool, true, false, if◌then◌else◌, Option, Some}
 use Rattle.std.specs.Prelude.{None, List, [], ◌∷◌, ◌++◌}
-use Rattle.wait_model.specs.declared.steps.Step.{Step}
-use Rattle.wait_model.specs.declared.steps.Step.TheVariants as step
-use Rattle.wait_model.specs.declared.watches.Entry.{Entry}
-use Rattle.wait_model.specs.Facts.{BitFacts}
+use Rattle.wait_model.specs.{declared.steps.Step.Step, declared.watches.Entry.Entry, Facts.BitFacts, Functions.put}
+use Rattle.wait_model.specs.{Rows.Allowed, Tables.Table, Tables.next, Watches.is_woken, Watches.owner, Words.entry_of}
 use Rattle.wait_model.specs.Fold.{after, after_all, is_off, view_of}
-use Rattle.wait_model.specs.Functions.{put}
-use Rattle.wait_model.specs.Rows.{Allowed}
-use Rattle.wait_model.specs.Tables.{Table, next}
 use Rattle.wait_model.specs.Views.{View, Bits, blank}
-use Rattle.wait_model.specs.Watches.{is_woken, owner}
-use Rattle.wait_model.specs.Words.{entry_of}
+use Rattle.wait_model.specs.declared.steps.Step.TheVariants as step
 use Rattle.wait_model.proofs.Functions.{put_at, put_case, put_other, put_same}
 use Rattle.wait_model.proofs.StepLaws.UnlockSteps.{unlock_bits}
 use Rattle.wait_rule.specs.Items.{Book}

@@ -1,17 +1,11 @@
 -- The served number of a head, to a task that has the histories of all.
 use Rattle.std.proofs.Common.{◌∙◌, ap, sym, subst}
 use Rattle.std.specs.Prelude.{ℕ, ◌≡◌, ◌+◌, ◌<◌, ◌≤◌, List}
-use Rattle.wait_model.specs.declared.layout.TheConstants.{TASKS}
-use Rattle.wait_model.specs.Words.{flag}
-use Rattle.wait_model.specs.Totals.{total}
+use Rattle.wait_model.specs.{declared.layout.TheConstants.TASKS, Words.flag, Totals.total}
 use Rattle.wait_model.proofs.HistoryLaws.StepTotals.{sum_same}
-use Rattle.wait_rule.specs.declared.journal.Item.{Item}
-use Rattle.wait_rule.specs.declared.journal.Journal.{Journal}
-use Rattle.wait_rule.specs.Items.{steps_of, book_of}
-use Rattle.wait_rule.specs.Journals.{owns, has_of}
-use Rattle.wait_rule.specs.Tickets.{is_given}
+use Rattle.wait_rule.specs.{declared.journal.Item.Item, declared.journal.Journal.Journal, Items.steps_of, Items.book_of}
+use Rattle.wait_rule.specs.{Journals.owns, Journals.has_of, Tickets.is_given, Says.ServesUnlocks}
 use Rattle.wait_rule.specs.TicketWords.{unlocks_at, unlocked_at, unserved, all_tickets}
-use Rattle.wait_rule.specs.Says.{ServesUnlocks}
 use Rattle.wait_rule.specs.Unlocks.{AllUnlocksCount, unlocks_told, unserved_told}
 
 module _ (v : Journal) (h w : ℕ) (s : ServesUnlocks v h w) (all : (t : ℕ) → t < TASKS → 1 ≤ owns t v) where

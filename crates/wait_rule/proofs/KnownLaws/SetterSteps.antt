@@ -4,27 +4,22 @@ use Rattle.std.proofs.Common.{refl, sym, ◌∙◌, ap, subst, arith, inl, inr}
 use Rattle.std.proofs.lemmas.Bool.Decides.{eqb_tells}
 use Rattle.std.specs.Prelude.{ℕ, ◌≡◌, ◌≢◌, ◌≤◌, ◌⊎◌, not, nat_le, ◌&&◌, ◌||◌, ◌==◌, Bool, true, false, if◌then◌else◌}
 use Rattle.std.specs.Prelude.{Option, Some, None}
-use Rattle.wait_model.specs.declared.watches.Watch.{Watch}
-use Rattle.wait_model.specs.declared.watches.Entry.{Entry}
-use Rattle.wait_model.specs.declared.steps.Step.{Step}
-use Rattle.wait_model.specs.declared.steps.Step.TheVariants as step
-use Rattle.wait_model.specs.Tasks.{meets}
-use Rattle.wait_model.specs.Watches.{same, head_of, is_bit, is_done, is_woken, is_simple, is_page, owner, part_of, mask_of, failing, page}
-use Rattle.wait_model.specs.Words.{entry_of}
-use Rattle.wait_model.specs.declared.watches.Aim.{Aim}
-use Rattle.wait_model.specs.Views.{View, Walk, Look, unseen, off, elsewhere, shown, no_hold, checked, concerns, gone, all_passed}
-use Rattle.wait_model.specs.Fold.{after, after_unlock, paused, begun, begun_anew, hits, finds_bit_set, is_for_page, scanned}
+use Rattle.wait_model.specs.{declared.watches.Watch.Watch, declared.watches.Entry.Entry, declared.steps.Step.Step}
+use Rattle.wait_model.specs.{Tasks.meets, Words.entry_of, declared.watches.Aim.Aim, Laws.Waits, Laws.Unheard}
+use Rattle.wait_model.specs.{Rows.Allowed, Rows.IsUntested, Facts.Facts, Facts.Agrees}
+use Rattle.wait_model.specs.Watches.{same, head_of, is_bit, is_done, is_woken, is_simple, is_page, owner, part_of}
+use Rattle.wait_model.specs.Watches.{mask_of, failing, page}
+use Rattle.wait_model.specs.Views.{View, Walk, Look, unseen, off, elsewhere, shown, no_hold, checked, concerns, gone}
+use Rattle.wait_model.specs.Views.{all_passed}
+use Rattle.wait_model.specs.Fold.{after, after_unlock, paused, begun, begun_anew, hits, finds_bit_set, is_for_page}
+use Rattle.wait_model.specs.Fold.{scanned}
 use Rattle.wait_model.specs.Tables.{Table, met, next, consume}
-use Rattle.wait_model.specs.Laws.{Waits, Unheard}
-use Rattle.wait_model.specs.Rows.{Allowed, IsUntested}
-use Rattle.wait_model.specs.Facts.{Facts, Agrees}
-use Rattle.wait_model.proofs.Functions.{put_at, put_same}
-use Rattle.wait_model.proofs.Sameness.{same_bit, same_bit_is, same_trans, same_of_page, failing_unmet, tas_unmet}
-use Rattle.wait_model.proofs.StepLaws.LoadSteps.{peek_clears}
-use Rattle.wait_model.proofs.StepLaws.PublishSteps.{gone_published}
-use Rattle.wait_model.proofs.StepLaws.UnlockSteps.{unlock_cleared, unlock_flagged, unlock_gone, not_whole}
-use Rattle.wait_model.proofs.StepLaws.WakeSteps.{wake_state}
+use Rattle.wait_model.specs.declared.steps.Step.TheVariants as step
+use Rattle.wait_model.proofs.{Functions.put_at, Functions.put_same, StepLaws.LoadSteps.peek_clears}
+use Rattle.wait_model.proofs.{StepLaws.PublishSteps.gone_published, StepLaws.WakeSteps.wake_state}
 use Rattle.wait_model.proofs.FollowedLaws.OldWaiters.{FoundZero}
+use Rattle.wait_model.proofs.Sameness.{same_bit, same_bit_is, same_trans, same_of_page, failing_unmet, tas_unmet}
+use Rattle.wait_model.proofs.StepLaws.UnlockSteps.{unlock_cleared, unlock_flagged, unlock_gone, not_whole}
 
 -- no look has cleared the entry, and the walk of the view that is for its owner's state has not called it in its hold
 -- and goes on before it; a simple entry is passed only by being taken off

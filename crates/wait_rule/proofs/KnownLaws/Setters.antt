@@ -5,40 +5,31 @@ use Rattle.std.proofs.lemmas.Bool.Decides.{eqb_tells}
 use Rattle.std.proofs.lemmas.List.{append_assoc}
 use Rattle.std.specs.Prelude.{ℕ, zero, suc, ◌≡◌, ◌≢◌, ◌<◌, ◌≤◌, ◌⊎◌, ◌||◌, Bool, true, false, if◌then◌else◌, ◌==◌}
 use Rattle.std.specs.Prelude.{Option, Some, None, List, [], ◌∷◌, ◌++◌}
-use Rattle.wait_model.specs.declared.layout.TheConstants.{ENTRIES}
-use Rattle.wait_model.specs.declared.watches.Watch.{Watch}
-use Rattle.wait_model.specs.declared.watches.Watch.TheVariants as watch
-use Rattle.wait_model.specs.declared.watches.Entry.{Entry}
-use Rattle.wait_model.specs.declared.watches.Aim.{Aim}
-use Rattle.wait_model.specs.declared.steps.Step.{Step}
-use Rattle.wait_model.specs.declared.steps.Step.TheVariants as step
+use Rattle.wait_model.specs.{declared.layout.TheConstants.ENTRIES, declared.watches.Watch.Watch}
+use Rattle.wait_model.specs.{declared.watches.Entry.Entry, declared.watches.Aim.Aim, declared.steps.Step.Step}
+use Rattle.wait_model.specs.{Words.entry_of, Laws.Waits, Laws.Unheard, Rows.Allowed, Rows.MayPublish, Facts.Kept}
+use Rattle.wait_model.specs.{Owed.EndsWake, Told.ends_walk, Told.ends_wake, Tasks.meets}
 use Rattle.wait_model.specs.Watches.{same, head_of, is_done, is_simple, owner}
-use Rattle.wait_model.specs.Words.{entry_of}
 use Rattle.wait_model.specs.Views.{View, Walk, Hold, unseen, elsewhere, shown, blank, concerns, gone, all_passed}
 use Rattle.wait_model.specs.Views.{look_at}
 use Rattle.wait_model.specs.Fold.{after, after_all, view_of, peeks, scanned}
 use Rattle.wait_model.specs.Tables.{Table, met, next}
-use Rattle.wait_model.specs.Laws.{Waits, Unheard}
-use Rattle.wait_model.specs.Rows.{Allowed, MayPublish}
-use Rattle.wait_model.specs.Facts.{Kept}
 use Rattle.wait_model.specs.Histories.{Lacks, Since, turns_lock, publishes}
-use Rattle.wait_model.specs.Walks.{WalkHold, tells, entry_of_head, shown_by, IsPast, HasPassed, leaves, GoneIn, GoneBy, finds_off_head, looks_anew}
-use Rattle.wait_model.specs.Owed.{EndsWake}
-use Rattle.wait_model.specs.Told.{ends_walk, ends_wake}
-use Rattle.wait_model.specs.Tasks.{meets}
-use Rattle.wait_model.proofs.HistoryLaws.PlainReadings.{owes_after}
+use Rattle.wait_model.specs.Walks.{WalkHold, tells, entry_of_head, shown_by, IsPast, HasPassed, leaves, GoneIn, GoneBy}
+use Rattle.wait_model.specs.Walks.{finds_off_head, looks_anew}
+use Rattle.wait_model.specs.declared.watches.Watch.TheVariants as watch
+use Rattle.wait_model.specs.declared.steps.Step.TheVariants as step
+use Rattle.wait_model.proofs.{HistoryLaws.PlainReadings.owes_after, StepLaws.KeptLaws.step_keeps}
+use Rattle.wait_model.proofs.{StepLaws.PublishSteps.gone_published, StepLaws.UnlockSteps.unlock_hold}
+use Rattle.wait_model.proofs.{HistoryLaws.Stretches.lacks_more, HistoryLaws.Stretches.lacks_right}
+use Rattle.wait_model.proofs.{HistoryLaws.HoldLooks.IsLookTold, HistoryLaws.HoldLooks.after_snoc}
+use Rattle.wait_model.proofs.{HistoryLaws.HoldWalks.IsForWalk, HistoryLaws.PassedPlaces.concerned}
+use Rattle.wait_model.proofs.HistoryLaws.NoLostWake.{sleeper_found}
 use Rattle.wait_model.proofs.Functions.{put_same, put_other, both_left, both_right}
 use Rattle.wait_model.proofs.Sameness.{same_head, same_trans, same_done_is}
-use Rattle.wait_model.proofs.StepLaws.KeptLaws.{step_keeps}
-use Rattle.wait_model.proofs.StepLaws.PublishSteps.{gone_published}
-use Rattle.wait_model.proofs.StepLaws.UnlockSteps.{unlock_hold}
-use Rattle.wait_model.proofs.HistoryLaws.Stretches.{lacks_more, lacks_right}
-use Rattle.wait_model.proofs.HistoryLaws.HoldLooks.{IsLookTold, after_snoc}
-use Rattle.wait_model.proofs.HistoryLaws.HoldWalks.{IsForWalk}
 use Rattle.wait_model.proofs.HistoryLaws.HoldBooks.{look_of, hold_book, cleared_at}
-use Rattle.wait_model.proofs.HistoryLaws.CalledEntries.{view_at, hold_view, hold_walk, called_gone, seen_off, off_seen, same_sym}
-use Rattle.wait_model.proofs.HistoryLaws.PassedPlaces.{concerned}
-use Rattle.wait_model.proofs.HistoryLaws.NoLostWake.{sleeper_found}
+use Rattle.wait_model.proofs.HistoryLaws.CalledEntries.{view_at, hold_view, hold_walk, called_gone, seen_off, off_seen}
+use Rattle.wait_model.proofs.HistoryLaws.CalledEntries.{same_sym}
 use Rattle.wait_model.proofs.FollowedLaws.OldWaiters.{FoundZero, has_store, Before, waits_all, unheard_all, zero_all}
 use Rattle.wait_rule.specs.Interleavings.{TaskStep, table_of, AreAllowed}
 use Rattle.wait_rule.specs.Setters.{step_by, uses_up, StaysSet, UsesUpNone, NobodySleeps, StepsWakeAll, StepsSettleAll, RuleWakesAll, RuleSettlesAll}

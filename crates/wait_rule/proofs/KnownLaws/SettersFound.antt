@@ -3,11 +3,8 @@
 use Rattle.std.proofs.Common.{refl, sym, ◌∙◌, ap, subst, inl, inr}
 use Rattle.std.proofs.lemmas.Bool.Decides.{eqb_tells}
 use Rattle.std.specs.Prelude.{ℕ, ◌≡◌, ◌≢◌, ◌<◌, ◌⊎◌, true, false, List, [], ◌∷◌, ◌++◌}
-use Rattle.wait_model.specs.declared.layout.TheConstants.{TASKS}
-use Rattle.wait_model.specs.declared.watches.Watch.{Watch}
-use Rattle.wait_model.specs.declared.steps.Step.{Step}
-use Rattle.wait_model.specs.Histories.{Lacks}
-use Rattle.wait_model.specs.Fold.{view_of}
+use Rattle.wait_model.specs.{declared.layout.TheConstants.TASKS, declared.watches.Watch.Watch, declared.steps.Step.Step}
+use Rattle.wait_model.specs.{Histories.Lacks, Fold.view_of}
 use Rattle.wait_model.specs.Tables.{Table, met, next}
 use Rattle.wait_model.proofs.Functions.{put_same, put_other}
 use Rattle.wait_model.proofs.HistoryLaws.Stretches.{lacks_left, lacks_right}

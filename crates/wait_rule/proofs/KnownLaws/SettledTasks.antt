@@ -3,22 +3,17 @@
 use Rattle.std.proofs.Common.{refl, sym, ◌∙◌, ap, subst}
 use Rattle.std.specs.Prelude.{ℕ, ◌≡◌, Bool, true, false, not, ◌&&◌, ◌||◌, if◌then◌else◌, Option, Some, None, List, []}
 use Rattle.std.specs.Prelude.{◌∷◌, ◌++◌}
-use Rattle.wait_model.specs.declared.steps.Step.{Step}
-use Rattle.wait_model.specs.declared.steps.Step.TheVariants as step
-use Rattle.wait_model.specs.declared.watches.Entry.{Entry}
-use Rattle.wait_model.specs.declared.watches.Watch.{Watch}
+use Rattle.wait_model.specs.{declared.steps.Step.Step, declared.watches.Entry.Entry, declared.watches.Watch.Watch}
 use Rattle.wait_model.specs.Views.{View, Bits, Walk, all_passed, is_trying_for}
 use Rattle.wait_model.specs.Fold.{after, after_unlock, view_of}
+use Rattle.wait_model.specs.declared.steps.Step.TheVariants as step
 use Rattle.wait_model.proofs.StepLaws.UnlockSteps.{unlock_bits}
-use Rattle.wait_rule.specs.declared.journal.Item.{Item}
-use Rattle.wait_rule.specs.declared.journal.Item.TheVariants as item
+use Rattle.wait_rule.specs.{declared.journal.Item.Item, Known.Known, Stays.StaysOwing}
 use Rattle.wait_rule.specs.Items.{AddsNone, Book, learn, steps_of}
-use Rattle.wait_rule.specs.Known.{Known}
 use Rattle.wait_rule.specs.Says.{Debts, Excuse, IsOutBut, StaysSettled, added, grown, no_excuse, told_of}
-use Rattle.wait_rule.specs.Stays.{StaysOwing}
-use Rattle.wait_rule.proofs.KnownLaws.AfterSteps.{told_added}
+use Rattle.wait_rule.specs.declared.journal.Item.TheVariants as item
+use Rattle.wait_rule.proofs.{KnownLaws.AfterSteps.told_added, TableSteps.ItemLists.steps_append}
 use Rattle.wait_rule.proofs.KnownLaws.Debts.{begins_none, looks_debts, step_debts}
-use Rattle.wait_rule.proofs.TableSteps.ItemLists.{steps_append}
 
 -- the step is one on a task word, or on the word of a head
 abbrev pub stays_settled : Step → Bool

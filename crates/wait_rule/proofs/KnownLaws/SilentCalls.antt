@@ -2,55 +2,42 @@
 -- where that is done. Nor does a walk publish anything. What holds where an event of these three kinds is made is given.
 use Rattle.std.proofs.Common.{refl}
 use Rattle.std.specs.Prelude.{ℕ, ◌≡◌, ◌≢◌, ◌==◌, ◌&&◌, not, Bool, true, false, if◌then◌else◌, is_some, Option, Some, None}
-use Rattle.wait_model.specs.declared.calls.Call.{Call}
-use Rattle.wait_model.specs.declared.calls.Call.TheVariants as calls
-use Rattle.wait_model.specs.declared.calls.Event.{Event}
-use Rattle.wait_model.specs.declared.calls.Event.TheVariants as event
-use Rattle.wait_model.specs.declared.points.AddPoint.{AddPoint}
-use Rattle.wait_model.specs.declared.points.AddPoint.TheVariants as adding
-use Rattle.wait_model.specs.declared.points.AwaitPoint.{AwaitPoint}
-use Rattle.wait_model.specs.declared.points.AwaitPoint.TheVariants as awaiting
-use Rattle.wait_model.specs.declared.points.BitPoint.{BitPoint}
-use Rattle.wait_model.specs.declared.points.BitPoint.TheVariants as biting
-use Rattle.wait_model.specs.declared.points.CountPoint.{CountPoint}
-use Rattle.wait_model.specs.declared.points.CountPoint.TheVariants as counting
-use Rattle.wait_model.specs.declared.points.FinishPoint.{FinishPoint}
-use Rattle.wait_model.specs.declared.points.FinishPoint.TheVariants as finishing
-use Rattle.wait_model.specs.declared.points.LeavePoint.{LeavePoint}
-use Rattle.wait_model.specs.declared.points.LeavePoint.TheVariants as leaving
-use Rattle.wait_model.specs.declared.points.Next.{Next}
-use Rattle.wait_model.specs.declared.points.Next.TheVariants as next
-use Rattle.wait_model.specs.declared.points.PagePoint.{PagePoint}
-use Rattle.wait_model.specs.declared.points.PagePoint.TheVariants as paging
-use Rattle.wait_model.specs.declared.points.PageStage.{PageStage}
-use Rattle.wait_model.specs.declared.points.PageStage.TheVariants as staging
-use Rattle.wait_model.specs.declared.points.Planned.{Planned}
-use Rattle.wait_model.specs.declared.points.Point.{Point}
-use Rattle.wait_model.specs.declared.points.Point.TheVariants as at
-use Rattle.wait_model.specs.declared.points.PreparePoint.{PreparePoint}
-use Rattle.wait_model.specs.declared.points.PreparePoint.TheVariants as preparing
-use Rattle.wait_model.specs.declared.points.RemovePoint.{RemovePoint}
-use Rattle.wait_model.specs.declared.points.RemovePoint.TheVariants as removing
-use Rattle.wait_model.specs.declared.points.Seen.{Seen}
-use Rattle.wait_model.specs.declared.points.SelectPoint.{SelectPoint}
-use Rattle.wait_model.specs.declared.points.SelectPoint.TheVariants as selecting
-use Rattle.wait_model.specs.declared.points.WalkPoint.{WalkPoint}
-use Rattle.wait_model.specs.declared.points.WalkPoint.TheVariants as walking
-use Rattle.wait_model.specs.declared.points.WokenPoint.{WokenPoint}
-use Rattle.wait_model.specs.declared.points.WokenPoint.TheVariants as hearing
-use Rattle.wait_model.specs.declared.queues.CalledEntry.{CalledEntry}
-use Rattle.wait_model.specs.declared.queues.Walking.{Walking}
-use Rattle.wait_model.specs.declared.watches.Aim.{Aim}
-use Rattle.wait_model.specs.declared.watches.Kind.{Kind}
-use Rattle.wait_model.specs.declared.watches.Kind.TheVariants as kind
+use Rattle.wait_model.specs.{declared.calls.Call.Call, declared.calls.Event.Event, declared.points.AddPoint.AddPoint}
+use Rattle.wait_model.specs.{declared.points.AwaitPoint.AwaitPoint, declared.points.BitPoint.BitPoint}
+use Rattle.wait_model.specs.{declared.points.CountPoint.CountPoint, declared.points.FinishPoint.FinishPoint}
+use Rattle.wait_model.specs.{declared.points.LeavePoint.LeavePoint, declared.points.Next.Next}
+use Rattle.wait_model.specs.{declared.points.PagePoint.PagePoint, declared.points.PageStage.PageStage}
+use Rattle.wait_model.specs.{declared.points.Planned.Planned, declared.points.Point.Point}
+use Rattle.wait_model.specs.{declared.points.PreparePoint.PreparePoint, declared.points.RemovePoint.RemovePoint}
+use Rattle.wait_model.specs.{declared.points.Seen.Seen, declared.points.SelectPoint.SelectPoint}
+use Rattle.wait_model.specs.{declared.points.WalkPoint.WalkPoint, declared.points.WokenPoint.WokenPoint}
+use Rattle.wait_model.specs.{declared.queues.CalledEntry.CalledEntry, declared.queues.Walking.Walking}
+use Rattle.wait_model.specs.{declared.watches.Aim.Aim, declared.watches.Kind.Kind, Tasks.pending, Tasks.state_mask}
 use Rattle.wait_model.specs.Points.{call_aim, is_lock, state_in}
-use Rattle.wait_model.specs.Tasks.{pending, state_mask}
 use Rattle.wait_model.specs.Programs.{active_event, add_event, ask, await_ends, await_event, bit_event, call_entry}
 use Rattle.wait_model.specs.Programs.{call_fails, call_next, count_event, finish_event, finished, hands_event}
 use Rattle.wait_model.specs.Programs.{is_at_end, is_enough, leave_event, onward, page_event, page_finish_event}
 use Rattle.wait_model.specs.Programs.{prepare_event, prepared_at, prepares_from, program, publishing_event}
 use Rattle.wait_model.specs.Programs.{remove_event, select_event, select_next, signalled_at, slept_at, walk_event}
 use Rattle.wait_model.specs.Programs.{woken_event, worn_event, worn_next}
+use Rattle.wait_model.specs.declared.calls.Call.TheVariants as calls
+use Rattle.wait_model.specs.declared.calls.Event.TheVariants as event
+use Rattle.wait_model.specs.declared.points.AddPoint.TheVariants as adding
+use Rattle.wait_model.specs.declared.points.AwaitPoint.TheVariants as awaiting
+use Rattle.wait_model.specs.declared.points.BitPoint.TheVariants as biting
+use Rattle.wait_model.specs.declared.points.CountPoint.TheVariants as counting
+use Rattle.wait_model.specs.declared.points.FinishPoint.TheVariants as finishing
+use Rattle.wait_model.specs.declared.points.LeavePoint.TheVariants as leaving
+use Rattle.wait_model.specs.declared.points.Next.TheVariants as next
+use Rattle.wait_model.specs.declared.points.PagePoint.TheVariants as paging
+use Rattle.wait_model.specs.declared.points.PageStage.TheVariants as staging
+use Rattle.wait_model.specs.declared.points.Point.TheVariants as at
+use Rattle.wait_model.specs.declared.points.PreparePoint.TheVariants as preparing
+use Rattle.wait_model.specs.declared.points.RemovePoint.TheVariants as removing
+use Rattle.wait_model.specs.declared.points.SelectPoint.TheVariants as selecting
+use Rattle.wait_model.specs.declared.points.WalkPoint.TheVariants as walking
+use Rattle.wait_model.specs.declared.points.WokenPoint.TheVariants as hearing
+use Rattle.wait_model.specs.declared.watches.Kind.TheVariants as kind
 
 module _ (Raises Takes Stores : Type 0) where
   abbrev pub IsSilent : Event → Type 0

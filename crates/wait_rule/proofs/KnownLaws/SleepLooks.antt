@@ -2,12 +2,10 @@
 use Rattle.std.proofs.Common.{◌∙◌, ap, append_assoc}
 use Rattle.std.specs.Prelude.{ℕ, ◌≡◌, Bool, false, List, [], ◌∷◌, ◌++◌}
 use Rattle.wait_model.specs.Tasks.{task_of}
-use Rattle.wait_rule.specs.declared.journal.Item.{Item}
-use Rattle.wait_rule.specs.declared.journal.Item.TheVariants as item
+use Rattle.wait_rule.specs.{declared.journal.Item.Item, Known.Known, LookCounts.looks_from}
 use Rattle.wait_rule.specs.Items.{AddsNone, Book, after_awake, learn, steps_of}
-use Rattle.wait_rule.specs.Known.{Known}
-use Rattle.wait_rule.specs.LookCounts.{looks_from}
 use Rattle.wait_rule.specs.Says.{HasLooked, IsDown, added, grown}
+use Rattle.wait_rule.specs.declared.journal.Item.TheVariants as item
 use Rattle.wait_rule.proofs.TableSteps.ItemLists.{adds_append, steps_append}
 use Rattle.wait_rule.proofs.KnownLaws.LookCounts.{looks_append}
 

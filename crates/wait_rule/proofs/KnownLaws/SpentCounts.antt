@@ -3,13 +3,10 @@ use Rattle.std.proofs.lemmas.Bool.Decides.{eqb_tells, nat_tests}
 use Rattle.std.proofs.Common.{refl, sym, ◌∙◌, ap, subst, arith, inl, inr}
 use Rattle.std.specs.Prelude.{ℕ, ◌≡◌, ◌≢◌, ◌+◌, ◌-◌, ◌^◌, ◌<◌, ◌⊎◌, ◌==◌, ◌&&◌, Bool, true, false, if◌then◌else◌, List}
 use Rattle.std.specs.Prelude.{[], ◌∷◌}
-use Rattle.wait_model.specs.declared.layout.TheConstants.{TASKS}
-use Rattle.wait_model.specs.declared.steps.Step.{Step}
-use Rattle.wait_model.specs.declared.steps.Step.TheVariants as step
-use Rattle.wait_model.specs.Functions.{put}
-use Rattle.wait_model.specs.Words.{flag}
-use Rattle.wait_model.specs.Tables.{Table, next, raised_spent}
+use Rattle.wait_model.specs.{declared.layout.TheConstants.TASKS, declared.steps.Step.Step, Functions.put, Words.flag}
 use Rattle.wait_model.specs.Totals.{total}
+use Rattle.wait_model.specs.Tables.{Table, next, raised_spent}
+use Rattle.wait_model.specs.declared.steps.Step.TheVariants as step
 use Rattle.wait_model.proofs.Functions.{put_case}
 use Rattle.wait_model.proofs.HistoryLaws.StepTotals.{sum_same, sum_zero, total_grown}
 use Rattle.wait_rule.specs.Interleavings.{AreAllowed, TaskStep, table_of}

@@ -1,20 +1,14 @@
 -- Entries for pages: which entries they are, and that a task that asks for none has none.
 use Rattle.std.proofs.Common.{◌∙◌, ap, sym, inl, inr}
 use Rattle.std.specs.Prelude.{ℕ, ◌≡◌, ◌⊎◌, true, false, Some, None, List}
-use Rattle.wait_model.specs.declared.watches.Watch.{Watch}
-use Rattle.wait_model.specs.declared.watches.Watch.TheVariants as watch
-use Rattle.wait_model.specs.declared.watches.Entry.{Entry}
-use Rattle.wait_model.specs.declared.watches.Kind.{Kind}
-use Rattle.wait_model.specs.declared.watches.Kind.TheVariants as kind
+use Rattle.wait_model.specs.{declared.watches.Watch.Watch, declared.watches.Entry.Entry, declared.watches.Kind.Kind}
+use Rattle.wait_model.specs.{Words.Suited, Tables.Table}
 use Rattle.wait_model.specs.Watches.{is_page, owner, page, word_of}
-use Rattle.wait_model.specs.Words.{Suited}
-use Rattle.wait_model.specs.Tables.{Table}
-use Rattle.wait_rule.specs.declared.journal.Item.{Item}
+use Rattle.wait_model.specs.declared.watches.Watch.TheVariants as watch
+use Rattle.wait_model.specs.declared.watches.Kind.TheVariants as kind
+use Rattle.wait_rule.specs.{declared.journal.Item.Item, MemberWords.all_differences, Members.IsStanding, Rule.IsRuled}
 use Rattle.wait_rule.specs.Asked.{nothing_asked, waits_at, was_given_at, all_asked}
-use Rattle.wait_rule.specs.MemberWords.{all_differences}
-use Rattle.wait_rule.specs.Members.{IsStanding}
 use Rattle.wait_rule.specs.Pages.{uses_flag, IsAskedAt, IsPageState}
-use Rattle.wait_rule.specs.Rule.{IsRuled}
 use Rattle.wait_rule.proofs.KnownLaws.PageStates.{none_some}
 use Rattle.wait_rule.proofs.KnownLaws.PageSteps.{not_both, unflagged}
 use Rattle.wait_rule.proofs.KnownLaws.MemberSteps.{AsksNone, MayAsk}

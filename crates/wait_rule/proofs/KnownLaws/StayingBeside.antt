@@ -1,17 +1,10 @@
 -- What stays of a task over one item more from which its book learns nothing.
 use Rattle.std.proofs.Common.{◌∙◌, ap}
 use Rattle.std.specs.Prelude.{ℕ, ◌≡◌, Bool, false, Option}
-use Rattle.wait_model.specs.declared.watches.Entry.{Entry}
-use Rattle.wait_model.specs.declared.watches.Watch.{Watch}
-use Rattle.wait_model.specs.Views.{View as Told}
-use Rattle.wait_rule.specs.declared.journal.Item.{Item}
-use Rattle.wait_rule.specs.Bits.{StaysBeside}
-use Rattle.wait_rule.specs.Items.{Book, learn}
-use Rattle.wait_rule.specs.Known.{Known}
-use Rattle.wait_rule.specs.Notes.{tell}
-use Rattle.wait_rule.specs.Queues.{index}
+use Rattle.wait_model.specs.{declared.watches.Entry.Entry, declared.watches.Watch.Watch, Views.View as Told}
+use Rattle.wait_rule.specs.{declared.journal.Item.Item, Bits.StaysBeside, Items.Book, Items.learn, Known.Known}
+use Rattle.wait_rule.specs.{Notes.tell, Queues.index, Stays.Carries, Stays.unchanged}
 use Rattle.wait_rule.specs.Says.{Excuse, OwesBut, added, told_of}
-use Rattle.wait_rule.specs.Stays.{Carries, unchanged}
 use Rattle.wait_rule.proofs.KnownLaws.AfterSteps.{told_added}
 
 module _ (changes : Watch → Bool) (old new : Known) (i : Item) (is : new ≡ added old i)

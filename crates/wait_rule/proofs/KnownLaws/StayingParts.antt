@@ -1,17 +1,13 @@
 -- What stays of a task after looks and steps.
 use Rattle.std.proofs.Common.{◌∙◌, ap, sym, refl, subst, inl, inr, eqb-true}
 use Rattle.std.specs.Prelude.{ℕ, ◌≡◌, ◌⊎◌, ◌&&◌, ◌||◌, ◌==◌, not, Bool, true, false, if◌then◌else◌, Option, Some, None}
-use Rattle.wait_model.specs.declared.watches.Watch.{Watch}
-use Rattle.wait_model.specs.declared.watches.Entry.{Entry}
-use Rattle.wait_model.specs.Functions.{put}
-use Rattle.wait_model.specs.Words.{entry_of}
+use Rattle.wait_model.specs.{declared.watches.Watch.Watch, declared.watches.Entry.Entry, Functions.put, Words.entry_of}
+use Rattle.wait_model.specs.{Fold.is_off, Fold.after_look}
 use Rattle.wait_model.specs.Views.{View as Told, Bits, is_trying_for}
-use Rattle.wait_model.specs.Fold.{is_off, after_look}
 use Rattle.wait_model.proofs.Functions.{put_at, put_same}
-use Rattle.wait_rule.specs.Known.{Known}
-use Rattle.wait_rule.specs.LeftEntries.{HasLeftNone, ShowsNoOwn}
+use Rattle.wait_rule.specs.{Known.Known, LeftEntries.HasLeftNone, LeftEntries.ShowsNoOwn, Queues.KnewEntry}
+use Rattle.wait_rule.specs.Queues.{index}
 use Rattle.wait_rule.specs.Says.{Debts, Excuse, IsOutBut, OwesBut, TriesNone, told_of}
-use Rattle.wait_rule.specs.Queues.{KnewEntry, index}
 use Rattle.wait_rule.specs.Stays.{Stays, StaysOwing, no_entries, with_entry, with_left_entry}
 use Rattle.wait_rule.proofs.KnownLaws.Debts.{entries_debts, left_debts, off_debts}
 

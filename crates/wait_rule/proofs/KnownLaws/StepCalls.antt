@@ -3,27 +3,19 @@
 use Rattle.std.proofs.Common.{refl, sym, ◌∙◌, ap, subst, eqb-true, arith}
 use Rattle.std.specs.Prelude.{ℕ, ◌≡◌, ◌+◌, ◌-◌, ◌*◌, ◌<◌, Bool, true, false, cond, eqb, [], ◌∷◌, MatchBool}
 use Rattle.atomic_table.specs.Seated.{TableId}
+use Rattle.wait_model.specs.{declared.watches.Watch.Watch, declared.steps.Step.Step, Fold.after, Locations.cond_at}
+use Rattle.wait_model.specs.Locations.{position_of}
 use Rattle.wait_model.specs.declared.layout.TheConstants.{CLAIMS, FIRST_VARIABLE, PIPES, PIPE_ENDS, SLOTS, WORDS}
-use Rattle.wait_model.specs.declared.watches.Watch.{Watch}
-use Rattle.wait_model.specs.declared.steps.Step.{Step}
-use Rattle.wait_model.specs.Fold.{after}
 use Rattle.wait_model.specs.Locations as place
-use Rattle.wait_model.specs.Locations.{cond_at, position_of}
 use Rattle.wait_model.proofs.WordLaws.CondWords.{var_at}
-use Rattle.wait_rule.specs.declared.journal.Item.{Item}
-use Rattle.wait_rule.specs.declared.journal.Item.TheVariants as item
-use Rattle.wait_rule.specs.declared.journal.Journal.{Journal}
-use Rattle.wait_rule.specs.Items.{first_book, learn_step}
-use Rattle.wait_rule.specs.Journals.{pushed}
-use Rattle.wait_rule.specs.Known.{Known, known}
-use Rattle.wait_rule.specs.PipePlays.{var_end}
+use Rattle.wait_rule.specs.{declared.journal.Item.Item, declared.journal.Journal.Journal, Items.first_book}
+use Rattle.wait_rule.specs.{Items.learn_step, Journals.pushed, Known.Known, Known.known, PipePlays.var_end}
+use Rattle.wait_rule.specs.{Queues.index, Stays.Carries, Stays.StaysOwing}
 use Rattle.wait_rule.specs.Plays.{Sat, seat_with, seat_tried}
-use Rattle.wait_rule.specs.Queues.{index}
 use Rattle.wait_rule.specs.Says.{StaysSettled, added, told_of}
-use Rattle.wait_rule.specs.Stays.{Carries, StaysOwing}
-use Rattle.wait_rule.proofs.TableSteps.ItemLists.{book_append}
-use Rattle.wait_rule.proofs.TableSteps.MemberMoves.{index_at}
-use Rattle.wait_rule.proofs.KnownLaws.CarriedTasks.{moving, step_carried}
+use Rattle.wait_rule.specs.declared.journal.Item.TheVariants as item
+use Rattle.wait_rule.proofs.{TableSteps.ItemLists.book_append, TableSteps.MemberMoves.index_at}
+use Rattle.wait_rule.proofs.{KnownLaws.CarriedTasks.moving, KnownLaws.CarriedTasks.step_carried}
 use Rattle.wait_rule.proofs.KnownLaws.Debts.{begins_none}
 use Rattle.wait_rule.proofs.KnownLaws.SettledTasks.{owes_after, settled_after, stays_settled}
 

@@ -1,18 +1,13 @@
 -- The laws of the model, by the rule and by the lists of all tasks.
 use Rattle.std.proofs.Common.{sym, ap, subst, arith}
 use Rattle.std.specs.Prelude.{ℕ, ◌≡◌, ◌<◌}
-use Rattle.wait_model.specs.declared.layout.TheConstants.{TASKS}
-use Rattle.wait_model.specs.declared.steps.Step.{Step}
-use Rattle.wait_model.specs.Totals.{total, total_below}
+use Rattle.wait_model.specs.{declared.layout.TheConstants.TASKS, declared.steps.Step.Step, Totals.total}
+use Rattle.wait_model.specs.{Totals.total_below, Histories.Lacks}
 use Rattle.wait_model.specs.SignalCounts.{AreRaised, takes_fatal, takes_any, raises_fatal, raises_any}
 use Rattle.wait_model.specs.DoneCounts.{of_store, raises_by_one, lowers_by_one, grants, throws, ends_count}
-use Rattle.wait_model.specs.Histories.{Lacks}
-use Rattle.wait_model.proofs.AccountLaws.DoneCounts.{takes_are_completed}
-use Rattle.wait_model.proofs.HistoryLaws.NoLostWake.{no_wake_is_lost}
+use Rattle.wait_model.proofs.{AccountLaws.DoneCounts.takes_are_completed, HistoryLaws.NoLostWake.no_wake_is_lost}
 use Rattle.wait_model.proofs.HistoryLaws.StepTotals.{sum_same}
-use Rattle.wait_rule.specs.declared.journal.Journal.{Journal}
-use Rattle.wait_rule.specs.Interleavings.{table_of}
-use Rattle.wait_rule.specs.Says.{IsShown}
+use Rattle.wait_rule.specs.{declared.journal.Journal.Journal, Interleavings.table_of, Says.IsShown}
 use Rattle.wait_rule.specs.TableLaws.{AllBalance, AllLoseNoWake, AllTakeMade, AllTookRaised, HasAll, RuleBalances}
 use Rattle.wait_rule.specs.TableLaws.{RuleInventsNoSignal, RuleKeepsBits, RuleLosesNoWake, RuleTakesMade}
 use Rattle.wait_rule.specs.TableLaws.{StepsLoseNoWake, histories_in}

@@ -4,30 +4,20 @@ use Rattle.std.proofs.Common.{refl, sym, ◌∙◌, ap, subst, arith, add-zero}
 use Rattle.std.specs.Prelude.{ℕ, zero, suc, ◌≡◌, ◌≢◌, ◌+◌, ◌<◌, ◌≤◌, Bool, true, false, ◌==◌, Option, Some, None}
 use Rattle.std.specs.Prelude.{List, ◌++◌}
 use Rattle.std.proofs.lemmas.Bool.Decides.{nat_tests}
-use Rattle.wait_model.specs.declared.layout.TheConstants.{TASKS}
-use Rattle.wait_model.specs.declared.steps.Step.{Step}
+use Rattle.wait_model.specs.{declared.layout.TheConstants.TASKS, declared.steps.Step.Step, declared.tasks.Sleep.Sleep}
+use Rattle.wait_model.specs.{Tasks.task_of, Tasks.sleep_of, Functions.put, Words.flag, Totals.sum_below}
+use Rattle.wait_model.specs.{Views.View as Told, Views.Hold, Fold.after, Tables.Table, Tables.next, Rows.Allowed}
 use Rattle.wait_model.specs.declared.steps.Step.TheVariants as step
-use Rattle.wait_model.specs.declared.tasks.Sleep.{Sleep}
 use Rattle.wait_model.specs.declared.tasks.Sleep.TheVariants as sleep
-use Rattle.wait_model.specs.Tasks.{task_of, sleep_of}
-use Rattle.wait_model.specs.Functions.{put}
-use Rattle.wait_model.specs.Words.{flag}
-use Rattle.wait_model.specs.Totals.{sum_below}
-use Rattle.wait_model.specs.Views.{View as Told, Hold}
-use Rattle.wait_model.specs.Fold.{after}
-use Rattle.wait_model.specs.Tables.{Table, next}
-use Rattle.wait_model.specs.Rows.{Allowed}
 use Rattle.wait_model.specs.Locations as place
 use Rattle.wait_model.proofs.Functions.{put_at, put_same, put_other}
 use Rattle.wait_model.proofs.HistoryLaws.StepTotals.{total_grown, sum_grown, sum_zero}
 use Rattle.wait_model.proofs.StepLaws.UnlockSteps.{unlock_hold}
-use Rattle.wait_rule.specs.declared.journal.Item.{Item}
+use Rattle.wait_rule.specs.{declared.journal.Item.Item, Rule.AreLinked, Notes.Notes}
 use Rattle.wait_rule.specs.Tickets.{Ticket, no_ticket, drawn, served, taken, given, is_ticket_of, is_served, is_given}
 use Rattle.wait_rule.specs.Tickets.{ShowsNumber, out_below}
 use Rattle.wait_rule.specs.TicketWords.{all_tickets, unlocks_at, unlocked_at, unserved, AreTickets}
 use Rattle.wait_rule.specs.Items.{Book, learn_step, after_sleep, book_from, book_of}
-use Rattle.wait_rule.specs.Rule.{AreLinked}
-use Rattle.wait_rule.specs.Notes.{Notes}
 use Rattle.wait_rule.proofs.KnownLaws.HeadLinks.{both_at}
 use Rattle.wait_rule.proofs.KnownLaws.MemberSteps.{IsOrderly, books_next, put_again}
 

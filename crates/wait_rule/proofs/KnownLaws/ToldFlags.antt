@@ -3,21 +3,14 @@ use Rattle.std.proofs.Common.{◌∙◌, ap, sym, refl, inl, inr}
 use Rattle.std.proofs.lemmas.Bool.Decides.{eqb_tells}
 use Rattle.std.specs.Prelude.{ℕ, ◌≡◌, ◌≢◌, ◌⊎◌, ◌&&◌, ◌||◌, ◌==◌, Bool, true, false, if◌then◌else◌}
 use Rattle.std.specs.Prelude.{Option, None, List, [], ◌∷◌, ◌++◌}
-use Rattle.wait_model.specs.declared.steps.Step.{Step}
-use Rattle.wait_model.specs.declared.steps.Step.TheVariants as step
-use Rattle.wait_model.specs.Facts.{PageFacts}
+use Rattle.wait_model.specs.{declared.steps.Step.Step, Facts.PageFacts, Functions.put, Rows.Allowed, Tables.Table}
+use Rattle.wait_model.specs.{Tables.next, Views.View, Views.blank, Watches.owner, Words.flag_of}
 use Rattle.wait_model.specs.Fold.{after, after_all, view_of}
-use Rattle.wait_model.specs.Functions.{put}
-use Rattle.wait_model.specs.Rows.{Allowed}
-use Rattle.wait_model.specs.Tables.{Table, next}
-use Rattle.wait_model.specs.Views.{View, blank}
-use Rattle.wait_model.specs.Watches.{owner}
-use Rattle.wait_model.specs.Words.{flag_of}
+use Rattle.wait_model.specs.declared.steps.Step.TheVariants as step
 use Rattle.wait_model.proofs.Functions.{put_at, put_case, put_same}
 use Rattle.wait_rule.specs.Items.{Book}
 use Rattle.wait_rule.specs.Quiet.{AreQuiet, AreTold, is_quiet_at, is_told, quiet_after, quiet_from, told_after, told_from}
-use Rattle.wait_rule.proofs.KnownLaws.MemberSteps.{IsOrderly}
-use Rattle.wait_rule.proofs.KnownLaws.PageStates.{none_some}
+use Rattle.wait_rule.proofs.{KnownLaws.MemberSteps.IsOrderly, KnownLaws.PageStates.none_some}
 
 -- one history after another
 pub told_append : (x : ℕ) (v : View) (q b : Bool) (es fs : List Step)

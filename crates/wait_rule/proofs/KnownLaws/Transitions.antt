@@ -1,18 +1,13 @@
 -- Transitions one after another, and the looks between them.
 use Rattle.std.proofs.Common.{◌∙◌, ap, sym, refl, subst, append-nil, append_assoc}
 use Rattle.std.specs.Prelude.{◌≡◌, List, [], ◌∷◌, ◌++◌}
-use Rattle.wait_model.specs.declared.points.Point.{Point}
-use Rattle.wait_model.specs.declared.points.Next.{Next}
+use Rattle.wait_model.specs.{declared.points.Point.Point, declared.points.Next.Next}
 use Rattle.wait_model.specs.declared.points.Next.TheVariants as next
-use Rattle.wait_rule.specs.declared.journal.Item.{Item}
-use Rattle.wait_rule.specs.declared.journal.Item.TheVariants as item
+use Rattle.wait_rule.specs.{declared.journal.Item.Item, Known.Known, Says.grown, Queues.IsTold}
 use Rattle.wait_rule.specs.Items.{AddsNone, Book, steps_of, book_from, book_of, first_book}
-use Rattle.wait_rule.specs.Known.{Known}
-use Rattle.wait_rule.specs.Says.{grown}
-use Rattle.wait_rule.specs.Queues.{IsTold}
 use Rattle.wait_rule.specs.Transitions.{AreLooks, OnlyLooks, Program, Transition, IsTransition, Goes, after_transition}
-use Rattle.wait_rule.proofs.TableSteps.ItemLists.{book_append}
-use Rattle.wait_rule.proofs.KnownLaws.SleepLooks.{listed}
+use Rattle.wait_rule.specs.declared.journal.Item.TheVariants as item
+use Rattle.wait_rule.proofs.{TableSteps.ItemLists.book_append, KnownLaws.SleepLooks.listed}
 
 pub grown_none : (k : Known) → k ≡ grown k [] k.book
 grown_none k = ap (λ (l : List Item). listed k l k.book) (sym (append-nil k.view.items))

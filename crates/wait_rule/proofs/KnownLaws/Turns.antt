@@ -2,18 +2,14 @@
 use Rattle.std.proofs.Common.{refl, ◌∙◌, ap}
 use Rattle.std.specs.Prelude.{ℕ, ◌≡◌, ◌≢◌, ◌&&◌, Bool, ◌==◌, if◌then◌else◌, [], ◌∷◌}
 use Rattle.wait_rule.specs.declared.journal.Item.TheVariants as item
+use Rattle.wait_rule.specs.{Known.Known, Notes.note_step, Items.learn, Stays.StaysOwing, Transitions.OnlyLooks}
+use Rattle.wait_rule.specs.Queues.{IsTurn}
 use Rattle.wait_rule.specs.Tickets.{drawn, served, after_serving}
-use Rattle.wait_rule.specs.Known.{Known}
+use Rattle.wait_rule.specs.Says.{IsFree, added, told_of, noted, unlocked_with}
 use Rattle.wait_model.specs.declared.steps.Step.TheVariants as step
 use Rattle.wait_model.specs.Fold.{after}
-use Rattle.wait_rule.specs.Notes.{note_step}
-use Rattle.wait_rule.specs.Says.{IsFree, added, told_of, noted, unlocked_with}
-use Rattle.wait_rule.specs.Items.{learn}
-use Rattle.wait_rule.specs.Stays.{StaysOwing}
-use Rattle.wait_rule.specs.Transitions.{OnlyLooks}
 use Rattle.wait_rule.proofs.KnownLaws.AfterSteps.{told_added, noted_added}
 use Rattle.wait_rule.proofs.KnownLaws.SettledTasks.{owes_after, owes_looks}
-use Rattle.wait_rule.specs.Queues.{IsTurn}
 use Rattle.wait_rule.proofs.KnownLaws.TicketSteps.{to_test, test_off}
 
 pub own_number : (h n w : ℕ) → w ≡ n → after_serving h w (drawn h n) ≡ served h n

@@ -1,27 +1,16 @@
 -- What a task has made of a call that is not over begins the sentence of the call.
 use Rattle.std.proofs.Common.{◌∙◌, ap, subst, append_assoc}
 use Rattle.std.specs.Prelude.{ℕ, ◌≡◌, ◌<◌, true, false, List, [], ◌∷◌, ◌++◌}
-use Rattle.wait_model.specs.declared.layout.TheConstants.{SLOTS}
-use Rattle.wait_model.specs.declared.calls.Call.{Call}
-use Rattle.wait_model.specs.declared.calls.Event.{Event}
-use Rattle.wait_model.specs.declared.calls.Answer.{Answer}
-use Rattle.wait_model.specs.declared.points.Next.{Next}
-use Rattle.wait_model.specs.declared.points.Next.TheVariants as next
-use Rattle.wait_model.specs.declared.points.Point.{Point}
-use Rattle.wait_model.specs.declared.steps.Step.{Step}
-use Rattle.wait_model.specs.Watches.{is_done}
-use Rattle.wait_model.specs.Points.{call_watch}
-use Rattle.wait_model.specs.Programs.{program, program_start}
-use Rattle.wait_model.specs.Tables.{Table}
+use Rattle.wait_model.specs.{declared.layout.TheConstants.SLOTS, declared.calls.Call.Call, declared.calls.Event.Event}
+use Rattle.wait_model.specs.{declared.calls.Answer.Answer, declared.points.Next.Next, declared.points.Point.Point}
+use Rattle.wait_model.specs.{declared.steps.Step.Step, Watches.is_done, Points.call_watch, Programs.program}
+use Rattle.wait_model.specs.{Programs.program_start, Tables.Table}
 use Rattle.wait_model.specs.Findings.{Noted, none_noted, notes, is_waiting}
+use Rattle.wait_model.specs.declared.points.Next.TheVariants as next
 use Rattle.wait_model.proofs.SentenceLaws.SentenceRests.{CanEnd, left_at}
 use Rattle.wait_model.proofs.SentenceLaws.SentenceCalls.{rest_of, start_said}
 use Rattle.wait_model.proofs.SentenceLaws.SentenceEnds.{can_end}
-use Rattle.wait_rule.specs.Items.{steps_of}
-use Rattle.wait_rule.specs.Interleavings.{IsInterleaved}
-use Rattle.wait_rule.specs.Known.{Known}
-use Rattle.wait_rule.specs.Queues.{index}
-use Rattle.wait_rule.specs.Says.{history_of}
+use Rattle.wait_rule.specs.{Items.steps_of, Interleavings.IsInterleaved, Known.Known, Queues.index, Says.history_of}
 use Rattle.wait_rule.specs.SaidEvents.{said, is_walking, RunsBegin}
 use Rattle.wait_rule.specs.Transitions.{Goes, Program, Transition, after_transition, call_program}
 use Rattle.wait_rule.proofs.TableSteps.ItemLists.{steps_append}

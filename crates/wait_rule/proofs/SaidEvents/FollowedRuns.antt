@@ -3,18 +3,16 @@ use Rattle.std.proofs.lemmas.Bool.{both_ways}
 use Rattle.std.proofs.Common.{refl, sym, ◌∙◌, ap, subst, arith, append_assoc}
 use Rattle.std.specs.Prelude.{ℕ, ◌≡◌, ◌<◌, Bool, true, false, if◌then◌else◌, Option, Some, None, is_some, List, [], ◌∷◌}
 use Rattle.std.specs.Prelude.{◌++◌}
-use Rattle.wait_model.specs.declared.calls.Call.{Call}
+use Rattle.wait_model.specs.{declared.calls.Call.Call, declared.calls.Event.Event, declared.calls.Answer.Answer}
+use Rattle.wait_model.specs.{declared.layout.TheConstants.SLOTS, declared.points.Given.Given, declared.points.Next.Next}
+use Rattle.wait_model.specs.{declared.points.Planned.Planned, declared.points.Seen.Seen, declared.points.Point.Point}
+use Rattle.wait_model.specs.{declared.steps.Step.Step, declared.watches.Entry.Entry, Watches.is_done, Watches.owner}
+use Rattle.wait_model.specs.{Points.call_watch, Tables.Table}
+use Rattle.wait_model.specs.Programs.{program, program_start, go, finished}
+use Rattle.wait_model.specs.Findings.{Noted, none_noted, notes, is_waiting, MayComeTo}
 use Rattle.wait_model.specs.declared.calls.Call.TheVariants as calls
-use Rattle.wait_model.specs.declared.calls.Event.{Event}
 use Rattle.wait_model.specs.declared.calls.Event.TheVariants as event
-use Rattle.wait_model.specs.declared.calls.Answer.{Answer}
-use Rattle.wait_model.specs.declared.layout.TheConstants.{SLOTS}
-use Rattle.wait_model.specs.declared.points.Given.{Given}
-use Rattle.wait_model.specs.declared.points.Next.{Next}
 use Rattle.wait_model.specs.declared.points.Next.TheVariants as next
-use Rattle.wait_model.specs.declared.points.Planned.{Planned}
-use Rattle.wait_model.specs.declared.points.Seen.{Seen}
-use Rattle.wait_model.specs.declared.points.Point.{Point}
 use Rattle.wait_model.specs.declared.points.Point.TheVariants as at
 use Rattle.wait_model.specs.declared.points.PreparePoint.TheVariants as preparing
 use Rattle.wait_model.specs.declared.points.LeavePoint.TheVariants as leaving
@@ -27,21 +25,11 @@ use Rattle.wait_model.specs.declared.points.AddPoint.TheVariants as adding
 use Rattle.wait_model.specs.declared.points.WokenPoint.TheVariants as hearing
 use Rattle.wait_model.specs.declared.points.SelectPoint.TheVariants as selecting
 use Rattle.wait_model.specs.declared.points.CountPoint.TheVariants as counting
-use Rattle.wait_model.specs.declared.steps.Step.{Step}
 use Rattle.wait_model.specs.declared.steps.Step.TheVariants as step
-use Rattle.wait_model.specs.declared.watches.Entry.{Entry}
-use Rattle.wait_model.specs.Watches.{is_done, owner}
-use Rattle.wait_model.specs.Points.{call_watch}
-use Rattle.wait_model.specs.Programs.{program, program_start, go, finished}
-use Rattle.wait_model.specs.Tables.{Table}
-use Rattle.wait_model.specs.Findings.{Noted, none_noted, notes, is_waiting, MayComeTo}
 use Rattle.wait_model.proofs.SentenceLaws.SentenceRests.{Knows, Says, left_at}
 use Rattle.wait_model.proofs.SentenceLaws.SentenceCalls.{rest_of, start_said, says}
-use Rattle.wait_rule.specs.Items.{steps_of}
-use Rattle.wait_rule.specs.Interleavings.{IsInterleaved}
-use Rattle.wait_rule.specs.Known.{Known}
-use Rattle.wait_rule.specs.Queues.{index}
-use Rattle.wait_rule.specs.Says.{history_of, told_of}
+use Rattle.wait_rule.specs.{Items.steps_of, Interleavings.IsInterleaved, Known.Known, Queues.index, Says.history_of}
+use Rattle.wait_rule.specs.Says.{told_of}
 use Rattle.wait_rule.specs.SaidEvents.{said, is_walking, RunsFollow}
 use Rattle.wait_rule.specs.Transitions.{Finds, FindsAt, Goes, IsMadeFor, IsSeenAs, Program, StepOrLook, Transition}
 use Rattle.wait_rule.specs.Transitions.{after_transition, by_look, by_step, call_program}

@@ -3,40 +3,26 @@
 use Rattle.std.proofs.lemmas.Bool.{both_ways}
 use Rattle.std.proofs.Common.{refl, sym, ◌∙◌, ap, subst, append_assoc}
 use Rattle.std.specs.Prelude.{ℕ, ◌≡◌, ◌≤◌, ◌<◌, Bool, true, false, is_some, Option, Some, List, [], ◌∷◌, ◌++◌}
-use Rattle.wait_model.specs.declared.layout.TheConstants.{BREAK}
-use Rattle.wait_model.specs.declared.calls.Call.{Call}
-use Rattle.wait_model.specs.declared.calls.Call.TheVariants as calls
-use Rattle.wait_model.specs.declared.calls.Answer.{Answer}
-use Rattle.wait_model.specs.declared.queues.Walking.{Walking}
-use Rattle.wait_model.specs.declared.watches.Aim.{Aim}
-use Rattle.wait_model.specs.declared.points.Planned.{Planned}
-use Rattle.wait_model.specs.declared.points.Next.{Next}
-use Rattle.wait_model.specs.declared.points.Next.TheVariants as next
-use Rattle.wait_model.specs.declared.points.Seen.{Seen}
-use Rattle.wait_model.specs.declared.points.Point.{Point}
-use Rattle.wait_model.specs.declared.points.Point.TheVariants as at
-use Rattle.wait_model.specs.declared.points.WalkPoint.TheVariants as walking
-use Rattle.wait_model.specs.declared.steps.Step.{Step}
-use Rattle.wait_model.specs.Tables.{Table}
-use Rattle.wait_model.specs.Watches.{head_of, is_done}
-use Rattle.wait_model.specs.Points.{call_aim, call_watch}
+use Rattle.wait_model.specs.{declared.layout.TheConstants.BREAK, declared.calls.Call.Call, declared.calls.Answer.Answer}
+use Rattle.wait_model.specs.{declared.queues.Walking.Walking, declared.watches.Aim.Aim, declared.points.Planned.Planned}
+use Rattle.wait_model.specs.{declared.points.Next.Next, declared.points.Seen.Seen, declared.points.Point.Point}
+use Rattle.wait_model.specs.{declared.steps.Step.Step, Tables.Table, Watches.head_of, Watches.is_done, Points.call_aim}
+use Rattle.wait_model.specs.{Points.call_watch, Runs.arrives_from, SentenceWalks.shares_head}
 use Rattle.wait_model.specs.Programs.{active_event, program, program_start}
 use Rattle.wait_model.specs.Findings.{Noted, is_waiting, none_noted, notes, MayComeTo}
-use Rattle.wait_model.specs.Runs.{arrives_from}
-use Rattle.wait_model.specs.SentenceWalks.{shares_head}
+use Rattle.wait_model.specs.declared.calls.Call.TheVariants as calls
+use Rattle.wait_model.specs.declared.points.Next.TheVariants as next
+use Rattle.wait_model.specs.declared.points.Point.TheVariants as at
+use Rattle.wait_model.specs.declared.points.WalkPoint.TheVariants as walking
 use Rattle.wait_model.proofs.SentenceLaws.SentenceRests.{Knows, left_at}
 use Rattle.wait_model.proofs.SentenceLaws.SentenceCalls.{rest_of, says, start_said}
-use Rattle.wait_rule.specs.Interleavings.{IsInterleaved}
-use Rattle.wait_rule.specs.Items.{steps_of}
-use Rattle.wait_rule.specs.Known.{Known}
-use Rattle.wait_rule.specs.Says.{history_of}
-use Rattle.wait_rule.specs.Shown.{shown_entry, shown_queue}
+use Rattle.wait_rule.specs.{Interleavings.IsInterleaved, Items.steps_of, Known.Known, Says.history_of}
+use Rattle.wait_rule.specs.{Shown.shown_entry, Shown.shown_queue}
 use Rattle.wait_rule.specs.SaidEvents.{said, is_walking, MayWalk, WakesFollow}
 use Rattle.wait_rule.specs.Transitions.{Finds, FindsNext, Goes, Program, StepOrLook, Transition, after_transition}
 use Rattle.wait_rule.specs.Transitions.{by_look, by_step, call_program}
-use Rattle.wait_rule.proofs.KnownLaws.Moments.{Moment, moment_of}
-use Rattle.wait_rule.proofs.TableSteps.ItemLists.{steps_append}
-use Rattle.wait_rule.proofs.SaidEvents.Fronts.{step_follows, steps_made}
+use Rattle.wait_rule.proofs.{KnownLaws.Moments.Moment, KnownLaws.Moments.moment_of, TableSteps.ItemLists.steps_append}
+use Rattle.wait_rule.proofs.{SaidEvents.Fronts.step_follows, SaidEvents.Fronts.steps_made}
 use Rattle.wait_rule.proofs.SaidEvents.FollowedWalks.{head_by, head_in, head_on, made_head, walk_holds, HeldAt, HeldOn}
 use Rattle.wait_rule.proofs.SaidEvents.WalkFindings.{Arrives, arrives, no_strangers, some_called}
 

@@ -3,58 +3,40 @@ use Rattle.std.proofs.lemmas.Bool.{both_ways}
 use Rattle.std.proofs.Common.{refl, sym, ◌∙◌, ap, subst, append_assoc}
 use Rattle.std.specs.Prelude.{ℕ, ◌≡◌, ◌<◌, ◌≤◌, Bool, true, false, if◌then◌else◌, is_some, Option, Some, None, List, []}
 use Rattle.std.specs.Prelude.{◌∷◌, ◌++◌}
-use Rattle.wait_model.specs.declared.layout.TheConstants.{BREAK, PLAIN_CONDITIONS}
-use Rattle.wait_model.specs.declared.calls.Call.{Call}
-use Rattle.wait_model.specs.declared.calls.Call.TheVariants as calls
-use Rattle.wait_model.specs.declared.calls.Event.{Event}
-use Rattle.wait_model.specs.declared.calls.Event.TheVariants as event
-use Rattle.wait_model.specs.declared.calls.Answer.{Answer}
-use Rattle.wait_model.specs.declared.queues.CalledEntry.{CalledEntry}
-use Rattle.wait_model.specs.declared.queues.Walking.{Walking}
-use Rattle.wait_model.specs.declared.watches.Aim.{Aim}
-use Rattle.wait_model.specs.declared.watches.Kind.{Kind}
-use Rattle.wait_model.specs.declared.watches.Kind.TheVariants as kind
-use Rattle.wait_model.specs.declared.watches.Mode.{Mode}
-use Rattle.wait_model.specs.declared.watches.Watch.TheVariants as watch
-use Rattle.wait_model.specs.declared.points.Given.{Given}
-use Rattle.wait_model.specs.declared.points.Planned.{Planned}
-use Rattle.wait_model.specs.declared.points.Next.{Next}
-use Rattle.wait_model.specs.declared.points.Next.TheVariants as next
-use Rattle.wait_model.specs.declared.points.Seen.{Seen}
-use Rattle.wait_model.specs.declared.points.Point.TheVariants as at
-use Rattle.wait_model.specs.declared.points.WalkPoint.{WalkPoint}
-use Rattle.wait_model.specs.declared.points.WalkPoint.TheVariants as walking
-use Rattle.wait_model.specs.declared.points.PageStage.{PageStage}
-use Rattle.wait_model.specs.declared.points.PageStage.TheVariants as staging
-use Rattle.wait_model.specs.declared.steps.Step.{Step}
-use Rattle.wait_model.specs.declared.steps.Step.TheVariants as step
-use Rattle.wait_model.specs.Tables.{Table}
-use Rattle.wait_model.specs.Tasks.{meets}
-use Rattle.wait_model.specs.Words.{bit_at, flag}
+use Rattle.wait_model.specs.{declared.layout.TheConstants.BREAK, declared.layout.TheConstants.PLAIN_CONDITIONS}
+use Rattle.wait_model.specs.{declared.calls.Call.Call, declared.calls.Event.Event, declared.calls.Answer.Answer}
+use Rattle.wait_model.specs.{declared.queues.CalledEntry.CalledEntry, declared.queues.Walking.Walking}
+use Rattle.wait_model.specs.{declared.watches.Aim.Aim, declared.watches.Kind.Kind, declared.watches.Mode.Mode}
+use Rattle.wait_model.specs.{declared.points.Given.Given, declared.points.Planned.Planned, declared.points.Next.Next}
+use Rattle.wait_model.specs.{declared.points.Seen.Seen, declared.points.WalkPoint.WalkPoint}
+use Rattle.wait_model.specs.{declared.points.PageStage.PageStage, declared.steps.Step.Step, Tables.Table, Tasks.meets}
+use Rattle.wait_model.specs.{Words.bit_at, Words.flag, Runs.arrives_from}
 use Rattle.wait_model.specs.Watches.{head_of, mask_of, misses, number_of, word_of, bit_of}
 use Rattle.wait_model.specs.Views.{View as Told, Hold, blank}
 use Rattle.wait_model.specs.Fold.{after, after_all, view_of}
 use Rattle.wait_model.specs.Programs.{call_entry, call_next, go, hands_event, past, onward, reached, walk_event}
 use Rattle.wait_model.specs.Findings.{Noted, none_noted, notes, MayComeTo}
-use Rattle.wait_model.specs.Runs.{arrives_from}
-use Rattle.wait_model.proofs.WaitLaws.OutsideStages.{either}
-use Rattle.wait_model.proofs.HistoryLaws.Stretches.{after_append}
-use Rattle.wait_model.proofs.StepLaws.UnlockSteps.{unlock_hold}
-use Rattle.wait_model.proofs.SentenceLaws.SentenceRests.{Knows, left_at}
+use Rattle.wait_model.specs.declared.calls.Call.TheVariants as calls
+use Rattle.wait_model.specs.declared.calls.Event.TheVariants as event
+use Rattle.wait_model.specs.declared.watches.Kind.TheVariants as kind
+use Rattle.wait_model.specs.declared.watches.Watch.TheVariants as watch
+use Rattle.wait_model.specs.declared.points.Next.TheVariants as next
+use Rattle.wait_model.specs.declared.points.Point.TheVariants as at
+use Rattle.wait_model.specs.declared.points.WalkPoint.TheVariants as walking
+use Rattle.wait_model.specs.declared.points.PageStage.TheVariants as staging
+use Rattle.wait_model.specs.declared.steps.Step.TheVariants as step
+use Rattle.wait_model.proofs.{WaitLaws.OutsideStages.either, HistoryLaws.Stretches.after_append}
+use Rattle.wait_model.proofs.{StepLaws.UnlockSteps.unlock_hold, SentenceLaws.SentenceRests.Knows}
+use Rattle.wait_model.proofs.SentenceLaws.SentenceRests.{left_at}
 use Rattle.wait_model.proofs.SentenceLaws.SentenceCalls.{rest_of, says, start_said}
-use Rattle.wait_rule.specs.declared.journal.Item.{Item}
-use Rattle.wait_rule.specs.declared.journal.Item.TheVariants as item
-use Rattle.wait_rule.specs.Interleavings.{IsInterleaved}
-use Rattle.wait_rule.specs.Items.{steps_of}
-use Rattle.wait_rule.specs.Known.{Known}
-use Rattle.wait_rule.specs.Says.{history_of, told_of}
-use Rattle.wait_rule.specs.Shown.{shown_entry, shown_queue}
+use Rattle.wait_rule.specs.{declared.journal.Item.Item, Interleavings.IsInterleaved, Items.steps_of, Known.Known}
+use Rattle.wait_rule.specs.{Says.history_of, Says.told_of, Shown.shown_entry, Shown.shown_queue}
 use Rattle.wait_rule.specs.SaidEvents.{plain_aim, said, WalksFollow}
 use Rattle.wait_rule.specs.Transitions.{AreLooks, AreScansOf, Finds, FindsNext, Goes, IsMadeFor, IsStepFor, OnlyLooks}
 use Rattle.wait_rule.specs.Transitions.{Program, StepOrLook, Transition, after_step_or_look, after_transition, by_look}
 use Rattle.wait_rule.specs.Transitions.{by_step, walk_program}
-use Rattle.wait_rule.proofs.KnownLaws.Moments.{Moment, moment_of}
-use Rattle.wait_rule.proofs.TableSteps.ItemLists.{steps_append}
+use Rattle.wait_rule.specs.declared.journal.Item.TheVariants as item
+use Rattle.wait_rule.proofs.{KnownLaws.Moments.Moment, KnownLaws.Moments.moment_of, TableSteps.ItemLists.steps_append}
 use Rattle.wait_rule.proofs.SaidEvents.Fronts.{looks_history, step_follows, step_history, steps_made}
 use Rattle.wait_rule.proofs.SaidEvents.WalkFindings.{Arrives, arrives, no_strangers, some_called}
 

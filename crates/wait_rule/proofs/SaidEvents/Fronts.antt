@@ -2,31 +2,21 @@
 use Rattle.std.proofs.lemmas.Bool.{both_ways}
 use Rattle.std.proofs.Common.{refl, sym, ◌∙◌, ap, subst, append_assoc}
 use Rattle.std.specs.Prelude.{ℕ, ◌≡◌, Bool, true, false, Option, None, if◌then◌else◌, List, [], ◌∷◌, ◌++◌}
-use Rattle.wait_model.specs.declared.calls.Event.{Event}
-use Rattle.wait_model.specs.declared.calls.Event.TheVariants as event
-use Rattle.wait_model.specs.declared.points.Given.{Given}
-use Rattle.wait_model.specs.declared.points.Next.{Next}
-use Rattle.wait_model.specs.declared.points.Next.TheVariants as next
-use Rattle.wait_model.specs.declared.steps.Step.{Step}
-use Rattle.wait_model.specs.declared.steps.Step.TheVariants as step
-use Rattle.wait_model.specs.declared.watches.Entry.{Entry}
-use Rattle.wait_model.specs.Functions.{put}
-use Rattle.wait_model.specs.Words.{entry_of}
+use Rattle.wait_model.specs.{declared.calls.Event.Event, declared.points.Given.Given, declared.points.Next.Next}
+use Rattle.wait_model.specs.{declared.steps.Step.Step, declared.watches.Entry.Entry, Functions.put, Words.entry_of}
+use Rattle.wait_model.specs.{Findings.Noted, Findings.notes}
 use Rattle.wait_model.specs.Views.{View as Told, Bits, Walk, blank}
 use Rattle.wait_model.specs.Fold.{after, after_all, after_unlock, is_off, view_of}
-use Rattle.wait_model.specs.Findings.{Noted, notes}
-use Rattle.wait_model.proofs.Functions.{put_at}
-use Rattle.wait_model.proofs.StepLaws.UnlockSteps.{unlock_bits}
-use Rattle.wait_model.proofs.HistoryLaws.Stretches.{after_append}
-use Rattle.wait_rule.specs.declared.journal.Item.{Item}
-use Rattle.wait_rule.specs.declared.journal.Item.TheVariants as item
-use Rattle.wait_rule.specs.Items.{steps_of}
-use Rattle.wait_rule.specs.declared.journal.Journal.{Journal}
-use Rattle.wait_rule.specs.Known.{Known}
+use Rattle.wait_model.specs.declared.calls.Event.TheVariants as event
+use Rattle.wait_model.specs.declared.points.Next.TheVariants as next
+use Rattle.wait_model.specs.declared.steps.Step.TheVariants as step
+use Rattle.wait_model.proofs.{Functions.put_at, StepLaws.UnlockSteps.unlock_bits, HistoryLaws.Stretches.after_append}
+use Rattle.wait_rule.specs.{declared.journal.Item.Item, Items.steps_of, declared.journal.Journal.Journal, Known.Known}
 use Rattle.wait_rule.specs.Says.{told_of, history_of, added}
 use Rattle.wait_rule.specs.Transitions.{AreLooks, AreScansOf, Goes, IsMadeFor, IsStepFor, OnlyLooks, Program}
 use Rattle.wait_rule.specs.Transitions.{StepOrLook, Transition, after_step_or_look, after_transition, by_look, by_step}
 use Rattle.wait_rule.specs.Transitions.{with_lock}
+use Rattle.wait_rule.specs.declared.journal.Item.TheVariants as item
 use Rattle.wait_rule.proofs.TableSteps.ItemLists.{steps_append}
 
 -- the steps that a transition makes

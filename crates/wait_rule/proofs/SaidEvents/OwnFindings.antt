@@ -2,14 +2,10 @@
 use Rattle.std.proofs.lemmas.Option.{none-some}
 use Rattle.std.proofs.Common.{refl, sym, ◌∙◌, ap, subst}
 use Rattle.std.specs.Prelude.{ℕ, ◌≡◌, Option, Some, None, List}
-use Rattle.wait_model.specs.declared.steps.Step.{Step}
-use Rattle.wait_model.specs.declared.steps.Step.TheVariants as step
-use Rattle.wait_model.specs.declared.watches.Entry.{Entry}
-use Rattle.wait_model.specs.Watches.{owner}
-use Rattle.wait_model.specs.Words.{entry_of}
+use Rattle.wait_model.specs.{declared.steps.Step.Step, declared.watches.Entry.Entry, Watches.owner, Words.entry_of}
+use Rattle.wait_model.specs.{Fold.view_of, Facts.Agrees}
 use Rattle.wait_model.specs.Views.{View as Told, Look, unseen, off, elsewhere, shown}
-use Rattle.wait_model.specs.Fold.{view_of}
-use Rattle.wait_model.specs.Facts.{Agrees}
+use Rattle.wait_model.specs.declared.steps.Step.TheVariants as step
 use Rattle.wait_rule.specs.Transitions.{IsSeenAs}
 use Rattle.wait_rule.proofs.KnownLaws.Moments.{Moment, NextStep}
 

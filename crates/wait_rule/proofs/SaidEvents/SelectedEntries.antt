@@ -3,24 +3,17 @@ use Rattle.std.proofs.Common.{refl, ap, arith}
 use Rattle.std.specs.Prelude.{ℕ, ◌≡◌, ◌+◌, ◌&&◌, Bool, true, false, if◌then◌else◌, Option, Some, None, List, [], ◌∷◌}
 use Rattle.wait_model.specs.declared.calls.Event.TheVariants as event
 use Rattle.wait_model.specs.declared.calls.Answer.TheVariants as answer
-use Rattle.wait_model.specs.declared.queues.CalledEntry.{CalledEntry}
-use Rattle.wait_model.specs.declared.queues.Mark.{Mark}
-use Rattle.wait_model.specs.declared.queues.Walked.{Walked}
-use Rattle.wait_model.specs.declared.queues.Walking.{Walking}
-use Rattle.wait_model.specs.declared.watches.Aim.{Aim}
-use Rattle.wait_model.specs.declared.watches.Kind.{Kind}
-use Rattle.wait_model.specs.declared.watches.Kind.TheVariants as kind
-use Rattle.wait_model.specs.declared.points.Next.{Next}
-use Rattle.wait_model.specs.declared.points.Next.TheVariants as next
-use Rattle.wait_model.specs.declared.points.Seen.{Seen}
-use Rattle.wait_model.specs.declared.points.Point.TheVariants as at
-use Rattle.wait_model.specs.declared.points.WalkPoint.{WalkPoint}
-use Rattle.wait_model.specs.declared.points.WalkPoint.TheVariants as walking
-use Rattle.wait_model.specs.declared.points.PageStage.{PageStage}
-use Rattle.wait_model.specs.declared.points.PageStage.TheVariants as staging
-use Rattle.wait_model.specs.Tasks.{meets}
+use Rattle.wait_model.specs.{declared.queues.CalledEntry.CalledEntry, declared.queues.Mark.Mark}
+use Rattle.wait_model.specs.{declared.queues.Walked.Walked, declared.queues.Walking.Walking, declared.watches.Aim.Aim}
+use Rattle.wait_model.specs.{declared.watches.Kind.Kind, declared.points.Next.Next, declared.points.Seen.Seen}
+use Rattle.wait_model.specs.{declared.points.WalkPoint.WalkPoint, declared.points.PageStage.PageStage, Tasks.meets}
 use Rattle.wait_model.specs.Watches.{mask_of, misses, head_of}
 use Rattle.wait_model.specs.Programs.{call_entry, call_next, go, onward, past, reached, resumed, walk_event}
+use Rattle.wait_model.specs.declared.watches.Kind.TheVariants as kind
+use Rattle.wait_model.specs.declared.points.Next.TheVariants as next
+use Rattle.wait_model.specs.declared.points.Point.TheVariants as at
+use Rattle.wait_model.specs.declared.points.WalkPoint.TheVariants as walking
+use Rattle.wait_model.specs.declared.points.PageStage.TheVariants as staging
 use Rattle.wait_rule.specs.Known.{Known}
 use Rattle.wait_rule.specs.Selecting.{RunsTell, is_exclusive_called, selects_at, selects_in, yes_by}
 use Rattle.wait_rule.specs.Transitions.{Goes, Program, Transition, after_transition, walk_program}

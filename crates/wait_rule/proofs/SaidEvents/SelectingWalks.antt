@@ -3,41 +3,27 @@ use Rattle.std.proofs.lemmas.Bool.Decides.{nat_tests}
 use Rattle.std.proofs.Common.{refl, sym, ◌∙◌, subst, arith, inl, inr}
 use Rattle.std.specs.Prelude.{ℕ, zero, suc, ◌≡◌, ◌+◌, ◌-◌, ◌<◌, ◌≤◌, ◌⊎◌, ◌==◌, ◌&&◌, Bool, true, false, if◌then◌else◌}
 use Rattle.std.specs.Prelude.{Option, Some, None, List, [], ◌∷◌}
-use Rattle.wait_model.specs.declared.calls.Call.{Call}
-use Rattle.wait_model.specs.declared.calls.Call.TheVariants as calls
-use Rattle.wait_model.specs.declared.calls.Event.{Event}
-use Rattle.wait_model.specs.declared.calls.Event.TheVariants as event
-use Rattle.wait_model.specs.declared.calls.Answer.TheVariants as answer
-use Rattle.wait_model.specs.declared.queues.CalledEntry.{CalledEntry}
-use Rattle.wait_model.specs.declared.queues.Mark.{Mark}
-use Rattle.wait_model.specs.declared.queues.Walked.{Walked}
-use Rattle.wait_model.specs.declared.queues.Walking.{Walking}
-use Rattle.wait_model.specs.declared.queues.End.{End}
-use Rattle.wait_model.specs.declared.queues.End.TheVariants as end_as
-use Rattle.wait_model.specs.declared.watches.Aim.{Aim}
-use Rattle.wait_model.specs.declared.watches.Kind.{Kind}
-use Rattle.wait_model.specs.declared.watches.Kind.TheVariants as kind
-use Rattle.wait_model.specs.declared.watches.Mode.{Mode}
-use Rattle.wait_model.specs.declared.points.Planned.{Planned}
-use Rattle.wait_model.specs.declared.points.Next.{Next}
-use Rattle.wait_model.specs.declared.points.Next.TheVariants as next
-use Rattle.wait_model.specs.declared.points.Seen.{Seen}
-use Rattle.wait_model.specs.declared.points.Point.TheVariants as at
-use Rattle.wait_model.specs.declared.points.WalkPoint.{WalkPoint}
-use Rattle.wait_model.specs.declared.points.WalkPoint.TheVariants as walking
-use Rattle.wait_model.specs.declared.points.PageStage.{PageStage}
-use Rattle.wait_model.specs.declared.points.PageStage.TheVariants as staging
-use Rattle.wait_model.specs.Tasks.{meets}
+use Rattle.wait_model.specs.{declared.calls.Call.Call, declared.calls.Event.Event}
+use Rattle.wait_model.specs.{declared.queues.CalledEntry.CalledEntry, declared.queues.Mark.Mark}
+use Rattle.wait_model.specs.{declared.queues.Walked.Walked, declared.queues.Walking.Walking, declared.queues.End.End}
+use Rattle.wait_model.specs.{declared.watches.Aim.Aim, declared.watches.Kind.Kind, declared.watches.Mode.Mode}
+use Rattle.wait_model.specs.{declared.points.Planned.Planned, declared.points.Next.Next, declared.points.Seen.Seen}
+use Rattle.wait_model.specs.{declared.points.WalkPoint.WalkPoint, declared.points.PageStage.PageStage, Tasks.meets}
+use Rattle.wait_model.specs.{Words.bit_at, Words.flag, Points.call_aim, Making.Makes, Making.goes_to}
 use Rattle.wait_model.specs.Watches.{bit_of, mask_of, misses, number_of, word_of}
-use Rattle.wait_model.specs.Words.{bit_at, flag}
-use Rattle.wait_model.specs.Points.{call_aim}
 use Rattle.wait_model.specs.Programs.{again, call_entry, call_next, go, onward, past, reached, resumed, walk_event}
 use Rattle.wait_model.specs.Findings.{Noted, none_noted, notes}
-use Rattle.wait_model.specs.Making.{Makes, goes_to}
-use Rattle.wait_model.proofs.WaitLaws.OutsideStages.{either}
-use Rattle.wait_model.proofs.SentenceLaws.MadeCalls.{sentences_are_made}
-use Rattle.wait_rule.specs.Known.{Known}
-use Rattle.wait_rule.specs.SaidEvents.{said}
+use Rattle.wait_model.specs.declared.calls.Call.TheVariants as calls
+use Rattle.wait_model.specs.declared.calls.Event.TheVariants as event
+use Rattle.wait_model.specs.declared.calls.Answer.TheVariants as answer
+use Rattle.wait_model.specs.declared.queues.End.TheVariants as end_as
+use Rattle.wait_model.specs.declared.watches.Kind.TheVariants as kind
+use Rattle.wait_model.specs.declared.points.Next.TheVariants as next
+use Rattle.wait_model.specs.declared.points.Point.TheVariants as at
+use Rattle.wait_model.specs.declared.points.WalkPoint.TheVariants as walking
+use Rattle.wait_model.specs.declared.points.PageStage.TheVariants as staging
+use Rattle.wait_model.proofs.{WaitLaws.OutsideStages.either, SentenceLaws.MadeCalls.sentences_are_made}
+use Rattle.wait_rule.specs.{Known.Known, SaidEvents.said}
 use Rattle.wait_rule.specs.Selecting.{IsTallied, RunsSelect, WordsSelect, tells_page, yes_by, yes_from}
 use Rattle.wait_rule.specs.Transitions.{Goes, Program, Transition, after_transition, walk_program}
 

@@ -1,35 +1,26 @@
 -- A wait that answers for a signal ends with a turn that a signal ended, and a load that found its condition not set.
 use Rattle.std.proofs.Common.{refl, sym, ap, subst, arith, inl, inr}
 use Rattle.std.specs.Prelude.{ℕ, ◌≡◌, Bool, true, false, not, ◌&&◌, if◌then◌else◌, is_some, List, [], ◌∷◌}
-use Rattle.wait_model.specs.declared.calls.Call.{Call}
-use Rattle.wait_model.specs.declared.calls.Call.TheVariants as calls
-use Rattle.wait_model.specs.declared.calls.Event.{Event}
-use Rattle.wait_model.specs.declared.calls.Event.TheVariants as event
-use Rattle.wait_model.specs.declared.calls.Answer.{Answer}
-use Rattle.wait_model.specs.declared.calls.Answer.TheVariants as answer
-use Rattle.wait_model.specs.declared.points.Planned.{Planned}
-use Rattle.wait_model.specs.declared.points.Next.{Next}
-use Rattle.wait_model.specs.declared.points.Next.TheVariants as next
-use Rattle.wait_model.specs.declared.points.Seen.{Seen}
-use Rattle.wait_model.specs.declared.points.Point.{Point}
-use Rattle.wait_model.specs.declared.points.Point.TheVariants as at
-use Rattle.wait_model.specs.declared.points.PreparePoint.TheVariants as preparing
-use Rattle.wait_model.specs.declared.points.LeavePoint.TheVariants as leaving
-use Rattle.wait_model.specs.declared.points.FinishPoint.TheVariants as finishing
+use Rattle.wait_model.specs.{declared.calls.Call.Call, declared.calls.Event.Event, declared.calls.Answer.Answer}
+use Rattle.wait_model.specs.{declared.points.Planned.Planned, declared.points.Next.Next, declared.points.Seen.Seen}
+use Rattle.wait_model.specs.{declared.points.Point.Point, Making.Makes, Making.goes_to, Selections.IsSignalledTurn}
 use Rattle.wait_model.specs.Tasks.{pending, state_mask, looks_in, sleep_of}
 use Rattle.wait_model.specs.Points.{call_head, is_bit_wait, is_lock, state_in}
 use Rattle.wait_model.specs.Programs.{program, program_start, call_fails, ends_with, go, load, look_event, signalled}
 use Rattle.wait_model.specs.Programs.{worn_next, zero_answer}
 use Rattle.wait_model.specs.Findings.{Noted, none_noted, notes}
-use Rattle.wait_model.specs.Making.{Makes, goes_to}
-use Rattle.wait_model.specs.Selections.{IsSignalledTurn}
-use Rattle.wait_model.proofs.WaitLaws.OutsideStages.{either}
-use Rattle.wait_model.proofs.AccountLaws.Refusals.{refusal}
-use Rattle.wait_model.proofs.SentenceLaws.SentenceWaits.{IsLoop}
-use Rattle.wait_model.proofs.SentenceLaws.MadeCalls.{sentences_are_made}
-use Rattle.wait_rule.specs.Known.{Known}
+use Rattle.wait_model.specs.declared.calls.Call.TheVariants as calls
+use Rattle.wait_model.specs.declared.calls.Event.TheVariants as event
+use Rattle.wait_model.specs.declared.calls.Answer.TheVariants as answer
+use Rattle.wait_model.specs.declared.points.Next.TheVariants as next
+use Rattle.wait_model.specs.declared.points.Point.TheVariants as at
+use Rattle.wait_model.specs.declared.points.PreparePoint.TheVariants as preparing
+use Rattle.wait_model.specs.declared.points.LeavePoint.TheVariants as leaving
+use Rattle.wait_model.specs.declared.points.FinishPoint.TheVariants as finishing
+use Rattle.wait_model.proofs.{WaitLaws.OutsideStages.either, AccountLaws.Refusals.refusal}
+use Rattle.wait_model.proofs.{SentenceLaws.SentenceWaits.IsLoop, SentenceLaws.MadeCalls.sentences_are_made}
+use Rattle.wait_rule.specs.{Known.Known, SaidEvents.said}
 use Rattle.wait_rule.specs.Heeding.{EndsSignalled, RunsHeed, WordsHeed, is_turning, trail_of}
-use Rattle.wait_rule.specs.SaidEvents.{said}
 use Rattle.wait_rule.specs.Transitions.{Goes, Program, Transition, after_transition, call_program}
 
 -- the calls that wait in turns

@@ -5,23 +5,16 @@ use Rattle.std.proofs.lemmas.Bool.Decides.{nat_tests}
 use Rattle.std.proofs.Common.{refl, sym, ◌∙◌, ap, subst, arith, inl, inr}
 use Rattle.std.specs.Prelude.{ℕ, zero, suc, ◌≡◌, ◌+◌, ◌<◌, ◌≤◌, ◌&&◌, nat_lt, Bool, true, false, if◌then◌else◌, is_some}
 use Rattle.std.specs.Prelude.{Option, Some, None, List, [], ◌∷◌}
+use Rattle.wait_model.specs.{declared.watches.Watch.Watch, declared.watches.Entry.Entry, declared.queues.Member.Member}
+use Rattle.wait_model.specs.{Facts.Agrees, Runs.arrives_from, Runs.called_by}
 use Rattle.wait_model.specs.declared.layout.TheConstants.{BREAK, MEMBERS, PLAIN_CONDITIONS}
-use Rattle.wait_model.specs.declared.watches.Watch.{Watch}
-use Rattle.wait_model.specs.declared.watches.Watch.TheVariants as watch
-use Rattle.wait_model.specs.declared.watches.Entry.{Entry}
-use Rattle.wait_model.specs.declared.queues.Member.{Member}
 use Rattle.wait_model.specs.Watches.{same, head_of, counted, is_for}
 use Rattle.wait_model.specs.Queues.{IsIn, Arrival, arrive, is_entry, members_from, rank_at}
 use Rattle.wait_model.specs.Views.{View as Told, Look, unseen, off, elsewhere, shown}
-use Rattle.wait_model.specs.Facts.{Agrees}
-use Rattle.wait_model.specs.Runs.{arrives_from, called_by}
-use Rattle.wait_model.proofs.QueueLaws.Arrivals.{from_in}
-use Rattle.wait_model.proofs.QueueLaws.QueueMarks.{marked_in}
+use Rattle.wait_model.specs.declared.watches.Watch.TheVariants as watch
+use Rattle.wait_model.proofs.{QueueLaws.Arrivals.from_in, QueueLaws.QueueMarks.marked_in}
 use Rattle.wait_model.proofs.WordLaws.CondWords.{head_counted}
-use Rattle.wait_rule.specs.Known.{Known}
-use Rattle.wait_rule.specs.Notes.{look_place}
-use Rattle.wait_rule.specs.Queues.{place_by}
-use Rattle.wait_rule.specs.Says.{history_of, told_of}
+use Rattle.wait_rule.specs.{Known.Known, Notes.look_place, Queues.place_by, Says.history_of, Says.told_of}
 use Rattle.wait_rule.specs.Shown.{look_entry, queue_below, queue_with, shown_entry, shown_queue}
 use Rattle.wait_rule.proofs.KnownLaws.Moments.{Moment}
 

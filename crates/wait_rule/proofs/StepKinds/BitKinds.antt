@@ -1,25 +1,18 @@
 -- Each kind of step on a bit word keeps the law.
 use Rattle.std.proofs.Common.{refl, ap, arith}
 use Rattle.std.specs.Prelude.{ℕ, ◌≡◌, ◌≢◌, ◌<◌, ◌≤◌, Bool, true, false, Option, Some, None, List}
-use Rattle.wait_model.specs.declared.layout.TheConstants.{WORD_BITS}
+use Rattle.wait_model.specs.{declared.layout.TheConstants.WORD_BITS, declared.steps.Step.Step, Functions.put}
+use Rattle.wait_model.specs.{Words.bit_word, Views.View as Told, Tables.Table, Locations.Location, Locations.word_in}
 use Rattle.wait_model.specs.declared.watches.Watch.TheVariants as watch
-use Rattle.wait_model.specs.declared.steps.Step.{Step}
 use Rattle.wait_model.specs.declared.steps.Step.TheVariants as step
-use Rattle.wait_model.specs.Functions.{put}
-use Rattle.wait_model.specs.Words.{bit_word}
-use Rattle.wait_model.specs.Views.{View as Told}
-use Rattle.wait_model.specs.Tables.{Table}
 use Rattle.wait_model.specs.Locations as place
-use Rattle.wait_model.specs.Locations.{Location, word_in}
 use Rattle.wait_model.proofs.WordLaws.CondWords.{tas_step, clear_step}
 use Rattle.wait_model.proofs.Functions.{put_at, put_same, put_other}
-use Rattle.wait_rule.specs.declared.journal.Item.{Item}
+use Rattle.wait_rule.specs.{declared.journal.Item.Item, Rule.IsLawfulTable, Rule.IsRuled}
 use Rattle.wait_rule.specs.Items.{Book, nothing, Fits}
-use Rattle.wait_rule.specs.Rule.{IsLawfulTable, IsRuled}
-use Rattle.wait_rule.proofs.KnownLaws.HeadLinks.{off_links}
-use Rattle.wait_rule.proofs.KnownLaws.MemberPlaces.{still_places}
-use Rattle.wait_rule.proofs.TableSteps.KeptSteps.{Leaves, KeepsLaw}
-use Rattle.wait_rule.proofs.StepKinds.EntryKinds.{with_words, words_leave}
+use Rattle.wait_rule.proofs.{KnownLaws.HeadLinks.off_links, KnownLaws.MemberPlaces.still_places}
+use Rattle.wait_rule.proofs.{TableSteps.KeptSteps.Leaves, TableSteps.KeptSteps.KeepsLaw}
+use Rattle.wait_rule.proofs.{StepKinds.EntryKinds.with_words, StepKinds.EntryKinds.words_leave}
 
 -- a word with one bit changed has no bits above its own
 low_still : (bits : ℕ → ℕ → Bool) (w b : ℕ) (v : Bool) → b < WORD_BITS

@@ -1,24 +1,19 @@
 -- Each kind of step on a condition word keeps the law.
 use Rattle.std.proofs.Common.{refl, sym, ap, subst}
 use Rattle.std.specs.Prelude.{ℕ, ◌≡◌, ◌≢◌, Some, None, List}
-use Rattle.wait_model.specs.declared.watches.Watch.{Watch}
-use Rattle.wait_model.specs.declared.watches.Watch.TheVariants as watch
-use Rattle.wait_model.specs.declared.steps.Step.{Step}
-use Rattle.wait_model.specs.declared.steps.Step.TheVariants as step
-use Rattle.wait_model.specs.Functions.{put}
-use Rattle.wait_model.specs.Watches.{IsThere, number_of}
-use Rattle.wait_model.specs.Views.{View as Told}
+use Rattle.wait_model.specs.{declared.watches.Watch.Watch, declared.steps.Step.Step, Functions.put, Watches.IsThere}
+use Rattle.wait_model.specs.{Watches.number_of, Views.View as Told}
 use Rattle.wait_model.specs.Tables.{Table, next, value_of}
-use Rattle.wait_model.specs.Locations as place
 use Rattle.wait_model.specs.Locations.{Location, word_in, cond_at}
+use Rattle.wait_model.specs.declared.watches.Watch.TheVariants as watch
+use Rattle.wait_model.specs.declared.steps.Step.TheVariants as step
+use Rattle.wait_model.specs.Locations as place
 use Rattle.wait_model.proofs.WordLaws.CondWords.{number_value, reads_value}
 use Rattle.wait_model.proofs.Functions.{put_same, put_other}
-use Rattle.wait_rule.specs.declared.journal.Item.{Item}
+use Rattle.wait_rule.specs.{declared.journal.Item.Item, Rule.IsLawfulTable, Rule.IsRuled}
 use Rattle.wait_rule.specs.Items.{Book, nothing, Fits}
-use Rattle.wait_rule.specs.Rule.{IsLawfulTable, IsRuled}
-use Rattle.wait_rule.proofs.KnownLaws.HeadLinks.{off_links}
-use Rattle.wait_rule.proofs.KnownLaws.MemberPlaces.{still_places}
-use Rattle.wait_rule.proofs.TableSteps.KeptSteps.{Leaves, KeepsLaw}
+use Rattle.wait_rule.proofs.{KnownLaws.HeadLinks.off_links, KnownLaws.MemberPlaces.still_places}
+use Rattle.wait_rule.proofs.{TableSteps.KeptSteps.Leaves, TableSteps.KeptSteps.KeepsLaw}
 use Rattle.wait_rule.proofs.StepKinds.EntryKinds.{load_leaves, with_words, words_leave}
 
 -- what a step on a plain condition leaves, and one on a variable

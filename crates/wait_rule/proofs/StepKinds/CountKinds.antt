@@ -2,25 +2,17 @@
 use Rattle.std.proofs.Common.{refl, ap, arith}
 use Rattle.std.specs.Prelude.{ℕ, ◌≡◌, ◌≢◌, Bool, true, false, ◌||◌, ◌==◌, nat_lt, if◌then◌else◌, Some, List}
 use Rattle.std.proofs.lemmas.Bool.Decides.{nat_tests}
-use Rattle.wait_model.specs.declared.layout.TheConstants.{ALL_DONE}
+use Rattle.wait_model.specs.{declared.layout.TheConstants.ALL_DONE, declared.steps.Step.Step, DoneCounts.IsStored}
+use Rattle.wait_model.specs.{Functions.put, Runs.is_publishing, Runs.set_step, Watches.head_of, Views.View as Told}
+use Rattle.wait_model.specs.{Tables.Table, Locations.Location, Locations.word_in}
 use Rattle.wait_model.specs.declared.watches.Watch.TheVariants as watch
-use Rattle.wait_model.specs.declared.steps.Step.{Step}
 use Rattle.wait_model.specs.declared.steps.Step.TheVariants as step
-use Rattle.wait_model.specs.DoneCounts.{IsStored}
-use Rattle.wait_model.specs.Functions.{put}
-use Rattle.wait_model.specs.Runs.{is_publishing, set_step}
-use Rattle.wait_model.specs.Watches.{head_of}
-use Rattle.wait_model.specs.Views.{View as Told}
-use Rattle.wait_model.specs.Tables.{Table}
 use Rattle.wait_model.specs.Locations as place
-use Rattle.wait_model.specs.Locations.{Location, word_in}
 use Rattle.wait_model.proofs.Functions.{put_same, put_other}
-use Rattle.wait_rule.specs.declared.journal.Item.{Item}
+use Rattle.wait_rule.specs.{declared.journal.Item.Item, Rule.IsLawfulTable, Rule.IsRuled}
 use Rattle.wait_rule.specs.Items.{Book, nothing, Fits}
-use Rattle.wait_rule.specs.Rule.{IsLawfulTable, IsRuled}
-use Rattle.wait_rule.proofs.KnownLaws.HeadLinks.{off_links}
-use Rattle.wait_rule.proofs.KnownLaws.MemberPlaces.{still_places}
-use Rattle.wait_rule.proofs.TableSteps.KeptSteps.{Leaves, KeepsLaw}
+use Rattle.wait_rule.proofs.{KnownLaws.HeadLinks.off_links, KnownLaws.MemberPlaces.still_places}
+use Rattle.wait_rule.proofs.{TableSteps.KeptSteps.Leaves, TableSteps.KeptSteps.KeepsLaw}
 use Rattle.wait_rule.proofs.StepKinds.EntryKinds.{load_leaves, with_words, words_leave}
 
 -- what a step on a done count leaves

@@ -1,37 +1,26 @@
 -- Each kind of step on an entry word keeps the law.
 use Rattle.std.proofs.Common.{refl, sym, ◌∙◌, ap, subst, inl, inr}
 use Rattle.std.specs.Prelude.{ℕ, ◌≡◌, ◌≢◌, ◌<◌, ◌⊎◌, true, false, Option, Some, None, List}
-use Rattle.wait_model.specs.declared.layout.TheConstants.{ENTRIES}
-use Rattle.wait_model.specs.declared.watches.Entry.{Entry}
-use Rattle.wait_model.specs.declared.steps.Step.{Step}
-use Rattle.wait_model.specs.declared.steps.Step.TheVariants as step
-use Rattle.wait_model.specs.declared.tasks.TaskRecord.{TaskRecord}
-use Rattle.wait_model.specs.Functions.{put}
+use Rattle.wait_model.specs.{declared.layout.TheConstants.ENTRIES, declared.watches.Entry.Entry}
+use Rattle.wait_model.specs.{declared.steps.Step.Step, declared.tasks.TaskRecord.TaskRecord, Functions.put}
+use Rattle.wait_model.specs.{Permits.HandsOn, Rows.Suits, Facts.Agrees, Locations.Location, Locations.word_in}
 use Rattle.wait_model.specs.Watches.{head_of, owner, is_page}
 use Rattle.wait_model.specs.Words.{entry_word, entry_of, Suited}
 use Rattle.wait_model.specs.Views.{View as Told, Look, off, shown}
 use Rattle.wait_model.specs.Tables.{AreBitsLow, Table, Words}
-use Rattle.wait_model.specs.Permits.{HandsOn}
-use Rattle.wait_model.specs.Rows.{Suits}
-use Rattle.wait_model.specs.Facts.{Agrees}
+use Rattle.wait_model.specs.declared.steps.Step.TheVariants as step
 use Rattle.wait_model.specs.Locations as place
-use Rattle.wait_model.specs.Locations.{Location, word_in}
 use Rattle.wait_model.proofs.WordLaws.CondWords.{suits_of}
 use Rattle.wait_model.proofs.WordLaws.DecodedWords.{entry_read, none_read}
 use Rattle.wait_model.proofs.Functions.{put_at, put_same, put_other}
-use Rattle.wait_rule.specs.declared.journal.Item.{Item}
+use Rattle.wait_rule.specs.{declared.journal.Item.Item, Asked.nothing_asked, Asked.all_asked, Pages.uses_flag}
+use Rattle.wait_rule.specs.{Rule.IsLawfulTable, Rule.IsRuled, Queues.saw}
 use Rattle.wait_rule.specs.Items.{Difference, nothing, at_entry, page_told, Book, with_difference, Fits}
 use Rattle.wait_rule.specs.Members.{IsStanding, IsOwnKind, IsEntryWord}
-use Rattle.wait_rule.specs.Asked.{nothing_asked, all_asked}
-use Rattle.wait_rule.specs.Pages.{uses_flag}
-use Rattle.wait_rule.specs.Rule.{IsLawfulTable, IsRuled}
-use Rattle.wait_rule.specs.Queues.{saw}
-use Rattle.wait_rule.proofs.KnownLaws.HeadLinks.{off_links}
+use Rattle.wait_rule.proofs.{KnownLaws.HeadLinks.off_links, KnownLaws.OwnEntries.IsFair, KnownLaws.PageSteps.not_both}
+use Rattle.wait_rule.proofs.{KnownLaws.StandingKinds.may_ask, TableSteps.KeptSteps.Leaves}
+use Rattle.wait_rule.proofs.TableSteps.KeptSteps.{KeepsLaw}
 use Rattle.wait_rule.proofs.KnownLaws.MemberPlaces.{KeepsPlaces, still_places, unqueue_places}
-use Rattle.wait_rule.proofs.KnownLaws.OwnEntries.{IsFair}
-use Rattle.wait_rule.proofs.KnownLaws.PageSteps.{not_both}
-use Rattle.wait_rule.proofs.KnownLaws.StandingKinds.{may_ask}
-use Rattle.wait_rule.proofs.TableSteps.KeptSteps.{Leaves, KeepsLaw}
 
 -- what a task names as different says nothing of its own word
 pub fits_difference : (t : TaskRecord) (b : Book) (d : Difference) → Fits t b → Fits t (with_difference d b)

@@ -1,31 +1,20 @@
 -- Each kind of step on a flag word keeps the law.
 use Rattle.std.proofs.Common.{refl, ◌∙◌, ap, subst, sym, inl, inr}
 use Rattle.std.specs.Prelude.{ℕ, ◌≡◌, ◌≢◌, ◌⊎◌, Bool, true, false, Option, Some, None, List}
-use Rattle.wait_model.specs.declared.watches.Entry.{Entry}
-use Rattle.wait_model.specs.declared.watches.Kind.TheVariants as kind
-use Rattle.wait_model.specs.declared.steps.Step.{Step}
-use Rattle.wait_model.specs.declared.steps.Step.TheVariants as step
-use Rattle.wait_model.specs.Functions.{put}
-use Rattle.wait_model.specs.Words.{flag_word, done_word}
-use Rattle.wait_model.specs.Watches.{owner, is_page}
+use Rattle.wait_model.specs.{declared.watches.Entry.Entry, declared.steps.Step.Step, Functions.put, Words.flag_word}
+use Rattle.wait_model.specs.{Words.done_word, Watches.owner, Watches.is_page, Tables.Table, Facts.Agrees}
+use Rattle.wait_model.specs.{Locations.Location, Locations.word_in}
 use Rattle.wait_model.specs.Views.{View as Told, Look, shown}
-use Rattle.wait_model.specs.Tables.{Table}
-use Rattle.wait_model.specs.Facts.{Agrees}
+use Rattle.wait_model.specs.declared.watches.Kind.TheVariants as kind
+use Rattle.wait_model.specs.declared.steps.Step.TheVariants as step
 use Rattle.wait_model.specs.Locations as place
-use Rattle.wait_model.specs.Locations.{Location, word_in}
-use Rattle.wait_model.proofs.Functions.{put_same, put_other}
-use Rattle.wait_model.proofs.WordLaws.DecodedWords.{done_read_back}
-use Rattle.wait_rule.specs.declared.journal.Item.{Item}
-use Rattle.wait_rule.specs.Items.{Book, Fits}
-use Rattle.wait_rule.specs.Asked.{all_asked}
-use Rattle.wait_rule.specs.MemberWords.{all_differences}
+use Rattle.wait_model.proofs.{Functions.put_same, Functions.put_other, WordLaws.DecodedWords.done_read_back}
+use Rattle.wait_rule.specs.{declared.journal.Item.Item, Items.Book, Items.Fits, Asked.all_asked}
+use Rattle.wait_rule.specs.{MemberWords.all_differences, Rule.IsLawfulTable, Rule.IsRuled}
 use Rattle.wait_rule.specs.Pages.{uses_flag, IsPageless, IsPageState}
-use Rattle.wait_rule.specs.Rule.{IsLawfulTable, IsRuled}
-use Rattle.wait_rule.proofs.KnownLaws.PageSteps.{not_both}
-use Rattle.wait_rule.proofs.KnownLaws.HeadLinks.{off_links}
-use Rattle.wait_rule.proofs.KnownLaws.MemberPlaces.{still_places}
-use Rattle.wait_rule.proofs.TableSteps.KeptSteps.{Leaves, KeepsLaw}
-use Rattle.wait_rule.proofs.StepKinds.EntryKinds.{load_leaves}
+use Rattle.wait_rule.proofs.{KnownLaws.PageSteps.not_both, KnownLaws.HeadLinks.off_links}
+use Rattle.wait_rule.proofs.{KnownLaws.MemberPlaces.still_places, TableSteps.KeptSteps.Leaves}
+use Rattle.wait_rule.proofs.{TableSteps.KeptSteps.KeepsLaw, StepKinds.EntryKinds.load_leaves}
 
 -- what a step on a flag word leaves
 abbrev flag_stored : Table → ℕ → Bool → Bool → (ℕ → Option ℕ) → (ℕ → List Step) → (ℕ → Told) → Table

@@ -5,26 +5,17 @@ use Rattle.std.specs.Prelude.{ℕ, ◌≡◌, ◌≢◌, ◌+◌, ◌-◌, ◌%�
 use Rattle.std.specs.Prelude.{Some, None, List}
 use Rattle.std.proofs.lemmas.Bool.Decides.{nat_tests}
 use mathlib.Core.Path.{fun_ext}
-use Rattle.wait_model.specs.declared.watches.Aim.{Aim}
-use Rattle.wait_model.specs.declared.steps.Step.{Step}
-use Rattle.wait_model.specs.declared.steps.Step.TheVariants as step
-use Rattle.wait_model.specs.declared.tasks.TaskRecord.{TaskRecord}
-use Rattle.wait_model.specs.Functions.{put}
-use Rattle.wait_model.specs.Words.{head_word, spent_of}
-use Rattle.wait_model.specs.Views.{View as Told, Hold}
-use Rattle.wait_model.specs.Fold.{after}
+use Rattle.wait_model.specs.{declared.watches.Aim.Aim, declared.steps.Step.Step, declared.tasks.TaskRecord.TaskRecord}
+use Rattle.wait_model.specs.{Functions.put, Words.head_word, Words.spent_of, Views.View as Told, Views.Hold, Fold.after}
+use Rattle.wait_model.specs.{Permits.HandsOn, Rows.AimsAt, Rows.MaySpend, Locations.Location, Locations.word_in}
 use Rattle.wait_model.specs.Tables.{Table, next, raised_spent}
-use Rattle.wait_model.specs.Permits.{HandsOn}
-use Rattle.wait_model.specs.Rows.{AimsAt, MaySpend}
+use Rattle.wait_model.specs.declared.steps.Step.TheVariants as step
 use Rattle.wait_model.specs.Locations as place
-use Rattle.wait_model.specs.Locations.{Location, word_in}
 use Rattle.wait_model.proofs.Functions.{put_at, put_same, put_other}
 use Rattle.wait_model.proofs.StepLaws.UnlockSteps.{unlock_hold}
+use Rattle.wait_rule.specs.{Notes.Notes, Notes.note_step, Members.MarkAgrees, Rule.IsLawfulTable}
 use Rattle.wait_rule.specs.Tickets.{Ticket, served, taken, given}
 use Rattle.wait_rule.specs.Items.{Book, nothing, with_head, Fits}
-use Rattle.wait_rule.specs.Notes.{Notes, note_step}
-use Rattle.wait_rule.specs.Members.{MarkAgrees}
-use Rattle.wait_rule.specs.Rule.{IsLawfulTable}
 use Rattle.wait_rule.proofs.KnownLaws.HeadLinks.{KeepsLinks, both_at}
 use Rattle.wait_rule.proofs.KnownLaws.MemberPlaces.{still_places}
 use Rattle.wait_rule.proofs.TableSteps.KeptSteps.{Leaves, KeepsLaw}

@@ -2,12 +2,10 @@
 use Rattle.std.proofs.Common.{refl, sym, ◌∙◌, ap, arith}
 use Rattle.std.specs.Prelude.{ℕ, ◌≡◌, ◌+◌, ◌-◌, ◌<◌, ◌≤◌, Bool, true, false, nat_lt, if◌then◌else◌, Option, Some, None}
 use Rattle.std.proofs.lemmas.Bool.Decides.{nat_tests}
+use Rattle.wait_model.specs.{declared.watches.Aim.Aim, Watches.head_of, Rows.AimsAt}
 use Rattle.wait_model.specs.declared.layout.TheConstants.{FIRST_PLAIN_HEAD, FIRST_SIMPLE_HEAD, FIRST_DONE_HEAD}
 use Rattle.wait_model.specs.declared.watches.Watch.TheVariants as watch
 use Rattle.wait_model.specs.declared.watches.Mode.TheVariants as mode
-use Rattle.wait_model.specs.declared.watches.Aim.{Aim}
-use Rattle.wait_model.specs.Watches.{head_of}
-use Rattle.wait_model.specs.Rows.{AimsAt}
 use Rattle.wait_model.proofs.WordLaws.DecodedWords.{head_plain}
 use Rattle.wait_rule.specs.Queues.{simple_watch, walk_of_hold, IsWalkOfCall}
 

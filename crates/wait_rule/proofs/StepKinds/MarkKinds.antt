@@ -1,15 +1,12 @@
 -- Each kind of step on a bookmark word keeps the law.
 use Rattle.std.proofs.Common.{refl, sym, ◌∙◌, ap, subst, arith}
 use Rattle.std.specs.Prelude.{ℕ, ◌≡◌, ◌≢◌, true, false, Option, Some, None, List}
-use Rattle.wait_model.specs.declared.queues.Mark.{Mark}
-use Rattle.wait_model.specs.declared.steps.Step.{Step}
-use Rattle.wait_model.specs.declared.steps.Step.TheVariants as step
-use Rattle.wait_model.specs.Functions.{put}
-use Rattle.wait_model.specs.Views.{View as Told}
+use Rattle.wait_model.specs.{declared.queues.Mark.Mark, declared.steps.Step.Step, Functions.put, Views.View as Told}
 use Rattle.wait_model.specs.Fold.{after}
 use Rattle.wait_model.specs.Tables.{Table, next, mark_of}
-use Rattle.wait_model.specs.Locations as place
 use Rattle.wait_model.specs.Locations.{Location, word_in, mark_word}
+use Rattle.wait_model.specs.declared.steps.Step.TheVariants as step
+use Rattle.wait_model.specs.Locations as place
 use Rattle.wait_model.proofs.WordLaws.DecodedWords.{mark_read, no_mark_read}
 use Rattle.wait_model.proofs.Functions.{put_at, put_same, put_other}
 use Rattle.wait_rule.specs.declared.journal.Item.{Item}

@@ -1,37 +1,25 @@
 -- Each kind of step by which a page is handed over keeps the law.
 use Rattle.std.proofs.Common.{refl, sym, ◌∙◌, ap, subst, arith, inl, inr}
 use Rattle.std.specs.Prelude.{ℕ, ◌≡◌, ◌⊎◌, ◌||◌, Bool, true, false, if◌then◌else◌, Some, None, List}
-use Rattle.wait_model.specs.declared.layout.TheConstants.{WORD_BITS, HANDED}
-use Rattle.wait_model.specs.declared.watches.Watch.{Watch}
-use Rattle.wait_model.specs.declared.watches.Entry.{Entry}
-use Rattle.wait_model.specs.declared.steps.Step.{Step}
-use Rattle.wait_model.specs.declared.steps.Step.TheVariants as step
-use Rattle.wait_model.specs.Functions.{put}
+use Rattle.wait_model.specs.{declared.layout.TheConstants.WORD_BITS, declared.layout.TheConstants.HANDED}
+use Rattle.wait_model.specs.{declared.watches.Watch.Watch, declared.watches.Entry.Entry, declared.steps.Step.Step}
+use Rattle.wait_model.specs.{Functions.put, Words.bit_word, Words.done_word, Views.Look, Views.shown, Tables.Table}
+use Rattle.wait_model.specs.{Facts.Agrees, Locations.Location, Locations.word_in}
 use Rattle.wait_model.specs.Watches.{head_of, is_page, is_woken, owner, was_clear, page}
-use Rattle.wait_model.specs.Words.{bit_word, done_word}
-use Rattle.wait_model.specs.Views.{Look, shown}
-use Rattle.wait_model.specs.Tables.{Table}
-use Rattle.wait_model.specs.Facts.{Agrees}
+use Rattle.wait_model.specs.declared.steps.Step.TheVariants as step
 use Rattle.wait_model.specs.Locations as place
-use Rattle.wait_model.specs.Locations.{Location, word_in}
 use Rattle.wait_model.proofs.WordLaws.CondWords.{tas_step}
-use Rattle.wait_rule.specs.declared.journal.Item.{Item}
+use Rattle.wait_rule.specs.{declared.journal.Item.Item, MemberWords.all_differences, Members.IsOwnKind}
+use Rattle.wait_rule.specs.{Quiet.is_quiet_at, Quiet.is_told, Rule.IsRuled}
 use Rattle.wait_rule.specs.Items.{nothing, page_taken, page_told, after_try, Book, with_difference, Fits}
-use Rattle.wait_rule.specs.MemberWords.{all_differences}
 use Rattle.wait_rule.specs.Asked.{was_given_at, all_asked, nothing_asked}
 use Rattle.wait_rule.specs.Pages.{uses_flag, taken_entry, IsPageEntry, IsPageless, IsHandedBy, IsPageState}
-use Rattle.wait_rule.specs.Members.{IsOwnKind}
-use Rattle.wait_rule.specs.Quiet.{is_quiet_at, is_told}
-use Rattle.wait_rule.specs.Rule.{IsRuled}
+use Rattle.wait_rule.proofs.{KnownLaws.MemberPlaces.still_places, KnownLaws.PageStates.none_some}
+use Rattle.wait_rule.proofs.{KnownLaws.PageSteps.not_both, KnownLaws.PageSteps.takes_none}
+use Rattle.wait_rule.proofs.{KnownLaws.StandingKinds.asks_none, TableSteps.KeptSteps.KeepsLaw}
+use Rattle.wait_rule.proofs.{StepKinds.BitKinds.bit_leaves, StepKinds.EntryKinds.fits_difference}
+use Rattle.wait_rule.proofs.{StepKinds.FlagKinds.flag_leaves, StepKinds.FlagKinds.unflags}
 use Rattle.wait_rule.proofs.KnownLaws.HeadLinks.{off_links, quiet_links, telling_marks, telling_own}
-use Rattle.wait_rule.proofs.KnownLaws.MemberPlaces.{still_places}
-use Rattle.wait_rule.proofs.KnownLaws.PageStates.{none_some}
-use Rattle.wait_rule.proofs.KnownLaws.PageSteps.{not_both, takes_none}
-use Rattle.wait_rule.proofs.KnownLaws.StandingKinds.{asks_none}
-use Rattle.wait_rule.proofs.TableSteps.KeptSteps.{KeepsLaw}
-use Rattle.wait_rule.proofs.StepKinds.BitKinds.{bit_leaves}
-use Rattle.wait_rule.proofs.StepKinds.EntryKinds.{fits_difference}
-use Rattle.wait_rule.proofs.StepKinds.FlagKinds.{flag_leaves, unflags}
 
 module _ (s : Table) (items : ℕ → List Item) (ruled : IsRuled s items) (a : ℕ) (b : Book) (fits : Fits (s.task a) b)
     (same : all_differences items a ≡ b.differs) (x : ℕ) where

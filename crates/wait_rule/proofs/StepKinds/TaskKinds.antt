@@ -2,27 +2,21 @@
 use Rattle.std.proofs.lemmas.Bool.{both_ways}
 use Rattle.std.proofs.Common.{refl, sym, ◌∙◌, ap, subst, arith, inl, inr}
 use Rattle.std.specs.Prelude.{ℕ, ◌≡◌, ◌≢◌, ◌⊎◌, Bool, true, false, ◌==◌, if◌then◌else◌, None, List}
-use Rattle.wait_model.specs.declared.steps.Step.{Step}
-use Rattle.wait_model.specs.declared.steps.Step.TheVariants as step
-use Rattle.wait_model.specs.declared.tasks.TaskRecord.{TaskRecord}
-use Rattle.wait_model.specs.declared.tasks.Sleep.TheVariants as sleep
-use Rattle.wait_model.specs.Functions.{put}
+use Rattle.wait_model.specs.{declared.steps.Step.Step, declared.tasks.TaskRecord.TaskRecord, Functions.put, Views.View}
+use Rattle.wait_model.specs.{Tables.Table, Tables.next, Locations.Location, Locations.word_in}
 use Rattle.wait_model.specs.Tasks.{IsLawful, IsLawfulWord, task_of, task_word, woken, slept, sleep_of, raised, accepted}
 use Rattle.wait_model.specs.Tasks.{meets, pending}
-use Rattle.wait_model.specs.Views.{View}
-use Rattle.wait_model.specs.Tables.{Table, next}
+use Rattle.wait_model.specs.declared.steps.Step.TheVariants as step
+use Rattle.wait_model.specs.declared.tasks.Sleep.TheVariants as sleep
 use Rattle.wait_model.specs.Locations as place
-use Rattle.wait_model.specs.Locations.{Location, word_in}
 use Rattle.wait_model.proofs.WordLaws.DecodedWords.{task_read}
 use Rattle.wait_model.proofs.Functions.{put_at, put_same, put_other}
 use Rattle.wait_model.proofs.WordLaws.LawfulWords.{woken_lawful, slept_lawful}
-use Rattle.wait_rule.specs.declared.journal.Item.{Item}
+use Rattle.wait_rule.specs.{declared.journal.Item.Item, Rule.IsLawfulTable, Rule.IsRuled}
 use Rattle.wait_rule.specs.Items.{Book, after_sleep, after_awake, with_state, Fits}
-use Rattle.wait_rule.specs.Rule.{IsLawfulTable, IsRuled}
-use Rattle.wait_rule.proofs.KnownLaws.HeadLinks.{off_links, wake_links}
-use Rattle.wait_rule.proofs.KnownLaws.MemberPlaces.{still_places}
-use Rattle.wait_rule.proofs.TableSteps.KeptSteps.{Leaves, KeepsLaw}
-use Rattle.wait_rule.proofs.StepKinds.EntryKinds.{load_leaves}
+use Rattle.wait_rule.proofs.{KnownLaws.HeadLinks.off_links, KnownLaws.HeadLinks.wake_links}
+use Rattle.wait_rule.proofs.{KnownLaws.MemberPlaces.still_places, TableSteps.KeptSteps.Leaves}
+use Rattle.wait_rule.proofs.{TableSteps.KeptSteps.KeepsLaw, StepKinds.EntryKinds.load_leaves}
 use Rattle.wait_rule.proofs.StepKinds.TaskBits.{word_lawful}
 
 raised_lawful : (fatal : Bool) (t : TaskRecord) → IsLawful t → IsLawful (raised fatal t)

@@ -5,40 +5,27 @@ use Rattle.std.specs.Prelude.{if◌then◌else◌, Option, Some, List, [], ◌�
 use Rattle.std.proofs.lemmas.Bool.Decides.{eqb_tells}
 use mathlib.Core.Option.{none}
 use Rattle.atomic_table.specs.Table.{step as move, Allows}
+use Rattle.wait_model.specs.{Functions.put, Words.bit_word, Fold.view_of, Watches.owner, Rows.IsUntested, Tables.Table}
 use Rattle.wait_model.specs.declared.layout.TheConstants.{HEADS, MEMBERS, MEMBER_WORDS, WORD_BITS}
-use Rattle.wait_model.specs.Functions.{put}
-use Rattle.wait_model.specs.Words.{bit_word}
-use Rattle.wait_model.specs.Fold.{view_of}
-use Rattle.wait_model.specs.Watches.{owner}
-use Rattle.wait_model.specs.Rows.{IsUntested}
-use Rattle.wait_model.specs.Tables.{Table}
-use Rattle.wait_model.specs.Locations as place
 use Rattle.wait_model.specs.Locations.{Location, IsLocation, position_of}
+use Rattle.wait_model.specs.Locations as place
 use Rattle.wait_model.proofs.Functions.{put_at, put_same, put_other}
 use Rattle.wait_model.proofs.WordLaws.BitWords.{bit_word_set, bit_word_clear}
-use Rattle.wait_rule.specs.declared.journal.Item.{Item}
-use Rattle.wait_rule.specs.declared.journal.Item.TheVariants as item
+use Rattle.wait_rule.specs.{declared.journal.Item.Item, Journals.Scene, Journals.moved, Tickets.Ticket}
+use Rattle.wait_rule.specs.{TicketWords.all_tickets, TicketWords.AreTickets, Rule.Law, Rule.Holds, Plays.Sat}
+use Rattle.wait_rule.specs.{Plays.seat_with, QueuePlays.member_stored_play}
 use Rattle.wait_rule.specs.Items.{Difference, nothing, at_entry, first_book, steps_of, book_of, Fits}
-use Rattle.wait_rule.specs.Journals.{Scene, moved}
 use Rattle.wait_rule.specs.MemberWords.{word_with, ShowsWith, names, index_named, is_put, member_word, all_differences}
 use Rattle.wait_rule.specs.MemberWords.{AreMembers}
-use Rattle.wait_rule.specs.Tickets.{Ticket}
-use Rattle.wait_rule.specs.TicketWords.{all_tickets, AreTickets}
-use Rattle.wait_rule.specs.Rule.{Law, Holds}
-use Rattle.wait_rule.specs.Plays.{Sat, seat_with}
-use Rattle.wait_rule.specs.QueuePlays.{member_stored_play}
-use Rattle.wait_rule.proofs.TableSteps.ItemLists.{book_append}
-use Rattle.wait_rule.proofs.KnownLaws.AskedPages.{named_hands}
-use Rattle.wait_rule.proofs.KnownLaws.AfterSteps.{notes_after}
-use Rattle.wait_rule.proofs.KnownLaws.HeadLinks.{same_links}
-use Rattle.wait_rule.proofs.KnownLaws.MemberSteps.{differences_next, nothing_named, none_there}
-use Rattle.wait_rule.proofs.KnownLaws.TicketSteps.{tickets_same, beside_tickets}
-use Rattle.wait_rule.proofs.StepKinds.EntryKinds.{fits_difference}
-use Rattle.wait_rule.proofs.TableSteps.StateLaws.{allows}
-use Rattle.wait_rule.proofs.KnownLaws.TallySteps.{tallies_same}
-use Rattle.wait_rule.proofs.KnownLaws.PipeTables.{pipes_rest}
-use Rattle.wait_rule.proofs.TableSteps.KeptSteps.{IsOwn, ruled_seen, told_as, written}
+use Rattle.wait_rule.specs.declared.journal.Item.TheVariants as item
+use Rattle.wait_rule.proofs.{TableSteps.ItemLists.book_append, KnownLaws.AskedPages.named_hands}
+use Rattle.wait_rule.proofs.{KnownLaws.AfterSteps.notes_after, KnownLaws.HeadLinks.same_links}
+use Rattle.wait_rule.proofs.{KnownLaws.TicketSteps.tickets_same, KnownLaws.TicketSteps.beside_tickets}
+use Rattle.wait_rule.proofs.{StepKinds.EntryKinds.fits_difference, TableSteps.StateLaws.allows}
+use Rattle.wait_rule.proofs.{KnownLaws.TallySteps.tallies_same, KnownLaws.PipeTables.pipes_rest}
 use Rattle.wait_rule.proofs.TableSteps.QueueMoves.{head_seen}
+use Rattle.wait_rule.proofs.KnownLaws.MemberSteps.{differences_next, nothing_named, none_there}
+use Rattle.wait_rule.proofs.TableSteps.KeptSteps.{IsOwn, ruled_seen, told_as, written}
 
 -- words beside the table with one member word more
 abbrev with_member : (Location → ℕ) → ℕ → ℕ → Location → ℕ

@@ -3,23 +3,16 @@ use Rattle.std.proofs.Common.{refl, sym, ◌∙◌, ap, subst, inl, inr}
 use Rattle.std.specs.Prelude.{ℕ, ◌≡◌, ◌+◌, ◌-◌, ◌*◌, ◌%◌, ◌^◌, ◌<◌, ◌⊎◌, true, Some, None, bit_and, bit_or}
 use Rattle.std.specs.Prelude.{slice_index}
 use mathlib.Core.Option.{none}
-use Rattle.atomic_table.specs.Seated.{TableId}
-use Rattle.atomic_table.specs.Table.{step as move, Allows}
+use Rattle.atomic_table.specs.{Seated.TableId, Table.step as move, Table.Allows}
+use Rattle.wait_model.specs.{declared.watches.Watch.Watch, Words.bit_word, Views.View as Told}
 use Rattle.wait_model.specs.declared.layout.TheConstants.{BIT_WORDS, WORD_BITS, CONDITION_AT, FIRST_BIT_WORD}
-use Rattle.wait_model.specs.declared.watches.Watch.{Watch}
 use Rattle.wait_model.specs.declared.watches.Watch.TheVariants as watch
 use Rattle.wait_model.specs.declared.steps.Step.TheVariants as step
-use Rattle.wait_model.specs.Words.{bit_word}
-use Rattle.wait_model.specs.Views.{View as Told}
 use Rattle.wait_model.specs.Locations as place
 use Rattle.wait_model.proofs.WordLaws.BitWords.{bit_word_set, bit_word_clear}
 use Rattle.wait_rule.specs.declared.journal.Item.TheVariants as item
-use Rattle.wait_rule.specs.Items.{nothing, book_of}
-use Rattle.wait_rule.specs.Known.{known}
-use Rattle.wait_rule.specs.Says.{told_of}
-use Rattle.wait_rule.specs.Rule.{Law, Holds}
-use Rattle.wait_rule.specs.Plays.{Sat, seat_with}
-use Rattle.wait_rule.specs.BitPlays.{bit_set_play, bit_cleared_play}
+use Rattle.wait_rule.specs.{Items.nothing, Items.book_of, Known.known, Says.told_of, Rule.Law, Rule.Holds, Plays.Sat}
+use Rattle.wait_rule.specs.{Plays.seat_with, BitPlays.bit_set_play, BitPlays.bit_cleared_play}
 use Rattle.wait_rule.proofs.TableSteps.KeptSteps.{KeepsLaw, steps, told_as}
 use Rattle.wait_rule.proofs.TableSteps.QueueMoves.{head_seen}
 use Rattle.wait_rule.proofs.StepKinds.BitKinds.{bit_sets, bit_clears}

@@ -2,25 +2,18 @@
 use Rattle.std.proofs.Common.{refl, sym, ◌∙◌, ap, subst, arith, inl, inr}
 use Rattle.std.specs.Prelude.{ℕ, ◌≡◌, ◌+◌, ◌<◌, true, Option, Some, List, slice_index}
 use mathlib.Core.Option.{none}
-use Rattle.atomic_table.specs.Seated.{TableId}
-use Rattle.atomic_table.specs.Table.{step as move, Allows}
+use Rattle.atomic_table.specs.{Seated.TableId, Table.step as move, Table.Allows}
+use Rattle.wait_model.specs.{DoneCounts.IsStored, Runs.set_step, Watches.head_of, Tables.Table}
 use Rattle.wait_model.specs.declared.layout.TheConstants.{COMPLETIONS, CONDITION_AT, FIRST_DONE}
 use Rattle.wait_model.specs.declared.watches.Watch.TheVariants as watch
 use Rattle.wait_model.specs.declared.steps.Step.TheVariants as step
-use Rattle.wait_model.specs.DoneCounts.{IsStored}
-use Rattle.wait_model.specs.Runs.{set_step}
-use Rattle.wait_model.specs.Watches.{head_of}
-use Rattle.wait_model.specs.Tables.{Table}
 use Rattle.wait_model.specs.Locations as place
-use Rattle.wait_rule.specs.declared.journal.Item.{Item}
-use Rattle.wait_rule.specs.declared.journal.Item.TheVariants as item
+use Rattle.wait_rule.specs.{declared.journal.Item.Item, HeldValues.count_in, Known.known, Plays.Sat, Plays.seat_with}
 use Rattle.wait_rule.specs.Items.{nothing, steps_of, book_of}
-use Rattle.wait_rule.specs.HeldValues.{count_in}
-use Rattle.wait_rule.specs.Known.{known}
 use Rattle.wait_rule.specs.Rule.{IsRuled, Law, Holds}
 use Rattle.wait_rule.specs.Counts.{FindsCount, MayStoreCount, IsCountFor}
-use Rattle.wait_rule.specs.Plays.{Sat, seat_with}
 use Rattle.wait_rule.specs.CountPlays.{cell_of_place, count_loaded_play, count_stored_play}
+use Rattle.wait_rule.specs.declared.journal.Item.TheVariants as item
 use Rattle.wait_rule.proofs.TableSteps.KeptSteps.{IsOwn, steps, told_as}
 use Rattle.wait_rule.proofs.TableSteps.QueueMoves.{head_seen}
 use Rattle.wait_rule.proofs.StepKinds.CountKinds.{count_loads, count_stores}

@@ -2,27 +2,18 @@
 use Rattle.std.proofs.Common.{refl, ◌∙◌, ap, subst, sym, arith, inl, inr}
 use Rattle.std.specs.Prelude.{ℕ, ◌≡◌, ◌<◌, ◌+◌, ◌-◌, ◌⊎◌, true, false, Some, None, List, slice_index}
 use mathlib.Core.Option.{none}
-use Rattle.atomic_table.specs.Seated.{TableId}
-use Rattle.atomic_table.specs.Table.{step as move, Allows}
-use Rattle.wait_model.specs.declared.layout.TheConstants.{ENTRIES, FLAG_AT}
-use Rattle.wait_model.specs.declared.watches.Entry.{Entry}
+use Rattle.atomic_table.specs.{Seated.TableId, Table.step as move, Table.Allows}
+use Rattle.wait_model.specs.{declared.layout.TheConstants.ENTRIES, declared.layout.TheConstants.FLAG_AT}
+use Rattle.wait_model.specs.{declared.watches.Entry.Entry, Tables.Table, Views.View as Told, Watches.owner}
+use Rattle.wait_model.specs.{Watches.is_page, Words.flag_word}
 use Rattle.wait_model.specs.declared.watches.Kind.TheVariants as kind
 use Rattle.wait_model.specs.declared.steps.Step.TheVariants as step
-use Rattle.wait_model.specs.Tables.{Table}
-use Rattle.wait_model.specs.Views.{View as Told}
-use Rattle.wait_model.specs.Watches.{owner, is_page}
-use Rattle.wait_model.specs.Words.{flag_word}
 use Rattle.wait_model.specs.Locations as place
-use Rattle.wait_rule.specs.declared.journal.Item.{Item}
-use Rattle.wait_rule.specs.declared.journal.Item.TheVariants as item
-use Rattle.wait_rule.specs.Items.{book_of}
-use Rattle.wait_rule.specs.Asked.{nothing_asked, asked_by_items}
-use Rattle.wait_rule.specs.Known.{known}
-use Rattle.wait_rule.specs.Pages.{IsPageless}
+use Rattle.wait_rule.specs.{declared.journal.Item.Item, Items.book_of, Asked.nothing_asked, Asked.asked_by_items}
+use Rattle.wait_rule.specs.{Known.known, Pages.IsPageless, Says.told_of, Plays.Sat, Plays.seat_with}
+use Rattle.wait_rule.specs.{QueuePlays.flag_loaded_play, QueuePlays.flag_cleared_play}
 use Rattle.wait_rule.specs.Rule.{Holds, IsRuled, Law}
-use Rattle.wait_rule.specs.Says.{told_of}
-use Rattle.wait_rule.specs.Plays.{Sat, seat_with}
-use Rattle.wait_rule.specs.QueuePlays.{flag_loaded_play, flag_cleared_play}
+use Rattle.wait_rule.specs.declared.journal.Item.TheVariants as item
 use Rattle.wait_rule.proofs.TableSteps.KeptSteps.{IsOwn, KeepsLaw, steps, told_as}
 use Rattle.wait_rule.proofs.KnownLaws.StandingKinds.{asks_none}
 use Rattle.wait_rule.proofs.StepKinds.FlagKinds.{flag_loads, unflags, woken_untaken}

@@ -8,11 +8,8 @@ use lib.ListN.{get_elem?}
 use native.Mathlib.Decide.{ℕ_discrete, dec_le}
 use Rattle.atomic_table.specs.Table.{Splits, Joins}
 use Rattle.atomic_table.proofs.Lists.{set_else}
-use Rattle.wait_model.specs.declared.layout.TheConstants.{TASKS}
-use Rattle.wait_model.specs.Words.{flag}
-use Rattle.wait_rule.specs.declared.journal.Item.{Item}
-use Rattle.wait_rule.specs.declared.journal.Part.{Part}
-use Rattle.wait_rule.specs.declared.journal.Journal.{Journal}
+use Rattle.wait_model.specs.{declared.layout.TheConstants.TASKS, Words.flag}
+use Rattle.wait_rule.specs.{declared.journal.Item.Item, declared.journal.Part.Part, declared.journal.Journal.Journal}
 use Rattle.wait_rule.specs.Rule.{Holds}
 use Rattle.wait_rule.specs.Journals.{Scene, one_within, times_in, owns, sum_over, items_in, has_of, list_of, part_in}
 use Rattle.wait_rule.specs.Journals.{seen_as, left_with, handed_over, joined_with, nobody, fresh}

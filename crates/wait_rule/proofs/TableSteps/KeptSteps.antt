@@ -8,51 +8,38 @@ use Rattle.std.specs.Prelude.{length, List, [], ◌∷◌, ◌++◌, slice_set, 
 use native.Mathlib.Decide.{ℕ_discrete}
 use prog.Atomic.{either}
 use Rattle.atomic_table.specs.Table.{Allows}
-use Rattle.wait_model.specs.declared.layout.TheConstants.{TASKS, CLAIMS}
-use Rattle.wait_model.specs.declared.steps.Step.{Step}
-use Rattle.wait_model.specs.Functions.{put}
-use Rattle.wait_model.specs.Fold.{view_of}
-use Rattle.wait_model.specs.Tables.{Table, next}
+use Rattle.wait_model.specs.{declared.layout.TheConstants.TASKS, declared.layout.TheConstants.CLAIMS}
+use Rattle.wait_model.specs.{declared.steps.Step.Step, Functions.put, Fold.view_of, Tables.Table, Tables.next}
 use Rattle.wait_model.specs.Rows.{Allowed}
 use Rattle.wait_model.specs.Locations.{Location, IsLocation, position_of, word_in}
 use Rattle.wait_model.specs.Locations as place
-use Rattle.wait_model.proofs.Functions.{put_at, put_same, put_other}
-use Rattle.wait_model.proofs.StepLaws.KeptLaws.{step_keeps}
-use Rattle.wait_model.proofs.HistoryLaws.HoldLooks.{told_next}
-use Rattle.wait_model.proofs.WordLaws.ShownSteps.{one_location, position_fits}
-use Rattle.wait_model.proofs.AccountLaws.SignalCounts.{signals_stay_raised}
-use Rattle.wait_model.proofs.BitLaws.BitKeepers.{bits_stay_kept}
+use Rattle.wait_model.proofs.{StepLaws.KeptLaws.step_keeps, HistoryLaws.HoldLooks.told_next}
+use Rattle.wait_model.proofs.{WordLaws.ShownSteps.one_location, WordLaws.ShownSteps.position_fits}
+use Rattle.wait_model.proofs.{AccountLaws.SignalCounts.signals_stay_raised, BitLaws.BitKeepers.bits_stay_kept}
 use Rattle.wait_model.proofs.AccountLaws.DoneCounts.{counts_stay_balanced}
-use Rattle.wait_rule.specs.declared.journal.Item.{Item}
-use Rattle.wait_rule.specs.declared.journal.Item.TheVariants as item
+use Rattle.wait_model.proofs.Functions.{put_at, put_same, put_other}
+use Rattle.wait_rule.specs.{declared.journal.Item.Item, Notes.notes_of, Tickets.Ticket, Pipes.ArePipes}
+use Rattle.wait_rule.specs.{TicketWords.all_tickets, TicketWords.AreTickets, Asked.all_asked, Pages.ArePageStates}
 use Rattle.wait_rule.specs.Items.{Book, Difference, first_book, steps_of, learn_step, book_from, book_of, Fits}
-use Rattle.wait_rule.specs.Notes.{notes_of}
 use Rattle.wait_rule.specs.MemberWords.{is_beside, word_with, ShowsWith, all_differences, AreMembers}
-use Rattle.wait_rule.specs.Tickets.{Ticket}
-use Rattle.wait_rule.specs.Pipes.{ArePipes}
-use Rattle.wait_rule.specs.TicketWords.{all_tickets, AreTickets}
 use Rattle.wait_rule.specs.Journals.{Scene, moved, pushed}
 use Rattle.wait_rule.specs.Rule.{IsLawfulTable, IsWhole, AreLinked, all_notes, is_stepped, IsRuled, Law, Holds}
-use Rattle.wait_rule.specs.Asked.{all_asked}
-use Rattle.wait_rule.specs.Pages.{ArePageStates}
 use Rattle.wait_rule.specs.Plays.{Sat, seat_with, seat_tried}
-use Rattle.wait_rule.proofs.TableSteps.ItemLists.{steps_append, book_append}
-use Rattle.wait_rule.proofs.KnownLaws.Moments.{interleaved_next}
+use Rattle.wait_rule.specs.declared.journal.Item.TheVariants as item
+use Rattle.wait_rule.proofs.{TableSteps.ItemLists.steps_append, TableSteps.ItemLists.book_append}
+use Rattle.wait_rule.proofs.{KnownLaws.Moments.interleaved_next, KnownLaws.TallySteps.KeepsTallies}
+use Rattle.wait_rule.proofs.{KnownLaws.TallySteps.tallies_same, KnownLaws.MemberPlaces.KeepsPlaces}
+use Rattle.wait_rule.proofs.{KnownLaws.MemberPlaces.queued_next, WornHeads.WornNotes.IsShort}
+use Rattle.wait_rule.proofs.{WornHeads.WornNotes.worn_next, KnownLaws.HeldCounts.counts_next}
+use Rattle.wait_rule.proofs.{KnownLaws.PageSteps.IsSound, KnownLaws.QueuedPages.pages_next}
+use Rattle.wait_rule.proofs.{KnownLaws.QuietFlags.quiet_next, KnownLaws.ToldFlags.heard_next}
+use Rattle.wait_rule.proofs.{TableSteps.StateLaws.allows, TableSteps.StateLaws.pushed_none}
 use Rattle.wait_rule.proofs.KnownLaws.MemberSteps.{IsOrderly, differences_next, differences_same, members_next}
 use Rattle.wait_rule.proofs.KnownLaws.TicketSteps.{tickets_next, tickets_same, tickets_after}
-use Rattle.wait_rule.proofs.KnownLaws.TallySteps.{KeepsTallies, tallies_same}
 use Rattle.wait_rule.proofs.KnownLaws.PipeTables.{KeepsEnds, pipes_next, pipes_rest}
 use Rattle.wait_rule.proofs.KnownLaws.HeadLinks.{KeepsLinks, noted_next, noted_seen, same_links}
-use Rattle.wait_rule.proofs.KnownLaws.MemberPlaces.{KeepsPlaces, queued_next}
-use Rattle.wait_rule.proofs.WornHeads.WornNotes.{IsShort, worn_next}
 use Rattle.wait_rule.proofs.KnownLaws.OwnEntries.{IsFair, done_store, hands_on, own_next}
-use Rattle.wait_rule.proofs.KnownLaws.HeldCounts.{counts_next}
-use Rattle.wait_rule.proofs.KnownLaws.PageSteps.{IsSound}
-use Rattle.wait_rule.proofs.KnownLaws.QueuedPages.{pages_next}
-use Rattle.wait_rule.proofs.KnownLaws.QuietFlags.{quiet_next}
-use Rattle.wait_rule.proofs.KnownLaws.ToldFlags.{heard_next}
 use Rattle.wait_rule.proofs.KnownLaws.AskedPages.{HandsSame, pages_seen, asked_next, asked_same}
-use Rattle.wait_rule.proofs.TableSteps.StateLaws.{allows, pushed_none}
 
 -- What a step of task a leaves: from the table s it leads to z, where the word at l is n and all others are as
 -- they were, and b is what the task knows then.

@@ -5,51 +5,34 @@ use Rattle.std.specs.Prelude.{if◌then◌else◌, Option, Some, List, [], ◌�
 use Rattle.std.proofs.lemmas.Bool.Decides.{nat_tests}
 use mathlib.Core.Path.{fun_ext}
 use mathlib.Core.Option.{none}
-use Rattle.atomic_table.specs.Seated.{TableId}
-use Rattle.atomic_table.specs.Table.{step as move, Allows}
+use Rattle.atomic_table.specs.{Seated.TableId, Table.step as move, Table.Allows}
+use Rattle.wait_model.specs.{declared.watches.Entry.Entry, declared.steps.Step.Step, Functions.put, Watches.stands_at}
+use Rattle.wait_model.specs.{Words.bit_at, Words.entry_word, Fold.view_of, Tables.next}
 use Rattle.wait_model.specs.declared.layout.TheConstants.{TASKS, ENTRIES, HEADS, MEMBER_WORDS, WORD_BITS, MEMBER_AT}
-use Rattle.wait_model.specs.declared.watches.Entry.{Entry}
-use Rattle.wait_model.specs.declared.steps.Step.{Step}
-use Rattle.wait_model.specs.declared.steps.Step.TheVariants as step
-use Rattle.wait_model.specs.Functions.{put}
-use Rattle.wait_model.specs.Watches.{stands_at}
-use Rattle.wait_model.specs.Words.{bit_at, entry_word}
-use Rattle.wait_model.specs.Fold.{view_of}
-use Rattle.wait_model.specs.Tables.{next}
-use Rattle.wait_model.specs.Locations as place
 use Rattle.wait_model.specs.Locations.{Location, IsLocation, position_of, mark_word}
+use Rattle.wait_model.specs.declared.steps.Step.TheVariants as step
+use Rattle.wait_model.specs.Locations as place
 use Rattle.wait_model.proofs.Functions.{put_case, put_at, put_same, put_other}
 use Rattle.wait_model.proofs.WordLaws.BitWords.{bit_read}
-use Rattle.wait_rule.specs.declared.journal.Item.{Item}
-use Rattle.wait_rule.specs.declared.journal.Item.TheVariants as item
-use Rattle.wait_rule.specs.declared.journal.Journal.{Journal}
+use Rattle.wait_rule.specs.{declared.journal.Item.Item, declared.journal.Journal.Journal, Known.Known, Known.known}
+use Rattle.wait_rule.specs.{Says.added, Plays.Sat, QueuePlays.member_seen_play, Tickets.Ticket, TicketWords.AreTickets}
 use Rattle.wait_rule.specs.Items.{Book, Difference, nothing, first_book, steps_of, book_from, book_of, Fits}
 use Rattle.wait_rule.specs.Journals.{Scene, moved, pushed}
 use Rattle.wait_rule.specs.Notes.{Notes, is_at, glance_at, notes_of}
 use Rattle.wait_rule.specs.MemberWords.{is_beside, word_with, ShowsWith, names, all_differences, AreMembers}
-use Rattle.wait_rule.specs.Known.{Known, known}
-use Rattle.wait_rule.specs.Says.{added}
 use Rattle.wait_rule.specs.Rule.{AreLinked, all_notes, Law, Holds}
 use Rattle.wait_rule.specs.MemberLooks.{SawEntry, SawMark, SawKind, SawBits, SawWord}
-use Rattle.wait_rule.specs.Plays.{Sat}
-use Rattle.wait_rule.specs.QueuePlays.{member_seen_play}
-use Rattle.wait_rule.proofs.TableSteps.ItemLists.{book_append}
-use Rattle.wait_rule.proofs.TableSteps.StateLaws.{allows_some}
-use Rattle.wait_rule.proofs.KnownLaws.AfterSteps.{notes_after}
-use Rattle.wait_rule.proofs.KnownLaws.HeadLinks.{same_links}
-use Rattle.wait_rule.proofs.KnownLaws.MemberSteps.{differences_same, nothing_named}
-use Rattle.wait_rule.proofs.KnownLaws.MemberSteps.{entry_names}
-use Rattle.wait_rule.specs.Tickets.{Ticket}
-use Rattle.wait_rule.specs.TicketWords.{AreTickets}
-use Rattle.wait_rule.proofs.KnownLaws.TicketSteps.{tickets_same}
-use Rattle.wait_rule.proofs.KnownLaws.TallySteps.{tallies_same}
-use Rattle.wait_rule.proofs.KnownLaws.PipeTables.{pipes_next, pipes_rest}
-use Rattle.wait_rule.proofs.TableSteps.KeptSteps.{law_kept, ChangesNone, KeepsLaw, IsOwn, ruled_seen}
-use Rattle.wait_rule.proofs.TableSteps.KeptSteps.{written}
+use Rattle.wait_rule.specs.declared.journal.Item.TheVariants as item
+use Rattle.wait_rule.proofs.{TableSteps.ItemLists.book_append, TableSteps.StateLaws.allows_some}
+use Rattle.wait_rule.proofs.{KnownLaws.AfterSteps.notes_after, KnownLaws.HeadLinks.same_links}
+use Rattle.wait_rule.proofs.{KnownLaws.TicketSteps.tickets_same, KnownLaws.TallySteps.tallies_same}
+use Rattle.wait_rule.proofs.{KnownLaws.PipeTables.pipes_next, KnownLaws.PipeTables.pipes_rest}
+use Rattle.wait_rule.proofs.{TableSteps.QueueMoves.head_seen, StepKinds.MarkKinds.mark_reads}
+use Rattle.wait_rule.proofs.StepKinds.MarkKinds.{is_mark}
+use Rattle.wait_rule.proofs.KnownLaws.MemberSteps.{differences_same, nothing_named, entry_names}
+use Rattle.wait_rule.proofs.TableSteps.KeptSteps.{law_kept, ChangesNone, KeepsLaw, IsOwn, ruled_seen, written}
 use Rattle.wait_rule.proofs.TableSteps.MemberMoves.{knew_at, knew_entry, knew_mark, seen_links}
-use Rattle.wait_rule.proofs.TableSteps.QueueMoves.{head_seen}
 use Rattle.wait_rule.proofs.StepKinds.EntryKinds.{reads, sees, is_entry}
-use Rattle.wait_rule.proofs.StepKinds.MarkKinds.{mark_reads, is_mark}
 
 -- the same words, and more items in one list
 abbrev pub with_items : Scene → ℕ → List Item → Scene

@@ -4,61 +4,44 @@ use Rattle.std.specs.Prelude.{ℕ, ◌≡◌, ◌≢◌, ◌+◌, ◌-◌, ◌*�
 use Rattle.std.specs.Prelude.{Option, Some, None, List, [], ◌∷◌, ◌++◌, slice_index}
 use Rattle.std.proofs.lemmas.Bool.Decides.{nat_tests}
 use mathlib.Core.Option.{none}
-use Rattle.atomic_table.specs.Seated.{TableId}
-use Rattle.atomic_table.specs.Table.{step as move, Allows}
+use Rattle.atomic_table.specs.{Seated.TableId, Table.step as move, Table.Allows}
+use Rattle.wait_model.specs.{declared.watches.Watch.Watch, declared.watches.Entry.Entry, declared.queues.Mark.Mark}
+use Rattle.wait_model.specs.{Functions.put, Fold.view_of, Tables.Table, Tables.mark_of, Facts.Agrees}
+use Rattle.wait_model.specs.{Locations.mark_word, Locations.cond_at}
 use Rattle.wait_model.specs.declared.layout.TheConstants.{TASKS, SLOTS, ENTRIES, PLAIN_CONDITIONS, CLAIMS, FIRST_DONE}
 use Rattle.wait_model.specs.declared.layout.TheConstants.{FIRST_BIT_WORD, FIRST_VARIABLE, ENTRY_AT, FLAG_AT}
 use Rattle.wait_model.specs.declared.layout.TheConstants.{BOOKMARK_AT, CONDITION_AT}
-use Rattle.wait_model.specs.declared.watches.Watch.{Watch}
-use Rattle.wait_model.specs.declared.watches.Watch.TheVariants as watch
-use Rattle.wait_model.specs.declared.watches.Entry.{Entry}
-use Rattle.wait_model.specs.declared.watches.Kind.TheVariants as kind
-use Rattle.wait_model.specs.declared.queues.Mark.{Mark}
-use Rattle.wait_model.specs.declared.steps.Step.TheVariants as step
-use Rattle.wait_model.specs.Functions.{put}
 use Rattle.wait_model.specs.Watches.{owner, head_of, is_page, IsThere, number_of}
 use Rattle.wait_model.specs.Words.{entry_word, entry_of, flag_word}
 use Rattle.wait_model.specs.Views.{View as Told, Look, off, shown}
-use Rattle.wait_model.specs.Fold.{view_of}
-use Rattle.wait_model.specs.Tables.{Table, mark_of}
-use Rattle.wait_model.specs.Facts.{Agrees}
+use Rattle.wait_model.specs.declared.watches.Watch.TheVariants as watch
+use Rattle.wait_model.specs.declared.watches.Kind.TheVariants as kind
+use Rattle.wait_model.specs.declared.steps.Step.TheVariants as step
 use Rattle.wait_model.specs.Locations as place
-use Rattle.wait_model.specs.Locations.{mark_word, cond_at}
 use Rattle.wait_model.proofs.WordLaws.CondWords.{cond_located, number_below, plain_at, var_at}
 use Rattle.wait_model.proofs.WordLaws.DecodedWords.{entry_read, mark_read, no_mark_read}
 use Rattle.wait_model.proofs.Functions.{put_at}
-use Rattle.wait_rule.specs.declared.journal.Item.{Item}
-use Rattle.wait_rule.specs.declared.journal.Item.TheVariants as item
-use Rattle.wait_rule.specs.declared.journal.Journal.{Journal}
+use Rattle.wait_rule.specs.{declared.journal.Item.Item, declared.journal.Journal.Journal, Asked.nothing_asked}
+use Rattle.wait_rule.specs.{Asked.asked_by_items, Pages.uses_flag, MemberWords.is_beside, HandedPermits.FoundNoPermit}
+use Rattle.wait_rule.specs.{Known.known, Says.told_of, Says.noted, Plays.Sat, Plays.seat_with}
 use Rattle.wait_rule.specs.Items.{nothing, page_told, book_of, first_book, Fits}
-use Rattle.wait_rule.specs.Asked.{nothing_asked, asked_by_items}
-use Rattle.wait_rule.specs.Pages.{uses_flag}
 use Rattle.wait_rule.specs.Notes.{Notes, Glance, away, there, glance_at, notes_of}
 use Rattle.wait_rule.specs.Members.{IsStanding, IsStandingMark, IsOwnKind, IsEntryWord, IsMarkWord, MarkAgrees}
-use Rattle.wait_rule.specs.MemberWords.{is_beside}
-use Rattle.wait_rule.specs.HandedPermits.{FoundNoPermit}
-use Rattle.wait_rule.specs.Known.{known}
 use Rattle.wait_rule.specs.Rule.{IsRuled, is_stepped, AreLinked, all_notes, Law, Holds}
-use Rattle.wait_rule.specs.Says.{told_of, noted}
 use Rattle.wait_rule.specs.Queues.{index, saw, marked, KnewEntry, KnewMark, IsPublic, IsWholeBook, IsPlaceFor, IsBefore}
 use Rattle.wait_rule.specs.Queues.{MayStoreMark}
-use Rattle.wait_rule.specs.Plays.{Sat, seat_with}
 use Rattle.wait_rule.specs.QueuePlays.{entry_seen_play, kept_entry_play, mark_seen_play, queued_play, unqueued_play}
 use Rattle.wait_rule.specs.QueuePlays.{flag_set_play, mark_stored_play, cond_loaded_play, published_play, consumed_play}
-use Rattle.wait_rule.proofs.TableSteps.ItemLists.{book_append}
-use Rattle.wait_rule.proofs.KnownLaws.AfterSteps.{notes_after}
-use Rattle.wait_rule.proofs.KnownLaws.HandedPermits.{queue_on}
-use Rattle.wait_rule.proofs.KnownLaws.HeldHeads.{head_told}
-use Rattle.wait_rule.proofs.KnownLaws.MemberPlaces.{mark_keeps, queue_keeps}
-use Rattle.wait_rule.proofs.KnownLaws.HeadLinks.{same_links}
-use Rattle.wait_rule.proofs.KnownLaws.OwnStored.{owned}
+use Rattle.wait_rule.specs.declared.journal.Item.TheVariants as item
+use Rattle.wait_rule.proofs.{TableSteps.ItemLists.book_append, KnownLaws.AfterSteps.notes_after}
+use Rattle.wait_rule.proofs.{KnownLaws.HandedPermits.queue_on, KnownLaws.HeldHeads.head_told}
+use Rattle.wait_rule.proofs.{KnownLaws.MemberPlaces.mark_keeps, KnownLaws.MemberPlaces.queue_keeps}
+use Rattle.wait_rule.proofs.{KnownLaws.HeadLinks.same_links, KnownLaws.OwnStored.owned, StepKinds.FlagKinds.flags}
+use Rattle.wait_rule.proofs.{TableSteps.QueueMoves.head_seen, TableSteps.StateLaws.pushed_none}
 use Rattle.wait_rule.proofs.TableSteps.KeptSteps.{ChangesNone, IsOwn, KeepsLaw, all_steps, loads, steps, told_as}
 use Rattle.wait_rule.proofs.StepKinds.EntryKinds.{reads, sees, queues, unqueues, is_entry}
-use Rattle.wait_rule.proofs.StepKinds.FlagKinds.{flags}
 use Rattle.wait_rule.proofs.StepKinds.MarkKinds.{is_mark, mark_reads, marks, unmarks}
 use Rattle.wait_rule.proofs.StepKinds.CondKinds.{cond_loads, plain_publishes, var_publishes, plain_consumes}
-use Rattle.wait_rule.proofs.TableSteps.QueueMoves.{head_seen}
-use Rattle.wait_rule.proofs.TableSteps.StateLaws.{pushed_none}
 
 -- the index of the entry whose word, or whose flag word, stands there
 pub index_at : (first at who slot : ℕ) → at ≡ first + (SLOTS * who + slot) → at - first ≡ index who slot

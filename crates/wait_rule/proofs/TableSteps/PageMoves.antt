@@ -2,35 +2,25 @@
 use Rattle.std.proofs.Common.{refl, ◌∙◌, ap, subst, sym, arith, inl, inr}
 use Rattle.std.specs.Prelude.{ℕ, ◌≡◌, ◌<◌, ◌+◌, ◌-◌, Bool, true, false, Some, List, slice_index, bit_or}
 use mathlib.Core.Option.{none}
-use Rattle.atomic_table.specs.Seated.{TableId}
-use Rattle.atomic_table.specs.Table.{step as move, Allows}
+use Rattle.atomic_table.specs.{Seated.TableId, Table.step as move, Table.Allows}
+use Rattle.wait_model.specs.{declared.watches.Entry.Entry, Views.View as Told, Views.shown, Tables.Table}
 use Rattle.wait_model.specs.declared.layout.TheConstants.{BIT_WORDS, WORD_BITS, ENTRIES, CONDITION_AT, FIRST_BIT_WORD}
 use Rattle.wait_model.specs.declared.layout.TheConstants.{ENTRY_AT, FLAG_AT, HANDED}
-use Rattle.wait_model.specs.declared.watches.Entry.{Entry}
-use Rattle.wait_model.specs.declared.steps.Step.TheVariants as step
 use Rattle.wait_model.specs.Watches.{is_page, owner, page}
 use Rattle.wait_model.specs.Words.{bit_word, done_word, flag_word}
-use Rattle.wait_model.specs.Views.{View as Told, shown}
-use Rattle.wait_model.specs.Tables.{Table}
+use Rattle.wait_model.specs.declared.steps.Step.TheVariants as step
 use Rattle.wait_model.specs.Locations as place
 use Rattle.wait_model.proofs.WordLaws.BitWords.{bit_word_set}
-use Rattle.wait_rule.specs.declared.journal.Item.{Item}
-use Rattle.wait_rule.specs.declared.journal.Item.TheVariants as item
+use Rattle.wait_rule.specs.{declared.journal.Item.Item, Known.known, Asked.asked_by_items, Asked.was_given_at}
+use Rattle.wait_rule.specs.{Pages.IsPageless, Quiet.is_quiet_at, Quiet.is_told, QueuePlays.unqueued_play, Says.told_of}
+use Rattle.wait_rule.specs.{Rule.Holds, Rule.Law, Plays.Sat, Plays.seat_with}
 use Rattle.wait_rule.specs.Items.{nothing, page_taken, page_told, book_of, steps_of}
-use Rattle.wait_rule.specs.Known.{known}
-use Rattle.wait_rule.specs.Asked.{asked_by_items, was_given_at}
-use Rattle.wait_rule.specs.Pages.{IsPageless}
-use Rattle.wait_rule.specs.Quiet.{is_quiet_at, is_told}
 use Rattle.wait_rule.specs.PageCalls.{IsFlagWord, ShowsGiven, ShowsNoFlag, tried_for_play, told_play, flag_word_play}
 use Rattle.wait_rule.specs.PageCalls.{noted_play}
-use Rattle.wait_rule.specs.QueuePlays.{unqueued_play}
-use Rattle.wait_rule.specs.Says.{told_of}
-use Rattle.wait_rule.specs.Rule.{Holds, Law}
-use Rattle.wait_rule.specs.Plays.{Sat, seat_with}
-use Rattle.wait_rule.proofs.TableSteps.KeptSteps.{IsOwn, KeepsLaw, steps, told_as}
-use Rattle.wait_rule.proofs.TableSteps.QueueMoves.{head_seen}
-use Rattle.wait_rule.proofs.StepKinds.EntryKinds.{unqueues}
+use Rattle.wait_rule.specs.declared.journal.Item.TheVariants as item
+use Rattle.wait_rule.proofs.{TableSteps.QueueMoves.head_seen, StepKinds.EntryKinds.unqueues}
 use Rattle.wait_rule.proofs.StepKinds.FlagKinds.{flag_loads}
+use Rattle.wait_rule.proofs.TableSteps.KeptSteps.{IsOwn, KeepsLaw, steps, told_as}
 use Rattle.wait_rule.proofs.StepKinds.PageKinds.{tries_for, tells, told_fair, shows_given, shows_none, notes_page}
 
 is_flag_word : (woken done : Bool) → IsFlagWord (done_word woken done)

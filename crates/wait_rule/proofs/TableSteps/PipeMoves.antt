@@ -4,44 +4,34 @@ use Rattle.std.specs.Prelude.{ℕ, ◌≡◌, ◌≢◌, ◌+◌, ◌-◌, ◌/�
 use Rattle.std.specs.Prelude.{length, slice_index}
 use mathlib.Core.Option.{none}
 use Rattle.atomic_table.specs.Table.{step as move, Allows}
+use Rattle.wait_model.specs.{declared.steps.Step.Step, Functions.put, Tables.Table, Tables.next, Locations.Location}
+use Rattle.wait_model.specs.{Locations.position_of, Fold.view_of}
 use Rattle.wait_model.specs.declared.layout.TheConstants.{TASKS, PIPES, PIPE_ENDS, PIPE_CELLS, CLAIMS, CLAIM_AT}
 use Rattle.wait_model.specs.declared.watches.Watch.TheVariants as watch
-use Rattle.wait_model.specs.declared.steps.Step.{Step}
 use Rattle.wait_model.specs.declared.steps.Step.TheVariants as step
-use Rattle.wait_model.specs.Functions.{put}
-use Rattle.wait_model.specs.Tables.{Table, next}
 use Rattle.wait_model.specs.Locations as place
-use Rattle.wait_model.specs.Locations.{Location, position_of}
 use Rattle.wait_model.proofs.Functions.{put_same, put_other}
-use Rattle.wait_rule.specs.declared.journal.EndAct.{EndAct}
-use Rattle.wait_rule.specs.declared.journal.EndAct.TheVariants as act
-use Rattle.wait_rule.specs.declared.journal.Item.{Item}
-use Rattle.wait_rule.specs.declared.journal.Item.TheVariants as item
+use Rattle.wait_rule.specs.{declared.journal.EndAct.EndAct, declared.journal.Item.Item, MemberWords.is_beside}
+use Rattle.wait_rule.specs.{MemberWords.word_with, TicketWords.all_tickets, TicketWords.AreTickets, PipeSays.IsSoundEnd}
+use Rattle.wait_rule.specs.{Rule.Law, Rule.Holds, Plays.Sat, Plays.seat_with}
 use Rattle.wait_rule.specs.Items.{Book, Fits, first_book, book_of, steps_of}
-use Rattle.wait_model.specs.Fold.{view_of}
 use Rattle.wait_rule.specs.Journals.{Scene, moved, pushed}
-use Rattle.wait_rule.specs.MemberWords.{is_beside, word_with}
-use Rattle.wait_rule.specs.TicketWords.{all_tickets, AreTickets}
 use Rattle.wait_rule.specs.Pipes.{ArePipes, End, IsCell, cell_of, end_of, end_word, read_end, write_end}
-use Rattle.wait_rule.specs.PipeSays.{IsSoundEnd}
 use Rattle.wait_rule.specs.PipePlays.{cell_pipe, cell_loaded_play, cell_stored_play, claimed_play, end_load_play}
 use Rattle.wait_rule.specs.PipePlays.{end_published_play, var_end}
-use Rattle.wait_rule.specs.Rule.{Law, Holds}
-use Rattle.wait_rule.specs.Plays.{Sat, seat_with}
-use Rattle.wait_rule.proofs.TableSteps.ItemLists.{book_append}
-use Rattle.wait_rule.proofs.KnownLaws.AfterSteps.{notes_after}
+use Rattle.wait_rule.specs.declared.journal.EndAct.TheVariants as act
+use Rattle.wait_rule.specs.declared.journal.Item.TheVariants as item
+use Rattle.wait_rule.proofs.{TableSteps.ItemLists.book_append, KnownLaws.AfterSteps.notes_after}
+use Rattle.wait_rule.proofs.{KnownLaws.PipeItems.now, KnownLaws.TallySteps.tallies_same}
+use Rattle.wait_rule.proofs.{StepKinds.CondKinds.var_publishes, TableSteps.QueueMoves.head_seen}
+use Rattle.wait_rule.proofs.TableSteps.TicketMoves.{law_beside}
 use Rattle.wait_rule.proofs.KnownLaws.PipeWords.{cell_in, read_in, write_in}
 use Rattle.wait_rule.proofs.KnownLaws.PipeSteps.{all_pipes, cell_words, claim_words, no_words, piped_dumb, publish_dumb}
 use Rattle.wait_rule.proofs.KnownLaws.PipeSteps.{var_words}
 use Rattle.wait_rule.proofs.KnownLaws.PipeEnds.{claims, gets, got_cell, knows_end, publishes, puts}
-use Rattle.wait_rule.proofs.KnownLaws.PipeItems.{now}
 use Rattle.wait_rule.proofs.KnownLaws.TicketSteps.{beside_tickets, tickets_next, tickets_same}
-use Rattle.wait_rule.proofs.KnownLaws.TallySteps.{tallies_same}
-use Rattle.wait_rule.proofs.StepKinds.CondKinds.{var_publishes}
 use Rattle.wait_rule.proofs.TableSteps.StateLaws.{allows, allows_some, pushed_none}
 use Rattle.wait_rule.proofs.TableSteps.KeptSteps.{IsOwn, KeepsLaw, law_step, law_still, told_as}
-use Rattle.wait_rule.proofs.TableSteps.QueueMoves.{head_seen}
-use Rattle.wait_rule.proofs.TableSteps.TicketMoves.{law_beside}
 
 -- words beside the table with another claim, and with another cell
 with_claim : (Location → ℕ) → ℕ → ℕ → Location → ℕ

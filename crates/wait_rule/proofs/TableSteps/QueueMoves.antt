@@ -3,41 +3,28 @@ use Rattle.std.proofs.Common.{refl, sym, ◌∙◌, ap, subst, arith, inl, appen
 use Rattle.std.specs.Prelude.{ℕ, ◌≡◌, ◌+◌, ◌-◌, ◌%◌, ◌^◌, ◌<◌, Bool, true, false, Option, Some, List, [], ◌∷◌}
 use Rattle.std.specs.Prelude.{slice_index}
 use mathlib.Core.Option.{none}
-use Rattle.atomic_table.specs.Seated.{TableId}
-use Rattle.atomic_table.specs.Table.{step as move, Allows}
+use Rattle.atomic_table.specs.{Seated.TableId, Table.step as move, Table.Allows}
+use Rattle.wait_model.specs.{declared.watches.Aim.Aim, Views.View as Told, Tables.Table, Tables.raised_spent}
+use Rattle.wait_model.specs.{Rows.AimsAt, Rows.MaySpend, Locations.word_in}
 use Rattle.wait_model.specs.declared.layout.TheConstants.{TASKS, HEADS, HEAD_AT}
-use Rattle.wait_model.specs.declared.watches.Aim.{Aim}
-use Rattle.wait_model.specs.declared.steps.Step.TheVariants as step
 use Rattle.wait_model.specs.Words.{head_word, held_of, spent_of}
-use Rattle.wait_model.specs.Views.{View as Told}
-use Rattle.wait_model.specs.Tables.{Table, raised_spent}
-use Rattle.wait_model.specs.Rows.{AimsAt, MaySpend}
+use Rattle.wait_model.specs.declared.steps.Step.TheVariants as step
 use Rattle.wait_model.specs.Locations as place
-use Rattle.wait_model.specs.Locations.{word_in}
 use Rattle.wait_model.proofs.WordLaws.DecodedWords.{spent_read, held_read}
-use Rattle.wait_rule.specs.declared.journal.Item.{Item}
-use Rattle.wait_rule.specs.declared.journal.Item.TheVariants as item
-use Rattle.wait_rule.specs.Items.{nothing, book_of, Fits}
-use Rattle.wait_rule.specs.Known.{known}
-use Rattle.wait_rule.specs.Members.{IsHeadWord}
-use Rattle.wait_rule.specs.Rule.{all_notes, Law, Holds}
-use Rattle.wait_rule.specs.Says.{told_of}
-use Rattle.wait_rule.specs.Queues.{walk_of_hold, lock_item}
-use Rattle.wait_rule.specs.Plays.{Sat, seat_with}
-use Rattle.wait_rule.specs.QueuePlays.{locked_play, head_load_play, unlocked_play}
-use Rattle.wait_rule.specs.Notes.{notes_of}
-use Rattle.wait_rule.proofs.KnownLaws.HeadLinks.{same_links}
-use Rattle.wait_rule.proofs.KnownLaws.HeldHeads.{head_told}
-use Rattle.wait_rule.proofs.TableSteps.StateLaws.{allows, pushed_none}
-use Rattle.wait_rule.specs.Tickets.{served}
-use Rattle.wait_rule.specs.TicketWords.{all_tickets}
-use Rattle.wait_rule.specs.Journals.{Scene, moved}
+use Rattle.wait_rule.specs.{declared.journal.Item.Item, Known.known, Members.IsHeadWord, Says.told_of}
+use Rattle.wait_rule.specs.{Queues.walk_of_hold, Queues.lock_item, Plays.Sat, Plays.seat_with, Notes.notes_of}
+use Rattle.wait_rule.specs.{Tickets.served, TicketWords.all_tickets, Journals.Scene, Journals.moved}
 use Rattle.wait_rule.specs.HandedPermits.{OwesNoPermit}
-use Rattle.wait_rule.proofs.KnownLaws.HandedPermits.{unlock_on}
-use Rattle.wait_rule.proofs.KnownLaws.TicketSteps.{free_head, holds_none}
+use Rattle.wait_rule.specs.Items.{nothing, book_of, Fits}
+use Rattle.wait_rule.specs.Rule.{all_notes, Law, Holds}
+use Rattle.wait_rule.specs.QueuePlays.{locked_play, head_load_play, unlocked_play}
+use Rattle.wait_rule.specs.declared.journal.Item.TheVariants as item
+use Rattle.wait_rule.proofs.{KnownLaws.HeadLinks.same_links, KnownLaws.HeldHeads.head_told, TableSteps.StateLaws.allows}
+use Rattle.wait_rule.proofs.{TableSteps.StateLaws.pushed_none, KnownLaws.HandedPermits.unlock_on}
+use Rattle.wait_rule.proofs.{KnownLaws.TicketSteps.free_head, KnownLaws.TicketSteps.holds_none}
+use Rattle.wait_rule.proofs.StepKinds.HoldWalks.{aims_hold}
 use Rattle.wait_rule.proofs.TableSteps.KeptSteps.{IsOwn, KeepsLaw, law_next, loads, steps, told_as}
 use Rattle.wait_rule.proofs.StepKinds.HeadKinds.{lock_word, locks, unlocks}
-use Rattle.wait_rule.proofs.StepKinds.HoldWalks.{aims_hold}
 
 -- the head that a seat's list says is held is held in what is seen
 pub head_seen : (s : Table) (items : ℕ → List Item) (me : Sat) (o : Option ℕ) → IsOwn s items me

@@ -6,35 +6,27 @@ use Rattle.std.specs.Prelude.{Option, Some, None, List, [], ◌∷◌, slice_ind
 use Rattle.std.proofs.lemmas.Bool.Decides.{eqb_tells}
 use mathlib.Core.Option.{none}
 use Rattle.atomic_table.specs.Table.{step as move, Allows}
+use Rattle.wait_model.specs.{declared.watches.Entry.Entry, Words.bit_at, Words.bit_word, Fold.view_of, Tables.Table}
+use Rattle.wait_model.specs.{Rows.IsUntested, Rows.AreUntested}
 use Rattle.wait_model.specs.declared.layout.TheConstants.{TASKS, ENTRIES, HEADS, MEMBER_WORDS, WORD_BITS, MEMBER_AT}
-use Rattle.wait_model.specs.declared.watches.Entry.{Entry}
-use Rattle.wait_model.specs.declared.steps.Step.TheVariants as step
 use Rattle.wait_model.specs.Watches.{head_of, owner, part_of, stands_at}
-use Rattle.wait_model.specs.Words.{bit_at, bit_word}
-use Rattle.wait_model.specs.Fold.{view_of}
-use Rattle.wait_model.specs.Tables.{Table}
-use Rattle.wait_model.specs.Rows.{IsUntested, AreUntested}
-use Rattle.wait_model.specs.Locations as place
 use Rattle.wait_model.specs.Locations.{Location, IsLocation, position_of, word_in}
+use Rattle.wait_model.specs.declared.steps.Step.TheVariants as step
+use Rattle.wait_model.specs.Locations as place
 use Rattle.wait_model.proofs.WordLaws.BitWords.{bit_read}
-use Rattle.wait_rule.specs.declared.journal.Item.{Item}
-use Rattle.wait_rule.specs.declared.journal.Item.TheVariants as item
+use Rattle.wait_rule.specs.{declared.journal.Item.Item, Journals.Scene, Journals.moved, Plays.Sat, Plays.seat_with}
+use Rattle.wait_rule.specs.QueuePlays.{member_scanned_play}
 use Rattle.wait_rule.specs.Items.{Difference, nothing, at_entry, at_mark, page_taken, page_told, Book, steps_of}
 use Rattle.wait_rule.specs.Items.{book_of, Fits}
-use Rattle.wait_rule.specs.Journals.{Scene, moved}
 use Rattle.wait_rule.specs.MemberWords.{names, index_named, is_put, all_differences, AreMembers}
 use Rattle.wait_rule.specs.Rule.{IsRuled, Law, Holds}
-use Rattle.wait_rule.specs.Plays.{Sat, seat_with}
-use Rattle.wait_rule.specs.QueuePlays.{member_scanned_play}
-use Rattle.wait_rule.proofs.KnownLaws.HeadLinks.{off_links}
-use Rattle.wait_rule.proofs.KnownLaws.MemberPlaces.{still_places}
-use Rattle.wait_rule.proofs.KnownLaws.MemberSteps.{nothing_named, entry_names}
-use Rattle.wait_rule.proofs.KnownLaws.TicketSteps.{to_test}
-use Rattle.wait_rule.proofs.StepKinds.EntryKinds.{load_leaves}
-use Rattle.wait_rule.proofs.TableSteps.StateLaws.{allows}
+use Rattle.wait_rule.specs.declared.journal.Item.TheVariants as item
+use Rattle.wait_rule.proofs.{KnownLaws.HeadLinks.off_links, KnownLaws.MemberPlaces.still_places}
+use Rattle.wait_rule.proofs.{KnownLaws.MemberSteps.nothing_named, KnownLaws.MemberSteps.entry_names}
+use Rattle.wait_rule.proofs.{KnownLaws.TicketSteps.to_test, StepKinds.EntryKinds.load_leaves}
+use Rattle.wait_rule.proofs.{TableSteps.StateLaws.allows, TableSteps.QueueMoves.head_seen}
+use Rattle.wait_rule.proofs.{TableSteps.LookedBits.look_law, TableSteps.LookedBits.word_back}
 use Rattle.wait_rule.proofs.TableSteps.KeptSteps.{ChangesNone, IsOwn, KeepsLaw, told_as}
-use Rattle.wait_rule.proofs.TableSteps.QueueMoves.{head_seen}
-use Rattle.wait_rule.proofs.TableSteps.LookedBits.{look_law, word_back}
 
 no_bits : (n : ℕ) → bit_word n (λ _. false) ≡ 0
 unfolding bit_word

@@ -5,12 +5,9 @@ use mathlib.Core.Logic.{dite}
 use mathlib.Core.Option.{some, some-injective, some-ne-none}
 use lib.ListN.{get_elem?}
 use native.Mathlib.Decide.{ℕ_discrete}
-use Rattle.wait_model.specs.Functions.{put}
-use Rattle.wait_model.specs.Words.{flag}
+use Rattle.wait_model.specs.{Functions.put, Words.flag}
 use Rattle.wait_model.proofs.Functions.{put_same, put_other}
-use Rattle.wait_rule.specs.declared.journal.Item.{Item}
-use Rattle.wait_rule.specs.declared.journal.Part.{Part}
-use Rattle.wait_rule.specs.declared.journal.Journal.{Journal}
+use Rattle.wait_rule.specs.{declared.journal.Item.Item, declared.journal.Part.Part, declared.journal.Journal.Journal}
 use Rattle.wait_rule.specs.Journals.{times_in, owns, sum_over, items_in, has_of, list_of, seen_as, moved, pushed}
 
 pub total_set : (f : Journal → ℕ) (views : List Journal) (i : ℕ) (v w : Journal) → get_elem? views i ≡ some v

@@ -5,37 +5,25 @@ use Rattle.std.specs.Prelude.{◌-◌, ◌+◌, ◌%◌, ◌^◌, ℕ, zero, suc
 use Rattle.std.specs.Prelude.{nat_lt, if◌then◌else◌, Option, Some, None, List, [], ◌∷◌, ◌++◌, length, slice_index}
 use native.Mathlib.Decide.{dec_le}
 use Rattle.atomic_table.specs.Table.{opening}
+use Rattle.wait_model.specs.{Watches.owner, Tables.start, Totals.total, Words.bit_word, Words.flag, Functions.put}
 use Rattle.wait_model.specs.declared.layout.TheConstants.{TASKS, ENTRIES, WORD_BITS, ENTRY_AT, RUNNABLE}
-use Rattle.wait_model.specs.Watches.{owner}
-use Rattle.wait_model.specs.Tables.{start}
-use Rattle.wait_model.specs.Totals.{total}
-use Rattle.wait_model.proofs.HistoryLaws.StepTotals.{sum_zero}
-use Rattle.wait_model.specs.Words.{bit_word, flag}
 use Rattle.wait_model.specs.Locations.{Location, Shows, word_in}
+use Rattle.wait_model.proofs.{HistoryLaws.StepTotals.sum_zero, StepLaws.StartLaws.start_kept}
+use Rattle.wait_model.proofs.{WordLaws.ShownSteps.start_shown, AccountLaws.SignalCounts.signals_start_raised}
+use Rattle.wait_model.proofs.{BitLaws.BitKeepers.bits_start_kept, AccountLaws.DoneCounts.counts_start_balanced}
+use Rattle.wait_model.proofs.Functions.{put_at}
 use Rattle.wait_model.specs.Locations as place
-use Rattle.wait_rule.specs.Items.{Difference}
+use Rattle.wait_rule.specs.{declared.journal.Item.Item, Pages.taken_entry, Notes.notes_of, Journals.fresh}
+use Rattle.wait_rule.specs.{Journals.seen_as, Start.start_of, Start.IsStart}
+use Rattle.wait_rule.specs.Items.{Difference, steps_of, book_of, Fits}
 use Rattle.wait_rule.specs.MemberWords.{word_with, ShowsWith, all_differences, AreMembers}
-use Rattle.wait_model.proofs.StepLaws.StartLaws.{start_kept}
-use Rattle.wait_model.proofs.WordLaws.ShownSteps.{start_shown}
-use Rattle.wait_model.proofs.AccountLaws.SignalCounts.{signals_start_raised}
-use Rattle.wait_model.proofs.BitLaws.BitKeepers.{bits_start_kept}
-use Rattle.wait_model.proofs.AccountLaws.DoneCounts.{counts_start_balanced}
-use Rattle.wait_rule.specs.declared.journal.Item.{Item}
-use Rattle.wait_rule.specs.Items.{steps_of, book_of, Fits}
 use Rattle.wait_rule.specs.Asked.{nothing_asked, asked_by_items, waits_at, was_given_at, all_asked}
-use Rattle.wait_rule.specs.Pages.{taken_entry}
-use Rattle.wait_rule.specs.Notes.{notes_of}
-use Rattle.wait_rule.specs.Journals.{fresh, seen_as}
 use Rattle.wait_rule.specs.Tickets.{Ticket, no_ticket, is_ticket_of, is_given, ShowsNumber, out_below}
 use Rattle.wait_rule.specs.TicketWords.{all_tickets, unlocks_at, unlocked_at, unserved, AreTickets}
 use Rattle.wait_rule.specs.Tallies.{amounts_of, tally_of, AreTallies}
 use Rattle.wait_rule.specs.Pipes.{ArePipes, End, end_of, no_end, read_end, was_refused, write_end}
-use Rattle.wait_model.specs.Functions.{put}
-use Rattle.wait_model.proofs.Functions.{put_at}
 use Rattle.wait_rule.specs.Rule.{IsRuled, Law, Holds}
-use Rattle.wait_rule.specs.Start.{start_of, IsStart}
-use Rattle.wait_rule.proofs.TableSteps.ForksAndJoins.{alone}
-use Rattle.wait_rule.proofs.WornHeads.WornNotes.{none_worn}
+use Rattle.wait_rule.proofs.{TableSteps.ForksAndJoins.alone, WornHeads.WornNotes.none_worn}
 
 start_ruled : (items : ℕ → List Item) → ((t : ℕ) → items t ≡ []) → IsRuled start items
 start_ruled items none = record {

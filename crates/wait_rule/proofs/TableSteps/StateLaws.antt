@@ -4,13 +4,10 @@ use Rattle.std.proofs.Common.{ap, ◌∙◌, subst, arith, append-nil, le-ltb, l
 use lib.ListN.{get_elem?}
 use mathlib.Core.Option.{some}
 use Rattle.atomic_table.specs.Table.{keeps, Allows}
-use Rattle.wait_model.specs.declared.layout.TheConstants.{TASKS}
-use Rattle.wait_model.specs.Words.{flag}
-use Rattle.wait_rule.specs.declared.journal.Item.{Item}
-use Rattle.wait_rule.specs.declared.journal.Journal.{Journal}
-use Rattle.wait_rule.specs.declared.journal.Ask.{Ask}
-use Rattle.wait_rule.specs.Journals.{Scene, owns, sum_over, has_of, list_of, seen_as, moved, pushed}
+use Rattle.wait_model.specs.{declared.layout.TheConstants.TASKS, Words.flag}
+use Rattle.wait_rule.specs.{declared.journal.Item.Item, declared.journal.Journal.Journal, declared.journal.Ask.Ask}
 use Rattle.wait_rule.specs.Rule.{Holds}
+use Rattle.wait_rule.specs.Journals.{Scene, owns, sum_over, has_of, list_of, seen_as, moved, pushed}
 use Rattle.wait_rule.proofs.TableSteps.SeenStates.{total_set, total_at, owns_own, list_own, list_sole, list_none}
 use Rattle.wait_rule.proofs.TableSteps.SeenStates.{seen_step}
 

@@ -4,32 +4,21 @@ use Rattle.std.specs.Prelude.{ℕ, ◌≡◌, ◌≢◌, ◌+◌, ◌-◌, ◌%�
 use Rattle.std.specs.Prelude.{◌++◌, slice_index}
 use mathlib.Core.Option.{none}
 use Rattle.atomic_table.specs.Table.{step as move, Allows}
+use Rattle.wait_model.specs.{Functions.put, Tables.Table, Locations.Location, Locations.position_of}
 use Rattle.wait_model.specs.declared.layout.TheConstants.{TASKS, PAGES, TALLY_AT}
-use Rattle.wait_model.specs.Functions.{put}
-use Rattle.wait_model.specs.Tables.{Table}
 use Rattle.wait_model.specs.Locations as place
-use Rattle.wait_model.specs.Locations.{Location, position_of}
 use Rattle.wait_model.proofs.Functions.{put_case, put_same, put_other}
-use Rattle.wait_rule.specs.declared.journal.Item.{Item}
-use Rattle.wait_rule.specs.declared.journal.Item.TheVariants as item
+use Rattle.wait_rule.specs.{declared.journal.Item.Item, MemberWords.word_with, TicketWords.all_tickets}
+use Rattle.wait_rule.specs.{TicketWords.AreTickets, Tallies.tally_of, Tallies.AreTallies, Rule.Law, Rule.Holds}
+use Rattle.wait_rule.specs.{Says.FindsTally, Plays.Sat, Plays.seat_with, TallyPlays.tally_added_play}
 use Rattle.wait_rule.specs.Items.{Book, Fits, first_book}
 use Rattle.wait_rule.specs.Journals.{Scene, moved, owns, has_of}
-use Rattle.wait_rule.specs.MemberWords.{word_with}
-use Rattle.wait_rule.specs.TicketWords.{all_tickets, AreTickets}
-use Rattle.wait_rule.specs.Tallies.{tally_of, AreTallies}
-use Rattle.wait_rule.specs.Rule.{Law, Holds}
-use Rattle.wait_rule.specs.Says.{FindsTally}
-use Rattle.wait_rule.specs.Plays.{Sat, seat_with}
-use Rattle.wait_rule.specs.TallyPlays.{tally_added_play}
-use Rattle.wait_rule.proofs.TableSteps.ItemLists.{book_append}
-use Rattle.wait_rule.proofs.KnownLaws.AfterSteps.{notes_after}
+use Rattle.wait_rule.specs.declared.journal.Item.TheVariants as item
+use Rattle.wait_rule.proofs.{TableSteps.ItemLists.book_append, KnownLaws.AfterSteps.notes_after}
+use Rattle.wait_rule.proofs.{KnownLaws.TallySteps.tally_next, KnownLaws.PipeTables.pipes_rest}
+use Rattle.wait_rule.proofs.{TableSteps.StateLaws.learns_more, TableSteps.KeptSteps.told_as}
+use Rattle.wait_rule.proofs.{TableSteps.TaskMoves.shown_of, TableSteps.TicketMoves.law_beside}
 use Rattle.wait_rule.proofs.KnownLaws.TicketSteps.{beside_tickets, tickets_next, tickets_same, to_test, test_off}
-use Rattle.wait_rule.proofs.KnownLaws.TallySteps.{tally_next}
-use Rattle.wait_rule.proofs.KnownLaws.PipeTables.{pipes_rest}
-use Rattle.wait_rule.proofs.TableSteps.StateLaws.{learns_more}
-use Rattle.wait_rule.proofs.TableSteps.KeptSteps.{told_as}
-use Rattle.wait_rule.proofs.TableSteps.TaskMoves.{shown_of}
-use Rattle.wait_rule.proofs.TableSteps.TicketMoves.{law_beside}
 
 -- words beside the table with another tally
 abbrev with_tally : (Location → ℕ) → ℕ → ℕ → Location → ℕ

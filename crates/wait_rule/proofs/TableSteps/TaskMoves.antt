@@ -4,33 +4,26 @@ use Rattle.std.specs.Prelude.{ℕ, ◌≡◌, ◌+◌, ◌<◌, ◌≤◌, ◌�
 use mathlib.Core.Option.{none, some}
 use prog.Atomic.{either}
 use Rattle.atomic_table.specs.Table.{step as move, Allows}
-use Rattle.wait_model.specs.declared.layout.TheConstants.{TASKS, TASK_AT}
-use Rattle.wait_model.specs.declared.steps.Step.TheVariants as step
+use Rattle.wait_model.specs.{declared.layout.TheConstants.TASKS, declared.layout.TheConstants.TASK_AT, Views.View}
+use Rattle.wait_model.specs.{Tables.Table, Locations.word_in}
 use Rattle.wait_model.specs.Tasks.{IsLawfulWord, IsState, task_of, task_word, woken, slept, raised}
-use Rattle.wait_model.specs.Views.{View}
-use Rattle.wait_model.specs.Tables.{Table}
+use Rattle.wait_model.specs.declared.steps.Step.TheVariants as step
 use Rattle.wait_model.specs.Locations as place
-use Rattle.wait_model.specs.Locations.{word_in}
-use Rattle.wait_rule.specs.declared.tasks.TheConstants.{NO_STATE, NO_SIGNAL}
-use Rattle.wait_rule.specs.declared.journal.Ask.{Ask}
-use Rattle.wait_rule.specs.declared.journal.Item.{Item}
-use Rattle.wait_rule.specs.declared.journal.Journal.{Journal}
-use Rattle.wait_rule.specs.declared.journal.Item.TheVariants as item
+use Rattle.wait_rule.specs.{declared.tasks.TheConstants.NO_STATE, declared.tasks.TheConstants.NO_SIGNAL}
+use Rattle.wait_rule.specs.{declared.journal.Ask.Ask, declared.journal.Item.Item, declared.journal.Journal.Journal}
+use Rattle.wait_rule.specs.{Says.IsShown, Says.MeetsLaw, MemberWords.word_with, Notes.notes_of}
 use Rattle.wait_rule.specs.Items.{book_of, steps_of, first_book, Fits}
 use Rattle.wait_rule.specs.Journals.{Scene, owns, has_of}
 use Rattle.wait_rule.specs.Rule.{IsRuled, Law, Holds}
-use Rattle.wait_rule.specs.Says.{IsShown, MeetsLaw}
 use Rattle.wait_rule.specs.Plays.{Sat, seat_with, seat_tried, whose, looked_play, awoken_play, word_load_play, asked}
 use Rattle.wait_rule.specs.Plays.{woke_play, run_stored_play, state_stored_play, fatal_bits, bits_of, audited_play}
 use Rattle.wait_rule.specs.Plays.{witnessed_play}
+use Rattle.wait_rule.specs.declared.journal.Item.TheVariants as item
 use Rattle.wait_rule.specs.Plays as plays
-use Rattle.wait_rule.specs.MemberWords.{word_with}
-use Rattle.wait_rule.proofs.TableSteps.ItemLists.{book_append}
-use Rattle.wait_rule.proofs.KnownLaws.HeldHeads.{head_told, awake_differs, awake_ticket}
-use Rattle.wait_rule.proofs.TableSteps.StateLaws.{learns, pushed_none}
-use Rattle.wait_rule.specs.Notes.{notes_of}
-use Rattle.wait_rule.proofs.KnownLaws.AfterSteps.{notes_after}
+use Rattle.wait_rule.proofs.{TableSteps.ItemLists.book_append, TableSteps.StateLaws.learns}
+use Rattle.wait_rule.proofs.{TableSteps.StateLaws.pushed_none, KnownLaws.AfterSteps.notes_after}
 use Rattle.wait_rule.proofs.KnownLaws.HeadLinks.{same_links}
+use Rattle.wait_rule.proofs.KnownLaws.HeldHeads.{head_told, awake_differs, awake_ticket}
 use Rattle.wait_rule.proofs.TableSteps.KeptSteps.{law_still, loads, steps, told_as, tries}
 use Rattle.wait_rule.proofs.StepKinds.TaskKinds.{is_lawful, wakes, signals, looks, accepts, sleeps, stores, awakes}
 use Rattle.wait_rule.proofs.StepKinds.TaskBits.{run_word, state_word, raised_word, fatal_word, accepted_word}

@@ -6,40 +6,30 @@ use Rattle.std.specs.Prelude.{if◌then◌else◌, Some, List, [], ◌∷◌, �
 use Rattle.std.proofs.lemmas.Bool.Decides.{eqb_tells}
 use mathlib.Core.Option.{none}
 use Rattle.atomic_table.specs.Table.{step as move, Allows}
+use Rattle.wait_model.specs.{Functions.put, Words.flag, Tables.Table}
 use Rattle.wait_model.specs.declared.layout.TheConstants.{TASKS, HEADS, NEXT_AT, SERVING_AT}
-use Rattle.wait_model.specs.Functions.{put}
-use Rattle.wait_model.specs.Words.{flag}
-use Rattle.wait_model.specs.Tables.{Table}
-use Rattle.wait_model.specs.Locations as place
 use Rattle.wait_model.specs.Locations.{Location, IsLocation, position_of}
+use Rattle.wait_model.specs.Locations as place
 use Rattle.wait_model.proofs.Functions.{put_case, put_at, put_same, put_other, both_left, both_right}
 use Rattle.wait_model.proofs.HistoryLaws.StepTotals.{sum_same, sum_grown}
-use Rattle.wait_rule.specs.declared.journal.Item.{Item}
-use Rattle.wait_rule.specs.declared.journal.Item.TheVariants as item
+use Rattle.wait_rule.specs.{declared.journal.Item.Item, Notes.notes_of, Tallies.AreTallies, Rule.Law, Rule.Holds}
+use Rattle.wait_rule.specs.{Says.ServesUnlocks, Plays.Sat, Plays.seat_with, Pipes.ArePipes}
 use Rattle.wait_rule.specs.Tickets.{Ticket, no_ticket, drawn, served, taken, given, after_serving, is_ticket_of}
 use Rattle.wait_rule.specs.Tickets.{is_served, is_given, ShowsNumber, out_below}
 use Rattle.wait_rule.specs.TicketWords.{all_tickets, unlocked_at, unserved, AreTickets}
 use Rattle.wait_rule.specs.Items.{Difference, first_book, steps_of, book_from, book_of, Fits}
-use Rattle.wait_rule.specs.Notes.{notes_of}
 use Rattle.wait_rule.specs.Journals.{Scene, moved, owns, has_of}
 use Rattle.wait_rule.specs.MemberWords.{word_with, ShowsWith, AreMembers}
-use Rattle.wait_rule.specs.Tallies.{AreTallies}
-use Rattle.wait_rule.specs.Rule.{Law, Holds}
-use Rattle.wait_rule.specs.Says.{ServesUnlocks}
-use Rattle.wait_rule.specs.Plays.{Sat, seat_with}
 use Rattle.wait_rule.specs.QueuePlays.{drawn_play, serving_play, served_play}
-use Rattle.wait_rule.proofs.TableSteps.ItemLists.{book_append}
-use Rattle.wait_rule.proofs.KnownLaws.AfterSteps.{notes_after}
-use Rattle.wait_rule.proofs.KnownLaws.HeadLinks.{both_at, same_links}
-use Rattle.wait_rule.proofs.KnownLaws.MemberSteps.{differences_same}
+use Rattle.wait_rule.specs.declared.journal.Item.TheVariants as item
+use Rattle.wait_rule.proofs.{TableSteps.ItemLists.book_append, KnownLaws.AfterSteps.notes_after}
+use Rattle.wait_rule.proofs.{KnownLaws.HeadLinks.both_at, KnownLaws.HeadLinks.same_links}
+use Rattle.wait_rule.proofs.{KnownLaws.MemberSteps.differences_same, TableSteps.StateLaws.allows}
+use Rattle.wait_rule.proofs.{TableSteps.StateLaws.learns_more, KnownLaws.TallySteps.tallies_same}
+use Rattle.wait_rule.proofs.{KnownLaws.PipeTables.pipes_rest, TableSteps.TaskMoves.shown_of}
 use Rattle.wait_rule.proofs.KnownLaws.TicketSteps.{tickets_next, same_line, unserved_put, one_unserved, as_many}
 use Rattle.wait_rule.proofs.KnownLaws.TicketSteps.{from_test, to_test, test_off, none_out}
-use Rattle.wait_rule.proofs.TableSteps.StateLaws.{allows, learns_more}
-use Rattle.wait_rule.proofs.KnownLaws.TallySteps.{tallies_same}
-use Rattle.wait_rule.specs.Pipes.{ArePipes}
-use Rattle.wait_rule.proofs.KnownLaws.PipeTables.{pipes_rest}
 use Rattle.wait_rule.proofs.TableSteps.KeptSteps.{ruled_seen, told_as, written}
-use Rattle.wait_rule.proofs.TableSteps.TaskMoves.{shown_of}
 
 -- words beside the table with another next or served number
 abbrev pub with_next : (Location → ℕ) → ℕ → ℕ → Location → ℕ

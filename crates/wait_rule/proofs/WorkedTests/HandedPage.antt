@@ -2,33 +2,22 @@
 -- pages makes them.
 use Rattle.std.proofs.Common.{refl, sym, ◌∙◌, ap, arith, inr}
 use Rattle.std.specs.Prelude.{ℕ, ◌≡◌, ◌*◌, ◌+◌, ◌<◌, Bool, false, if◌then◌else◌, Option, Some, None}
+use Rattle.wait_model.specs.{declared.watches.Aim.Aim, declared.watches.Entry.Entry, declared.watches.Watch.Watch}
+use Rattle.wait_model.specs.{EntryWords.is_shown, Views.View as Told, Views.look_at, Fold.is_off}
 use Rattle.wait_model.specs.declared.layout.TheConstants.{TASKS, ENTRIES, HEADS, PAGES, WORD_BITS, FIRST_DONE_HEAD}
-use Rattle.wait_model.specs.declared.watches.Aim.{Aim}
-use Rattle.wait_model.specs.declared.watches.Entry.{Entry}
-use Rattle.wait_model.specs.declared.watches.Watch.{Watch}
-use Rattle.wait_model.specs.declared.steps.Step.TheVariants as step
-use Rattle.wait_model.specs.EntryWords.{is_shown}
 use Rattle.wait_model.specs.Watches.{head_of, hashed, page}
 use Rattle.wait_model.specs.Words.{IsLawfulEntry, entry_of, entry_word}
-use Rattle.wait_model.specs.Views.{View as Told, look_at}
-use Rattle.wait_model.specs.Fold.{is_off}
-use Rattle.wait_model.proofs.Functions.{put_same}
-use Rattle.wait_model.proofs.WordLaws.DecodedWords.{entry_read}
-use Rattle.wait_rule.specs.declared.journal.Item.{Item}
-use Rattle.wait_rule.specs.declared.journal.Item.TheVariants as item
+use Rattle.wait_model.specs.declared.steps.Step.TheVariants as step
+use Rattle.wait_model.proofs.{Functions.put_same, WordLaws.DecodedWords.entry_read}
+use Rattle.wait_rule.specs.{declared.journal.Item.Item, Bits.StaysBeside, Items.Book, Known.Known}
 use Rattle.wait_rule.specs.Asked.{Asked, nothing_asked, after_item, given_if, was_given_at, waits_at}
-use Rattle.wait_rule.specs.Bits.{StaysBeside}
-use Rattle.wait_rule.specs.Items.{Book}
-use Rattle.wait_rule.specs.Known.{Known}
 use Rattle.wait_rule.specs.Looking.{HasSeenEntries, HasSeenMarks, ShowsEmpty, StaysIdle, page_entry}
 use Rattle.wait_rule.specs.Says.{IsUp, added, asks_for, noted, stored_with, told_of}
 use Rattle.wait_rule.specs.Queues.{IsIdle, IsTailPlace, MayQueue, ShowsEntry, at_head, index, saw}
-use Rattle.wait_rule.proofs.KnownLaws.AfterSteps.{told_added}
-use Rattle.wait_rule.proofs.KnownLaws.AskedPages.{asked_added}
-use Rattle.wait_rule.proofs.KnownLaws.CarriedTasks.{look_here}
-use Rattle.wait_rule.proofs.KnownLaws.MemberBits.{told_stored}
-use Rattle.wait_rule.proofs.KnownLaws.PageStates.{given_where_waited}
-use Rattle.wait_rule.proofs.KnownLaws.SettledTasks.{unlock_mark}
+use Rattle.wait_rule.specs.declared.journal.Item.TheVariants as item
+use Rattle.wait_rule.proofs.{KnownLaws.AfterSteps.told_added, KnownLaws.AskedPages.asked_added}
+use Rattle.wait_rule.proofs.{KnownLaws.CarriedTasks.look_here, KnownLaws.MemberBits.told_stored}
+use Rattle.wait_rule.proofs.{KnownLaws.PageStates.given_where_waited, KnownLaws.SettledTasks.unlock_mark}
 use Rattle.wait_rule.proofs.KnownLaws.TicketSteps.{to_test}
 use Rattle.wait_rule.proofs.WorkedTests.QueuedEntry.{none_by, not_unknown, not_unseen}
 

@@ -8,14 +8,11 @@ use Rattle.wait_model.specs.declared.layout.TheConstants.{PIPE_ENDS, PIPE_CELLS}
 use Rattle.wait_model.specs.declared.watches.Watch.TheVariants as watch
 use Rattle.wait_model.specs.declared.steps.Step.TheVariants as step
 use Rattle.wait_rule.specs.declared.journal.Item.TheVariants as item
-use Rattle.wait_rule.specs.Known.{Known}
-use Rattle.wait_rule.specs.Passing.{HasPassedCells, OthersStay}
+use Rattle.wait_rule.specs.{Known.Known, Passing.HasPassedCells, Passing.OthersStay, Says.added, Stays.Carries}
+use Rattle.wait_rule.specs.Stays.{unchanged}
 use Rattle.wait_rule.specs.Pipes.{End, after_end_look, count_on, if_unclosed, other_end, word_counts}
 use Rattle.wait_rule.specs.PipeSays.{IsOpen, IsSoundRead, IsSoundWrite, end_at}
-use Rattle.wait_rule.specs.Says.{added}
-use Rattle.wait_rule.specs.Stays.{Carries, unchanged}
-use Rattle.wait_rule.proofs.KnownLaws.FoundPipes.{end_added}
-use Rattle.wait_rule.proofs.KnownLaws.PipeWords.{test_on, test_off}
+use Rattle.wait_rule.proofs.{KnownLaws.FoundPipes.end_added, KnownLaws.PipeWords.test_on, KnownLaws.PipeWords.test_off}
 
 -- each end is the other one of one end alone
 one_other : (a b : ℕ) → other_end a ≡ other_end b → a ≡ b

@@ -1,28 +1,22 @@
 -- A queue with one entry, as the test of single steps makes it.
 use Rattle.std.proofs.Common.{refl, sym, ◌∙◌, ap, arith, inl, inr}
 use Rattle.std.specs.Prelude.{ℕ, ◌≡◌, ◌≢◌, ◌-◌, ◌<◌, ◌≤◌, Bool, true, false, nat_lt, if◌then◌else◌, Some, None}
+use Rattle.wait_model.specs.{declared.watches.Kind.Kind, declared.watches.Entry.Entry, Watches.is_page}
+use Rattle.wait_model.specs.Watches.{is_simple}
 use Rattle.wait_model.specs.declared.layout.TheConstants.{TASKS, ENTRIES, MEMBERS, FIRST_PLAIN_HEAD, FIRST_PLACE}
-use Rattle.wait_model.specs.declared.watches.Watch.TheVariants as watch
-use Rattle.wait_model.specs.declared.watches.Kind.{Kind}
-use Rattle.wait_model.specs.declared.watches.Kind.TheVariants as kind
-use Rattle.wait_model.specs.declared.watches.Entry.{Entry}
-use Rattle.wait_model.specs.declared.steps.Step.TheVariants as step
-use Rattle.wait_model.specs.Watches.{is_page, is_simple}
 use Rattle.wait_model.specs.Views.{View as Told, Look, off, shown, unseen}
 use Rattle.wait_model.specs.Words.{entry_word, entry_of, IsLawfulEntry}
-use Rattle.wait_model.proofs.WordLaws.DecodedWords.{head_plain, entry_read}
-use Rattle.wait_model.proofs.Functions.{put_same}
+use Rattle.wait_model.specs.declared.watches.Watch.TheVariants as watch
+use Rattle.wait_model.specs.declared.watches.Kind.TheVariants as kind
+use Rattle.wait_model.specs.declared.steps.Step.TheVariants as step
+use Rattle.wait_model.proofs.{WordLaws.DecodedWords.head_plain, WordLaws.DecodedWords.entry_read, Functions.put_same}
 use Rattle.wait_rule.specs.declared.journal.Item.TheVariants as item
+use Rattle.wait_rule.specs.{Known.Known, Asked.nothing_asked, Pages.uses_flag, Looking.ShowsEmpty}
 use Rattle.wait_rule.specs.Notes.{Notes, Glance, away, unknown, look_place, glance_place}
-use Rattle.wait_rule.specs.Known.{Known}
-use Rattle.wait_rule.specs.Asked.{nothing_asked}
-use Rattle.wait_rule.specs.Pages.{uses_flag}
 use Rattle.wait_rule.specs.Says.{added, asks_for, told_of, noted}
 use Rattle.wait_rule.specs.Queues.{index, place_by, MayFlag, MayQueue, MayMark, MayUnmark}
-use Rattle.wait_rule.specs.Looking.{ShowsEmpty}
-use Rattle.wait_rule.proofs.KnownLaws.AfterSteps.{told_added, noted_added}
-use Rattle.wait_rule.proofs.KnownLaws.PageSteps.{not_both}
-use Rattle.wait_rule.proofs.KnownLaws.StandingKinds.{plain_not_page}
+use Rattle.wait_rule.proofs.{KnownLaws.AfterSteps.told_added, KnownLaws.AfterSteps.noted_added}
+use Rattle.wait_rule.proofs.{KnownLaws.PageSteps.not_both, KnownLaws.StandingKinds.plain_not_page}
 use Rattle.wait_rule.proofs.KnownLaws.MemberBits.{bit_told, bit_noted, bit_at}
 
 -- the only entry of a queue

@@ -1,18 +1,15 @@
 -- A walk that selects the own entry, as the test of a spent count makes it.
 use Rattle.std.proofs.Common.{refl, sym, ◌∙◌, ap, arith, inl}
 use Rattle.std.specs.Prelude.{ℕ, ◌≡◌, ◌*◌, ◌+◌, ◌<◌, ◌&&◌, ◌||◌, not, Bool, true, false, Option, Some}
+use Rattle.wait_model.specs.{declared.watches.Entry.Entry, declared.watches.Aim.Aim, Fold.met_task, Watches.counted}
+use Rattle.wait_model.specs.Functions.{put}
 use Rattle.wait_model.specs.declared.layout.TheConstants.{TASKS, SLOTS, FIRST_PLAIN_HEAD, NORMAL}
+use Rattle.wait_model.specs.Views.{View as Told, Look, Walk, off, shown}
+use Rattle.wait_model.specs.Words.{entry_word, entry_of, IsLawfulEntry}
 use Rattle.wait_model.specs.declared.watches.Watch.TheVariants as watch
 use Rattle.wait_model.specs.declared.watches.Kind.TheVariants as kind
-use Rattle.wait_model.specs.declared.watches.Entry.{Entry}
-use Rattle.wait_model.specs.declared.watches.Aim.{Aim}
 use Rattle.wait_model.specs.declared.steps.Step.TheVariants as step
-use Rattle.wait_model.specs.Views.{View as Told, Look, Walk, off, shown}
-use Rattle.wait_model.specs.Fold.{met_task}
-use Rattle.wait_model.specs.Watches.{counted}
-use Rattle.wait_model.specs.Words.{entry_word, entry_of, IsLawfulEntry}
 use Rattle.wait_model.proofs.Functions.{put_same, put_at}
-use Rattle.wait_model.specs.Functions.{put}
 use Rattle.wait_rule.specs.declared.journal.Item.TheVariants as item
 use Rattle.wait_rule.specs.Notes.{Notes, note_step, notes_after_wake, after_noted_call, callee, first_due, is_due}
 use Rattle.wait_rule.specs.Notes.{is_for_look, is_ahead, is_exclusive_look, is_sooner, look_place}

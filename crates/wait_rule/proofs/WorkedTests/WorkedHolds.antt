@@ -1,16 +1,12 @@
 -- The worked histories of holds, computed.
 use Rattle.std.proofs.Common.{refl, ◌∙◌, ap, inl, inr}
 use Rattle.std.specs.Prelude.{◌-◌, ℕ, ◌≡◌, Bool, true, false, not, ◌&&◌, ◌||◌, if◌then◌else◌, Option, Some, None}
+use Rattle.wait_model.specs.{declared.watches.Watch.Watch, declared.watches.Aim.Aim, Tasks.meets, Tasks.task_of}
+use Rattle.wait_model.specs.{Watches.same, Watches.head_of, Words.entry_of, Fold.after_unlock, Fold.view_of}
 use Rattle.wait_model.specs.declared.layout.TheConstants.{FIRST_SIMPLE, COMPLETIONS, FIRST_SIMPLE_HEAD, HEADS, NORMAL}
-use Rattle.wait_model.specs.declared.watches.Watch.{Watch}
-use Rattle.wait_model.specs.declared.watches.Watch.TheVariants as watch
-use Rattle.wait_model.specs.declared.watches.Aim.{Aim}
-use Rattle.wait_model.specs.declared.steps.Step.TheVariants as step
-use Rattle.wait_model.specs.Tasks.{meets, task_of}
-use Rattle.wait_model.specs.Watches.{same, head_of}
-use Rattle.wait_model.specs.Words.{entry_of}
 use Rattle.wait_model.specs.Views.{View as Told, Walk, no_hold, blank, concerns, all_below, all_passed}
-use Rattle.wait_model.specs.Fold.{after_unlock, view_of}
+use Rattle.wait_model.specs.declared.watches.Watch.TheVariants as watch
+use Rattle.wait_model.specs.declared.steps.Step.TheVariants as step
 use Rattle.wait_model.proofs.HistoryLaws.HoldLooks.{after_snoc}
 use Rattle.wait_rule.specs.WorkedHolds.{woke_simple, woke_done, SimpleHolds, CallsRightly, PausesRightly}
 

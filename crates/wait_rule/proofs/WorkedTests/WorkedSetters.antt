@@ -2,24 +2,17 @@
 use Rattle.std.proofs.lemmas.Option.{none-some}
 use Rattle.std.proofs.Common.{refl, sym, ◌∙◌, subst, arith}
 use Rattle.std.specs.Prelude.{ℕ, zero, suc, ◌≡◌, ◌≢◌, ◌+◌, ◌-◌, true, false, Option, Some, None, List, [], ◌∷◌, ◌++◌}
-use Rattle.wait_model.specs.declared.layout.TheConstants.{ENTRIES, MEMBER_WORDS, FIRST_PLAIN_HEAD, NORMAL, RUNNABLE, UNINTERRUPTIBLE}
-use Rattle.wait_model.specs.declared.steps.Step.{Step}
-use Rattle.wait_model.specs.declared.steps.Step.TheVariants as step
+use Rattle.wait_model.specs.{declared.steps.Step.Step, Tables.met, Tasks.meets, Tasks.task_of, Words.entry_of}
+use Rattle.wait_model.specs.{Words.spent_of, Fold.view_of, Histories.Lacks, Wakes.Sleeps, declared.watches.Watch.Watch}
+use Rattle.wait_model.specs.declared.watches.Entry.{Entry}
+use Rattle.wait_model.specs.declared.layout.TheConstants.{ENTRIES, MEMBER_WORDS, FIRST_PLAIN_HEAD, NORMAL, RUNNABLE}
+use Rattle.wait_model.specs.declared.layout.TheConstants.{UNINTERRUPTIBLE}
 use Rattle.wait_model.specs.Watches.{hashed, head_of, owner, part_of}
-use Rattle.wait_model.specs.Tables.{met}
-use Rattle.wait_model.specs.Tasks.{meets, task_of}
 use Rattle.wait_model.specs.Views.{all_below, all_cleared, all_passed}
-use Rattle.wait_model.specs.Words.{entry_of, spent_of}
-use Rattle.wait_model.specs.Fold.{view_of}
-use Rattle.wait_model.specs.Histories.{Lacks}
-use Rattle.wait_model.specs.Wakes.{Sleeps}
-use Rattle.wait_model.proofs.Functions.{put_other}
-use Rattle.wait_model.proofs.HistoryLaws.CalledEntries.{off_seen}
-use Rattle.wait_model.proofs.HistoryLaws.HoldBooks.{cleared_at}
+use Rattle.wait_model.specs.declared.steps.Step.TheVariants as step
+use Rattle.wait_model.proofs.{Functions.put_other, HistoryLaws.CalledEntries.off_seen, HistoryLaws.HoldBooks.cleared_at}
 use Rattle.wait_rule.specs.Interleavings.{TaskStep, table_of, AreAllowed}
 use Rattle.wait_rule.specs.Setters.{step_by, uses_up, StaysSet, UsesUpNone, EndsItsWake, OwesNoMore, AllLeaveSet, SetForGood}
-use Rattle.wait_model.specs.declared.watches.Watch.{Watch}
-use Rattle.wait_model.specs.declared.watches.Entry.{Entry}
 use Rattle.wait_rule.specs.WorkedHolds.{aim_for}
 use Rattle.wait_rule.specs.WorkedSetters.{WorkedSetters, the_set, finds_none, set_and_looked, the_sleeper, put_asleep}
 use Rattle.wait_rule.specs.WorkedSetters.{set_for_it, sees_others, walk_of_one, set_and_walked}

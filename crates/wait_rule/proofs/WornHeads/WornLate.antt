@@ -3,21 +3,14 @@ use Rattle.std.proofs.Common.{refl, ◌∙◌, ap, arith, inl, inr}
 use Rattle.std.specs.Prelude.{ℕ, ◌≡◌, ◌+◌, ◌%◌, ◌<◌, ◌≤◌, ◌⊎◌, Bool, true, false, nat_lt, if◌then◌else◌, Some, None}
 use Rattle.std.specs.Prelude.{List}
 use Rattle.std.proofs.lemmas.Bool.Decides.{nat_tests}
-use Rattle.wait_model.specs.declared.layout.TheConstants.{PLACES, MIDDLE, FIRST_PRIORITY, FIRST_PLACE}
-use Rattle.wait_model.specs.Watches.{head_of}
-use Rattle.wait_model.specs.Tables.{Table}
-use Rattle.wait_model.specs.Fold.{view_of}
-use Rattle.wait_model.specs.Queues.{even_below, even_above}
-use Rattle.wait_model.specs.Places.{within, front_for, tail_for, priority_for}
+use Rattle.wait_model.specs.{Watches.head_of, Tables.Table, Fold.view_of, Queues.even_below, Queues.even_above}
 use Rattle.wait_model.specs.Views.{View as Told}
-use Rattle.wait_rule.specs.declared.journal.Item.{Item}
-use Rattle.wait_rule.specs.Items.{steps_of}
-use Rattle.wait_rule.specs.Notes.{Notes, notes_of}
-use Rattle.wait_rule.specs.Known.{Known}
+use Rattle.wait_model.specs.declared.layout.TheConstants.{PLACES, MIDDLE, FIRST_PRIORITY, FIRST_PLACE}
+use Rattle.wait_model.specs.Places.{within, front_for, tail_for, priority_for}
+use Rattle.wait_rule.specs.{declared.journal.Item.Item, Items.steps_of, Notes.Notes, Notes.notes_of, Known.Known}
+use Rattle.wait_rule.specs.{Says.told_of, Says.noted, Ends.worn_adds, Ends.IsEnd}
 use Rattle.wait_rule.specs.Rule.{IsLawfulTable, IsWhole, AreLinked, all_notes}
-use Rattle.wait_rule.specs.Says.{told_of, noted}
 use Rattle.wait_rule.specs.Places.{queued_at, first_for, IsNear, ArePlaced}
-use Rattle.wait_rule.specs.Ends.{worn_adds, IsEnd}
 use Rattle.wait_rule.specs.Worn.{ShowsEnd, EntriesWearLate, MarksWearLate, HoldsWearLate}
 use Rattle.wait_rule.proofs.KnownLaws.MemberPlaces.{shown_near, shown_first}
 

@@ -2,22 +2,14 @@
 use Rattle.std.proofs.Common.{refl, sym, ◌∙◌, ap, subst, append-nil, append_assoc, inl, inr, arith}
 use Rattle.std.specs.Prelude.{ℕ, ◌≡◌, ◌≢◌, ◌≤◌, ◌⊎◌, Some, List, [], ◌∷◌, ◌++◌}
 use Rattle.atomic_table.specs.Seated.{TableId}
-use Rattle.wait_model.specs.Functions.{put}
-use Rattle.wait_model.specs.Views.{View as Told}
-use Rattle.wait_model.specs.Fold.{view_of}
-use Rattle.wait_model.specs.Tables.{Table}
+use Rattle.wait_model.specs.{Functions.put, Views.View as Told, Fold.view_of, Tables.Table}
 use Rattle.wait_model.proofs.Functions.{put_case}
-use Rattle.wait_rule.specs.declared.journal.Item.{Item}
-use Rattle.wait_rule.specs.Items.{steps_of}
-use Rattle.wait_rule.specs.Notes.{notes_of}
-use Rattle.wait_rule.specs.Places.{queued_at, ArePlaced}
+use Rattle.wait_rule.specs.{declared.journal.Item.Item, Items.steps_of, Notes.notes_of, Places.queued_at}
+use Rattle.wait_rule.specs.{Places.ArePlaced, Journals.pushed, Journals.fresh, Known.Known, Known.known}
 use Rattle.wait_rule.specs.Ends.{EndsAt, WasWorn, worn_adds}
 use Rattle.wait_rule.specs.Rule.{IsLawfulTable, IsWhole, AreLinked, all_notes}
-use Rattle.wait_rule.specs.Journals.{pushed, fresh}
-use Rattle.wait_rule.specs.Known.{Known, known}
 use Rattle.wait_rule.specs.Worn.{HoldsNote, NotesStay, JoinKeepsNotes, OwnWearsLate, JoinedWearsLate}
-use Rattle.wait_rule.proofs.WornHeads.WornLate.{parts_late}
-use Rattle.wait_rule.proofs.TableSteps.ForksAndJoins.{has_joined}
+use Rattle.wait_rule.proofs.{WornHeads.WornLate.parts_late, TableSteps.ForksAndJoins.has_joined}
 
 pub holds_note : HoldsNote
 holds_note k h p held shows = record {

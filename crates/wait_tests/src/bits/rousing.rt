@@ -2,8 +2,7 @@
 //! roused again and again.
 
 ghost use Rattle.wait_model.specs.declared.watches.Watch.TheVariants as watch;
-ghost use Rattle.wait_rule.specs.Bits.{KeepsBitOf};
-ghost use Rattle.wait_rule.specs.Says.{RestsIn};
+ghost use Rattle.wait_rule.specs.{Bits.KeepsBitOf, Says.RestsIn};
 ghost use Rattle.wait_tests.specs.TurnTasks.{IsIdleIn, StandsIn};
 
 use crate::bits::alone::{give, take};

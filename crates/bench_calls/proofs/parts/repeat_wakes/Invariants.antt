@@ -1,6 +1,5 @@
 use Rattle.std.proofs.Common.{◌≡◌}
-use Rattle.wait_rule.specs.Queues.{IsIdle}
-use Rattle.wait_rule.specs.Says.{IsUp}
+use Rattle.wait_rule.specs.{Queues.IsIdle, Says.IsUp}
 use Rattle.bench_calls.proofs.parts.repeat_wakes.Given as goal
 
 abbrev pub invariant-loop : goal.invariant-loop

@@ -1,9 +1,7 @@
 use Rattle.std.proofs.Common.{◌≡◌}
 use Rattle.wait_class.specs.Posts.{IsOut}
 use Rattle.wait_pipe.specs.Pieces.{IsSettled}
-use Rattle.wait_rule.specs.PipeSays.{reading, writing}
-use Rattle.wait_rule.specs.Queues.{IsIdle}
-use Rattle.wait_rule.specs.Says.{IsUp}
+use Rattle.wait_rule.specs.{PipeSays.reading, PipeSays.writing, Queues.IsIdle, Says.IsUp}
 use Rattle.bench_calls.proofs.pieces.often.Given as goal
 
 abbrev pub invariant-loop : goal.invariant-loop

@@ -1,13 +1,11 @@
 use Rattle.std.proofs.Common.{refl, subst, sym}
 use Rattle.wait_class.specs.declared.frame_stages.Framed.{Framed}
 use Rattle.wait_class.specs.declared.frame_stages.Stage.TheVariants as stage
-use Rattle.wait_class.proofs.Framing.{framed_lawful}
-use Rattle.wait_class.proofs.UnderWay.{begun_here}
+use Rattle.wait_class.proofs.{Framing.framed_lawful, UnderWay.begun_here}
 use Rattle.bit_wait.specs.LockTables.{IsRunningLock, lock_frame, lock_table}
 use Rattle.bit_wait.specs.declared.lock_runs.LockBit.{LockBit}
 use Rattle.bit_wait.specs.declared.lock_runs.LockTest.TheVariants as test
-use Rattle.bit_wait.proofs.LockEndings.{begins_at}
-use Rattle.bit_wait.proofs.LockLaws.{lock_lawful}
+use Rattle.bit_wait.proofs.{LockEndings.begins_at, LockLaws.lock_lawful}
 use Rattle.bit_wait.proofs.lock_calls.begin_lock.Goals as goal
 
 pub returns-clause-at : goal.returns-clause-at

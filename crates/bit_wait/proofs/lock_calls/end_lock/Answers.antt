@@ -1,8 +1,7 @@
 use Rattle.std.proofs.Common.{subst, sym}
 use Rattle.std.specs.Prelude.{MatchBool, Result}
 use Rattle.wait_rule.specs.Says.{IsClean}
-use Rattle.bit_wait.specs.Holders.{IsHolder}
-use Rattle.bit_wait.specs.LockEnds.{EndsBitLock, has_taken_lock}
+use Rattle.bit_wait.specs.{Holders.IsHolder, LockEnds.EndsBitLock, LockEnds.has_taken_lock}
 use Rattle.bit_wait.specs.declared.wait_calls.BitEnd.{BitEnd}
 use Rattle.bit_wait.proofs.LockEndings.{ends_wait, under_clean}
 use Rattle.bit_wait.proofs.lock_calls.end_lock.Goals as goal

@@ -2,8 +2,7 @@ use Rattle.std.proofs.Common.{subst, sym}
 use Rattle.std.specs.Prelude.{MatchBool, Result}
 use Rattle.wait_rule.specs.Says.{IsClean}
 use Rattle.wait_leave.specs.declared.exits.Until.{Until}
-use Rattle.bit_wait.specs.Holders.{IsHolder}
-use Rattle.bit_wait.specs.LockLeaves.{LeavesBitLock, takes_until}
+use Rattle.bit_wait.specs.{Holders.IsHolder, LockLeaves.LeavesBitLock, LockLeaves.takes_until}
 use Rattle.bit_wait.specs.declared.wait_calls.BitEnd.{BitEnd}
 use Rattle.bit_wait.proofs.LockLeaving.{left_clean, left_lock}
 use Rattle.bit_wait.proofs.lock_leaves.end_lock_until.Goals as goal

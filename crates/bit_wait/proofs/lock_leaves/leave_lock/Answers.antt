@@ -4,10 +4,8 @@ use Rattle.wait_rule.specs.Queues.{index}
 use Rattle.wait_class.proofs.AwakeSteps.{sleeps_not_on}
 use Rattle.wait_leave.specs.declared.exits.Until.{Until}
 use Rattle.wait_leave.proofs.Awake.{rest_awake}
-use Rattle.bit_wait.specs.LockLeaves.{LeavesBitLock, takes_until}
-use Rattle.bit_wait.specs.LockStays.{LockKeeps}
-use Rattle.bit_wait.specs.LockTables.{lock_bit_in, lock_table}
-use Rattle.bit_wait.specs.declared.wait_calls.BitEnd.{BitEnd}
+use Rattle.bit_wait.specs.{LockLeaves.LeavesBitLock, LockLeaves.takes_until, LockStays.LockKeeps}
+use Rattle.bit_wait.specs.{LockTables.lock_bit_in, LockTables.lock_table, declared.wait_calls.BitEnd.BitEnd}
 use Rattle.bit_wait.proofs.LockLeaving.{left_domain, left_kept, left_lock, left_over, left_tries}
 use Rattle.bit_wait.proofs.lock_leaves.leave_lock.Goals as goal
 

@@ -2,8 +2,7 @@ use Rattle.std.proofs.Common.{◌∙◌, refl, subst, sym}
 use Rattle.std.specs.Prelude.{Result, true}
 use Rattle.wait_model.specs.declared.watches.Watch.TheVariants as watch
 use Rattle.wait_leave.specs.declared.exits.Until.{Until}
-use Rattle.bit_wait.specs.LockLeaves.{EndsBitLockUntil, takes_until}
-use Rattle.bit_wait.specs.LockStays.{TakesBit}
+use Rattle.bit_wait.specs.{LockLeaves.EndsBitLockUntil, LockLeaves.takes_until, LockStays.TakesBit}
 use Rattle.bit_wait.specs.declared.wait_calls.BitEnd.{BitEnd}
 use Rattle.bit_wait.proofs.LockKinds.{locks_clean}
 use Rattle.bit_wait.proofs.LockLeaving.{ends_until, left_domain, left_ended, left_over, left_takes}

@@ -1,12 +1,11 @@
 use Rattle.std.proofs.Common.{refl, subst, sym}
 use Rattle.wait_class.specs.declared.frame_stages.Framed.{Framed}
 use Rattle.wait_class.specs.declared.frame_stages.Stage.TheVariants as stage
-use Rattle.wait_class.proofs.UnderWay.{begun_here}
+use Rattle.wait_class.proofs.{UnderWay.begun_here, Framing.framed_lawful}
 use Rattle.bit_wait.specs.BitTables.{IsRunningBitWait, bit_frame, bit_table}
 use Rattle.bit_wait.specs.declared.waits.BitTest.TheVariants as test
 use Rattle.bit_wait.specs.declared.waits.WaitBit.{WaitBit}
 use Rattle.bit_wait.proofs.BitLaws.{begins_at, bit_lawful}
-use Rattle.wait_class.proofs.Framing.{framed_lawful}
 use Rattle.bit_wait.proofs.wait_calls.begin_bit.Goals as goal
 
 pub returns-clause-at : goal.returns-clause-at

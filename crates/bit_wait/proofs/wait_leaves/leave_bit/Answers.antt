@@ -1,11 +1,8 @@
 use Rattle.std.proofs.Common.{◌∙◌, subst, sym}
 use Rattle.wait_class.specs.Wholes.{HasRested}
-use Rattle.wait_class.proofs.AwakeSteps.{sleeps_not_on}
-use Rattle.wait_class.proofs.Framing.{framed_lawful}
-use Rattle.wait_leave.proofs.Awake.{rest_awake}
-use Rattle.wait_leave.proofs.Ways.{on_way_then}
-use Rattle.bit_wait.specs.BitLeaves.{LeavesBitWait}
-use Rattle.bit_wait.specs.BitTables.{bit_frame}
+use Rattle.wait_class.proofs.{AwakeSteps.sleeps_not_on, Framing.framed_lawful}
+use Rattle.wait_leave.proofs.{Awake.rest_awake, Ways.on_way_then}
+use Rattle.bit_wait.specs.{BitLeaves.LeavesBitWait, BitTables.bit_frame}
 use Rattle.bit_wait.proofs.BitLaws.{bit_lawful}
 use Rattle.bit_wait.proofs.BitLeaving.{bit_may_leave, left_clean, left_domain, left_kept, left_over, left_wait}
 use Rattle.bit_wait.proofs.wait_leaves.leave_bit.Goals as goal

@@ -1,8 +1,7 @@
 use Rattle.std.proofs.Common.{◌∙◌, false, subst, sym, true}
 use Rattle.wq_head.specs.Roused.{RousesNone}
 use Rattle.wq_head.proofs.RousedTasks.{none_unlocked}
-use Rattle.completion_cell.proofs.CellHolds.{reset_over, reset_owes}
-use Rattle.completion_cell.proofs.CellRousing.{none_set}
+use Rattle.completion_cell.proofs.{CellHolds.reset_over, CellHolds.reset_owes, CellRousing.none_set}
 use Rattle.completion_cell.proofs.asks.reinit_hold.Goals as goal
 
 pub give_back-requires-clause-permits : goal.give_back-requires-clause-permits

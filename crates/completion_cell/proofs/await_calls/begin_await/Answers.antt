@@ -1,11 +1,8 @@
 use Rattle.std.proofs.Common.{ap, refl}
-use Rattle.wait_class.proofs.Turns.{advances_none}
-use Rattle.wait_class.proofs.UnderWay.{begun_here}
-use Rattle.completion_cell.specs.Awaits.{await_table}
+use Rattle.wait_class.proofs.{Turns.advances_none, UnderWay.begun_here}
+use Rattle.completion_cell.specs.{Awaits.await_table, declared.awaits.AwaitCall.AwaitCall}
 use Rattle.completion_cell.specs.declared.awaits.AwaitStage.TheVariants as stage
-use Rattle.completion_cell.proofs.AwaitLaws.{await_lawful}
-use Rattle.completion_cell.specs.declared.awaits.AwaitCall.{AwaitCall}
-use Rattle.completion_cell.proofs.Endings.{begins_at}
+use Rattle.completion_cell.proofs.{AwaitLaws.await_lawful, Endings.begins_at}
 use Rattle.completion_cell.proofs.await_calls.begin_await.Goals as goal
 
 pub returns-clause-fresh : goal.returns-clause-fresh

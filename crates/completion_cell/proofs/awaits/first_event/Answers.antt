@@ -2,8 +2,7 @@ use Rattle.std.proofs.Common.{refl}
 use Rattle.completion_cell.proofs.AwaitCounts.{first_turned}
 use Rattle.wait_model.specs.declared.steps.Step.TheVariants as step
 use Rattle.wait_model.specs.declared.watches.Watch.TheVariants as watch
-use Rattle.wait_class.proofs.Handed.{given_step}
-use Rattle.wait_class.proofs.AwakeSteps.{awake_step}
+use Rattle.wait_class.proofs.{Handed.given_step, AwakeSteps.awake_step}
 use Rattle.completion_cell.proofs.awaits.first_event.Goals as goal
 
 pub returns-clause-turned : goal.returns-clause-turned

@@ -1,6 +1,5 @@
 use Rattle.completion_cell.proofs.AwaitTakes.{quit_off, take_off}
-use Rattle.wait_class.proofs.Handed.{given_on}
-use Rattle.wait_class.proofs.AwakeSteps.{sleeps_not_on}
+use Rattle.wait_class.proofs.{Handed.given_on, AwakeSteps.sleeps_not_on}
 use Rattle.completion_cell.proofs.awaits.off_event.Goals as goal
 
 pub returns-in-true-false-clause-turned : goal.returns-in-true-false-clause-turned

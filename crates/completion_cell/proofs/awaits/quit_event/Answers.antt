@@ -1,7 +1,6 @@
 use Rattle.completion_cell.proofs.AwaitTakes.{quit_owes, quit_turned}
 use Rattle.std.proofs.Common.{◌∙◌, false}
-use Rattle.wait_class.proofs.Handed.{given_as, given_unlocked}
-use Rattle.wait_class.proofs.AwakeSteps.{awake_unlocked}
+use Rattle.wait_class.proofs.{Handed.given_as, Handed.given_unlocked, AwakeSteps.awake_unlocked}
 use Rattle.completion_cell.proofs.awaits.quit_event.Goals as goal
 
 pub give_back-requires-clause-permits : goal.give_back-requires-clause-permits

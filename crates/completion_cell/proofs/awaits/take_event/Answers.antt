@@ -1,14 +1,10 @@
-use Rattle.wait_rule.specs.HandedPermits.{OwesNoPermit}
-use Rattle.completion_cell.proofs.AwaitTakes.{ended_may, ended_owes, ended_turned}
-use Rattle.completion_cell.proofs.AwaitTakes.{taken_turned}
+use Rattle.wait_rule.specs.{HandedPermits.OwesNoPermit, Known.Known}
+use Rattle.completion_cell.proofs.AwaitTakes.{ended_may, ended_owes, ended_turned, taken_turned, stored_awake}
+use Rattle.completion_cell.proofs.AwaitTakes.{stored_count, stays_count}
 use Rattle.std.proofs.Common.{◌∙◌, ◌-◌, false, subst}
 use Rattle.wait_model.specs.declared.layout.TheConstants.{HEADS}
-use Rattle.wait_rule.specs.Known.{Known}
-use Rattle.wait_class.specs.Handing.{LastGiven}
-use Rattle.wait_class.specs.Tables.{SleepsNot}
-use Rattle.completion_cell.proofs.AwaitTakes.{stored_awake, stored_count, stays_count}
-use Rattle.wait_class.proofs.Handed.{given_as, given_unlocked}
-use Rattle.wait_class.proofs.AwakeSteps.{awake_unlocked}
+use Rattle.wait_class.specs.{Handing.LastGiven, Tables.SleepsNot}
+use Rattle.wait_class.proofs.{Handed.given_as, Handed.given_unlocked, AwakeSteps.awake_unlocked}
 use Rattle.completion_cell.proofs.awaits.take_event.Goals as goal
 
 pub returns-then-take_one-clause-turned : goal.returns-then-take_one-clause-turned

@@ -1,8 +1,7 @@
 use Rattle.std.proofs.Common.{◌∙◌}
 use Rattle.wait_model.specs.declared.steps.Step.TheVariants as step
 use Rattle.wq_head.proofs.AwaitedLocks.{awaits_none}
-use Rattle.completion_cell.proofs.CellDraws.{fits, peeked_none}
-use Rattle.completion_cell.proofs.CellRousing.{none_counted}
+use Rattle.completion_cell.proofs.{CellDraws.fits, CellDraws.peeked_none, CellRousing.none_counted}
 use Rattle.completion_cell.proofs.cell_turns.begin.Goals as goal
 
 pub draw_lock-run-requires-clause-head : goal.draw_lock-run-requires-clause-head

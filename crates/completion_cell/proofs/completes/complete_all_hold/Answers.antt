@@ -2,8 +2,7 @@ use Rattle.std.proofs.Common.{◌≤◌, ℕ, false, subst, sym}
 use Rattle.wait_model.specs.declared.layout.TheConstants.{ALL_DONE, FIRST_SIMPLE_HEAD}
 use Rattle.wq_head.specs.Roused.{RousesNone}
 use Rattle.wq_head.proofs.RousedTasks.{none_unlocked, rousing_from, rousing_on}
-use Rattle.completion_cell.proofs.CellHolds.{every_over, every_owes}
-use Rattle.completion_cell.proofs.CellRousing.{none_set}
+use Rattle.completion_cell.proofs.{CellHolds.every_over, CellHolds.every_owes, CellRousing.none_set}
 use Rattle.completion_cell.proofs.Completing.{done_simple}
 use Rattle.completion_cell.proofs.completes.complete_all_hold.Goals as goal
 

@@ -1,8 +1,7 @@
 use Rattle.std.proofs.Common.{◌∙◌, ◌==◌, ◌+◌, ◌≡◌, ◌≤◌, Bool, true, false, ℕ, ap, refl, subst, sym}
 use Rattle.std.specs.Prelude.{MatchBool}
 use Rattle.wait_model.specs.declared.layout.TheConstants.{FIRST_SIMPLE_HEAD}
-use Rattle.wait_rule.specs.Counts.{StoresCount}
-use Rattle.wait_rule.specs.Known.{Known}
+use Rattle.wait_rule.specs.{Counts.StoresCount, Known.Known}
 use Rattle.wq_head.specs.Roused.{RousesNone}
 use Rattle.wq_head.proofs.RousedTasks.{none_unlocked, rousing_from, rousing_on}
 use Rattle.completion_cell.proofs.CellHolds.{one_at, one_counted, one_over, one_owes, one_simple}

@@ -1,5 +1,4 @@
-use Rattle.completion_cell.proofs.Words.{alls_follow, asks_follow, awaits_follow, completes_follow}
-use Rattle.completion_cell.proofs.Words.{tries_follow}
+use Rattle.completion_cell.proofs.Words.{alls_follow, asks_follow, awaits_follow, completes_follow, tries_follow}
 use Rattle.completion_cell.proofs.laws.calls_follow_sentences.Goals as goal
 
 pub returns-clause-completes : goal.returns-clause-completes

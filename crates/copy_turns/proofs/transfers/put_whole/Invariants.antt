@@ -1,7 +1,6 @@
 use Rattle.std.proofs.Common.{◌≤◌, drop, length, take}
 use Rattle.wait_rule.specs.Pipes.{write_end}
-use Rattle.copy_turns.specs.Transfers.{Puts}
-use Rattle.copy_turns.specs.Turns.{HasGotBytes}
+use Rattle.copy_turns.specs.{Transfers.Puts, Turns.HasGotBytes}
 use Rattle.copy_turns.proofs.transfers.put_whole.Given as goal
 
 abbrev pub invariant-loop : goal.invariant-loop

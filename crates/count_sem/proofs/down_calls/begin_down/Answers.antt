@@ -1,11 +1,8 @@
 use Rattle.std.proofs.Common.{ap, refl}
-use Rattle.wait_class.proofs.Turns.{advances_none}
-use Rattle.wait_class.proofs.UnderWay.{begun_here}
-use Rattle.count_sem.specs.Downs.{down_table}
+use Rattle.wait_class.proofs.{Turns.advances_none, UnderWay.begun_here}
+use Rattle.count_sem.specs.{Downs.down_table, declared.downs.DownCall.DownCall}
 use Rattle.count_sem.specs.declared.downs.DownStage.TheVariants as stage
-use Rattle.count_sem.proofs.DownLaws.{down_lawful}
-use Rattle.count_sem.specs.declared.downs.DownCall.{DownCall}
-use Rattle.count_sem.proofs.DownEndings.{begins_at}
+use Rattle.count_sem.proofs.{DownLaws.down_lawful, DownEndings.begins_at}
 use Rattle.count_sem.proofs.down_calls.begin_down.Goals as goal
 
 pub returns-clause-fresh : goal.returns-clause-fresh

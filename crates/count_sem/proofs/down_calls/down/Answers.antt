@@ -4,9 +4,8 @@ use Rattle.count_sem.specs.DownEnds.{EndsDown}
 use Rattle.count_sem.specs.declared.downs.DownOutcome.TheVariants as outcome
 use Rattle.count_sem.specs.declared.downs.DownStage.TheVariants as stage
 use Rattle.wait_class.specs.declared.stages.Turn.TheVariants as turn
-use Rattle.count_sem.proofs.DownEndings.{ends_down, plain_end}
+use Rattle.count_sem.proofs.{DownEndings.ends_down, DownEndings.plain_end, DownPasses.passed_down}
 use Rattle.count_sem.proofs.DownLeaving.{plain_closes, way_carried, way_idle, way_off, way_out_of, way_up}
-use Rattle.count_sem.proofs.DownPasses.{passed_down}
 use Rattle.count_sem.proofs.down_calls.down.Goals as goal
 
 pub returns-in-Passing-clause-downed : goal.returns-in-Passing-clause-downed

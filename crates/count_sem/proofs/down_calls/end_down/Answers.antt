@@ -1,9 +1,7 @@
 use Rattle.std.proofs.Common.{subst, sym}
 use Rattle.wait_class.specs.declared.stages.Turn.TheVariants as turn
 use Rattle.wait_leave.proofs.Ways.{under_way_is}
-use Rattle.count_sem.specs.DownEnds.{EndsDown}
-use Rattle.count_sem.specs.DownLeaves.{down_exits}
-use Rattle.count_sem.specs.Downs.{down_table}
+use Rattle.count_sem.specs.{DownEnds.EndsDown, DownLeaves.down_exits, Downs.down_table}
 use Rattle.count_sem.proofs.DownEndings.{ends_down, plain_end}
 use Rattle.count_sem.proofs.DownLeaving.{on_way_clean, plain_closes}
 use Rattle.count_sem.proofs.down_calls.end_down.Goals as goal

@@ -1,9 +1,8 @@
 use Rattle.std.proofs.Common.{refl}
-use Rattle.wait_class.proofs.Handed.{given_step}
+use Rattle.wait_class.proofs.{Handed.given_step, AwakeSteps.awake_step}
 use Rattle.wait_model.specs.declared.steps.Step.TheVariants as step
 use Rattle.wait_model.specs.declared.watches.Watch.TheVariants as watch
 use Rattle.count_sem.proofs.DownCounts.{first_turned}
-use Rattle.wait_class.proofs.AwakeSteps.{awake_step}
 use Rattle.count_sem.proofs.downs.first_event.Goals as goal
 
 pub returns-clause-turned : goal.returns-clause-turned

@@ -1,9 +1,8 @@
 use Rattle.std.proofs.Common.{refl}
-use Rattle.wait_class.proofs.Handed.{given_stored}
+use Rattle.wait_class.proofs.{Handed.given_stored, AwakeSteps.awake_stored}
 use Rattle.wait_model.specs.declared.steps.Step.TheVariants as step
 use Rattle.wait_rule.specs.Queues.{index}
 use Rattle.count_sem.proofs.DownTakes.{off_turned}
-use Rattle.wait_class.proofs.AwakeSteps.{awake_stored}
 use Rattle.count_sem.proofs.downs.off_event.Goals as goal
 
 pub returns-clause-turned : goal.returns-clause-turned

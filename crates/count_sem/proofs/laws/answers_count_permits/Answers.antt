@@ -1,6 +1,4 @@
-use Rattle.count_sem.proofs.AnsweredDowns.{downs_counted}
-use Rattle.count_sem.proofs.AnsweredTries.{tries_counted}
-use Rattle.count_sem.proofs.AnsweredUps.{ups_counted}
+use Rattle.count_sem.proofs.{AnsweredDowns.downs_counted, AnsweredTries.tries_counted, AnsweredUps.ups_counted}
 use Rattle.count_sem.proofs.laws.answers_count_permits.Goals as goal
 
 pub returns-clause-ups : goal.returns-clause-ups

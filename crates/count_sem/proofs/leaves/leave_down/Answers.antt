@@ -1,9 +1,8 @@
 use Rattle.std.proofs.Common.{◌∙◌, subst, sym}
 use Rattle.wait_leave.proofs.Ways.{way_domain, way_lands}
 use Rattle.count_sem.specs.DownLeaves.{LeavesDown}
-use Rattle.count_sem.proofs.DownLaws.{down_lawful}
+use Rattle.count_sem.proofs.{DownLaws.down_lawful, PassedAwake.left_awake}
 use Rattle.count_sem.proofs.DownLeaving.{down_may_leave, leaves_down, way_here, way_idle, way_kept, way_out_of, way_up}
-use Rattle.count_sem.proofs.PassedAwake.{left_awake}
 use Rattle.count_sem.proofs.leaves.leave_down.Goals as goal
 
 pub close-requires-clause-ended : goal.close-requires-clause-ended

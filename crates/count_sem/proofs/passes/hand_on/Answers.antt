@@ -4,14 +4,11 @@ use Rattle.wq_head.proofs.RousedTasks.{none_looked, none_unlocked, rousing_from,
 use Rattle.completion_cell.proofs.CellRousing.{none_set}
 use Rattle.wait_class.specs.declared.stages.Turn.TheVariants as turn
 use Rattle.wait_leave.proofs.Ways.{under_way_is}
-use Rattle.count_sem.specs.DownLeaves.{down_exits}
-use Rattle.count_sem.specs.Downs.{down_table}
+use Rattle.count_sem.specs.{DownLeaves.down_exits, Downs.down_table}
 use Rattle.count_sem.specs.declared.downs.DownOutcome.TheVariants as outcome
-use Rattle.count_sem.proofs.DownLeaving.{ends_until, on_way_clean}
-use Rattle.count_sem.proofs.DownPasses.{passed_down}
-use Rattle.count_sem.proofs.FoundWaiters.{nobody_in, waiter_in}
-use Rattle.count_sem.proofs.HandingOn.{alone_owes, given_owes, given_rises, kept_alone, looking_counted}
-use Rattle.count_sem.proofs.HandingOn.{lowered_holds}
+use Rattle.count_sem.proofs.{DownLeaving.ends_until, DownLeaving.on_way_clean, DownPasses.passed_down}
+use Rattle.count_sem.proofs.{FoundWaiters.nobody_in, FoundWaiters.waiter_in}
+use Rattle.count_sem.proofs.HandingOn.{alone_owes, given_owes, given_rises, kept_alone, looking_counted, lowered_holds}
 use Rattle.count_sem.proofs.HandingOn.{pass_high, passed_on}
 use Rattle.count_sem.proofs.passes.hand_on.Goals as goal
 

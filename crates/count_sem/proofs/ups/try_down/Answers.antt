@@ -1,7 +1,6 @@
 use Rattle.std.proofs.Common.{◌<◌, ℕ, refl, rules, subst, sym}
 use Rattle.wait_model.specs.declared.layout.TheConstants.{HEADS}
-use Rattle.completion_cell.proofs.Completing.{rise_none}
-use Rattle.completion_cell.proofs.Ground.{head_there}
+use Rattle.completion_cell.proofs.{Completing.rise_none, Ground.head_there}
 use Rattle.count_sem.proofs.TakingPermits.{permit_counted, permit_ends, permit_holds, permit_owes}
 use Rattle.count_sem.proofs.ups.try_down.Goals as goal
 

@@ -1,8 +1,7 @@
 use Rattle.std.proofs.Common.{◌∙◌, ◌<◌, ◌≤◌, ℕ, arith, rules, subst, sym}
 use Rattle.wait_model.specs.declared.layout.TheConstants.{FIRST_SIMPLE_HEAD, HEADS}
 use Rattle.wq_head.specs.Selects.{HasSelected}
-use Rattle.completion_cell.proofs.Completing.{done_simple}
-use Rattle.completion_cell.proofs.Ground.{head_there}
+use Rattle.completion_cell.proofs.{Completing.done_simple, Ground.head_there}
 use Rattle.count_sem.proofs.Raising.{found_nobody, given_by, given_owes, took_of}
 use Rattle.count_sem.proofs.ups.up.Goals as goal
 

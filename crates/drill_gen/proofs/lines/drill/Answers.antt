@@ -1,6 +1,5 @@
 use Rattle.std.proofs.Common.{subst, All, sum_by, sym, ◌∙◌, ap}
-use Rattle.wait_script.specs.Lines.{events_asked}
-use Rattle.wait_script.specs.Spelling.{IsFit, IsPlayable}
+use Rattle.wait_script.specs.{Lines.events_asked, Spelling.IsFit, Spelling.IsPlayable}
 use Rattle.wait_script.specs.declared.version.Version.TheVariants.{One}
 use Rattle.wait_script.proofs.Spelled.{fit_plays}
 use Rattle.drill_gen.specs.Drill.{drill_of}

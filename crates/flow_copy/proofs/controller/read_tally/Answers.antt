@@ -1,8 +1,7 @@
 use Rattle.std.proofs.Common.{rules}
-use Rattle.flow_copy.proofs.Awaits.{locked_end, read_tally}
+use Rattle.flow_copy.proofs.{Awaits.locked_end, Awaits.read_tally, Words.loses_page}
 use Rattle.flow_copy.proofs.Counting.{counted_all, locked, unlocked}
 use Rattle.copy_ends.proofs.Idlers.{at_work, controlled, counted_apart}
-use Rattle.flow_copy.proofs.Words.{loses_page}
 use Rattle.flow_copy.proofs.controller.read_tally.Goals as goal
 
 pub returns-in_err-lock_page-clause-controlled : goal.returns-in_err-lock_page-clause-controlled

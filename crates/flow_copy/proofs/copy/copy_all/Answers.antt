@@ -1,7 +1,6 @@
 use Rattle.std.proofs.Common.{ap, ◌∙◌}
 use Rattle.std.specs.Prelude.{[], ◌∷◌}
-use Rattle.copy_plan.specs.declared.stop.Stop.{Stop}
-use Rattle.copy_plan.specs.Kinds.{copy_stop}
+use Rattle.copy_plan.specs.{declared.stop.Stop.Stop, Kinds.copy_stop}
 use Rattle.copy_ends.proofs.Whole.{ensured, numbers_are}
 use Rattle.flow_copy.proofs.Words.{follows}
 use Rattle.flow_copy.proofs.copy.copy_all.Goals as goal

@@ -1,5 +1,4 @@
-use Rattle.copy_ends.proofs.Ends.{completes}
-use Rattle.copy_ends.proofs.ReaderEnds.{reader_completes}
+use Rattle.copy_ends.proofs.{Ends.completes, ReaderEnds.reader_completes}
 use Rattle.flow_copy.specs.Workers.{ReaderGoes, ReaderWorks}
 use Rattle.flow_copy.proofs.Words.{gave_map}
 use Rattle.flow_copy.proofs.reader.reader_task.Goals as goal

@@ -1,5 +1,4 @@
-use Rattle.copy_ends.proofs.Ends.{completes}
-use Rattle.copy_ends.proofs.RelayEnds.{relay_completes}
+use Rattle.copy_ends.proofs.{Ends.completes, RelayEnds.relay_completes}
 use Rattle.flow_copy.proofs.relay.relay_task.Goals as goal
 
 pub returns : goal.returns

@@ -1,5 +1,4 @@
-use Rattle.copy_ends.proofs.Ends.{completes}
-use Rattle.copy_ends.proofs.WriteEnds.{writer_completes}
+use Rattle.copy_ends.proofs.{Ends.completes, WriteEnds.writer_completes}
 use Rattle.flow_copy.proofs.writer.writer_task.Goals as goal
 
 pub returns : goal.returns

@@ -1,7 +1,6 @@
 use Rattle.std.proofs.Common.{ap, ◌∙◌}
 use Rattle.std.specs.Prelude.{[], ◌∷◌}
-use Rattle.copy_plan.specs.declared.stop.Stop.{Stop}
-use Rattle.copy_plan.specs.Kinds.{copy_stop}
+use Rattle.copy_plan.specs.{declared.stop.Stop.Stop, Kinds.copy_stop}
 use Rattle.flow_merge.specs.Merged.{Drawn, CrewEnds, SinkFilled, Five, drawn, ends_of, filled}
 use Rattle.flow_merge.proofs.Whole.{ended_of, ensured, follows}
 use Rattle.flow_merge.proofs.merge.merge_all.Goals as goal

@@ -1,6 +1,5 @@
 use Rattle.std.specs.Prelude.{None}
-use Rattle.flow_merge.specs.Mergers.{Merging}
-use Rattle.flow_merge.specs.MergerWords.{MergerTurns}
+use Rattle.flow_merge.specs.{Mergers.Merging, MergerWords.MergerTurns}
 use Rattle.flow_merge.proofs.merger.merge_on.Given as goal
 
 abbrev pub invariant-loop : goal.invariant-loop

@@ -1,7 +1,6 @@
 use Rattle.std.proofs.Common.{subst}
 use Rattle.std.specs.Prelude.{Bool}
-use Rattle.flow_merge.specs.MergerSteps.{MergesIf}
-use Rattle.flow_merge.specs.MergerWords.{TurnsIf}
+use Rattle.flow_merge.specs.{MergerSteps.MergesIf, MergerWords.TurnsIf}
 use Rattle.flow_merge.proofs.MergerEnds.{merger_worked, still_open}
 use Rattle.flow_merge.proofs.merger.merge_through.Goals as goal
 

@@ -4,8 +4,7 @@ use Rattle.wait_rule.specs.Pipes.{read_end}
 use Rattle.copy_plan.specs.declared.stop.Stop.{Stop}
 use Rattle.copy_turns.specs.Turns.{Relaying}
 use Rattle.flow_copy.specs.Workers.{GetsAnd, RelaysPiece}
-use Rattle.flow_merge.specs.declared.TheConstants.{MERGED_PIPE}
-use Rattle.flow_merge.specs.Mergers.{Merging}
+use Rattle.flow_merge.specs.{declared.TheConstants.MERGED_PIPE, Mergers.Merging}
 use Rattle.flow_merge.proofs.Turns.{merging_from}
 use Rattle.flow_merge.proofs.merger.pass_from.Goals as goal
 

@@ -1,7 +1,6 @@
 use Rattle.wait_rule.specs.PipeSays.{reading}
-use Rattle.flow_merge.specs.declared.TheConstants.{RIGHT_PIPE}
+use Rattle.flow_merge.specs.{declared.TheConstants.RIGHT_PIPE, Sides.LookedAtSides}
 use Rattle.flow_merge.specs.declared.sides.Side.TheVariants as sides
-use Rattle.flow_merge.specs.Sides.{LookedAtSides}
 use Rattle.flow_merge.proofs.Looks.{found_ended, kept_settled, left_looked, looked_then, right_looked}
 use Rattle.flow_merge.proofs.sides.look_both.Goals as goal
 

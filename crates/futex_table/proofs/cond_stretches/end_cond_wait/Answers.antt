@@ -1,7 +1,6 @@
 use Rattle.std.proofs.Common.{subst}
 use Rattle.futex_table.specs.LockLeaves.{WaitsForCondUntil}
-use Rattle.futex_table.proofs.CondStretching.{plain_cond}
-use Rattle.futex_table.proofs.TalliedCalls.{stay_tallied}
+use Rattle.futex_table.proofs.{CondStretching.plain_cond, TalliedCalls.stay_tallied}
 use Rattle.futex_table.proofs.cond_stretches.end_cond_wait.Goals as goal
 
 pub returns-clause-waited : goal.returns-clause-waited

@@ -1,6 +1,5 @@
 use Rattle.std.proofs.Common.{◌∙◌, ap, refl}
-use Rattle.wait_model.specs.declared.watches.Aim.{Aim}
-use Rattle.wait_model.specs.Watches.{head_of}
+use Rattle.wait_model.specs.{declared.watches.Aim.Aim, Watches.head_of}
 use Rattle.wait_class.specs.declared.stages.Turn.TheVariants as turn
 use Rattle.wait_leave.specs.OnTheWay.{straight}
 use Rattle.wq_head.specs.declared.wakes.WakeStage.TheVariants as wakes

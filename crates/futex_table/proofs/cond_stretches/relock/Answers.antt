@@ -1,8 +1,7 @@
 use Rattle.std.proofs.Common.{sym, subst}
 use Rattle.std.specs.Prelude.{false}
 use Rattle.wait_class.specs.declared.stages.Turn.TheVariants as turn
-use Rattle.futex_table.specs.CondStretches.{EndsCond}
-use Rattle.futex_table.specs.LockStretches.{AskedIf}
+use Rattle.futex_table.specs.{CondStretches.EndsCond, LockStretches.AskedIf}
 use Rattle.futex_table.proofs.CondStretching.{relock_ends, relock_on}
 use Rattle.futex_table.proofs.cond_stretches.relock.Goals as goal
 

@@ -3,8 +3,7 @@ use Rattle.std.specs.Prelude.{◌≡◌}
 use Rattle.wait_model.specs.declared.steps.Step.TheVariants as step
 use Rattle.wait_model.specs.declared.watches.Watch.TheVariants as watch
 use Rattle.wait_rule.specs.declared.journal.Item.TheVariants as item
-use Rattle.wait_rule.specs.Known.{Known}
-use Rattle.wait_rule.specs.Says.{added}
+use Rattle.wait_rule.specs.{Known.Known, Says.added}
 use Rattle.wait_event.proofs.Setting.{set_idle}
 use Rattle.futex_table.proofs.CondStretching.{cond_loaded, give_begins}
 use Rattle.futex_table.proofs.cond_stretches.store_back.Goals as goal

@@ -1,8 +1,7 @@
 use Rattle.std.proofs.Common.{sym, subst}
 use Rattle.wait_class.specs.declared.stages.Turn.TheVariants as turn
 use Rattle.wait_leave.specs.OnTheWay.{straight}
-use Rattle.futex_table.specs.CondStretches.{IsCondWaiting, IsCondAt}
-use Rattle.futex_table.specs.LockStretches.{AskedIf}
+use Rattle.futex_table.specs.{CondStretches.IsCondWaiting, CondStretches.IsCondAt, LockStretches.AskedIf}
 use Rattle.futex_table.proofs.CondStretching.{wait_lands, wait_on}
 use Rattle.futex_table.proofs.cond_stretches.stretch_cond_wait.Goals as goal
 

@@ -1,9 +1,8 @@
 use Rattle.std.proofs.Common.{sym, subst}
 use Rattle.std.specs.Prelude.{MatchBool, false}
 use Rattle.wait_class.specs.declared.stages.Turn.TheVariants as turn
-use Rattle.futex_table.specs.declared.cond_stretches.CondStage.{CondStage}
-use Rattle.futex_table.specs.CondStretches.{IsCondAsleep, IsCondAt}
-use Rattle.futex_table.specs.LockStretches.{AskedIf}
+use Rattle.futex_table.specs.{declared.cond_stretches.CondStage.CondStage, CondStretches.IsCondAsleep}
+use Rattle.futex_table.specs.{CondStretches.IsCondAt, LockStretches.AskedIf}
 use Rattle.futex_table.proofs.CondStretching.{either_awaits, relock_woke, wait_lands, wait_woke}
 use Rattle.futex_table.proofs.LockStretching.{looked_awake}
 use Rattle.futex_table.proofs.cond_stretches.woke_cond_wait.Goals as goal

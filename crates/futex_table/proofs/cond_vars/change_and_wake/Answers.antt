@@ -3,10 +3,8 @@ use Rattle.wait_model.specs.declared.watches.Mode.TheVariants as mode
 use Rattle.wait_model.specs.declared.watches.Watch.TheVariants as watch
 use Rattle.wait_rule.proofs.KnownLaws.CarriedTasks.{unchanged_first}
 use Rattle.wait_event.specs.Conds.{set_change}
-use Rattle.futex_table.proofs.CondVaring.{idle_agreed, load_held}
-use Rattle.futex_table.proofs.Mutexing.{idle_still}
-use Rattle.futex_table.proofs.TalliedCalls.{counts_add}
-use Rattle.futex_table.proofs.Tallying.{holder_adds}
+use Rattle.futex_table.proofs.{CondVaring.idle_agreed, CondVaring.load_held, Mutexing.idle_still}
+use Rattle.futex_table.proofs.{TalliedCalls.counts_add, Tallying.holder_adds}
 use Rattle.futex_table.proofs.cond_vars.change_and_wake.Goals as goal
 
 pub cond_load-seen-requires-clause-agreed : goal.cond_load-seen-requires-clause-agreed

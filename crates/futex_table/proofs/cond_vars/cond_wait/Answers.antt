@@ -1,13 +1,10 @@
 use Rattle.std.proofs.Common.{◌∙◌, subst, sym}
 use Rattle.std.specs.Prelude.{◌≡◌, Result}
 use Rattle.wait_model.specs.declared.watches.Watch.TheVariants as watch
-use Rattle.futex_table.specs.declared.cond_vars.CondEnd.{CondEnd}
-use Rattle.futex_table.specs.CondVars.{is_mutex_held}
-use Rattle.futex_table.specs.Holding.{holds_mutex}
+use Rattle.futex_table.specs.{declared.cond_vars.CondEnd.CondEnd, CondVars.is_mutex_held, Holding.holds_mutex}
+use Rattle.futex_table.proofs.{Mutexing.idle_still, Mutexing.out_still, TalliedCalls.stay_tallied}
 use Rattle.futex_table.proofs.CondVaring.{answered_holds, cond_carries, cond_held, idle_agreed, load_held, sets_out}
-use Rattle.futex_table.proofs.Mutexing.{idle_still, out_still}
 use Rattle.futex_table.proofs.Tallying.{leaves_on, load_leaves, waited_leaves}
-use Rattle.futex_table.proofs.TalliedCalls.{stay_tallied}
 use Rattle.futex_table.proofs.cond_vars.cond_wait.Goals as goal
 
 pub cond_load-seen-requires-clause-agreed : goal.cond_load-seen-requires-clause-agreed

@@ -1,11 +1,9 @@
 use Rattle.std.proofs.Common.{refl, subst, sym}
-use Rattle.wait_class.proofs.Turns.{advances_none}
-use Rattle.wait_class.proofs.UnderWay.{begun_here}
+use Rattle.wait_class.proofs.{Turns.advances_none, UnderWay.begun_here}
 use Rattle.futex_table.specs.FutexTables.{IsFreshFutexWait, IsFutex, futex_table}
 use Rattle.futex_table.specs.declared.waits.FutexStage.TheVariants as stage
 use Rattle.futex_table.specs.declared.waits.FutexWait.{FutexWait}
-use Rattle.futex_table.proofs.FutexLaws.{futex_lawful}
-use Rattle.futex_table.proofs.FutexEndings.{begins_at}
+use Rattle.futex_table.proofs.{FutexLaws.futex_lawful, FutexEndings.begins_at}
 use Rattle.futex_table.proofs.futexes.begin_futex.Goals as goal
 
 pub returns-clause-fresh : goal.returns-clause-fresh

@@ -1,8 +1,7 @@
 use Rattle.wait_model.specs.declared.watches.Watch.TheVariants as watch
 use Rattle.wait_event.proofs.Setting.{set_idle, sets}
-use Rattle.futex_table.proofs.Mutexing.{stored_frees, stored_others}
-use Rattle.futex_table.proofs.TalliedCalls.{stay_apart}
-use Rattle.futex_table.proofs.Tallying.{adds_none, stored_apart}
+use Rattle.futex_table.proofs.{Mutexing.stored_frees, Mutexing.stored_others, TalliedCalls.stay_apart}
+use Rattle.futex_table.proofs.{Tallying.adds_none, Tallying.stored_apart}
 use Rattle.futex_table.proofs.futexes.futex_store.Goals as goal
 
 pub returns-clause-stored : goal.returns-clause-stored

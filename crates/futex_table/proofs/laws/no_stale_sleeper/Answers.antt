@@ -1,6 +1,5 @@
-use Rattle.futex_table.proofs.NobodyStale.{rule_leaves_nobody, steps_leave_nobody}
-use Rattle.futex_table.proofs.Staling.{rule_leaves_no_stale, steps_leave_no_stale}
-use Rattle.futex_table.proofs.Sleeping.{sleepers_sleep_for}
+use Rattle.futex_table.proofs.{NobodyStale.rule_leaves_nobody, NobodyStale.steps_leave_nobody}
+use Rattle.futex_table.proofs.{Staling.rule_leaves_no_stale, Staling.steps_leave_no_stale, Sleeping.sleepers_sleep_for}
 use Rattle.futex_table.proofs.laws.no_stale_sleeper.Goals as goal
 
 pub returns : goal.returns

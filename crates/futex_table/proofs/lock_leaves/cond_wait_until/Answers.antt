@@ -2,15 +2,11 @@ use Rattle.std.proofs.Common.{◌∙◌, subst, sym}
 use Rattle.std.specs.Prelude.{◌≡◌, Result}
 use Rattle.wait_model.specs.declared.watches.Watch.TheVariants as watch
 use Rattle.wait_leave.specs.declared.exits.Until.{Until}
-use Rattle.futex_table.specs.declared.cond_vars.CondEnd.{CondEnd}
-use Rattle.futex_table.specs.Holding.{holds_mutex}
-use Rattle.futex_table.specs.LockLeaves.{is_held_until}
+use Rattle.futex_table.specs.{declared.cond_vars.CondEnd.CondEnd, Holding.holds_mutex, LockLeaves.is_held_until}
+use Rattle.futex_table.proofs.{LockLeaving.cond_until_held, Mutexing.idle_still, Mutexing.out_still}
+use Rattle.futex_table.proofs.{LeftTallies.until_leaves, TalliedCalls.stay_tallied, Tallying.leaves_on}
+use Rattle.futex_table.proofs.Tallying.{load_leaves}
 use Rattle.futex_table.proofs.CondVaring.{cond_carries, idle_agreed, load_held, sets_out}
-use Rattle.futex_table.proofs.LockLeaving.{cond_until_held}
-use Rattle.futex_table.proofs.Mutexing.{idle_still, out_still}
-use Rattle.futex_table.proofs.LeftTallies.{until_leaves}
-use Rattle.futex_table.proofs.TalliedCalls.{stay_tallied}
-use Rattle.futex_table.proofs.Tallying.{leaves_on, load_leaves}
 use Rattle.futex_table.proofs.lock_leaves.cond_wait_until.Goals as goal
 
 pub cond_load-seen-requires-clause-agreed : goal.cond_load-seen-requires-clause-agreed

@@ -1,11 +1,9 @@
 use Rattle.std.proofs.Common.{◌∙◌, sym}
 use Rattle.std.specs.Prelude.{true}
 use Rattle.wait_model.specs.declared.tasks.SleepState.TheVariants as states
-use Rattle.futex_table.proofs.FutexLeaving.{until_as}
-use Rattle.futex_table.proofs.LeftTallies.{until_leaves}
+use Rattle.futex_table.proofs.{FutexLeaving.until_as, LeftTallies.until_leaves, TalliedCalls.stay_tallied}
+use Rattle.futex_table.proofs.{Tallying.leaves_none, Tallying.leaves_on}
 use Rattle.futex_table.proofs.LockLeaving.{asks_carries, asks_more, asks_none}
-use Rattle.futex_table.proofs.TalliedCalls.{stay_tallied}
-use Rattle.futex_table.proofs.Tallying.{leaves_none, leaves_on}
 use Rattle.futex_table.proofs.lock_leaves.mutex_lock_until.Goals as goal
 
 pub loop-init : goal.loop-init

@@ -1,7 +1,6 @@
 use Rattle.std.proofs.Common.{subst}
 use Rattle.futex_table.specs.LockLeaves.{LocksMutexUntil}
-use Rattle.futex_table.proofs.LockStretching.{plain_locks}
-use Rattle.futex_table.proofs.TalliedCalls.{stay_tallied}
+use Rattle.futex_table.proofs.{LockStretching.plain_locks, TalliedCalls.stay_tallied}
 use Rattle.futex_table.proofs.lock_stretches.end_mutex_lock.Goals as goal
 
 pub returns-clause-locked : goal.returns-clause-locked

@@ -3,12 +3,10 @@ use Rattle.std.specs.Prelude.{◌≡◌, ◌||◌, Bool, true, false}
 use Rattle.wait_model.specs.declared.steps.Step.TheVariants as step
 use Rattle.wait_model.specs.declared.watches.Watch.TheVariants as watch
 use Rattle.wait_class.specs.declared.stages.Turn.TheVariants as turn
-use Rattle.wait_class.proofs.AwakeSteps.{awake_step}
-use Rattle.wait_class.proofs.Handed.{given_step}
+use Rattle.wait_class.proofs.{AwakeSteps.awake_step, Handed.given_step}
 use Rattle.wait_leave.specs.OnTheWay.{straight}
 use Rattle.futex_table.specs.declared.waits.FutexStage.TheVariants as stage
-use Rattle.futex_table.specs.Holding.{holds_mutex}
-use Rattle.futex_table.specs.Mutexes.{HasTriedMutex}
+use Rattle.futex_table.specs.{Holding.holds_mutex, Mutexes.HasTriedMutex}
 use Rattle.futex_table.proofs.LockStretching.{left_tried}
 use Rattle.futex_table.proofs.lock_stretches.try_stretch.Goals as goal
 

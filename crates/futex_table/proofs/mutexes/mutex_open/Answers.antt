@@ -1,5 +1,4 @@
-use Rattle.futex_table.proofs.Tallying.{opened_tallies}
-use Rattle.futex_table.proofs.TalliedCalls.{starts_tallies}
+use Rattle.futex_table.proofs.{Tallying.opened_tallies, TalliedCalls.starts_tallies}
 use Rattle.futex_table.proofs.mutexes.mutex_open.Goals as goal
 
 pub returns-clause-opens : goal.returns-clause-opens

@@ -1,7 +1,6 @@
 use Rattle.std.proofs.Common.{refl}
+use Rattle.futex_table.proofs.{Tallying.took_leaves, TalliedCalls.stay_tallied}
 use Rattle.futex_table.proofs.Mutexing.{idle_still, took_holds, took_others, took_tried, tried_holds}
-use Rattle.futex_table.proofs.Tallying.{took_leaves}
-use Rattle.futex_table.proofs.TalliedCalls.{stay_tallied}
 use Rattle.futex_table.proofs.mutexes.mutex_try.Goals as goal
 
 pub returns-clause-tried : goal.returns-clause-tried

@@ -1,5 +1,4 @@
-use Rattle.futex_table.proofs.Tallying.{freed_leaves}
-use Rattle.futex_table.proofs.TalliedCalls.{stay_tallied}
+use Rattle.futex_table.proofs.{Tallying.freed_leaves, TalliedCalls.stay_tallied}
 use Rattle.futex_table.proofs.mutexes.mutex_unlock.Goals as goal
 
 pub returns-clause-tallies : goal.returns-clause-tallies

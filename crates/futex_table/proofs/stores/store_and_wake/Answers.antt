@@ -2,8 +2,7 @@ use Rattle.std.proofs.Common.{◌∙◌}
 use Rattle.wait_model.specs.declared.watches.Mode.TheVariants as mode
 use Rattle.wait_model.specs.declared.watches.Watch.TheVariants as watch
 use Rattle.wait_event.proofs.Setting.{has_set, set_carries, set_idle}
-use Rattle.futex_table.proofs.Mutexing.{set_frees, set_others}
-use Rattle.futex_table.proofs.Tallying.{woken_adds}
+use Rattle.futex_table.proofs.{Mutexing.set_frees, Mutexing.set_others, Tallying.woken_adds}
 use Rattle.futex_table.proofs.stores.store_and_wake.Goals as goal
 
 pub wake-requires-clause-idle : goal.wake-requires-clause-idle

@@ -1,7 +1,6 @@
 use Rattle.std.proofs.Common.{◌∙◌}
-use Rattle.futex_table.proofs.CondVaring.{idle_agreed, load_held}
-use Rattle.futex_table.proofs.Mutexing.{idle_still}
-use Rattle.futex_table.proofs.TalliedCalls.{read_is, read_stays}
+use Rattle.futex_table.proofs.{CondVaring.idle_agreed, CondVaring.load_held, Mutexing.idle_still, TalliedCalls.read_is}
+use Rattle.futex_table.proofs.TalliedCalls.{read_stays}
 use Rattle.futex_table.proofs.tallies.tally_read.Goals as goal
 
 pub cond_load-requires-clause-agreed : goal.cond_load-requires-clause-agreed

@@ -1,9 +1,7 @@
 use Rattle.std.proofs.Common.{◌∙◌, ap, subst, ℕ, ◌∷◌, ◌++◌}
 use Rattle.wait_model.specs.Totals.{total}
-use Rattle.wait_rule.specs.Journals.{part_in}
-use Rattle.wait_rule.specs.Known.{Known}
+use Rattle.wait_rule.specs.{Journals.part_in, Known.Known, Says.history_of}
 use Rattle.head_tests.specs.Meeting.{wakes_task, HaveMet}
-use Rattle.wait_rule.specs.Says.{history_of}
 use Rattle.head_tests.proofs.steps.meet.Goals as goal
 
 pub returns : goal.returns

@@ -1,15 +1,11 @@
 use Rattle.std.proofs.Common.{◌∙◌, ap, sym, refl, arith, eq-eqb}
 use Rattle.std.specs.Prelude.{ℕ, ◌≡◌, ◌&&◌, Bool, true, false, [], ◌∷◌, ◌++◌}
-use Rattle.wait_model.specs.declared.layout.TheConstants.{NORMAL}
+use Rattle.wait_model.specs.{declared.layout.TheConstants.NORMAL, Words.flag, Fold.met_task, Totals.total}
 use Rattle.wait_model.specs.declared.steps.Step.TheVariants as step
-use Rattle.wait_model.specs.Words.{flag}
-use Rattle.wait_model.specs.Fold.{met_task}
-use Rattle.wait_model.specs.Totals.{total}
 use Rattle.wait_model.proofs.HistoryLaws.StepTotals.{total_snoc}
 use Rattle.wait_rule.specs.declared.journal.Item.TheVariants as item
-use Rattle.wait_rule.specs.Known.{Known}
+use Rattle.wait_rule.specs.{Known.Known, Says.added, Says.history_of}
 use Rattle.head_tests.specs.Meeting.{wakes_task}
-use Rattle.wait_rule.specs.Says.{added, history_of}
 use Rattle.wait_rule.proofs.KnownLaws.TaskHistories.{history_after}
 use Rattle.head_tests.proofs.steps.waker.Goals as goal
 

@@ -1,5 +1,4 @@
-use Rattle.order_laws.proofs.QueuedOrders.{left_entries_stand}
-use Rattle.order_laws.proofs.RousedTasks.{steps_take_off_woken}
+use Rattle.order_laws.proofs.{QueuedOrders.left_entries_stand, RousedTasks.steps_take_off_woken}
 use Rattle.order_laws.proofs.laws.taken_off_woken.Goals as goal
 
 pub returns-clause-stand : goal.returns-clause-stand

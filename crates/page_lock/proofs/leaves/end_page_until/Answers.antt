@@ -2,8 +2,7 @@ use Rattle.std.proofs.Common.{subst, sym}
 use Rattle.std.specs.Prelude.{MatchBool, Result}
 use Rattle.wait_rule.specs.Says.{IsClean}
 use Rattle.wait_leave.specs.declared.exits.Until.{Until}
-use Rattle.bit_wait.specs.Holders.{IsHolder}
-use Rattle.bit_wait.specs.declared.wait_calls.BitEnd.{BitEnd}
+use Rattle.bit_wait.specs.{Holders.IsHolder, declared.wait_calls.BitEnd.BitEnd}
 use Rattle.page_lock.specs.PageLeaves.{EndsPageUntil, takes_page_until}
 use Rattle.page_lock.proofs.PageLeaving.{ends_until, way_clean}
 use Rattle.page_lock.proofs.leaves.end_page_until.Goals as goal

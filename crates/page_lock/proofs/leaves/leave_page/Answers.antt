@@ -3,9 +3,8 @@ use Rattle.std.specs.Prelude.{Result}
 use Rattle.wait_rule.specs.Queues.{index}
 use Rattle.wait_leave.specs.declared.exits.Until.{Until}
 use Rattle.bit_wait.specs.declared.wait_calls.BitEnd.{BitEnd}
-use Rattle.page_lock.specs.PageLeaves.{LeavesPage, takes_page_until}
-use Rattle.page_lock.specs.PageStays.{PageKeeps}
-use Rattle.page_lock.specs.PageTables.{page_in, page_table}
+use Rattle.page_lock.specs.{PageLeaves.LeavesPage, PageLeaves.takes_page_until, PageStays.PageKeeps, PageTables.page_in}
+use Rattle.page_lock.specs.PageTables.{page_table}
 use Rattle.page_lock.proofs.PageLeaving.{leaves_page, left_asks, left_idle, left_kept, left_out, left_up}
 use Rattle.page_lock.proofs.leaves.leave_page.Goals as goal
 

@@ -2,8 +2,7 @@ use Rattle.std.proofs.Common.{◌∙◌, refl, subst, sym}
 use Rattle.std.specs.Prelude.{Result, true}
 use Rattle.wait_leave.specs.declared.exits.Until.{Until}
 use Rattle.bit_wait.specs.declared.wait_calls.BitEnd.{BitEnd}
-use Rattle.page_lock.specs.PageLeaves.{EndsPageUntil, takes_page_until}
-use Rattle.page_lock.specs.PageStays.{TakesPage}
+use Rattle.page_lock.specs.{PageLeaves.EndsPageUntil, PageLeaves.takes_page_until, PageStays.TakesPage}
 use Rattle.page_lock.proofs.PageEndings.{locks_clean, page_is}
 use Rattle.page_lock.proofs.PageLeaving.{ends_until, left_idle, left_out, left_takes, left_up}
 use Rattle.page_lock.proofs.leaves.lock_page_until.Goals as goal

@@ -1,11 +1,8 @@
 use Rattle.std.proofs.Common.{ap, refl, subst, sym}
-use Rattle.wait_class.proofs.Turns.{advances_none}
-use Rattle.wait_class.proofs.UnderWay.{begun_here}
+use Rattle.wait_class.proofs.{Turns.advances_none, UnderWay.begun_here}
 use Rattle.page_lock.specs.declared.waits.PageStage.TheVariants as stage
-use Rattle.page_lock.proofs.PageLaws.{page_lawful}
-use Rattle.page_lock.specs.PageTables.{IsRunningPageWait, page_table}
-use Rattle.page_lock.specs.declared.waits.LockPage.{LockPage}
-use Rattle.page_lock.proofs.PageEndings.{begins_at}
+use Rattle.page_lock.proofs.{PageLaws.page_lawful, PageEndings.begins_at}
+use Rattle.page_lock.specs.{PageTables.IsRunningPageWait, PageTables.page_table, declared.waits.LockPage.LockPage}
 use Rattle.page_lock.proofs.wait_calls.begin_page.Goals as goal
 
 pub returns-clause-at : goal.returns-clause-at

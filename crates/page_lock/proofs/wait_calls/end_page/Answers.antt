@@ -1,8 +1,7 @@
 use Rattle.std.proofs.Common.{subst, sym}
 use Rattle.std.specs.Prelude.{MatchBool, Result}
 use Rattle.wait_rule.specs.Says.{IsClean}
-use Rattle.bit_wait.specs.Holders.{IsHolder}
-use Rattle.bit_wait.specs.declared.wait_calls.BitEnd.{BitEnd}
+use Rattle.bit_wait.specs.{Holders.IsHolder, declared.wait_calls.BitEnd.BitEnd}
 use Rattle.page_lock.specs.PageEnds.{EndsPageLock, has_taken_page}
 use Rattle.page_lock.proofs.PageEndings.{ends_wait, under_clean}
 use Rattle.page_lock.proofs.wait_calls.end_page.Goals as goal

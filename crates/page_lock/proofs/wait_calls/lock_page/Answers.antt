@@ -1,7 +1,6 @@
 use Rattle.std.proofs.Common.{◌∙◌, subst, sym}
 use Rattle.std.specs.Prelude.{Result}
-use Rattle.page_lock.specs.PageEnds.{EndsPageLock, has_taken_page}
-use Rattle.page_lock.specs.PageStays.{TakesPage}
+use Rattle.page_lock.specs.{PageEnds.EndsPageLock, PageEnds.has_taken_page, PageStays.TakesPage}
 use Rattle.bit_wait.specs.declared.wait_calls.BitEnd.{BitEnd}
 use Rattle.page_lock.proofs.PageEndings.{ends_idle, ends_out, ends_takes, ends_up, ends_wait, locks_clean}
 use Rattle.page_lock.proofs.wait_calls.lock_page.Goals as goal

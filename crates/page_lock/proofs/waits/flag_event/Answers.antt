@@ -4,8 +4,7 @@ use Rattle.page_lock.specs.PageTables.{page_table}
 use Rattle.page_lock.proofs.PageFlags.{flag_advances, flags_fall}
 use Rattle.wait_model.specs.declared.steps.Step.TheVariants as step
 use Rattle.wait_rule.specs.Queues.{index}
-use Rattle.wait_class.proofs.Handed.{given_step}
-use Rattle.wait_class.proofs.AwakeSteps.{awake_step}
+use Rattle.wait_class.proofs.{Handed.given_step, AwakeSteps.awake_step}
 use Rattle.page_lock.proofs.waits.flag_event.Goals as goal
 
 pub returns-clause-turned : goal.returns-clause-turned

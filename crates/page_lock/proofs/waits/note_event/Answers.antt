@@ -3,8 +3,7 @@ use Rattle.page_lock.proofs.PageFlags.{note_advances, note_given, note_off}
 use Rattle.std.specs.Prelude.{Some}
 use Rattle.wait_model.specs.declared.steps.Step.TheVariants as step
 use Rattle.wait_rule.specs.Queues.{index}
-use Rattle.wait_class.proofs.Handed.{given_step}
-use Rattle.wait_class.proofs.AwakeSteps.{awake_step}
+use Rattle.wait_class.proofs.{Handed.given_step, AwakeSteps.awake_step}
 use Rattle.page_lock.proofs.waits.note_event.Goals as goal
 
 pub page_note-requires-clause-given : goal.page_note-requires-clause-given

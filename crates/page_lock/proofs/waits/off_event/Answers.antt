@@ -2,8 +2,7 @@ use Rattle.std.proofs.Common.{refl}
 use Rattle.page_lock.proofs.PageQueues.{off_advances, off_holds, off_may}
 use Rattle.wait_model.specs.declared.steps.Step.TheVariants as step
 use Rattle.wait_rule.specs.Queues.{index}
-use Rattle.wait_class.proofs.Handed.{given_stored}
-use Rattle.wait_class.proofs.AwakeSteps.{awake_stored}
+use Rattle.wait_class.proofs.{Handed.given_stored, AwakeSteps.awake_stored}
 use Rattle.page_lock.proofs.waits.off_event.Goals as goal
 
 pub remove-requires-clause-held : goal.remove-requires-clause-held

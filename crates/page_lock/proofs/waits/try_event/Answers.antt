@@ -4,8 +4,7 @@ use Rattle.page_lock.specs.PageTables.{page_table}
 use Rattle.page_lock.proofs.PageTries.{may_try, tries_fall, try_advances}
 use Rattle.wait_model.specs.declared.steps.Step.TheVariants as step
 use Rattle.wait_model.specs.declared.watches.Watch.TheVariants as watch
-use Rattle.wait_class.proofs.Handed.{given_step}
-use Rattle.wait_class.proofs.AwakeSteps.{awake_step}
+use Rattle.wait_class.proofs.{Handed.given_step, AwakeSteps.awake_step}
 use Rattle.page_lock.proofs.waits.try_event.Goals as goal
 
 pub bit_set-value-requires-clause-agreed : goal.bit_set-value-requires-clause-agreed

@@ -3,8 +3,7 @@ use Rattle.page_lock.proofs.PageFlags.{clear_advances, may_clear}
 use Rattle.std.specs.Prelude.{None}
 use Rattle.wait_model.specs.declared.steps.Step.TheVariants as step
 use Rattle.wait_rule.specs.Queues.{index}
-use Rattle.wait_class.proofs.Handed.{given_step}
-use Rattle.wait_class.proofs.AwakeSteps.{awake_step}
+use Rattle.wait_class.proofs.{Handed.given_step, AwakeSteps.awake_step}
 use Rattle.page_lock.proofs.waits.unflag_event.Goals as goal
 
 pub woken_clear-requires-clause-may : goal.woken_clear-requires-clause-may

@@ -1,8 +1,7 @@
 use Rattle.std.proofs.Common.{Ok, ◌∙◌, sym}
-use Rattle.poll_turns.proofs.Quitting.{quits_left, quits_ready}
+use Rattle.poll_turns.proofs.{Quitting.quits_left, Quitting.quits_ready, Showing.loads_again}
 use Rattle.poll_turns.specs.declared.stages.PollStage.TheVariants as stage
 use Rattle.poll_turns.specs.declared.stages.PollUntil.TheVariants as until
-use Rattle.poll_turns.proofs.Showing.{loads_again}
 use Rattle.poll_turns.proofs.asking.load_last.Goals as goal
 
 pub load_both-loads-requires-clause-up : goal.load_both-loads-requires-clause-up

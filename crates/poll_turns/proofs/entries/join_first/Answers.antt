@@ -1,7 +1,6 @@
 use Rattle.std.proofs.Common.{◌∙◌, ◌<◌, ap, false, refl, subst, sym}
-use Rattle.wait_model.specs.declared.layout.TheConstants.{FIRST_DONE_HEAD}
-use Rattle.wait_model.specs.declared.watches.Kind.{Kind}
-use Rattle.wait_model.specs.Watches.{head_of, kind_for}
+use Rattle.wait_model.specs.{declared.layout.TheConstants.FIRST_DONE_HEAD, declared.watches.Kind.Kind, Watches.head_of}
+use Rattle.wait_model.specs.Watches.{kind_for}
 use Rattle.wait_rule.specs.Known.{Known}
 use Rattle.wq_head.specs.Adds.{HasAdded, IsFormPlace}
 use Rattle.wq_head.proofs.OneMoreLook.{holding_on}

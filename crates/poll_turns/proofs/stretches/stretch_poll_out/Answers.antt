@@ -1,10 +1,8 @@
 use Rattle.std.proofs.Common.{ℕ, ◌∙◌, subst, sym}
 use Rattle.std.specs.Prelude.{true}
-use Rattle.poll_turns.specs.PollTurns.{PollAskedIf}
-use Rattle.poll_turns.proofs.Quitting.{on_turn}
+use Rattle.poll_turns.specs.{PollTurns.PollAskedIf, PollShows.DidStretch}
+use Rattle.poll_turns.proofs.{Quitting.on_turn, Showing.out_awake}
 use Rattle.poll_turns.specs.declared.stages.PollStage.TheVariants as stage
-use Rattle.poll_turns.specs.PollShows.{DidStretch}
-use Rattle.poll_turns.proofs.Showing.{out_awake}
 use Rattle.poll_turns.proofs.stretches.stretch_poll_out.Goals as goal
 
 pub load_last-requires-clause-at : goal.load_last-requires-clause-at

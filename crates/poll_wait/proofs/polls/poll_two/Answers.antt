@@ -1,6 +1,5 @@
 use Rattle.std.proofs.Common.{◌∙◌, None, Ok, Some, refl, sym}
-use Rattle.poll_wait.specs.declared.turns.Poll.{Poll}
-use Rattle.poll_wait.specs.Polls.{EndsPoll, IsPoll}
+use Rattle.poll_wait.specs.{declared.turns.Poll.Poll, Polls.EndsPoll, Polls.IsPoll}
 use Rattle.poll_wait.proofs.Sides.{stays_beside}
 use Rattle.poll_wait.proofs.Turning.{done_carried, done_idle, ends_poll, first_turn, loads_carried, loads_idle}
 use Rattle.poll_wait.proofs.Turning.{loads_out, loads_second}

@@ -1,8 +1,6 @@
 use Rattle.std.proofs.Common.{◌<◌, subst, sym}
-use Rattle.wait_model.specs.declared.layout.TheConstants.{FIRST_DONE_HEAD}
-use Rattle.wait_model.specs.Watches.{head_of}
-use Rattle.wait_event.proofs.Conditions.{low_fits}
-use Rattle.wait_event.proofs.Preparing.{carried_as, lock_as}
+use Rattle.wait_model.specs.{declared.layout.TheConstants.FIRST_DONE_HEAD, Watches.head_of}
+use Rattle.wait_event.proofs.{Conditions.low_fits, Preparing.carried_as, Preparing.lock_as}
 use Rattle.poll_wait.proofs.Joining.{held_at, join_carries, join_ends, join_may, joins_home, joins_low}
 use Rattle.poll_wait.proofs.Polled.{polled_low}
 use Rattle.poll_wait.proofs.seconds.join_second.Goals as goal

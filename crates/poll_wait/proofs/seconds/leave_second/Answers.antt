@@ -1,8 +1,6 @@
 use Rattle.std.proofs.Common.{◌<◌, subst, sym}
-use Rattle.wait_model.specs.declared.layout.TheConstants.{FIRST_DONE_HEAD}
-use Rattle.wait_model.specs.Watches.{head_of}
-use Rattle.wait_event.proofs.Conditions.{low_fits}
-use Rattle.wait_event.proofs.Preparing.{carried_as, lock_as}
+use Rattle.wait_model.specs.{declared.layout.TheConstants.FIRST_DONE_HEAD, Watches.head_of}
+use Rattle.wait_event.proofs.{Conditions.low_fits, Preparing.carried_as, Preparing.lock_as}
 use Rattle.poll_wait.proofs.Leaving.{leave_home, leave_low, leave_off, leave_on, leave_owes, off_carried, on_carried}
 use Rattle.poll_wait.proofs.Leaving.{pares_second}
 use Rattle.poll_wait.proofs.seconds.leave_second.Goals as goal

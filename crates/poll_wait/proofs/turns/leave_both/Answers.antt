@@ -1,5 +1,4 @@
-use Rattle.poll_wait.proofs.Pairing.{leave_pair, out_stays}
-use Rattle.poll_wait.proofs.Queueing.{may_finish, may_leave}
+use Rattle.poll_wait.proofs.{Pairing.leave_pair, Pairing.out_stays, Queueing.may_finish, Queueing.may_leave}
 use Rattle.poll_wait.proofs.turns.leave_both.Goals as goal
 
 pub finish_wait-requires-clause-may : goal.finish_wait-requires-clause-may

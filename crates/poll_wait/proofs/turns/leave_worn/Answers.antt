@@ -1,7 +1,6 @@
 use Rattle.std.proofs.Common.{refl, subst, sym}
 use Rattle.poll_wait.specs.Polls.{EndsLast, ready_of}
-use Rattle.poll_wait.proofs.Polled.{still_has}
-use Rattle.poll_wait.proofs.Sleeping.{done_by, worn_goes}
+use Rattle.poll_wait.proofs.{Polled.still_has, Sleeping.done_by, Sleeping.worn_goes}
 use Rattle.poll_wait.proofs.turns.leave_worn.Goals as goal
 
 pub leave_both-requires-clause-has : goal.leave_both-requires-clause-has

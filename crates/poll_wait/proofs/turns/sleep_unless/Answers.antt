@@ -1,6 +1,5 @@
 use Rattle.std.proofs.Common.{◌∙◌, sym}
-use Rattle.poll_wait.proofs.Polled.{still_has}
-use Rattle.poll_wait.proofs.Sleeping.{done_by, ready_goes}
+use Rattle.poll_wait.proofs.{Polled.still_has, Sleeping.done_by, Sleeping.ready_goes}
 use Rattle.poll_wait.proofs.turns.sleep_unless.Goals as goal
 
 pub leave_both-requires-clause-has : goal.leave_both-requires-clause-has

@@ -1,15 +1,16 @@
 -- A block that was made is handed on by its address; an error is told, and the address stays.
 use Rattle.sugwelan_c.proofs.Walks.{then_runs, ◌≡◌, ◌∙◌, ℕ, List, [], ◌∷◌, ◌++◌, refl, ap, lit<, w32, proved_at}
-use Rattle.sugwelan_c.proofs.Walks.{heap_val, heap_Tells, after, head, arm_body, heap_row, full_share, SProp, emp}
-use Rattle.sugwelan_c.proofs.Walks.{ent, Lft, Share, ftrue, flft, named, Val, vint, vptr, vcons, vnil, WpFn, fact}
-use Rattle.sugwelan_c.proofs.Walks.{fact_i, tables, ‵, raw, ◌⊛◌, prop, at_ret, ◌$◌, ◌∵◌, !, qed, done, move, keep}
-use Rattle.sugwelan_c.proofs.Walks.{use0, split, split3, join, fsplit, fsplit3, fjoin3, fpick, feq_l, feq_i, regoal}
-use Rattle.sugwelan_c.proofs.Walks.{rewrite, suffices, group, live, vrt, in_variant, whole, sub, enter, of_opd, lit}
-use Rattle.sugwelan_c.proofs.Walks.{store, stop, fld, first, assigns, switches_on, exec, returns, alloc_all, pass_all}
-use Rattle.sugwelan_c.proofs.Walks.{free_all, look_at, get, get_in, get_tag, through, sets, sets_last, env, i32, yes}
-use Rattle.sugwelan_c.proofs.Walks.{Is, shows, cell_at, Ptr, RawPtr, block_ptr, ptr_val, MutRef, MutBor, mut_vals}
-use Rattle.sugwelan_c.proofs.Walks.{plain, sint_Lawful, nothing, owning, opens, closes, peeks, only, Stays, walk_of}
+use Rattle.sugwelan_c.proofs.{BlockValues.pair_of, BlockValues.apart, Made.Made, addresses.put.Statement.statement}
+use Rattle.sugwelan_c.proofs.Walks.{heap_val, heap_Tells, after, head, arm_body, heap_row, full_share, SProp, emp, ent}
+use Rattle.sugwelan_c.proofs.Walks.{Lft, Share, ftrue, flft, named, Val, vint, vptr, vcons, vnil, WpFn, fact, use0}
+use Rattle.sugwelan_c.proofs.Walks.{split, split3, join, fsplit, fsplit3, fjoin3, fpick, feq_l, feq_i, regoal, rewrite}
+use Rattle.sugwelan_c.proofs.Walks.{suffices, group, live, vrt, in_variant, whole, sub, enter, of_opd, lit, store, stop}
+use Rattle.sugwelan_c.proofs.Walks.{fld, first, assigns, switches_on, exec, returns, alloc_all, pass_all, free_all}
+use Rattle.sugwelan_c.proofs.Walks.{look_at, get, get_in, get_tag, through, sets, sets_last, env, i32, yes, Is, shows}
+use Rattle.sugwelan_c.proofs.Walks.{cell_at, Ptr, RawPtr, block_ptr, ptr_val, MutRef, MutBor, mut_vals, plain}
+use Rattle.sugwelan_c.proofs.Walks.{sint_Lawful, nothing, owning, opens, closes, peeks, only, Stays, walk_of}
 use Rattle.sugwelan_c.proofs.Walks.{stay_dropped, stay_ref, Goes-ref, ends_at}
+use Rattle.sugwelan_c.proofs.Walks.{fact_i, tables, ‵, raw, ◌⊛◌, prop, at_ret, ◌$◌, ◌∵◌, !, qed, done, move, keep}
 use Rattle.std.proofs.Common.{pos, Ok, Err}
 use seplogic.Ra.Ura.{Ura}
 use contract.Running.{Running, MachineTables}
@@ -22,14 +23,11 @@ use denote.Signed.{sint_Makes}
 use Rattle.std_heap.specs.contracts.GlobalAllocator.TheImpl.{ghosts}
 use Rattle.std_heap.proofs.Global.TheLaws.{the_row_laws as heap_laws}
 use Rattle.wq_checked.specs.contracts.tasks.CheckedTask.{the_row as R}
-use Rattle.sugwelan_c.proofs.BlockValues.{pair_of, apart}
-use Rattle.sugwelan_c.proofs.Made.{Made}
 use Rattle.std.proofs.alloc.Calls.{Goes-blank}
 use denote.Exit.{Last, left}
 use denote.Param.Mute.{blank}
 use lib.Dec.{T}
 use Rattle.sugwelan_c.specs.contracts.addresses.put as f
-use Rattle.sugwelan_c.proofs.addresses.put.Statement.{statement}
 use Rattle.sugwelan_c.proofs.addresses.put.Code as code
 
 -- nothing is owed of what was made

@@ -1,6 +1,7 @@
 -- The address is the block's, and what C held of it is what the block keeps.
 use Rattle.sugwelan_c.proofs.Walks.{[], ◌∷◌, refl, proved, heap_val, heap_Tells, heap_row, never, fst∗, ftrue, bare}
 use Rattle.sugwelan_c.proofs.Walks.{vptr, WpFn, tables, ‵, ◌⊛◌, prop, ◌$◌, ◌∵◌, !, qed, done, move, keep, drop, split}
+use Rattle.sugwelan_c.proofs.{BlockValues.pair_of, BlockValues.together, addresses.take.Statement.statement}
 use Rattle.sugwelan_c.proofs.Walks.{join, regoal, suffices, sem, agg, enter, of_opd, no_more, and_then, returns}
 use Rattle.sugwelan_c.proofs.Walks.{alloc_all, pass_all, free_all, look_at, get, sets, yes, lone, Ptr, RawPtr}
 use Rattle.sugwelan_c.proofs.Walks.{block_ptr, null_ptr, in_a_block, rawptr_vals, rawptr_Tells, plain, nothing, says}
@@ -9,9 +10,7 @@ use Rattle.std_heap.specs.contracts.GlobalAllocator.TheImpl.{ghosts}
 use Rattle.std_heap.proofs.Global.TheLaws.{the_row_laws as heap_laws}
 use Rattle.sugwelan_c.specs.Blocks.{freeing, owned}
 use Rattle.wq_checked.specs.contracts.tasks.CheckedTask.{the_row as R}
-use Rattle.sugwelan_c.proofs.BlockValues.{pair_of, together}
 use Rattle.sugwelan_c.specs.contracts.addresses.take as f
-use Rattle.sugwelan_c.proofs.addresses.take.Statement.{statement}
 use Rattle.sugwelan_c.proofs.addresses.take.Code as code
 
 abbrev stayed : Stays f.ended.signature.params f.ended.kept

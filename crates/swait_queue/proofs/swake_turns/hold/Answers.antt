@@ -3,13 +3,10 @@ use Rattle.std.proofs.lemmas.Result.{err_from_is_err_and}
 use Rattle.std.specs.Prelude.{Some}
 use Rattle.wait_model.specs.declared.layout.TheConstants.{FIRST_SIMPLE_HEAD}
 use Rattle.wait_rule.specs.Says.{unlocked_with}
-use Rattle.wq_head.specs.Roused.{RousesNone}
-use Rattle.wq_head.specs.Selects.{HasSelected}
-use Rattle.wq_head.proofs.PermitHeads.{owes_low}
-use Rattle.wq_head.proofs.RousedTasks.{none_unlocked, rousing_on}
+use Rattle.wq_head.specs.{Roused.RousesNone, Selects.HasSelected}
+use Rattle.wq_head.proofs.{PermitHeads.owes_low, RousedTasks.none_unlocked, RousedTasks.rousing_on}
 use Rattle.swait_queue.specs.SwakeTurns.{swake_head}
-use Rattle.swait_queue.proofs.SimpleWakeEnds.{cond_low, may_rise}
-use Rattle.swait_queue.proofs.SwakeHolds.{high, is_over}
+use Rattle.swait_queue.proofs.{SimpleWakeEnds.cond_low, SimpleWakeEnds.may_rise, SwakeHolds.high, SwakeHolds.is_over}
 use Rattle.swait_queue.proofs.swake_turns.hold.Goals as goal
 
 pub select_tries-requires-clause-up : goal.select_tries-requires-clause-up

@@ -1,13 +1,10 @@
 use Rattle.std.proofs.Common.{refl, subst}
 use Rattle.wait_model.specs.declared.tasks.How.{How}
 use Rattle.wait_model.specs.declared.watches.Watch.TheVariants as watch
-use Rattle.wait_class.proofs.Turns.{advances_none}
-use Rattle.wait_class.proofs.UnderWay.{begun_here}
+use Rattle.wait_class.proofs.{Turns.advances_none, UnderWay.begun_here}
 use Rattle.wait_event.specs.declared.waits.WaitStage.TheVariants as stage
 use Rattle.wait_event.specs.Waits.{IsFreshWait, wait_table}
-use Rattle.wait_event.proofs.WaitLaws.{wait_lawful}
-use Rattle.wait_event.proofs.Conditions.{var_runs}
-use Rattle.wait_event.proofs.Endings.{begins_at}
+use Rattle.wait_event.proofs.{WaitLaws.wait_lawful, Conditions.var_runs, Endings.begins_at}
 use Rattle.var_wait.specs.VarWaits.{shared_in}
 use Rattle.var_wait.proofs.waits.begin_var.Goals as goal
 

@@ -1,8 +1,7 @@
 use Rattle.std.proofs.Common.{subst, sym}
 use Rattle.wait_class.specs.declared.stages.Turn.TheVariants as turn
 use Rattle.wait_class.specs.Tables.{Went}
-use Rattle.wait_class.proofs.Falling.{shown_behind}
-use Rattle.wait_class.proofs.Turns.{advances_on}
+use Rattle.wait_class.proofs.{Falling.shown_behind, Turns.advances_on}
 use Rattle.wait_class.proofs.events.advance.Goals as goal
 
 pub returns-in-Draw-clause-turned : goal.returns-in-Draw-clause-turned

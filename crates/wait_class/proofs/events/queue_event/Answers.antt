@@ -1,6 +1,5 @@
 use Rattle.std.proofs.Common.{◌∙◌, ap, inr, refl}
-use Rattle.wait_model.specs.Tasks.{state_mask}
-use Rattle.wait_model.specs.declared.layout.TheConstants.{HEADS}
+use Rattle.wait_model.specs.{Tasks.state_mask, declared.layout.TheConstants.HEADS}
 use Rattle.wait_class.proofs.Queues.{join_advances, join_falls, mid_holds, queue_at, queue_out, queue_seen}
 use Rattle.wait_class.proofs.Queues.{stay_advances, stay_falls, worn_advances, worn_falls, worn_owes, worn_stops}
 use Rattle.wait_model.specs.declared.steps.Step.TheVariants as step

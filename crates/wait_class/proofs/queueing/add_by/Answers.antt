@@ -1,13 +1,9 @@
 use Rattle.std.proofs.Common.{ℕ, ◌≡◌, ◌<◌, Bool, IfOk, Result, ap, arith, refl, subst, sym, true}
-use Rattle.wait_model.specs.Watches.{head_of}
-use Rattle.wait_model.specs.declared.watches.Entry.{Entry}
-use Rattle.wait_model.specs.declared.watches.Watch.{Watch}
+use Rattle.wait_model.specs.{Watches.head_of, declared.watches.Entry.Entry, declared.watches.Watch.Watch}
+use Rattle.wait_model.specs.{declared.layout.TheConstants.FIRST_DONE_HEAD, declared.queues.Form.Form}
 use Rattle.wait_model.specs.declared.watches.Watch.TheVariants as watch
-use Rattle.wait_rule.specs.Known.{Known}
+use Rattle.wait_rule.specs.{Known.Known, Queues.IsPriorityPlace, Queues.IsTailPlace}
 use Rattle.wq_head.specs.declared.adds.Worn.{Worn}
-use Rattle.wait_model.specs.declared.layout.TheConstants.{FIRST_DONE_HEAD}
-use Rattle.wait_model.specs.declared.queues.Form.{Form}
-use Rattle.wait_rule.specs.Queues.{IsPriorityPlace, IsTailPlace}
 use Rattle.wq_head.specs.Adds.{HasAdded, HasAddedTail, tail_entry, IsFormPlace}
 use Rattle.wait_class.specs.Queueing.{IsForBy, form_entry}
 use Rattle.wait_class.proofs.EntryForms.{for_flags}

@@ -1,13 +1,11 @@
 use Rattle.std.proofs.Common.{◌∙◌, arith, inl, inr, refl, sym}
-use Rattle.wait_model.specs.PointFacts.{holds}
+use Rattle.wait_model.specs.{PointFacts.holds, declared.layout.TheConstants.HEADS}
 use Rattle.wait_class.specs.declared.stages.Turn.TheVariants as turn
-use Rattle.wait_class.proofs.Falling.{falls_by, held_yes}
-use Rattle.wait_class.proofs.Falling.{goes_made, goes_shown, other_shown, other_stops}
-use Rattle.wq_head.proofs.PassedOn.{none_yet}
+use Rattle.wait_class.proofs.Falling.{falls_by, held_yes, goes_made, goes_shown, other_shown, other_stops}
 use Rattle.wait_class.proofs.Turns.{advances_none, advances_on, same_domain}
 use Rattle.wait_class.proofs.UnderWay.{came_on, under_on}
-use Rattle.wait_model.specs.declared.layout.TheConstants.{HEADS}
 use Rattle.wait_class.proofs.Handed.{given_as, given_on, given_still}
+use Rattle.wq_head.proofs.PassedOn.{none_yet}
 use Rattle.wait_class.proofs.runs.stretch.Goals as goal
 
 pub loop-turn-init : goal.loop-turn-init

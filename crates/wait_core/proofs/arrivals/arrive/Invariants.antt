@@ -1,10 +1,6 @@
 use Rattle.std.specs.Prelude.{◌≡◌, ◌<◌, ◌+◌, ◌-◌, ◌^◌, ℕ}
-use Rattle.wait_model.specs.declared.layout.TheConstants.{BREAK}
-use Rattle.wait_model.specs.Runs.{State, arrives_from}
-use Rattle.wait_model.specs.Watches.{is_for}
-use Rattle.wait_model.specs.Queues.{arrive, members_from}
-use Rattle.wait_model.specs.Locations.{Shows}
-use Rattle.wait_model.specs.Reached.{IsSound}
+use Rattle.wait_model.specs.{declared.layout.TheConstants.BREAK, Runs.State, Runs.arrives_from, Watches.is_for}
+use Rattle.wait_model.specs.{Queues.arrive, Queues.members_from, Locations.Shows, Reached.IsSound}
 use Rattle.wait_core.proofs.arrivals.arrive.Given as goal
 
 -- the walk goes on as from this rank on, after so many calls

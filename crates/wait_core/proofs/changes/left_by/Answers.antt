@@ -1,11 +1,8 @@
 use Rattle.std.proofs.Common.{refl, ap, subst, arith, ◌∙◌}
 use Rattle.std.specs.Prelude.{slice_index}
-use Rattle.wait_model.specs.declared.calls.Event.{Event}
-use Rattle.wait_model.specs.Locations.{position_of, location_of}
-use Rattle.wait_model.specs.Watches.{page}
-use Rattle.wait_model.specs.Reached.{Allows, Joins}
+use Rattle.wait_model.specs.{declared.calls.Event.Event, Locations.position_of, Locations.location_of, Watches.page}
+use Rattle.wait_model.specs.{Reached.Allows, Reached.Joins, Points.given_at}
 use Rattle.wait_core.proofs.BitWords.{set_leaves, clear_leaves}
-use Rattle.wait_model.specs.Points.{given_at}
 use Rattle.wait_core.proofs.changes.left_by.Goals as goal
 
 pub returns-in-Tas : goal.returns-in-Tas

@@ -1,6 +1,5 @@
 use Rattle.std.specs.Prelude.{ℕ, ◌-◌, ◌<◌, ◌≤◌, length, slice_index_or}
-use Rattle.wait_core.specs.declared.index.RankedMember.{RankedMember}
-use Rattle.wait_core.specs.Index.{key, key_at}
+use Rattle.wait_core.specs.{declared.index.RankedMember.RankedMember, Index.key, Index.key_at}
 use Rattle.wait_core.proofs.index.below.Given as goal
 
 abbrev pub invariant-loop-low : goal.invariant-loop-low

@@ -1,10 +1,8 @@
 use Rattle.std.proofs.Common.{◌≡◌, ◌+◌, ◌<◌, ◌∙◌, ap, sym, subst, arith, None}
-use Rattle.wait_model.specs.declared.layout.TheConstants.{TASKS, ENTRIES}
-use Rattle.wait_model.specs.Queues.{stand_by}
+use Rattle.wait_model.specs.{declared.layout.TheConstants.TASKS, declared.layout.TheConstants.ENTRIES, Queues.stand_by}
 use Rattle.wait_model.specs.Functions.{put}
 use Rattle.wait_model.specs.Locations.{Entry, Bookmark, position_of}
-use Rattle.wait_core.specs.Scan.{shown_stand}
-use Rattle.wait_core.specs.Index.{IsClass}
+use Rattle.wait_core.specs.{Scan.shown_stand, Index.IsClass}
 use Rattle.wait_core.proofs.IndexChanges.{entry_changed, mark_changed, entry_stood, mark_stood, emptied, entry_class}
 use Rattle.wait_core.proofs.IndexChanges.{mark_class}
 use Rattle.wait_core.proofs.index.reindex.Goals as goal

@@ -1,6 +1,5 @@
 use Rattle.std.proofs.Common.{◌≡◌, ◌+◌, ◌*◌, ◌∙◌, arith}
-use Rattle.wait_model.specs.declared.layout.TheConstants.{FLAG_AT}
-use Rattle.wait_model.specs.Runs.{own}
+use Rattle.wait_model.specs.{declared.layout.TheConstants.FLAG_AT, Runs.own}
 use Rattle.wait_core.proofs.FoundMembers.{flag_word_is}
 use Rattle.wait_core.proofs.reads.read_flag.Goals as goal
 

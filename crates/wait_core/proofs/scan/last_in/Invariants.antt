@@ -1,7 +1,6 @@
 use Rattle.std.specs.Prelude.{ℕ, ◌<◌, ◌≤◌, length, min, slice_index_or}
-use Rattle.wait_core.specs.declared.index.TheConstants.{RANKS}
-use Rattle.wait_core.specs.declared.index.RankedMember.{RankedMember}
-use Rattle.wait_core.specs.Index.{key, key_at}
+use Rattle.wait_core.specs.{declared.index.TheConstants.RANKS, declared.index.RankedMember.RankedMember, Index.key}
+use Rattle.wait_core.specs.Index.{key_at}
 use Rattle.wait_core.proofs.IndexSearch.{IsTakenOut}
 use Rattle.wait_core.proofs.scan.last_in.Given as goal
 

@@ -1,10 +1,7 @@
 use Rattle.std.proofs.Common.{◌∙◌, ◌<◌, ℕ, sym, subst, arith, rules}
-use Rattle.wait_model.specs.declared.layout.TheConstants.{HEADS}
-use Rattle.wait_model.specs.Watches.{head_of}
+use Rattle.wait_model.specs.{declared.layout.TheConstants.HEADS, Watches.head_of}
 use Rattle.wait_rule.proofs.KnownLaws.AskedPages.{asks_no_page, no_page_asked}
-use Rattle.wq_head.proofs.AskedHolds.{stays_unasked}
-use Rattle.wq_head.proofs.LockWaits.{locked_stays}
-use Rattle.wq_head.proofs.PermitHeads.{owes_low}
+use Rattle.wq_head.proofs.{AskedHolds.stays_unasked, LockWaits.locked_stays, PermitHeads.owes_low}
 use Rattle.wait_event.proofs.PermitHeads.{cond_low}
 use Rattle.wait_event.proofs.Entering.{enters, lock_at, lock_carries}
 use Rattle.wait_class.proofs.WatchHeads.{head_fits}

@@ -1,7 +1,6 @@
 use Rattle.std.proofs.Common.{◌∙◌, sym}
-use Rattle.wait_model.specs.Tasks.{pending}
+use Rattle.wait_model.specs.Tasks.{pending, task_of}
 use Rattle.std.proofs.Common.{ap}
-use Rattle.wait_model.specs.Tasks.{task_of}
 use Rattle.wait_event.proofs.PartSteps.{heeds_look, heeds_none}
 use Rattle.wait_event.proofs.prepares.heeds.Goals as goal
 

@@ -1,10 +1,8 @@
 use Rattle.std.proofs.Common.{◌∙◌, ◌<◌, ap, subst, sym}
-use Rattle.wait_model.specs.declared.layout.TheConstants.{FIRST_DONE_HEAD}
-use Rattle.wait_model.specs.Watches.{head_of}
+use Rattle.wait_model.specs.{declared.layout.TheConstants.FIRST_DONE_HEAD, Watches.head_of}
 use Rattle.wait_rule.specs.Known.{Known}
 use Rattle.wait_rule.proofs.KnownLaws.AskedPages.{asks_no_page, no_page_asked}
-use Rattle.wq_head.proofs.AskedHolds.{looks_unasked}
-use Rattle.wq_head.proofs.OneMoreLook.{looks_on}
+use Rattle.wq_head.proofs.{AskedHolds.looks_unasked, OneMoreLook.looks_on}
 use Rattle.wait_class.proofs.Ground.Standing.{bare_head}
 use Rattle.wait_event.proofs.Conditions.{suits_low}
 use Rattle.wait_event.proofs.PartSteps.{joins_by, off_later, own_looks, stays_by, wears_by}

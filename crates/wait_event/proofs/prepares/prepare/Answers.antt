@@ -1,15 +1,11 @@
 use Rattle.std.proofs.Common.{◌<◌, None, Ok, subst, sym}
-use Rattle.wait_model.specs.declared.layout.TheConstants.{FIRST_DONE_HEAD}
-use Rattle.wait_model.specs.Watches.{head_of}
+use Rattle.wait_model.specs.{declared.layout.TheConstants.FIRST_DONE_HEAD, Watches.head_of}
 use Rattle.wait_rule.proofs.KnownLaws.AskedPages.{asks_no_page, no_page_asked}
-use Rattle.wq_head.proofs.AskedHolds.{stays_unasked}
-use Rattle.wq_head.proofs.LockWaits.{locked_stays}
+use Rattle.wq_head.proofs.{AskedHolds.stays_unasked, LockWaits.locked_stays}
 use Rattle.wait_event.specs.Prepares.{EndsPart}
-use Rattle.wait_event.proofs.Conditions.{low_fits, suits_low}
+use Rattle.wait_event.proofs.{Conditions.low_fits, Conditions.suits_low, PartSteps.joins_at, PartSteps.pares_at}
 use Rattle.wait_event.proofs.Preparing.{begins_owing, carried_as, ends_again, ends_carried, ends_keeps, ends_may}
-use Rattle.wait_event.proofs.Preparing.{join_ends, lock_as, prepare_low}
-use Rattle.wait_event.proofs.Preparing.{prepare_stands, signal_ends}
-use Rattle.wait_event.proofs.PartSteps.{joins_at, pares_at}
+use Rattle.wait_event.proofs.Preparing.{join_ends, lock_as, prepare_low, prepare_stands, signal_ends}
 use Rattle.wait_event.proofs.prepares.prepare.Goals as goal
 
 pub lock-requires-clause-head : goal.lock-requires-clause-head

@@ -1,10 +1,7 @@
 use Rattle.std.proofs.Common.{◌<◌, subst, sym}
-use Rattle.wait_model.specs.declared.layout.TheConstants.{FIRST_DONE_HEAD}
-use Rattle.wait_model.specs.Watches.{head_of}
-use Rattle.wait_event.proofs.Conditions.{low_fits}
+use Rattle.wait_model.specs.{declared.layout.TheConstants.FIRST_DONE_HEAD, Watches.head_of}
+use Rattle.wait_event.proofs.{Conditions.low_fits, PartSteps.pares_at, Preparing.carried_as, Preparing.lock_as}
 use Rattle.wait_event.proofs.Finishing.{finish_home, finish_low, finish_off, finish_on, finish_owes}
-use Rattle.wait_event.proofs.PartSteps.{pares_at}
-use Rattle.wait_event.proofs.Preparing.{carried_as, lock_as}
 use Rattle.wait_event.proofs.prepares.take_off.Goals as goal
 
 pub lock-requires-clause-head : goal.lock-requires-clause-head

@@ -1,11 +1,8 @@
 use Rattle.std.proofs.Common.{refl}
-use Rattle.wait_class.proofs.Turns.{advances_none}
-use Rattle.wait_class.proofs.UnderWay.{begun_here}
+use Rattle.wait_class.proofs.{Turns.advances_none, UnderWay.begun_here}
 use Rattle.wait_event.specs.Waits.{wait_table}
 use Rattle.wait_event.specs.declared.waits.WaitStage.TheVariants as stage
-use Rattle.wait_event.proofs.WaitLaws.{wait_lawful}
-use Rattle.wait_event.proofs.Conditions.{full_runs}
-use Rattle.wait_event.proofs.Endings.{begins_at}
+use Rattle.wait_event.proofs.{WaitLaws.wait_lawful, Conditions.full_runs, Endings.begins_at}
 use Rattle.wait_event.proofs.wait_events.begin_wait.Goals as goal
 
 pub returns-clause-at : goal.returns-clause-at

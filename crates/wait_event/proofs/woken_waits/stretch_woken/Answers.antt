@@ -1,6 +1,5 @@
 use Rattle.std.proofs.Common.{subst, sym}
-use Rattle.wait_event.specs.WokenWaits.{Hears, IsHearing}
-use Rattle.wait_event.specs.declared.woken_waits.WokenStage.{WokenStage}
+use Rattle.wait_event.specs.{WokenWaits.Hears, WokenWaits.IsHearing, declared.woken_waits.WokenStage.WokenStage}
 use Rattle.wait_event.specs.declared.woken_waits.WokenTurn.TheVariants as turn
 use Rattle.wait_event.specs.declared.woken_waits.WokenStage.TheVariants as stage
 use Rattle.wait_event.proofs.Hearing.Steps.{clear_hears, run_hears, state_hears}

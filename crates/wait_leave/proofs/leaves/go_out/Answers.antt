@@ -1,8 +1,7 @@
 use Rattle.wait_model.specs.declared.steps.Step.TheVariants as step
 use Rattle.wait_class.proofs.Handed.{given_step}
-use Rattle.wait_leave.proofs.Leaving.{rested_by, still_by}
+use Rattle.wait_leave.proofs.{Leaving.rested_by, Leaving.still_by, Awake.rest_awake}
 use Rattle.std.specs.Prelude.{true}
-use Rattle.wait_leave.proofs.Awake.{rest_awake}
 use Rattle.wait_leave.proofs.leaves.go_out.Goals as goal
 
 pub returns-then-exit-clause-leaves : goal.returns-then-exit-clause-leaves

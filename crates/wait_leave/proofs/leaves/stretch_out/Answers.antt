@@ -1,6 +1,5 @@
 use Rattle.std.proofs.Common.{◌∙◌, arith, refl, sym}
-use Rattle.wait_model.specs.declared.layout.TheConstants.{HEADS}
-use Rattle.wait_model.specs.PointFacts.{holds}
+use Rattle.wait_model.specs.{declared.layout.TheConstants.HEADS, PointFacts.holds}
 use Rattle.wait_class.specs.declared.stages.Turn.TheVariants as turn
 use Rattle.wait_class.proofs.Falling.{falls_by, held_yes, other_stops}
 use Rattle.wait_class.proofs.Handed.{given_as, given_on, given_still}

@@ -1,7 +1,6 @@
 use Rattle.std.proofs.Common.{◌∙◌, sym}
 use Rattle.wait_leave.specs.OnTheWay.{straight}
-use Rattle.wait_leave.proofs.Ways.{way_out}
-use Rattle.wait_leave.proofs.Awake.{awake_turn, up_turn}
+use Rattle.wait_leave.proofs.{Ways.way_out, Awake.awake_turn, Awake.up_turn}
 use Rattle.wait_leave.proofs.leaves.turn_out.Goals as goal
 
 pub returns-in-Some-clause-way : goal.returns-in-Some-clause-way

@@ -1,6 +1,5 @@
-use Rattle.wait_model.proofs.PermitLaws.PermitScripts.{worked_permits}
-use Rattle.wait_model.proofs.PermitLaws.PermitSteps.{accounted_step, accounted_handed}
-use Rattle.wait_model.proofs.PermitLaws.PermitRuns.{every_run_hands_on}
+use Rattle.wait_model.proofs.{PermitLaws.PermitScripts.worked_permits, PermitLaws.PermitSteps.accounted_step}
+use Rattle.wait_model.proofs.{PermitLaws.PermitSteps.accounted_handed, PermitLaws.PermitRuns.every_run_hands_on}
 use Rattle.wait_model.proofs.laws.permits_are_handed_on.Goals as goal
 
 pub returns-clause-step : goal.returns-clause-step

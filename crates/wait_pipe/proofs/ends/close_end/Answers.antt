@@ -3,8 +3,7 @@ use Rattle.std.specs.Prelude.{◌+◌, ◌*◌}
 use Rattle.wait_model.specs.declared.layout.TheConstants.{PIPE_ENDS}
 use Rattle.wait_rule.specs.Stays.{with_end}
 use Rattle.wait_pipe.specs.Pieces.{LeavesAside}
-use Rattle.wait_pipe.proofs.Asides.{quiet_on, quiet_publish}
-use Rattle.wait_pipe.proofs.PieceChanges.{leaves_made}
+use Rattle.wait_pipe.proofs.{Asides.quiet_on, Asides.quiet_publish, PieceChanges.leaves_made}
 use Rattle.wait_pipe.proofs.ends.close_end.Goals as goal
 
 pub returns-clause-ends : goal.returns-clause-ends

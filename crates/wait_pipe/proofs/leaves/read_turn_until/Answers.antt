@@ -1,6 +1,4 @@
-use Rattle.wait_pipe.proofs.Fills.{waited_none}
-use Rattle.wait_pipe.proofs.PieceChanges.{waits_on}
-use Rattle.wait_pipe.proofs.UntilTurns.{left_none, until_turn}
+use Rattle.wait_pipe.proofs.{Fills.waited_none, PieceChanges.waits_on, UntilTurns.left_none, UntilTurns.until_turn}
 use Rattle.wait_pipe.proofs.leaves.read_turn_until.Goals as goal
 
 pub returns-in-Over-Ok : goal.returns-in-Over-Ok

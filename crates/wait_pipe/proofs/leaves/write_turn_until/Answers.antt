@@ -1,8 +1,6 @@
 use Rattle.std.specs.Prelude.{true}
 use Rattle.wait_rule.specs.Pipes.{write_end}
-use Rattle.wait_pipe.proofs.Fills.{waited_none}
-use Rattle.wait_pipe.proofs.PieceChanges.{waits_on}
-use Rattle.wait_pipe.proofs.Turns.{wait_cause}
+use Rattle.wait_pipe.proofs.{Fills.waited_none, PieceChanges.waits_on, Turns.wait_cause}
 use Rattle.wait_pipe.proofs.UntilTurns.{left_none, until_stops, until_turn}
 use Rattle.wait_pipe.proofs.leaves.write_turn_until.Goals as goal
 

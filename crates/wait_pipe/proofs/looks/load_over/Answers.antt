@@ -1,11 +1,8 @@
 use Rattle.std.proofs.Common.{◌∙◌, ap, refl, subst, sym}
 use Rattle.std.specs.Prelude.{ℕ, ◌≡◌, ◌+◌, ◌-◌, ◌*◌, ◌/◌, ◌%◌, ◌==◌}
 use Rattle.wait_model.specs.declared.layout.TheConstants.{PIPE_ENDS}
-use Rattle.wait_rule.specs.Known.{Known}
-use Rattle.wait_rule.specs.Pipes.{End, word_counts}
-use Rattle.wait_pipe.specs.Pieces.{HasSeen}
-use Rattle.wait_pipe.specs.PipeStates.{OnlyLooked}
-use Rattle.wait_pipe.specs.declared.looks.Look.{Look}
+use Rattle.wait_rule.specs.{Known.Known, Pipes.End, Pipes.word_counts}
+use Rattle.wait_pipe.specs.{Pieces.HasSeen, PipeStates.OnlyLooked, declared.looks.Look.Look}
 use Rattle.wait_pipe.proofs.Looking.{loaded_own, look_only, look_seen, other_is, pipe_is}
 use Rattle.wait_pipe.proofs.looks.load_over.Goals as goal
 

@@ -2,8 +2,7 @@ use Rattle.std.proofs.Common.{◌∙◌, ap, subst, sym}
 use Rattle.std.specs.Prelude.{ℕ, ◌/◌, IfErr, Result}
 use Rattle.wait_model.specs.declared.layout.TheConstants.{PIPE_ENDS}
 use Rattle.wait_pipe.proofs.Looking.{other_apart, other_pipe, wait_caused, wait_waits}
-use Rattle.wait_pipe.specs.declared.pieces.PipeEnd.{PipeEnd}
-use Rattle.wait_pipe.specs.Pieces.{IsReadCause}
+use Rattle.wait_pipe.specs.{declared.pieces.PipeEnd.PipeEnd, Pieces.IsReadCause}
 use Rattle.wait_pipe.proofs.looks.wait_for.Goals as goal
 
 pub returns-clause-waits : goal.returns-clause-waits

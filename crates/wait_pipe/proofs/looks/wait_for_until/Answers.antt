@@ -2,10 +2,8 @@ use Rattle.std.proofs.Common.{◌∙◌, ap, subst, sym}
 use Rattle.std.specs.Prelude.{ℕ, ◌/◌, Result, true}
 use Rattle.wait_model.specs.declared.layout.TheConstants.{PIPE_ENDS}
 use Rattle.wait_leave.specs.declared.exits.Until.{Until}
-use Rattle.wait_pipe.proofs.LeftWaits.{until_caused, until_waits}
-use Rattle.wait_pipe.proofs.Looking.{other_apart, other_pipe}
-use Rattle.wait_pipe.specs.declared.pieces.PipeEnd.{PipeEnd}
-use Rattle.wait_pipe.specs.PieceLeaves.{IsPieceUntil}
+use Rattle.wait_pipe.proofs.{LeftWaits.until_caused, LeftWaits.until_waits, Looking.other_apart, Looking.other_pipe}
+use Rattle.wait_pipe.specs.{declared.pieces.PipeEnd.PipeEnd, PieceLeaves.IsPieceUntil}
 use Rattle.wait_pipe.proofs.looks.wait_for_until.Goals as goal
 
 pub returns-clause-waits : goal.returns-clause-waits

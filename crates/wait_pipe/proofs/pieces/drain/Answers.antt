@@ -1,8 +1,7 @@
 use Rattle.std.proofs.Common.{◌≡◌, ◌≤◌, ◌+◌, ◌∙◌, arith, length, refl, subst, sym}
 use Rattle.std.specs.Prelude.{◌*◌}
 use Rattle.wait_model.specs.declared.watches.Watch.TheVariants as watch
-use Rattle.wait_rule.specs.Pipes.{read_end}
-use Rattle.wait_rule.specs.Stays.{publish_change}
+use Rattle.wait_rule.specs.{Pipes.read_end, Stays.publish_change}
 use Rattle.wait_rule.proofs.KnownLaws.CarriedTasks.{unchanged_first}
 use Rattle.wait_pipe.specs.Pieces.{LeavesAside}
 use Rattle.wait_pipe.proofs.Asides.{quiet_on, quiet_publish}

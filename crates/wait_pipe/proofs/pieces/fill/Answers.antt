@@ -2,14 +2,11 @@ use Rattle.std.proofs.Common.{◌<◌, ◌≤◌, ◌∙◌, ◌+◌, ◌⊎◌,
 use Rattle.std.specs.Prelude.{ℕ, ◌≡◌, ◌+◌, ◌*◌}
 use Rattle.wait_model.specs.declared.layout.TheConstants.{PIPE_ENDS}
 use Rattle.wait_model.specs.declared.watches.Watch.TheVariants as watch
-use Rattle.wait_rule.specs.Pipes.{write_end}
-use Rattle.wait_rule.specs.Stays.{Carries, publish_change}
+use Rattle.wait_rule.specs.{Pipes.write_end, Stays.Carries, Stays.publish_change}
 use Rattle.wait_rule.proofs.KnownLaws.CarriedTasks.{unchanged_first}
 use Rattle.wait_pipe.specs.Pieces.{LeavesAside}
-use Rattle.wait_pipe.proofs.Asides.{quiet_on, quiet_publish}
-use Rattle.wait_pipe.proofs.Fills.{advanced_write, fill_cells, fill_ended, fill_ends, fill_full, fill_goes}
-use Rattle.wait_pipe.proofs.Fills.{fill_stores}
-use Rattle.wait_pipe.proofs.PieceChanges.{leaves_made}
+use Rattle.wait_pipe.proofs.{Asides.quiet_on, Asides.quiet_publish, PieceChanges.leaves_made}
+use Rattle.wait_pipe.proofs.Fills.{advanced_write, fill_cells, fill_ended, fill_ends, fill_full, fill_goes, fill_stores}
 use Rattle.wait_pipe.proofs.pieces.fill.Goals.{then-bytes-done-lt7, else-bytes-done-lt7}
 use Rattle.wait_pipe.proofs.pieces.fill.Goals.{then-loop-left-test+else-done-bytes, else-loop-left-test}
 use Rattle.wait_pipe.proofs.pieces.fill.Goals as goal

@@ -1,7 +1,6 @@
 use Rattle.std.proofs.Common.{◌≡◌, arith, refl}
 use Rattle.std.specs.Prelude.{true}
-use Rattle.wait_pipe.proofs.Fills.{at_end, look_shows}
-use Rattle.wait_pipe.proofs.Fills.{waited_settled, word_ended}
+use Rattle.wait_pipe.proofs.Fills.{at_end, look_shows, waited_settled, word_ended}
 use Rattle.wait_pipe.proofs.Turns.{got_drained, got_end, read_some, then_rests}
 use Rattle.wait_pipe.proofs.pieces.read_now.Goals as goal
 

@@ -1,6 +1,4 @@
-use Rattle.wait_pipe.proofs.Fills.{waited_none}
-use Rattle.wait_pipe.proofs.PieceChanges.{waits_on}
-use Rattle.wait_pipe.proofs.Turns.{turn_of}
+use Rattle.wait_pipe.proofs.{Fills.waited_none, PieceChanges.waits_on, Turns.turn_of}
 use Rattle.wait_pipe.proofs.pieces.read_turn.Goals as goal
 
 pub returns-in-Err-wait_for : goal.returns-in-Err-wait_for

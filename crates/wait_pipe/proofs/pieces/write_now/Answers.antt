@@ -1,6 +1,5 @@
 use Rattle.std.proofs.Common.{◌∙◌}
-use Rattle.wait_pipe.proofs.Fills.{look_shows}
-use Rattle.wait_pipe.proofs.Fills.{word_ended, word_open}
+use Rattle.wait_pipe.proofs.Fills.{look_shows, word_ended, word_open}
 use Rattle.wait_pipe.proofs.Turns.{put_broken, put_filled, then_rests, wrote_some}
 use Rattle.wait_pipe.proofs.pieces.write_now.Goals as goal
 

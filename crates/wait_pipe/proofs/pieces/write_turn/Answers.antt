@@ -1,6 +1,5 @@
 use Rattle.wait_rule.specs.Pipes.{write_end}
-use Rattle.wait_pipe.proofs.Fills.{waited_none}
-use Rattle.wait_pipe.proofs.PieceChanges.{waits_on}
+use Rattle.wait_pipe.proofs.{Fills.waited_none, PieceChanges.waits_on}
 use Rattle.wait_pipe.proofs.Turns.{turn_of, wait_cause, write_stops}
 use Rattle.wait_pipe.proofs.pieces.write_turn.Goals as goal
 

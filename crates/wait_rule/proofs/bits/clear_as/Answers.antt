@@ -5,9 +5,7 @@ use Rattle.wait_model.specs.declared.watches.Watch.TheVariants as watch
 use Rattle.wait_model.specs.declared.steps.Step.TheVariants as step
 use Rattle.wait_model.proofs.WordLaws.CondWords.{cond_position}
 use Rattle.wait_rule.specs.declared.journal.Item.TheVariants as item
-use Rattle.wait_rule.specs.Bits.{KeepsBitOf}
-use Rattle.wait_rule.specs.Known.{Known, known}
-use Rattle.wait_rule.specs.Queues.{IsIdle}
+use Rattle.wait_rule.specs.{Bits.KeepsBitOf, Known.Known, Known.known, Queues.IsIdle}
 use Rattle.wait_rule.proofs.TableSteps.BitWordMoves.{bit_clear_moves}
 use Rattle.wait_rule.proofs.KnownLaws.StepCalls.{may_step, known_by}
 use Rattle.wait_rule.proofs.bits.clear_as.Goals as goal

@@ -5,13 +5,9 @@ use Rattle.wait_model.specs.declared.steps.Step.TheVariants as step
 use Rattle.wait_model.specs.declared.watches.Watch.TheVariants as watch
 use Rattle.wait_model.proofs.WordLaws.CondWords.{cond_position}
 use Rattle.wait_rule.specs.declared.journal.Item.TheVariants as item
-use Rattle.wait_rule.specs.CountPlays.{cell_of_place}
-use Rattle.wait_rule.specs.Counts.{FindsCount}
-use Rattle.wait_rule.specs.Known.{Known, known}
-use Rattle.wait_rule.specs.Queues.{IsAgreedHold}
-use Rattle.wait_rule.proofs.TableSteps.CountMoves.{count_load_moves}
-use Rattle.wait_rule.proofs.KnownLaws.CarriedTasks.{loaded_carried}
-use Rattle.wait_rule.proofs.KnownLaws.StepCalls.{may_step, known_by}
+use Rattle.wait_rule.specs.{CountPlays.cell_of_place, Counts.FindsCount, Known.Known, Known.known, Queues.IsAgreedHold}
+use Rattle.wait_rule.proofs.{TableSteps.CountMoves.count_load_moves, KnownLaws.CarriedTasks.loaded_carried}
+use Rattle.wait_rule.proofs.{KnownLaws.StepCalls.may_step, KnownLaws.StepCalls.known_by}
 use Rattle.wait_rule.proofs.counts.done_load.Goals as goal
 
 pub load-requires : goal.load-requires

@@ -1,13 +1,10 @@
 use Rattle.std.proofs.Common.{◌∙◌, sym, subst, arith}
 use Rattle.std.specs.Prelude.{ℕ, ◌≡◌, ◌+◌}
-use Rattle.wait_model.specs.declared.layout.TheConstants.{FIRST_DONE}
+use Rattle.wait_model.specs.{declared.layout.TheConstants.FIRST_DONE, Runs.set_step}
 use Rattle.wait_model.specs.declared.watches.Watch.TheVariants as watch
-use Rattle.wait_model.specs.Runs.{set_step}
 use Rattle.wait_model.proofs.WordLaws.CondWords.{cond_position}
 use Rattle.wait_rule.specs.declared.journal.Item.TheVariants as item
-use Rattle.wait_rule.specs.CountPlays.{cell_of_place}
-use Rattle.wait_rule.specs.Counts.{FindsCount, MayStoreCount}
-use Rattle.wait_rule.specs.Known.{Known, known}
+use Rattle.wait_rule.specs.{CountPlays.cell_of_place, Counts.FindsCount, Counts.MayStoreCount, Known.Known, Known.known}
 use Rattle.wait_rule.proofs.TableSteps.CountMoves.{count_store_moves}
 use Rattle.wait_rule.proofs.KnownLaws.CarriedCounts.{count_publishes, count_consumes}
 use Rattle.wait_rule.proofs.KnownLaws.StepCalls.{may_step, known_by}

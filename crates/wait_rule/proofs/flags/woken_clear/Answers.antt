@@ -1,16 +1,12 @@
 use Rattle.std.proofs.Common.{◌∙◌, sym, subst, arith}
 use Rattle.std.specs.Prelude.{ℕ, ◌≡◌, ◌⊎◌, Some, None}
-use Rattle.wait_model.specs.declared.layout.TheConstants.{FLAG_AT}
-use Rattle.wait_model.specs.declared.watches.Entry.{Entry}
+use Rattle.wait_model.specs.{declared.layout.TheConstants.FLAG_AT, declared.watches.Entry.Entry}
 use Rattle.wait_model.specs.declared.watches.Kind.TheVariants as kind
 use Rattle.wait_model.specs.declared.steps.Step.TheVariants as step
 use Rattle.wait_rule.specs.declared.journal.Item.TheVariants as item
-use Rattle.wait_rule.specs.Asked.{nothing_asked}
-use Rattle.wait_rule.specs.Known.{Known, known}
-use Rattle.wait_rule.specs.Queues.{index, MayClearFlag}
-use Rattle.wait_rule.specs.Says.{asks_for, told_of}
-use Rattle.wait_rule.proofs.TableSteps.MemberMoves.{own_index}
-use Rattle.wait_rule.proofs.TableSteps.FlagMoves.{unflag_moves}
+use Rattle.wait_rule.specs.{Asked.nothing_asked, Known.Known, Known.known, Queues.index, Queues.MayClearFlag}
+use Rattle.wait_rule.specs.{Says.asks_for, Says.told_of}
+use Rattle.wait_rule.proofs.{TableSteps.MemberMoves.own_index, TableSteps.FlagMoves.unflag_moves}
 use Rattle.wait_rule.proofs.KnownLaws.CarriedFlags.{unflag_carried}
 use Rattle.wait_rule.proofs.KnownLaws.StepCalls.{own_index_at, may_step, known_by}
 use Rattle.wait_rule.proofs.flags.woken_clear.Goals as goal

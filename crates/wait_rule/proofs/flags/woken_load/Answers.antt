@@ -3,8 +3,7 @@ use Rattle.wait_model.specs.declared.layout.TheConstants.{FLAG_AT}
 use Rattle.wait_model.specs.declared.steps.Step.TheVariants as step
 use Rattle.wait_rule.specs.declared.journal.Item.TheVariants as item
 use Rattle.wait_rule.specs.Queues.{index}
-use Rattle.wait_rule.proofs.TableSteps.MemberMoves.{own_index}
-use Rattle.wait_rule.proofs.TableSteps.FlagMoves.{flag_load_moves}
+use Rattle.wait_rule.proofs.{TableSteps.MemberMoves.own_index, TableSteps.FlagMoves.flag_load_moves}
 use Rattle.wait_rule.proofs.KnownLaws.CarriedFlags.{flag_carried}
 use Rattle.wait_rule.proofs.KnownLaws.StepCalls.{own_index_at, may_step, known_by}
 use Rattle.wait_rule.proofs.flags.woken_load.Goals as goal

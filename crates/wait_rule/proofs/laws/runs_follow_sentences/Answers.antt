@@ -1,7 +1,5 @@
-use Rattle.wait_rule.proofs.SaidEvents.FollowedRuns.{runs_follow}
-use Rattle.wait_rule.proofs.SaidEvents.BegunRuns.{runs_begin}
-use Rattle.wait_rule.proofs.SaidEvents.FollowedWakes.{wakes_follow}
-use Rattle.wait_rule.proofs.SaidEvents.FollowedWalks.{walks_follow}
+use Rattle.wait_rule.proofs.{SaidEvents.FollowedRuns.runs_follow, SaidEvents.BegunRuns.runs_begin}
+use Rattle.wait_rule.proofs.{SaidEvents.FollowedWakes.wakes_follow, SaidEvents.FollowedWalks.walks_follow}
 use Rattle.wait_rule.proofs.laws.runs_follow_sentences.Goals as goal
 
 pub returns-clause-calls : goal.returns-clause-calls

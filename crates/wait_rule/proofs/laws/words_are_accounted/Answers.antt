@@ -1,5 +1,4 @@
-use Rattle.wait_rule.proofs.KnownLaws.TableLaws.{all_took_raised}
-use Rattle.wait_rule.proofs.KnownLaws.TableLaws.{all_balance, rule_takes_made, all_take_made}
+use Rattle.wait_rule.proofs.KnownLaws.TableLaws.{all_took_raised, all_balance, rule_takes_made, all_take_made}
 use Rattle.wait_rule.proofs.laws.words_are_accounted.Goals as goal
 
 pub returns-clause-told : goal.returns-clause-told

@@ -1,12 +1,9 @@
 use Rattle.std.proofs.Common.{sym, subst, arith}
 use Rattle.std.specs.Prelude.{ℕ, ◌≡◌, ◌-◌, ◌/◌, ◌%◌}
 use Rattle.wait_model.specs.declared.layout.TheConstants.{MEMBER_WORDS, MEMBER_AT}
-use Rattle.wait_rule.specs.Known.{Known, known}
-use Rattle.wait_rule.specs.Journals.{pushed}
-use Rattle.wait_rule.specs.Queues.{IsLocked, IsAgreed}
+use Rattle.wait_rule.specs.{Known.Known, Known.known, Journals.pushed, Queues.IsLocked, Queues.IsAgreed}
 use Rattle.wait_rule.specs.MemberLooks.{SawWord}
-use Rattle.wait_rule.proofs.TableSteps.LookedBits.{see_moves}
-use Rattle.wait_rule.proofs.KnownLaws.LookCounts.{word_looked}
+use Rattle.wait_rule.proofs.{TableSteps.LookedBits.see_moves, KnownLaws.LookCounts.word_looked}
 use Rattle.wait_rule.proofs.KnownLaws.StepCalls.{may_step}
 use Rattle.wait_rule.proofs.members.held_member_load.Goals as goal
 

@@ -1,9 +1,8 @@
 use Rattle.std.proofs.Common.{◌∙◌, ap, sym, arith}
 use Rattle.std.specs.Prelude.{ℕ, Some}
-use Rattle.wait_rule.specs.Known.{Known}
+use Rattle.wait_rule.specs.{Known.Known, Says.added}
 use Rattle.wait_rule.proofs.KnownLaws.MemberBits.{may_store, mark_head, mark_index, mark_put}
 use Rattle.wait_rule.proofs.KnownLaws.CarriedStores.{bookmark_put}
-use Rattle.wait_rule.specs.Says.{added}
 use Rattle.wait_rule.specs.declared.journal.Item.TheVariants as item
 use Rattle.wait_model.specs.Tables.{mark_of}
 use Rattle.wait_rule.proofs.members.mark_member.Goals as goal

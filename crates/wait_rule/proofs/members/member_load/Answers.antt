@@ -4,10 +4,9 @@ use Rattle.wait_model.specs.declared.layout.TheConstants.{MEMBER_WORDS, MEMBER_A
 use Rattle.wait_model.specs.declared.steps.Step.TheVariants as step
 use Rattle.wait_rule.specs.declared.journal.Item.TheVariants as item
 use Rattle.wait_rule.specs.Known.{Known}
-use Rattle.wait_rule.proofs.TableSteps.ScanMoves.{scan_moves}
-use Rattle.wait_rule.proofs.KnownLaws.LookCounts.{looked_one}
-use Rattle.wait_rule.proofs.KnownLaws.CarriedTasks.{scan_carried}
-use Rattle.wait_rule.proofs.KnownLaws.StepCalls.{may_step, known_by}
+use Rattle.wait_rule.proofs.{TableSteps.ScanMoves.scan_moves, KnownLaws.LookCounts.looked_one}
+use Rattle.wait_rule.proofs.{KnownLaws.CarriedTasks.scan_carried, KnownLaws.StepCalls.may_step}
+use Rattle.wait_rule.proofs.KnownLaws.StepCalls.{known_by}
 use Rattle.wait_rule.proofs.members.member_load.Goals as goal
 
 pub load-requires : goal.load-requires

@@ -1,9 +1,7 @@
 use Rattle.std.proofs.Common.{refl, ◌∙◌, sym, subst, arith}
-use Rattle.wait_rule.specs.Known.{Known}
-use Rattle.wait_rule.specs.Queues.{MayStoreMember}
-use Rattle.wait_rule.proofs.TableSteps.BitMoves.{bit_moves}
-use Rattle.wait_rule.proofs.KnownLaws.CarriedSteps.{member_carried}
-use Rattle.wait_rule.proofs.KnownLaws.StepCalls.{may_step, known_by}
+use Rattle.wait_rule.specs.{Known.Known, Queues.MayStoreMember}
+use Rattle.wait_rule.proofs.{TableSteps.BitMoves.bit_moves, KnownLaws.CarriedSteps.member_carried}
+use Rattle.wait_rule.proofs.{KnownLaws.StepCalls.may_step, KnownLaws.StepCalls.known_by}
 use Rattle.wait_rule.proofs.members.member_store.Goals as goal
 
 pub fetch_or-requires : goal.fetch_or-requires

@@ -1,8 +1,6 @@
 use Rattle.std.proofs.Common.{◌∙◌, ap}
-use Rattle.wait_rule.specs.Known.{Known}
+use Rattle.wait_rule.specs.{Known.Known, Says.added, Queues.index}
 use Rattle.wait_rule.proofs.KnownLaws.CarriedStores.{entry_put_as}
-use Rattle.wait_rule.specs.Says.{added}
-use Rattle.wait_rule.specs.Queues.{index}
 use Rattle.wait_rule.specs.declared.journal.Item.TheVariants as item
 use Rattle.wait_rule.proofs.members.queue_member.Goals as goal
 

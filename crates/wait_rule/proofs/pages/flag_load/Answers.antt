@@ -3,11 +3,8 @@ use Rattle.std.specs.Prelude.{ℕ}
 use Rattle.wait_model.specs.declared.layout.TheConstants.{FLAG_AT}
 use Rattle.wait_model.specs.declared.steps.Step.TheVariants as step
 use Rattle.wait_rule.specs.declared.journal.Item.TheVariants as item
-use Rattle.wait_rule.specs.Known.{Known}
-use Rattle.wait_rule.specs.Queues.{index}
-use Rattle.wait_rule.specs.PageCalls.{ShowsGiven, ShowsNoFlag}
-use Rattle.wait_rule.proofs.TableSteps.MemberMoves.{own_index}
-use Rattle.wait_rule.proofs.TableSteps.PageMoves.{flag_word_moves}
+use Rattle.wait_rule.specs.{Known.Known, Queues.index, PageCalls.ShowsGiven, PageCalls.ShowsNoFlag}
+use Rattle.wait_rule.proofs.{TableSteps.MemberMoves.own_index, TableSteps.PageMoves.flag_word_moves}
 use Rattle.wait_rule.proofs.KnownLaws.CarriedFlags.{flag_carried}
 use Rattle.wait_rule.proofs.KnownLaws.StepCalls.{known_tells, own_index_at, may_step, known_by}
 use Rattle.wait_rule.proofs.pages.flag_load.Goals as goal

@@ -3,9 +3,7 @@ use Rattle.wait_model.specs.declared.steps.Step.TheVariants as step
 use Rattle.wait_model.specs.declared.watches.Mode.TheVariants as mode
 use Rattle.wait_model.specs.Watches.{mask_of}
 use Rattle.wait_rule.specs.declared.journal.Item.TheVariants as item
-use Rattle.wait_rule.specs.Known.{Known}
-use Rattle.wait_rule.specs.Says.{added}
-use Rattle.wait_rule.specs.PageCalls.{HasTold}
+use Rattle.wait_rule.specs.{Known.Known, Says.added, PageCalls.HasTold}
 use Rattle.wait_rule.proofs.KnownLaws.CarriedPages.{told_woken}
 use Rattle.wait_rule.proofs.pages.hand_over.Goals as goal
 

@@ -2,13 +2,10 @@ use Rattle.std.proofs.Common.{sym, subst, arith}
 use Rattle.wait_model.specs.declared.layout.TheConstants.{FLAG_AT}
 use Rattle.wait_model.specs.declared.steps.Step.TheVariants as step
 use Rattle.wait_rule.specs.declared.journal.Item.TheVariants as item
-use Rattle.wait_rule.specs.Known.{Known}
-use Rattle.wait_rule.specs.Queues.{index}
-use Rattle.wait_rule.specs.PageCalls.{HasTaken}
-use Rattle.wait_rule.proofs.TableSteps.MemberMoves.{index_at}
-use Rattle.wait_rule.proofs.TableSteps.PageMoves.{tell_moves}
-use Rattle.wait_rule.proofs.KnownLaws.CarriedSteps.{told_carried_on}
-use Rattle.wait_rule.proofs.KnownLaws.StepCalls.{may_step, known_by}
+use Rattle.wait_rule.specs.{Known.Known, Queues.index, PageCalls.HasTaken}
+use Rattle.wait_rule.proofs.{TableSteps.MemberMoves.index_at, TableSteps.PageMoves.tell_moves}
+use Rattle.wait_rule.proofs.{KnownLaws.CarriedSteps.told_carried_on, KnownLaws.StepCalls.may_step}
+use Rattle.wait_rule.proofs.KnownLaws.StepCalls.{known_by}
 use Rattle.wait_rule.proofs.pages.handed_store.Goals as goal
 
 pub store-requires : goal.store-requires

@@ -2,13 +2,10 @@ use Rattle.std.proofs.Common.{sym, subst, arith}
 use Rattle.wait_model.specs.declared.layout.TheConstants.{ENTRY_AT}
 use Rattle.wait_model.specs.declared.steps.Step.TheVariants as step
 use Rattle.wait_rule.specs.declared.journal.Item.TheVariants as item
-use Rattle.wait_rule.specs.Known.{Known}
-use Rattle.wait_rule.specs.Queues.{IsLocked, index}
-use Rattle.wait_rule.specs.PageCalls.{HasTold}
-use Rattle.wait_rule.proofs.TableSteps.MemberMoves.{index_at}
-use Rattle.wait_rule.proofs.TableSteps.PageMoves.{handed_moves}
-use Rattle.wait_rule.proofs.KnownLaws.CarriedStores.{entry_off}
-use Rattle.wait_rule.proofs.KnownLaws.StepCalls.{may_step, known_by}
+use Rattle.wait_rule.specs.{Known.Known, Queues.IsLocked, Queues.index, PageCalls.HasTold}
+use Rattle.wait_rule.proofs.{TableSteps.MemberMoves.index_at, TableSteps.PageMoves.handed_moves}
+use Rattle.wait_rule.proofs.{KnownLaws.CarriedStores.entry_off, KnownLaws.StepCalls.may_step}
+use Rattle.wait_rule.proofs.KnownLaws.StepCalls.{known_by}
 use Rattle.wait_rule.proofs.pages.handed_unqueue.Goals as goal
 
 pub store-requires : goal.store-requires

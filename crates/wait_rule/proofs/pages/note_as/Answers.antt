@@ -3,13 +3,9 @@ use Rattle.std.specs.Prelude.{ℕ, ◌≡◌, Some}
 use Rattle.wait_model.specs.declared.layout.TheConstants.{FLAG_AT}
 use Rattle.wait_model.specs.declared.steps.Step.TheVariants as step
 use Rattle.wait_rule.specs.declared.journal.Item.TheVariants as item
-use Rattle.wait_rule.specs.Asked.{was_given_at}
-use Rattle.wait_rule.specs.Known.{Known, known}
-use Rattle.wait_rule.specs.Queues.{index}
-use Rattle.wait_rule.specs.PageCalls.{QueuesNoPage}
+use Rattle.wait_rule.specs.{Asked.was_given_at, Known.Known, Known.known, Queues.index, PageCalls.QueuesNoPage}
 use Rattle.wait_rule.specs.Says.{asks_for}
-use Rattle.wait_rule.proofs.TableSteps.MemberMoves.{own_index}
-use Rattle.wait_rule.proofs.TableSteps.PageMoves.{note_moves}
+use Rattle.wait_rule.proofs.{TableSteps.MemberMoves.own_index, TableSteps.PageMoves.note_moves}
 use Rattle.wait_rule.proofs.KnownLaws.StepCalls.{own_index_at, may_step, known_by}
 use Rattle.wait_rule.proofs.pages.note_as.Goals as goal
 

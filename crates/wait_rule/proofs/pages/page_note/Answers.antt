@@ -1,6 +1,5 @@
 use Rattle.wait_rule.specs.Queues.{index}
-use Rattle.wait_rule.proofs.KnownLaws.CarriedPages.{note_keeps}
-use Rattle.wait_rule.proofs.KnownLaws.CarriedSteps.{page_is_noted}
+use Rattle.wait_rule.proofs.{KnownLaws.CarriedPages.note_keeps, KnownLaws.CarriedSteps.page_is_noted}
 use Rattle.wait_rule.proofs.pages.page_note.Goals as goal
 
 pub returns-clause-keeps : goal.returns-clause-keeps

@@ -4,9 +4,7 @@ use Rattle.wait_model.specs.declared.layout.TheConstants.{CONDITION_AT, FIRST_BI
 use Rattle.wait_model.specs.declared.steps.Step.TheVariants as step
 use Rattle.wait_model.proofs.WordLaws.CondWords.{cond_position}
 use Rattle.wait_rule.specs.declared.journal.Item.TheVariants as item
-use Rattle.wait_rule.specs.Known.{Known, known}
-use Rattle.wait_rule.specs.Queues.{IsAgreed, IsLocked}
-use Rattle.wait_rule.specs.PageCalls.{MayTryFor}
+use Rattle.wait_rule.specs.{Known.Known, Known.known, Queues.IsAgreed, Queues.IsLocked, PageCalls.MayTryFor}
 use Rattle.wait_rule.proofs.TableSteps.PageMoves.{try_for_moves}
 use Rattle.wait_rule.proofs.KnownLaws.StepCalls.{may_step, known_by}
 use Rattle.wait_rule.proofs.pages.set_for.Goals as goal

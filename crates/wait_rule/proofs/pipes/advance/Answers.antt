@@ -4,12 +4,9 @@ use Rattle.wait_model.specs.declared.layout.TheConstants.{PIPE_ENDS}
 use Rattle.wait_model.specs.declared.watches.Watch.TheVariants as watch
 use Rattle.wait_model.specs.declared.steps.Step.TheVariants as step
 use Rattle.wait_rule.specs.declared.journal.Item.TheVariants as item
-use Rattle.wait_rule.specs.Known.{Known}
-use Rattle.wait_rule.specs.Queues.{IsIdle}
-use Rattle.wait_rule.specs.Pipes.{end_of, word_counts}
+use Rattle.wait_rule.specs.{Known.Known, Queues.IsIdle, Pipes.end_of, Pipes.word_counts}
 use Rattle.wait_rule.specs.PipeSays.{IsOpen, IsSoundEnd, end_at}
-use Rattle.wait_rule.proofs.TableSteps.PipeMoves.{end_moves}
-use Rattle.wait_rule.proofs.KnownLaws.CarriedTasks.{published_carried}
+use Rattle.wait_rule.proofs.{TableSteps.PipeMoves.end_moves, KnownLaws.CarriedTasks.published_carried}
 use Rattle.wait_rule.proofs.KnownLaws.FoundPipes.{advance_becomes}
 use Rattle.wait_rule.proofs.KnownLaws.StepCalls.{end_spot, known_tells, may_step, known_by}
 use Rattle.wait_rule.proofs.pipes.advance.Goals as goal

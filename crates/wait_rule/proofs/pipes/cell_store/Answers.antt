@@ -3,13 +3,9 @@ use Rattle.std.specs.Prelude.{ℕ, ◌≡◌, ◌+◌, ◌*◌, ◌<◌, length}
 use Rattle.wait_model.specs.declared.layout.TheConstants.{PIPE_CELLS}
 use Rattle.wait_rule.specs.declared.journal.EndAct.TheVariants as act
 use Rattle.wait_rule.specs.declared.journal.Item.TheVariants as item
-use Rattle.wait_rule.specs.Known.{Known}
-use Rattle.wait_rule.specs.Pipes.{cell_of, write_end}
-use Rattle.wait_rule.specs.PipePlays.{cell_pipe}
-use Rattle.wait_rule.specs.PipeSays.{writing}
-use Rattle.wait_rule.proofs.TableSteps.PipeMoves.{put_moves}
+use Rattle.wait_rule.specs.{Known.Known, Pipes.cell_of, Pipes.write_end, PipePlays.cell_pipe, PipeSays.writing}
+use Rattle.wait_rule.proofs.{TableSteps.PipeMoves.put_moves, KnownLaws.StepCalls.may_step, KnownLaws.StepCalls.known_by}
 use Rattle.wait_rule.proofs.KnownLaws.FoundPipes.{piped_told, piped_carried, piped_looked, piped_becomes}
-use Rattle.wait_rule.proofs.KnownLaws.StepCalls.{may_step, known_by}
 use Rattle.wait_rule.proofs.pipes.cell_store.Goals as goal
 
 pub store-requires : goal.store-requires

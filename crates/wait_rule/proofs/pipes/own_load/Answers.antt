@@ -1,10 +1,8 @@
 use Rattle.std.proofs.Common.{◌∙◌, ap}
 use Rattle.std.specs.Prelude.{◌+◌, ◌*◌}
 use Rattle.wait_model.specs.declared.layout.TheConstants.{PIPE_ENDS}
-use Rattle.wait_rule.specs.Known.{Known}
-use Rattle.wait_rule.specs.PipeSays.{end_at}
-use Rattle.wait_rule.proofs.TableSteps.PipeMoves.{own_moves}
-use Rattle.wait_rule.proofs.KnownLaws.StepCalls.{end_spot, may_step}
+use Rattle.wait_rule.specs.{Known.Known, PipeSays.end_at}
+use Rattle.wait_rule.proofs.{TableSteps.PipeMoves.own_moves, KnownLaws.StepCalls.end_spot, KnownLaws.StepCalls.may_step}
 use Rattle.wait_rule.proofs.pipes.own_load.Goals as goal
 
 pub load-requires : goal.load-requires

@@ -4,13 +4,9 @@ use Rattle.wait_model.specs.declared.layout.TheConstants.{PIPE_ENDS}
 use Rattle.wait_model.specs.declared.watches.Watch.TheVariants as watch
 use Rattle.wait_model.specs.declared.steps.Step.TheVariants as step
 use Rattle.wait_rule.specs.declared.journal.Item.TheVariants as item
-use Rattle.wait_rule.specs.Known.{Known}
-use Rattle.wait_rule.specs.Queues.{IsIdle}
-use Rattle.wait_rule.specs.Pipes.{end_of, end_word}
-use Rattle.wait_rule.specs.PipeSays.{IsOpen, end_at}
-use Rattle.wait_rule.proofs.TableSteps.PipeMoves.{end_moves}
-use Rattle.wait_rule.proofs.KnownLaws.PipeWords.{odd_is}
-use Rattle.wait_rule.proofs.KnownLaws.FoundPipes.{advance_becomes, closed_carried}
+use Rattle.wait_rule.specs.{Known.Known, Queues.IsIdle, Pipes.end_of, Pipes.end_word, PipeSays.IsOpen, PipeSays.end_at}
+use Rattle.wait_rule.proofs.{TableSteps.PipeMoves.end_moves, KnownLaws.PipeWords.odd_is}
+use Rattle.wait_rule.proofs.{KnownLaws.FoundPipes.advance_becomes, KnownLaws.FoundPipes.closed_carried}
 use Rattle.wait_rule.proofs.KnownLaws.StepCalls.{end_spot, may_step, known_by}
 use Rattle.wait_rule.proofs.pipes.shut.Goals as goal
 

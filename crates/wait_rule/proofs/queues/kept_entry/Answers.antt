@@ -1,9 +1,7 @@
 use Rattle.std.proofs.Common.{refl, sym, subst, arith}
 use Rattle.std.specs.Prelude.{ℕ, ◌≡◌, Some}
 use Rattle.wait_model.specs.declared.layout.TheConstants.{ENTRY_AT}
-use Rattle.wait_rule.specs.Known.{Known, known}
-use Rattle.wait_rule.specs.Queues.{index, KnewEntry}
-use Rattle.wait_rule.specs.Says.{told_of}
+use Rattle.wait_rule.specs.{Known.Known, Known.known, Queues.index, Queues.KnewEntry, Says.told_of}
 use Rattle.wait_rule.proofs.TableSteps.MemberMoves.{index_at, kept_moves}
 use Rattle.wait_rule.proofs.KnownLaws.StepCalls.{may_step}
 use Rattle.wait_rule.proofs.queues.kept_entry.Goals as goal

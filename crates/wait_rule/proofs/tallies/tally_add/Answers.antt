@@ -2,9 +2,7 @@ use Rattle.std.proofs.Common.{ap, subst, arith}
 use Rattle.std.specs.Prelude.{ℕ, ◌≡◌, ◌-◌}
 use Rattle.wait_model.specs.declared.layout.TheConstants.{TALLY_AT}
 use Rattle.wait_rule.specs.declared.journal.Item.TheVariants as item
-use Rattle.wait_rule.specs.declared.journal.Journal.{Journal}
-use Rattle.wait_rule.specs.Known.{Known}
-use Rattle.wait_rule.specs.Says.{FindsTally}
+use Rattle.wait_rule.specs.{declared.journal.Journal.Journal, Known.Known, Says.FindsTally}
 use Rattle.wait_rule.proofs.TableSteps.TallyMoves.{tally_moves}
 use Rattle.wait_rule.proofs.KnownLaws.FoundTallies.{tally_told, tally_carried, tally_looked}
 use Rattle.wait_rule.proofs.KnownLaws.StepCalls.{may_step, known_by}

@@ -3,9 +3,8 @@ use Rattle.std.specs.Prelude.{◌≡◌, ◌-◌}
 use Rattle.wait_model.specs.declared.layout.TheConstants.{NEXT_AT}
 use Rattle.wait_rule.specs.declared.journal.Item.TheVariants as item
 use Rattle.wait_rule.specs.Says.{IsFree}
-use Rattle.wait_rule.proofs.TableSteps.TicketMoves.{draw_moves}
-use Rattle.wait_rule.proofs.KnownLaws.CarriedSteps.{drawn_carried}
-use Rattle.wait_rule.proofs.KnownLaws.StepCalls.{may_step, known_by}
+use Rattle.wait_rule.proofs.{TableSteps.TicketMoves.draw_moves, KnownLaws.CarriedSteps.drawn_carried}
+use Rattle.wait_rule.proofs.{KnownLaws.StepCalls.may_step, KnownLaws.StepCalls.known_by}
 use Rattle.wait_rule.proofs.tickets.draw.Goals as goal
 
 pub fetch_add-requires : goal.fetch_add-requires

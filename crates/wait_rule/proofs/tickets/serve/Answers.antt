@@ -1,8 +1,7 @@
 use Rattle.std.proofs.Common.{refl, sym, subst, arith}
 use Rattle.wait_rule.specs.Queues.{HasGiven}
-use Rattle.wait_rule.proofs.TableSteps.TicketMoves.{serve_moves}
-use Rattle.wait_rule.proofs.KnownLaws.CarriedSteps.{served_carried}
-use Rattle.wait_rule.proofs.KnownLaws.StepCalls.{may_step, known_by}
+use Rattle.wait_rule.proofs.{TableSteps.TicketMoves.serve_moves, KnownLaws.CarriedSteps.served_carried}
+use Rattle.wait_rule.proofs.{KnownLaws.StepCalls.may_step, KnownLaws.StepCalls.known_by}
 use Rattle.wait_rule.proofs.tickets.serve.Goals as goal
 
 pub fetch_add-requires : goal.fetch_add-requires

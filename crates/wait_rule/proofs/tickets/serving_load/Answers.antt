@@ -2,9 +2,8 @@ use Rattle.std.proofs.Common.{arith}
 use Rattle.std.specs.Prelude.{◌≡◌, ◌-◌}
 use Rattle.wait_model.specs.declared.layout.TheConstants.{SERVING_AT}
 use Rattle.wait_rule.specs.declared.journal.Item.TheVariants as item
-use Rattle.wait_rule.proofs.TableSteps.TicketMoves.{serving_moves}
-use Rattle.wait_rule.proofs.KnownLaws.CarriedSteps.{serving_carried}
-use Rattle.wait_rule.proofs.KnownLaws.StepCalls.{may_step, known_by}
+use Rattle.wait_rule.proofs.{TableSteps.TicketMoves.serving_moves, KnownLaws.CarriedSteps.serving_carried}
+use Rattle.wait_rule.proofs.{KnownLaws.StepCalls.may_step, KnownLaws.StepCalls.known_by}
 use Rattle.wait_rule.proofs.tickets.serving_load.Goals as goal
 
 pub load-requires : goal.load-requires

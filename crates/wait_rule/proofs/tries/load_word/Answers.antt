@@ -1,6 +1,5 @@
 use Rattle.std.proofs.Common.{arith}
-use Rattle.wait_rule.proofs.TableSteps.TaskMoves.{peek_moves}
-use Rattle.wait_rule.proofs.KnownLaws.StepCalls.{may_step}
+use Rattle.wait_rule.proofs.{TableSteps.TaskMoves.peek_moves, KnownLaws.StepCalls.may_step}
 use Rattle.wait_rule.proofs.tries.load_word.Goals as goal
 
 pub load-requires : goal.load-requires

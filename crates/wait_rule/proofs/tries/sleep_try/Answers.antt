@@ -1,8 +1,7 @@
 use Rattle.std.proofs.Common.{refl}
 use Rattle.wait_model.specs.declared.steps.Step.TheVariants as step
-use Rattle.wait_rule.proofs.KnownLaws.SettledTasks.{settled_after, owes_after}
-use Rattle.wait_rule.proofs.KnownLaws.CarriedSteps.{slept_carried}
-use Rattle.wait_rule.proofs.KnownLaws.StepCalls.{added_from}
+use Rattle.wait_rule.proofs.{KnownLaws.SettledTasks.settled_after, KnownLaws.SettledTasks.owes_after}
+use Rattle.wait_rule.proofs.{KnownLaws.CarriedSteps.slept_carried, KnownLaws.StepCalls.added_from}
 use Rattle.wait_rule.proofs.tries.sleep_try.Goals as goal
 
 pub returns-then-try_sleep-clause-settled : goal.returns-then-try_sleep-clause-settled

@@ -1,8 +1,7 @@
 use Rattle.std.proofs.Common.{◌+◌, ◌++◌, ◌∙◌, ap, arith, codes}
 use Rattle.std.proofs.lemmas.Result.{err_from_is_err_and}
 use Rattle.edge_io.proofs.Prefix.{begun, broke_off, went_on, handed_on}
-use Rattle.wait_model.specs.Queues.{member_from, rank}
-use Rattle.wait_model.specs.Runs.{state_of}
+use Rattle.wait_model.specs.{Queues.member_from, Queues.rank, Runs.state_of}
 use Rattle.wait_script.proofs.EndLines.{head_line, piece, no_rest, fits_of}
 use Rattle.wait_script.proofs.ending.write_head.Goals as goal
 

@@ -1,7 +1,5 @@
 use Rattle.std.proofs.Common.{ℕ, ◌-◌, ◌*◌, ◌<◌, ◌≤◌, Option, IfSome, Some, None}
-use Rattle.wait_model.specs.declared.queues.Member.{Member}
-use Rattle.wait_model.specs.Queues.{rank}
-use Rattle.wait_model.specs.Runs.{state_of}
+use Rattle.wait_model.specs.{declared.queues.Member.Member, Queues.rank, Runs.state_of}
 use Rattle.wait_model.specs.declared.layout.TheConstants.{INDEXES, MEMBERS, PLACES}
 use Rattle.wait_script.specs.Ending.{head_text}
 use Rattle.wait_script.proofs.EndLines.{Partway}

@@ -1,7 +1,6 @@
 use Rattle.std.proofs.Common.{◌≤◌, ◌-◌}
 use Rattle.edge_io.specs.Text.{Midway}
-use Rattle.wait_model.specs.Runs.{state_of}
-use Rattle.wait_model.specs.declared.layout.TheConstants.{CONDITIONS}
+use Rattle.wait_model.specs.{Runs.state_of, declared.layout.TheConstants.CONDITIONS}
 use Rattle.wait_script.specs.Ending.{texts_from, line_of_word, words_text}
 use Rattle.wait_script.proofs.ending.write_words.Given as goal
 

@@ -1,6 +1,5 @@
 use Rattle.wait_model.specs.declared.calls.Call.TheVariants as call
-use Rattle.wait_script.specs.Fields.{fatal_at, number_at}
-use Rattle.wait_script.specs.Versions.{last_task}
+use Rattle.wait_script.specs.{Fields.fatal_at, Fields.number_at, Versions.last_task}
 use Rattle.wait_script.proofs.WordCounts.{few2}
 use Rattle.wait_script.proofs.forms.signal.Goals as goal
 

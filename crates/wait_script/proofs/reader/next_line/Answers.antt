@@ -1,5 +1,4 @@
-use Rattle.wait_script.proofs.CarriedLines.{read_first}
-use Rattle.wait_script.proofs.SpelledLines.{spelled_first}
+use Rattle.wait_script.proofs.{CarriedLines.read_first, SpelledLines.spelled_first}
 use Rattle.wait_script.proofs.reader.next_line.Goals as goal
 
 pub returns-in-Some-clause-some : goal.returns-in-Some-clause-some

@@ -1,6 +1,5 @@
 use Rattle.std.proofs.Common.{sym, ap, ◌∙◌, ◌+◌, ◌∷◌, ◌++◌, decimal}
-use Rattle.wait_script.proofs.LineCuts.{rest_from}
-use Rattle.wait_script.proofs.OnePass.{one_digit, number_ends}
+use Rattle.wait_script.proofs.{LineCuts.rest_from, OnePass.one_digit, OnePass.number_ends}
 use Rattle.wait_script.proofs.steps.number_before.Goals as goal
 
 pub loop-at-preserved : goal.loop-at-preserved

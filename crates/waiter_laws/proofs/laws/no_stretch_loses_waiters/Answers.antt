@@ -3,10 +3,8 @@ use Rattle.wait_event.proofs.WaitLaws.{wait_lawful}
 use Rattle.completion_cell.specs.Awaits.{await_table}
 use Rattle.completion_cell.proofs.AwaitLaws.{await_lawful}
 use Rattle.wait_class.proofs.Framing.{framed_lawful}
-use Rattle.bit_wait.specs.BitTables.{bit_frame, bit_table}
-use Rattle.bit_wait.specs.LockTables.{lock_frame, lock_table}
-use Rattle.bit_wait.proofs.BitLaws.{bit_lawful}
-use Rattle.bit_wait.proofs.LockLaws.{lock_lawful}
+use Rattle.bit_wait.specs.{BitTables.bit_frame, BitTables.bit_table, LockTables.lock_frame, LockTables.lock_table}
+use Rattle.bit_wait.proofs.{BitLaws.bit_lawful, LockLaws.lock_lawful}
 use Rattle.page_lock.specs.PageTables.{page_table}
 use Rattle.page_lock.proofs.PageLaws.{page_lawful}
 use Rattle.waiter_laws.proofs.Stretches.{awaiters_are_kept, bit_lockers_are_kept, bit_waiters_are_kept}

@@ -1,6 +1,5 @@
 use Rattle.std.proofs.Common.{◌≡◌, ◌∙◌, ap, arith}
-use Rattle.wait_model.specs.Runs.{state_of}
-use Rattle.wait_model.specs.declared.layout.TheConstants.{SCRIPT_TASKS}
+use Rattle.wait_model.specs.{Runs.state_of, declared.layout.TheConstants.SCRIPT_TASKS}
 use Rattle.waitq_alone.specs.Drill.{asleep_below}
 use Rattle.waitq_alone.proofs.silent.count_asleep.Goals as goal
 

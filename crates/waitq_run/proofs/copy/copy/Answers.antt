@@ -1,9 +1,7 @@
 use Rattle.std.proofs.Common.{Err, inl, inr, refl, ap, ◌∙◌, ◌≡◌, rules}
 use Rattle.waitq_copy.specs.Copying.{copy_text, outside, told_pieces}
 use Rattle.waitq_alone.specs.declared.fault.Fault.TheVariants as fault
-use Rattle.waitq_copy.proofs.CopyCauses.{causes}
-use Rattle.waitq_copy.proofs.Passed.{from_begun}
-use Rattle.waitq_copy.proofs.Unbegun.{lists_kept, task_kept}
+use Rattle.waitq_copy.proofs.{CopyCauses.causes, Passed.from_begun, Unbegun.lists_kept, Unbegun.task_kept}
 use Rattle.waitq_run.proofs.copy.copy.Goals as goal
 
 pub returns-clause-left : goal.returns-clause-left

@@ -1,7 +1,6 @@
 use Rattle.std.proofs.Common.{sym, ◌∙◌}
+use Rattle.waitq_copy.proofs.{Delivered.delivered, Fronts.spares}
 use Rattle.waitq_copy.proofs.Asked.{fine_status, left_silent, plain, status_fits}
-use Rattle.waitq_copy.proofs.Delivered.{delivered}
-use Rattle.waitq_copy.proofs.Fronts.{spares}
 use Rattle.waitq_run.proofs.run.run_copy.Goals as goal
 
 pub returns-clause-statuses : goal.returns-clause-statuses

@@ -1,8 +1,6 @@
 use Rattle.std.proofs.Common.{sym, ◌∙◌}
 use Rattle.waitq_copy.proofs.Asked.{fine_status}
-use Rattle.waitq_merge.proofs.Joined.{joined}
-use Rattle.waitq_merge.proofs.MergeAsked.{left_silent, status_fits}
-use Rattle.waitq_merge.proofs.MergeFronts.{merge_spares}
+use Rattle.waitq_merge.proofs.{Joined.joined, MergeAsked.left_silent, MergeAsked.status_fits, MergeFronts.merge_spares}
 use Rattle.waitq_run.proofs.run.run_merge.Goals as goal
 
 pub returns-clause-statuses : goal.returns-clause-statuses

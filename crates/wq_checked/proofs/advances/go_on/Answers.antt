@@ -1,13 +1,8 @@
 use Rattle.std.proofs.Common.{subst, sym}
 use Rattle.std.specs.Prelude.{◌||◌}
+use Rattle.wq_checked.specs.{Calls.CameFrom, Calls.IsRunningSound, Outs.WentOut, declared.calls.Running.Running}
 use Rattle.wq_checked.specs.Advancing.{cell_left, cell_shown, swake_left, swake_shown, wake_left, wake_shown}
-use Rattle.wq_checked.specs.Calls.{CameFrom, IsRunningSound}
-use Rattle.wq_checked.specs.Outs.{WentOut}
-use Rattle.wq_checked.specs.declared.calls.Running.{Running}
-use Rattle.wq_checked.proofs.CellTurns.{cell_turns}
-use Rattle.wq_checked.proofs.Going.{went_as}
-use Rattle.wq_checked.proofs.SwakeTurns.{swake_turns}
-use Rattle.wq_checked.proofs.WakeTurns.{wake_turns}
+use Rattle.wq_checked.proofs.{CellTurns.cell_turns, Going.went_as, SwakeTurns.swake_turns, WakeTurns.wake_turns}
 use Rattle.wq_checked.proofs.advances.go_on.Goals as goal
 
 pub wake_stretch-turn-requires-clause-at : goal.wake_stretch-turn-requires-clause-at

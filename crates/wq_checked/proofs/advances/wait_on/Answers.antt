@@ -1,8 +1,7 @@
 use Rattle.std.proofs.Common.{◌∙◌, subst, sym}
 use Rattle.std.specs.Prelude.{◌||◌, Bool}
 use Rattle.wait_class.specs.Wholes.{HasRested}
-use Rattle.wq_checked.specs.Advancing.{left_by, shown_of_wait}
-use Rattle.wq_checked.specs.Calls.{IsRunningSound}
+use Rattle.wq_checked.specs.{Advancing.left_by, Advancing.shown_of_wait, Calls.IsRunningSound}
 use Rattle.wq_checked.specs.declared.calls.Running.{Running}
 use Rattle.wq_checked.proofs.Going.{went_as}
 use Rattle.wq_checked.proofs.advances.wait_on.Goals as goal

@@ -4,8 +4,7 @@ use Rattle.std.specs.Prelude.{◌≡◌, true}
 use Rattle.wait_model.specs.declared.layout.TheConstants.{PLAIN_CONDITIONS}
 use Rattle.wait_model.specs.declared.steps.Step.TheVariants as step
 use Rattle.wait_rule.specs.declared.journal.Item.TheVariants as item
-use Rattle.wq_checked.specs.Begins.{numbers_fit}
-use Rattle.wq_checked.specs.declared.calls.Call.{Call}
+use Rattle.wq_checked.specs.{Begins.numbers_fit, declared.calls.Call.Call}
 use Rattle.wq_checked.specs.declared.calls.Call.TheVariants as call
 use Rattle.wq_checked.proofs.Once.{item_ready, took_ready, tried_ready}
 use Rattle.wq_checked.proofs.at_once.do_at_once.Goals as goal

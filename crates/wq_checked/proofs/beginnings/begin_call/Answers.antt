@@ -3,12 +3,9 @@ use Rattle.std.specs.Prelude.{◌≡◌, true}
 use Rattle.wait_model.specs.declared.watches.Aim.{Aim}
 use Rattle.wait_model.specs.declared.watches.Mode.TheVariants as mode
 use Rattle.wait_model.specs.declared.watches.Watch.TheVariants as watch
-use Rattle.wq_checked.specs.Advancing.{normal_wake}
-use Rattle.wq_checked.specs.Begins.{numbers_fit}
-use Rattle.wq_checked.specs.declared.calls.Call.{Call}
+use Rattle.wq_checked.specs.{Advancing.normal_wake, Begins.numbers_fit, declared.calls.Call.Call}
 use Rattle.wq_checked.specs.declared.calls.Call.TheVariants as call
-use Rattle.wq_checked.proofs.OneHolds.{set_swaking, swake_sound}
-use Rattle.wq_checked.proofs.Publishing.{gave_waking, set_waking}
+use Rattle.wq_checked.proofs.{OneHolds.set_swaking, OneHolds.swake_sound, Publishing.gave_waking, Publishing.set_waking}
 use Rattle.wq_checked.proofs.WakeTurns.{first_sound}
 use Rattle.wq_checked.proofs.Within.{bit_there, full_cond, kept_bit, simple_cond, var_there}
 use Rattle.wq_checked.proofs.beginnings.begin_call.Goals as goal

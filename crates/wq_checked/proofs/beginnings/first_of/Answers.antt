@@ -4,15 +4,12 @@ use Rattle.wait_model.specs.declared.watches.Aim.{Aim}
 use Rattle.wait_model.specs.declared.watches.Watch.TheVariants as watch
 use Rattle.var_wait.specs.VarWaits.{shared_in}
 use Rattle.swait_queue.specs.SimpleWaits.{tail_in}
-use Rattle.wq_checked.specs.Begins.{numbers_fit}
-use Rattle.wq_checked.specs.declared.calls.Call.{Call}
+use Rattle.wq_checked.specs.{Begins.numbers_fit, declared.calls.Call.Call}
 use Rattle.wq_checked.specs.declared.calls.Call.TheVariants as call
+use Rattle.wq_checked.proofs.{Publishing.ready_waking, Readiness.ready_asks, Readiness.ready_out, WakeTurns.first_sound}
 use Rattle.wq_checked.proofs.Begun.{await_came, await_sound, bit_came, bit_sound, event_came, event_sound, lock_came}
 use Rattle.wq_checked.proofs.Begun.{lock_sound, page_came, page_sound}
 use Rattle.wq_checked.proofs.OneHolds.{cell_sound, ready_swaking, swake_sound}
-use Rattle.wq_checked.proofs.Publishing.{ready_waking}
-use Rattle.wq_checked.proofs.Readiness.{ready_asks, ready_out}
-use Rattle.wq_checked.proofs.WakeTurns.{first_sound}
 use Rattle.wq_checked.proofs.Within.{cell_there, full_cond, simple_cond}
 use Rattle.wq_checked.proofs.beginnings.first_of.Goals as goal
 

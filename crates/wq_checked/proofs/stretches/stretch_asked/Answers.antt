@@ -1,8 +1,7 @@
 use Rattle.std.proofs.Common.{◌∙◌, subst, sym}
 use Rattle.std.specs.Prelude.{◌≡◌}
 use Rattle.wait_rule.specs.Known.{Known}
-use Rattle.wait_class.specs.declared.stages.Run.{Run}
-use Rattle.wait_class.specs.Tables.{IsAt}
+use Rattle.wait_class.specs.{declared.stages.Run.Run, Tables.IsAt}
 use Rattle.wait_leave.specs.OnTheWay.{OnTheWay}
 use Rattle.wait_leave.proofs.Ways.{way_domain, way_lands, way_out}
 use Rattle.wq_checked.proofs.Outs.{way_from}

@@ -1,14 +1,10 @@
 use Rattle.std.proofs.Common.{◌≡◌, subst, sym, true}
-use Rattle.wait_model.specs.declared.queues.Form.{Form}
-use Rattle.wait_model.specs.declared.watches.Entry.{Entry}
+use Rattle.wait_model.specs.{declared.queues.Form.Form, declared.watches.Entry.Entry}
 use Rattle.wait_rule.specs.Pages.{uses_flag}
 use Rattle.wait_rule.proofs.KnownLaws.AskedPages.{asks_no_page}
 use Rattle.wq_head.specs.Adds.{IsFormPlace, entry_by}
-use Rattle.wq_head.proofs.AddedEntries.{added_holds, form_queued}
-use Rattle.wq_head.proofs.AskedHolds.{looks_unasked}
-use Rattle.wq_head.proofs.OneMoreLook.{holding_on}
-use Rattle.wq_head.proofs.PermitHeads.{looks_found}
-use Rattle.wq_head.proofs.WornNotes.{form_note}
+use Rattle.wq_head.proofs.{AddedEntries.added_holds, AddedEntries.form_queued, AskedHolds.looks_unasked}
+use Rattle.wq_head.proofs.{OneMoreLook.holding_on, PermitHeads.looks_found, WornNotes.form_note}
 use Rattle.wq_head.proofs.adds.add.Goals as goal
 
 pub enqueue-requires-clause-asks : goal.enqueue-requires-clause-asks

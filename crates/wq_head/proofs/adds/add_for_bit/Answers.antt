@@ -2,8 +2,7 @@ use Rattle.std.proofs.Common.{refl, sym, true}
 use Rattle.std.proofs.lemmas.Result.{IfOk-weaker}
 use Rattle.wait_model.specs.declared.watches.Kind.TheVariants as kind
 use Rattle.wq_head.specs.Adds.{tail_entry}
-use Rattle.wq_head.proofs.HashedAdds.{added_for_bit}
-use Rattle.wq_head.proofs.PermitHeads.{bit_low, found_low}
+use Rattle.wq_head.proofs.{HashedAdds.added_for_bit, PermitHeads.bit_low, PermitHeads.found_low}
 use Rattle.wq_head.proofs.adds.add_for_bit.Goals as goal
 
 pub add-requires-clause-permits : goal.add-requires-clause-permits

@@ -1,9 +1,8 @@
 use Rattle.std.proofs.Common.{sym}
 use Rattle.std.proofs.lemmas.Result.{IfErr-weaker, IfOk-weaker}
 use Rattle.wait_rule.proofs.KnownLaws.AskedPages.{asks_no_page}
-use Rattle.wq_head.proofs.AskedHolds.{looks_unasked}
-use Rattle.wq_head.proofs.HashedAdds.{added_for_page}
-use Rattle.wq_head.proofs.PermitHeads.{found_low, page_low}
+use Rattle.wq_head.proofs.{AskedHolds.looks_unasked, HashedAdds.added_for_page, PermitHeads.found_low}
+use Rattle.wq_head.proofs.PermitHeads.{page_low}
 use Rattle.wq_head.proofs.adds.add_for_page.Goals as goal
 
 pub add-requires-clause-permits : goal.add-requires-clause-permits

@@ -1,8 +1,7 @@
 use Rattle.std.proofs.Common.{refl, false, arith}
 use Rattle.wait_model.specs.declared.layout.TheConstants.{WORD_BITS}
-use Rattle.wq_head.proofs.BitLooks.{clear_on, saw_word}
-use Rattle.wq_head.proofs.FoundMembers.{found_none}
-use Rattle.wq_head.proofs.OneMoreLook.{holding_on, looks_on}
+use Rattle.wq_head.proofs.{BitLooks.clear_on, BitLooks.saw_word, FoundMembers.found_none, OneMoreLook.holding_on}
+use Rattle.wq_head.proofs.OneMoreLook.{looks_on}
 use Rattle.wq_head.proofs.found_queues.clear_words.Goals as goal
 
 pub loop-i-preserved : goal.loop-i-preserved

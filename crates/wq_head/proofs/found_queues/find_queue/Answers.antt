@@ -1,12 +1,8 @@
 use Rattle.std.proofs.Common.{ℕ, ◌*◌, ap, subst, inl, inr, Some}
 use Rattle.wait_model.specs.declared.layout.TheConstants.{MEMBERS, WORD_BITS}
 use Rattle.wait_rule.specs.Known.{Known}
-use Rattle.wq_head.specs.declared.looking.Looking.{Looking}
-use Rattle.wq_head.specs.Looking.{AreNone, IsNextSet}
-use Rattle.wq_head.specs.Looks.{Looks}
-use Rattle.wq_head.proofs.BitLooks.{clear_on, set_on}
-use Rattle.wq_head.proofs.FirstAndLast.{below_or}
-use Rattle.wq_head.proofs.OneMoreLook.{looks_on}
+use Rattle.wq_head.specs.{declared.looking.Looking.Looking, Looking.AreNone, Looking.IsNextSet, Looks.Looks}
+use Rattle.wq_head.proofs.{BitLooks.clear_on, BitLooks.set_on, FirstAndLast.below_or, OneMoreLook.looks_on}
 use Rattle.wq_head.proofs.SoleMembers.{none_found}
 use Rattle.wq_head.proofs.found_queues.find_queue.Goals as goal
 

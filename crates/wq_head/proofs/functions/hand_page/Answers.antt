@@ -2,10 +2,7 @@ use Rattle.std.proofs.Common.{◌∙◌, ap, sym, refl, subst}
 use Rattle.std.specs.Prelude.{ℕ}
 use Rattle.wait_model.specs.declared.steps.Step.TheVariants as step
 use Rattle.wait_rule.specs.declared.journal.Item.TheVariants as item
-use Rattle.wait_rule.specs.Known.{Known}
-use Rattle.wait_rule.specs.PageCalls.{HasTold}
-use Rattle.wait_rule.specs.Says.{added, told_of}
-use Rattle.wait_rule.specs.Queues.{index}
+use Rattle.wait_rule.specs.{Known.Known, PageCalls.HasTold, Says.added, Says.told_of, Queues.index}
 use Rattle.wait_rule.proofs.KnownLaws.CarriedPages.{told_woken}
 use Rattle.wq_head.specs.Roused.{RousesNone}
 use Rattle.wq_head.proofs.RousedTasks.{none_added, none_stored, roused_then, then_roused}

@@ -3,13 +3,8 @@ use Rattle.std.specs.Prelude.{ℕ}
 use Rattle.wait_model.specs.declared.steps.Step.TheVariants as step
 use Rattle.wait_model.specs.Views.{View as Told}
 use Rattle.wait_rule.specs.declared.journal.Item.TheVariants as item
-use Rattle.wait_rule.specs.Items.{after_try}
-use Rattle.wait_rule.specs.Known.{Known}
-use Rattle.wait_rule.specs.PageCalls.{MayTryFor}
-use Rattle.wait_rule.specs.Queues.{index}
-use Rattle.wait_rule.specs.Says.{added, told_of}
-use Rattle.wq_head.specs.Roused.{RousesNone}
-use Rattle.wq_head.specs.Walking.{HandsPage, HasStopped}
+use Rattle.wait_rule.specs.{Items.after_try, Known.Known, PageCalls.MayTryFor, Queues.index, Says.added, Says.told_of}
+use Rattle.wq_head.specs.{Roused.RousesNone, Walking.HandsPage, Walking.HasStopped}
 use Rattle.wq_head.proofs.HandedEntries.{page_called}
 use Rattle.wq_head.proofs.PageEntries.{clear_is, look_stops, looked, looked_next, may_try, told_tried, try_stops}
 use Rattle.wq_head.proofs.RousedTasks.{none_added, roused_none, roused_then, then_roused}

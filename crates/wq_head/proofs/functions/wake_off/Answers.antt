@@ -2,13 +2,9 @@ use Rattle.std.proofs.Common.{◌∙◌, ap, sym, refl, subst}
 use Rattle.wait_model.specs.declared.steps.Step.TheVariants as step
 use Rattle.wait_model.specs.Fold.{met_task}
 use Rattle.wait_rule.specs.declared.journal.Item.TheVariants as item
-use Rattle.wait_rule.specs.Known.{Known}
-use Rattle.wait_rule.specs.Says.{added}
-use Rattle.wait_rule.specs.Queues.{MayUnqueue, index}
-use Rattle.wq_head.specs.Roused.{RousesNone}
-use Rattle.wq_head.specs.Walking.{woke_by}
-use Rattle.wq_head.proofs.EntryOffs.{off_may}
-use Rattle.wq_head.proofs.RousedTasks.{none_stored, roused_then}
+use Rattle.wait_rule.specs.{Known.Known, Says.added, Queues.MayUnqueue, Queues.index}
+use Rattle.wq_head.specs.{Roused.RousesNone, Walking.woke_by}
+use Rattle.wq_head.proofs.{EntryOffs.off_may, RousedTasks.none_stored, RousedTasks.roused_then}
 use Rattle.wq_head.proofs.functions.wake_off.Goals as goal
 
 pub unqueue_member-requires-clause-may : goal.unqueue_member-requires-clause-may

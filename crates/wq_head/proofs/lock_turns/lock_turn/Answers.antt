@@ -1,7 +1,6 @@
 use Rattle.std.proofs.Common.{None}
 use Rattle.wait_rule.specs.Queues.{walk_of_hold}
-use Rattle.wq_head.proofs.AwaitedLocks.{took_lock}
-use Rattle.wq_head.proofs.DrawnTurns.{still_waits, turn_locked}
+use Rattle.wq_head.proofs.{AwaitedLocks.took_lock, DrawnTurns.still_waits, DrawnTurns.turn_locked}
 use Rattle.wq_head.proofs.lock_turns.lock_turn.Goals as goal
 
 pub returns-then-served-ticket-clause-turned : goal.returns-then-served-ticket-clause-turned

@@ -1,8 +1,6 @@
 use Rattle.std.proofs.Common.{◌∙◌, ◌≡◌, ◌/◌, ◌%◌, ℕ, true, ap, sym, refl, subst, arith}
 use Rattle.wait_model.specs.declared.layout.TheConstants.{SLOTS}
-use Rattle.wait_rule.specs.Ends.{place_in}
-use Rattle.wait_rule.specs.Says.{told_of, noted}
-use Rattle.wait_rule.specs.Queues.{index}
+use Rattle.wait_rule.specs.{Ends.place_in, Says.told_of, Says.noted, Queues.index}
 use Rattle.wq_head.specs.Looks.{IsLow, entry_place, bookmark_place, is_seen_member}
 use Rattle.wq_head.proofs.OneMoreLook.{entry_low, mark_low, saw_looks, saw_is_seen, saw_is_placed, mark_looks}
 use Rattle.wq_head.proofs.OneMoreLook.{mark_is_seen, mark_is_placed}

@@ -3,17 +3,13 @@ use Rattle.std.proofs.Common.{length, map, ap, sym, subst, arith}
 use Rattle.std.proofs.lemmas.List.{length-map}
 use Rattle.std.specs.List.Sorted.{IsPermutation, IsNonDecreasingBy}
 use Rattle.wait_model.specs.declared.layout.TheConstants.{MEMBERS, MEMBER_WORDS}
-use Rattle.wait_rule.specs.Queues.{place_by}
-use Rattle.wait_rule.specs.LookCounts.{LooksAtMost}
+use Rattle.wait_rule.specs.{Queues.place_by, LookCounts.LooksAtMost, Shown.shown_queue}
 use Rattle.wq_head.specs.Looking.{IsNextSet}
-use Rattle.wait_rule.specs.Shown.{shown_queue}
 use Rattle.wq_head.specs.Lists.{rank_by, stand_in, member_by, AreAsShown}
+use Rattle.wq_head.proofs.{CarriedHolds.looks_carried, LookedWords.looked_later, CountedLooks.counted_more}
+use Rattle.wq_head.proofs.{CountedLooks.counted_end, SortedQueue.list_is_queue, SortedQueue.list_is_shown}
 use Rattle.wq_head.proofs.OneMoreLook.{looks_none, looks_on, whole_of, holding_on}
-use Rattle.wq_head.proofs.CarriedHolds.{looks_carried}
-use Rattle.wq_head.proofs.LookedWords.{looked_later}
-use Rattle.wq_head.proofs.CountedLooks.{counted_more, counted_end}
 use Rattle.wq_head.proofs.ListedMembers.{AreListed, numbers_few, listed_later, listed_on, listed_more}
-use Rattle.wq_head.proofs.SortedQueue.{list_is_queue, list_is_shown}
 use Rattle.wq_head.proofs.looks.members.Goals as goal
 
 pub loop-m-init : goal.loop-m-init

@@ -1,9 +1,7 @@
 use Rattle.std.proofs.Common.{◌-◌}
 use Rattle.wait_model.specs.declared.layout.TheConstants.{MEMBERS}
-use Rattle.wq_head.specs.Looks.{Looks}
-use Rattle.wq_head.specs.Looking.{IsLookingBy}
-use Rattle.wq_head.proofs.ListedMembers.{AreListed}
-use Rattle.wq_head.proofs.CountedLooks.{IsCounted}
+use Rattle.wq_head.specs.{Looks.Looks, Looking.IsLookingBy}
+use Rattle.wq_head.proofs.{ListedMembers.AreListed, CountedLooks.IsCounted}
 use Rattle.wq_head.proofs.looks.members.Given as goal
 
 abbrev pub invariant-loop-m : goal.invariant-loop-m

@@ -1,6 +1,5 @@
 use Rattle.std.proofs.Common.{◌+◌, Option, subst, sym}
-use Rattle.wq_head.specs.declared.looks.ShownMember.{ShownMember}
-use Rattle.wq_head.specs.Looks.{IsSurveyed, first_with}
+use Rattle.wq_head.specs.{declared.looks.ShownMember.ShownMember, Looks.IsSurveyed, Looks.first_with}
 use Rattle.wq_head.proofs.SurveyedMembers.{surveyed_more}
 use Rattle.wq_head.proofs.looks.survey_member.Goals as goal
 

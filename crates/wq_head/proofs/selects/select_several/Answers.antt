@@ -1,20 +1,15 @@
 use Rattle.std.proofs.Common.{◌≡◌, ◌+◌, ◌<◌, ◌≤◌, ◌∙◌, ℕ, ap, sym, subst, inr, length, List, arith, slice_index_or}
 use Rattle.std.proofs.lemmas.List.{length-map}
-use Rattle.wait_model.specs.declared.layout.TheConstants.{FIRST_SIMPLE_HEAD}
-use Rattle.wait_model.specs.declared.queues.Member.{Member}
-use Rattle.wait_rule.specs.Known.{Known}
-use Rattle.wait_rule.specs.Shown.{shown_queue}
-use Rattle.wq_head.specs.declared.rousing.Rousing.{Rousing}
-use Rattle.wq_head.specs.Lists.{members_in, stand_in}
-use Rattle.wq_head.specs.Members.{member_of}
-use Rattle.wq_head.specs.Roused.{IsRousing, tasks_in}
-use Rattle.wq_head.proofs.KeptHolds.{hold_on, hold_simple}
-use Rattle.wq_head.proofs.RousedTasks.{none_looked, rousing_on}
+use Rattle.wait_model.specs.{declared.layout.TheConstants.FIRST_SIMPLE_HEAD, declared.queues.Member.Member}
+use Rattle.wait_rule.specs.{Known.Known, Shown.shown_queue}
+use Rattle.wq_head.specs.{declared.rousing.Rousing.Rousing, Lists.members_in, Lists.stand_in, Members.member_of}
+use Rattle.wq_head.specs.{Roused.IsRousing, Roused.tasks_in}
+use Rattle.wq_head.proofs.{KeptHolds.hold_on, KeptHolds.hold_simple, RousedTasks.none_looked, RousedTasks.rousing_on}
+use Rattle.wq_head.proofs.selects.select_several.Goals.{then-stand-lt-ENTRIES+in_ok-take_first+else-selected-most}
+use Rattle.wq_head.proofs.selects.select_several.Goals.{else-stand-lt-ENTRIES}
 use Rattle.wq_head.proofs.SelectingHold.{InSelection, selection_starts, first_here, passes_mark, takes_entry}
 use Rattle.wq_head.proofs.SelectingHold.{selection_is, selection_rises, none_left, queue_few}
 use Rattle.wq_head.proofs.selects.select_several.Goals as goal
-use Rattle.wq_head.proofs.selects.select_several.Goals.{then-stand-lt-ENTRIES+in_ok-take_first+else-selected-most}
-use Rattle.wq_head.proofs.selects.select_several.Goals.{else-stand-lt-ENTRIES}
 
 pub loop-i-init : goal.loop-i-init
 loop-i-init c =

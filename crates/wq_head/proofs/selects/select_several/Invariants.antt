@@ -1,8 +1,6 @@
 use Rattle.std.proofs.Common.{◌≡◌, ◌≢◌, ◌<◌, ◌≤◌, length, map}
-use Rattle.wait_rule.specs.Known.{Known}
-use Rattle.wait_rule.specs.Shown.{shown_queue}
-use Rattle.wq_head.specs.Lists.{members_in, stand_in}
-use Rattle.wq_head.specs.Roused.{IsRousing, tasks_in}
+use Rattle.wait_rule.specs.{Known.Known, Shown.shown_queue}
+use Rattle.wq_head.specs.{Lists.members_in, Lists.stand_in, Roused.IsRousing, Roused.tasks_in}
 use Rattle.wq_head.proofs.SelectingHold.{InSelection}
 use Rattle.wq_head.proofs.selects.select_several.Given as goal
 

@@ -2,23 +2,14 @@ use Rattle.std.proofs.Common.{◌≡◌, ◌<◌, ◌≤◌, ℕ, ap, sym, subst
 use Rattle.std.proofs.Common.{slice_index_or, refl, true, Result, Ok, Err, IfOk, IfErr, MatchResult}
 use Rattle.wait_model.specs.declared.layout.TheConstants.{ENTRIES, FIRST_SIMPLE_HEAD}
 use Rattle.wait_model.specs.declared.queues.Member.{Member}
-use Rattle.wait_rule.specs.Known.{Known}
-use Rattle.wait_rule.specs.Shown.{shown_queue}
-use Rattle.wq_head.specs.Members.{member_of}
-use Rattle.wait_rule.specs.declared.tries.FailedTries.{FailedTries}
-use Rattle.wait_rule.specs.Queues.{MayRise}
+use Rattle.wait_rule.specs.{Known.Known, Shown.shown_queue, declared.tries.FailedTries.FailedTries, Queues.MayRise}
 use Rattle.wait_rule.specs.Tried.{IsStarved}
-use Rattle.wq_head.specs.declared.found_queues.FoundQueue.TheVariants as found
-use Rattle.wq_head.specs.declared.looks.ShownMember.{ShownMember}
-use Rattle.wq_head.specs.FoundQueues.{IsFoundQueue}
-use Rattle.wq_head.specs.Holds.{IsHolding}
-use Rattle.wq_head.specs.Looks.{Looks}
-use Rattle.wq_head.specs.Selecting.{HasSelectedSole, IsFirstEntry}
+use Rattle.wq_head.specs.{Members.member_of, declared.looks.ShownMember.ShownMember, FoundQueues.IsFoundQueue}
+use Rattle.wq_head.specs.{Holds.IsHolding, Looks.Looks, Selecting.HasSelectedSole, Selecting.IsFirstEntry}
 use Rattle.wq_head.specs.Selects.{EndsSelection, HasSelected, IsSimpleHold, KeepsHold, ShowsNoEntry}
-use Rattle.wq_head.proofs.FirstAndLast.{below_or}
+use Rattle.wq_head.specs.declared.found_queues.FoundQueue.TheVariants as found
+use Rattle.wq_head.proofs.{FirstAndLast.below_or, OneMoreLook.looks_on, RousedTasks.rousing_looked}
 use Rattle.wq_head.proofs.KeptHolds.{hold_carried, hold_holds, hold_looks, hold_on, hold_simple}
-use Rattle.wq_head.proofs.OneMoreLook.{looks_on}
-use Rattle.wq_head.proofs.RousedTasks.{rousing_looked}
 use Rattle.wq_head.proofs.SelectingHold.{InSelection, selection_starts, first_here, passes_mark, takes_entry}
 use Rattle.wq_head.proofs.SelectingHold.{selection_is, selection_rises, none_left}
 use Rattle.wq_head.proofs.selects.select_tries.Goals as goal

@@ -3,11 +3,9 @@ use Rattle.std.proofs.lemmas.Result.{err_from_is_err_and}
 use Rattle.wait_model.specs.declared.layout.TheConstants.{SLOTS}
 use Rattle.wait_model.specs.declared.steps.Step.TheVariants as step
 use Rattle.wait_rule.specs.declared.journal.Item.TheVariants as item
-use Rattle.wait_rule.specs.Known.{Known}
+use Rattle.wait_rule.specs.{Known.Known, Says.added}
 use Rattle.wait_rule.specs.Queues.{KnewEntry, MayUnqueue, index, saw}
-use Rattle.wait_rule.specs.Says.{added}
-use Rattle.wq_head.specs.Roused.{RousesNone}
-use Rattle.wq_head.specs.Selects.{KeepsHold}
+use Rattle.wq_head.specs.{Roused.RousesNone, Selects.KeepsHold}
 use Rattle.wq_head.proofs.FirstEntries.{first_looks, index_of, owner_of, take_may, taken_by}
 use Rattle.wq_head.proofs.KeptHolds.{hold_looks}
 use Rattle.wq_head.proofs.RousedTasks.{none_saw, none_stored, roused_then, then_roused}

@@ -3,13 +3,9 @@ use Rattle.std.specs.Prelude.{Some}
 use Rattle.wait_model.specs.declared.steps.Step.TheVariants as step
 use Rattle.wait_model.specs.Tables.{mark_of}
 use Rattle.wait_rule.specs.declared.journal.Item.TheVariants as item
-use Rattle.wait_rule.specs.Known.{Known}
-use Rattle.wait_rule.specs.Queues.{walk_of_hold}
-use Rattle.wq_head.specs.Roused.{RousesNone}
-use Rattle.wq_head.specs.Turns.{InWalk}
-use Rattle.wq_head.specs.Walking.{with_left}
-use Rattle.wq_head.proofs.FullHeads.{head_small}
-use Rattle.wq_head.proofs.RousedTasks.{none_added, none_marked}
+use Rattle.wait_rule.specs.{Known.Known, Queues.walk_of_hold}
+use Rattle.wq_head.specs.{Roused.RousesNone, Turns.InWalk, Walking.with_left}
+use Rattle.wq_head.proofs.{FullHeads.head_small, RousedTasks.none_added, RousedTasks.none_marked}
 use Rattle.wq_head.proofs.WakeTurns.{not_next, begins_turn, begins_up, begins_resumes, begins_walks, goes_turn}
 use Rattle.wq_head.proofs.WakeTurns.{goes_resumes, goes_takes, goes_walks}
 use Rattle.wq_head.proofs.wakes.begin_hold.Goals as goal

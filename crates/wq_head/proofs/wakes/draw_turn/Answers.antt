@@ -1,10 +1,7 @@
 use Rattle.std.proofs.Common.{sym, refl, subst, arith}
 use Rattle.wait_rule.specs.declared.journal.Item.TheVariants as item
-use Rattle.wq_head.specs.Roused.{RousesNone}
-use Rattle.wq_head.specs.Turns.{IsAtWake}
-use Rattle.wq_head.proofs.FullHeads.{head_small}
-use Rattle.wq_head.proofs.RousedTasks.{none_added}
-use Rattle.wq_head.proofs.WakeTurns.{draws_next}
+use Rattle.wq_head.specs.{Roused.RousesNone, Turns.IsAtWake}
+use Rattle.wq_head.proofs.{FullHeads.head_small, RousedTasks.none_added, WakeTurns.draws_next}
 use Rattle.wq_head.proofs.wakes.draw_turn.Goals as goal
 
 pub draw-run-requires-clause-head : goal.draw-run-requires-clause-head

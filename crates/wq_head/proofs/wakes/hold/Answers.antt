@@ -2,14 +2,12 @@ use Rattle.std.proofs.Common.{◌∙◌, ◌≡◌, sym, refl, subst}
 use Rattle.std.specs.Prelude.{true, false, None}
 use Rattle.wait_model.specs.declared.steps.Step.TheVariants as step
 use Rattle.wait_model.specs.Watches.{head_of}
-use Rattle.wait_rule.specs.Known.{Known}
-use Rattle.wait_rule.specs.Says.{stored_with}
+use Rattle.wait_rule.specs.{Known.Known, Says.stored_with}
 use Rattle.wait_rule.proofs.KnownLaws.Turns.{unlocked_free}
-use Rattle.wq_head.proofs.PermitHeads.{walk_owes}
-use Rattle.wq_head.proofs.EntryFunctions.{keeps_on}
+use Rattle.wq_head.proofs.{PermitHeads.walk_owes, EntryFunctions.keeps_on}
 use Rattle.wq_head.proofs.WholeWalk.{turned_over, come_on, walk_passed, walk_spent, walk_stopped}
-use Rattle.wq_head.specs.Roused.{RousesNone}
 use Rattle.wq_head.proofs.RousedTasks.{none_stored, none_unlocked, rousing_on, rousing_unlocked}
+use Rattle.wq_head.specs.Roused.{RousesNone}
 use Rattle.wq_head.proofs.wakes.hold.Goals as goal
 
 pub returns-in-Passed-clause-turned : goal.returns-in-Passed-clause-turned

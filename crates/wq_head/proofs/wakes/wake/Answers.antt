@@ -1,6 +1,5 @@
 use Rattle.std.proofs.Common.{arith}
-use Rattle.wq_head.proofs.CarriedHolds.{wake_owing}
-use Rattle.wq_head.proofs.FullHeads.{head_small}
+use Rattle.wq_head.proofs.{CarriedHolds.wake_owing, FullHeads.head_small}
 use Rattle.wq_head.proofs.wakes.wake.Goals as goal
 
 pub pause-looks-requires : goal.pause-looks-requires

@@ -1,7 +1,6 @@
 use Rattle.std.specs.Prelude.{◌≡◌, []}
 use Rattle.wait_rule.specs.PassedLocks.{PassesNone}
-use Rattle.wq_head.specs.Roused.{tasks_in}
-use Rattle.wq_head.specs.Turns.{IsAtWake}
+use Rattle.wq_head.specs.{Roused.tasks_in, Turns.IsAtWake}
 use Rattle.wq_head.proofs.wakes.wake.Given as goal
 
 abbrev pub invariant-loop : goal.invariant-loop

@@ -1,16 +1,11 @@
 use Rattle.std.proofs.Common.{◌∙◌, ap, sym, refl, subst, arith}
 use Rattle.std.specs.Prelude.{ℕ, ◌≡◌}
-use Rattle.wait_model.specs.declared.watches.Aim.{Aim}
-use Rattle.wait_model.specs.Watches.{head_of}
+use Rattle.wait_model.specs.{declared.watches.Aim.Aim, Watches.head_of}
 use Rattle.wait_rule.specs.declared.journal.Item.TheVariants as item
-use Rattle.wait_rule.specs.Known.{Known}
-use Rattle.wait_rule.specs.Says.{added}
-use Rattle.wq_head.specs.declared.wakes.WakeRun.{WakeRun}
-use Rattle.wq_head.specs.declared.wakes.WakeStage.{WakeStage}
+use Rattle.wait_rule.specs.{Known.Known, Says.added}
+use Rattle.wq_head.specs.{declared.wakes.WakeRun.WakeRun, declared.wakes.WakeStage.WakeStage, Roused.RousesNone}
+use Rattle.wq_head.specs.{Turns.InWalk, Turns.drawn_by, Walks.MayWake}
 use Rattle.wq_head.specs.declared.wakes.WakeStage.TheVariants as stage
-use Rattle.wq_head.specs.Roused.{RousesNone}
-use Rattle.wq_head.specs.Turns.{InWalk, drawn_by}
-use Rattle.wq_head.specs.Walks.{MayWake}
 use Rattle.wq_head.proofs.FullHeads.{head_small}
 use Rattle.wq_head.proofs.RousedTasks.{none_added, rousing_on, rousing_from, rousing_none}
 use Rattle.wq_head.proofs.WakeTurns.{outside_on, waits_on, served_on, rests_of}

@@ -2,14 +2,10 @@ use Rattle.std.proofs.Common.{◌∙◌, ◌≡◌, ℕ, ap, sym, subst, arith}
 use Rattle.std.specs.Prelude.{false}
 use Rattle.wait_model.specs.declared.steps.Step.TheVariants as step
 use Rattle.wait_model.specs.Watches.{head_of}
-use Rattle.wait_rule.specs.Known.{Known}
-use Rattle.wait_rule.specs.Says.{stored_with, unlocked_with}
-use Rattle.wq_head.specs.Turns.{next_at}
-use Rattle.wq_head.specs.Walking.{Counts}
-use Rattle.wq_head.proofs.PermitHeads.{walk_owes}
-use Rattle.wq_head.proofs.FullHeads.{head_small}
-use Rattle.wq_head.proofs.BreakingHold.{place_small}
-use Rattle.wq_head.proofs.BrokenHold.{may_put, breaks_off}
+use Rattle.wait_rule.specs.{Known.Known, Says.stored_with, Says.unlocked_with}
+use Rattle.wq_head.specs.{Turns.next_at, Walking.Counts}
+use Rattle.wq_head.proofs.{PermitHeads.walk_owes, FullHeads.head_small, BreakingHold.place_small, BrokenHold.may_put}
+use Rattle.wq_head.proofs.BrokenHold.{breaks_off}
 use Rattle.wq_head.proofs.walks.break_off.Goals as goal
 
 pub mark_word_of-requires-clause-head : goal.mark_word_of-requires-clause-head

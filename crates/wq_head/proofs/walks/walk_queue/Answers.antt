@@ -1,13 +1,9 @@
 use Rattle.std.proofs.Common.{◌∙◌, ◌≡◌, ◌+◌, ap, sym, refl, subst, inl}
 use Rattle.std.proofs.Common.{inr, length, slice_index_or, List, ◌<◌, ◌≤◌, arith}
-use Rattle.wait_model.specs.declared.layout.TheConstants.{ENTRIES, BREAK}
-use Rattle.wait_model.specs.declared.queues.Member.{Member}
-use Rattle.wait_model.specs.declared.queues.Walking.{Walking}
-use Rattle.wait_rule.specs.Known.{Known}
-use Rattle.wait_rule.specs.Shown.{shown_queue}
-use Rattle.wq_head.specs.declared.rousing.Rousing.{Rousing}
-use Rattle.wq_head.specs.Members.{member_of}
-use Rattle.wq_head.specs.Walking.{HoldKeeps, IsHoldOver}
+use Rattle.wait_model.specs.{declared.layout.TheConstants.ENTRIES, declared.layout.TheConstants.BREAK}
+use Rattle.wait_model.specs.{declared.queues.Member.Member, declared.queues.Walking.Walking}
+use Rattle.wait_rule.specs.{Known.Known, Shown.shown_queue}
+use Rattle.wq_head.specs.{declared.rousing.Rousing.Rousing, Members.member_of, Walking.HoldKeeps, Walking.IsHoldOver}
 use Rattle.wq_head.proofs.CallingHold.{hold_starts, seen_next, next_here, hold_passes, hold_on, hold_halts}
 use Rattle.wq_head.proofs.CallingHold.{hold_spends, hold_breaks, hold_ends, hold_empty}
 use Rattle.wq_head.proofs.GoneOver.{GoesOver}

@@ -1,5 +1,4 @@
-use Rattle.wq_head.proofs.OneMoreLook.{looks_on}
-use Rattle.wq_head.proofs.RousedTasks.{none_looked, rousing_on}
+use Rattle.wq_head.proofs.{OneMoreLook.looks_on, RousedTasks.none_looked, RousedTasks.rousing_on}
 use Rattle.wq_head.proofs.walks.walk_several.Goals as goal
 
 pub walk_queue-requires-clause-starting : goal.walk_queue-requires-clause-starting

@@ -1,7 +1,6 @@
 use Rattle.std.specs.Prelude.{◌≡◌}
 use Rattle.wait_class.specs.declared.stages.Turn.TheVariants as turn
-use Rattle.wait_class.specs.Tables.{IsAt, Plan}
-use Rattle.wait_class.specs.UnderWay.{IsUnderWay}
+use Rattle.wait_class.specs.{Tables.IsAt, Tables.Plan, UnderWay.IsUnderWay}
 use Rattle.wq_user.proofs.stretched.go_on.Given as goal
 
 abbrev pub invariant-loop : goal.invariant-loop

@@ -1,7 +1,6 @@
 use Rattle.std.proofs.Common.{subst, sym}
 use Rattle.wait_class.specs.Laws.{AddsOwn, MayAdd}
-use Rattle.completion_cell.specs.Awaits.{await_table}
-use Rattle.completion_cell.specs.declared.awaits.AwaitStage.{AwaitStage}
+use Rattle.completion_cell.specs.{Awaits.await_table, declared.awaits.AwaitStage.AwaitStage}
 use Rattle.completion_cell.specs.declared.awaits.AwaitStage.TheVariants as stage
 use Rattle.completion_cell.proofs.AwaitAdds.{add_permits, adds_cell, wait_queues}
 use Rattle.completion_cell.proofs.awaits.AwaitCallMachine.add.Goals as goal

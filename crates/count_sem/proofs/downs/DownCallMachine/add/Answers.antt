@@ -1,7 +1,6 @@
 use Rattle.std.proofs.Common.{subst, sym}
 use Rattle.wait_class.specs.Laws.{AddsOwn, MayAdd}
-use Rattle.count_sem.specs.Downs.{down_table}
-use Rattle.count_sem.specs.declared.downs.DownStage.{DownStage}
+use Rattle.count_sem.specs.{Downs.down_table, declared.downs.DownStage.DownStage}
 use Rattle.count_sem.specs.declared.downs.DownStage.TheVariants as stage
 use Rattle.completion_cell.proofs.AwaitAdds.{add_permits, adds_cell}
 use Rattle.count_sem.proofs.DownLaws.{down_queues}

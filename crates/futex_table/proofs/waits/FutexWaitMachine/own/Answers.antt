@@ -1,13 +1,9 @@
 use Rattle.std.proofs.Common.{inl, subst, sym, refl}
-use Rattle.wait_model.specs.Watches.{IsThere}
-use Rattle.wait_model.specs.declared.layout.TheConstants.{HEADS}
+use Rattle.wait_model.specs.{Watches.IsThere, declared.layout.TheConstants.HEADS}
 use Rattle.wait_model.specs.declared.steps.Step.TheVariants as step
-use Rattle.wait_class.proofs.Handed.{given_as, given_step}
-use Rattle.wait_class.proofs.States.{load_agreed}
+use Rattle.wait_class.proofs.{Handed.given_as, Handed.given_step, States.load_agreed, AwakeSteps.awake_step}
 use Rattle.futex_table.specs.FutexTables.{futex_table}
-use Rattle.futex_table.proofs.FutexLaws.{futex_lawful}
-use Rattle.futex_table.proofs.WordLoads.{word_advances, word_falls}
-use Rattle.wait_class.proofs.AwakeSteps.{awake_step}
+use Rattle.futex_table.proofs.{FutexLaws.futex_lawful, WordLoads.word_advances, WordLoads.word_falls}
 use Rattle.futex_table.proofs.waits.FutexWaitMachine.own.Goals as goal
 
 pub cond_load-value-requires-clause-there : goal.cond_load-value-requires-clause-there

@@ -1,8 +1,7 @@
 use Rattle.std.proofs.Common.{◌∙◌, None, sym}
 use Rattle.wait_model.specs.declared.layout.TheConstants.{FIRST_PLAIN_HEAD}
 use Rattle.wait_rule.specs.Queues.{walk_of_hold}
-use Rattle.wq_head.proofs.LockWaits.{locked_stored, locked_at}
-use Rattle.wq_head.proofs.ReadyTasks.{first_head}
+use Rattle.wq_head.proofs.{LockWaits.locked_stored, LockWaits.locked_at, ReadyTasks.first_head}
 use Rattle.head_tests.proofs.LeavingTask.{entry_added}
 use Rattle.head_tests.proofs.heads.leaving.queue_own.Goals as goal
 

@@ -1,9 +1,7 @@
 use Rattle.std.proofs.Common.{◌∙◌, None, sym, arith}
 use Rattle.wait_rule.specs.Queues.{walk_of_hold}
-use Rattle.wq_head.proofs.AskedHolds.{locked_asks}
-use Rattle.wq_head.proofs.FullHeads.{head_small}
-use Rattle.wq_head.proofs.PermitHeads.{walk_owes}
-use Rattle.wq_head.proofs.LockWaits.{locked_stored, locked_at}
+use Rattle.wq_head.proofs.{AskedHolds.locked_asks, FullHeads.head_small, PermitHeads.walk_owes, LockWaits.locked_stored}
+use Rattle.wq_head.proofs.LockWaits.{locked_at}
 use Rattle.head_tests.proofs.heads.strangers.queue_for.Goals as goal
 
 pub lock-requires-clause-head : goal.lock-requires-clause-head

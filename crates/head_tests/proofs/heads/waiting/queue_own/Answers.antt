@@ -1,8 +1,6 @@
 use Rattle.std.proofs.Common.{◌∙◌, None, sym}
 use Rattle.wait_model.specs.declared.layout.TheConstants.{FIRST_PLAIN_HEAD}
-use Rattle.wq_head.proofs.AskedHolds.{locked_asks}
-use Rattle.wq_head.proofs.LockWaits.{locked_stored, locked_at}
-use Rattle.wq_head.proofs.ReadyTasks.{first_head}
+use Rattle.wq_head.proofs.{AskedHolds.locked_asks, LockWaits.locked_stored, LockWaits.locked_at, ReadyTasks.first_head}
 use Rattle.head_tests.proofs.heads.waiting.queue_own.Goals as goal
 
 pub add_tail-requires-clause-head : goal.add_tail-requires-clause-head

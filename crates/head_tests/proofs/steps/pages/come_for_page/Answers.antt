@@ -1,9 +1,6 @@
 use Rattle.std.proofs.Common.{◌∙◌, ◌≡◌, ℕ, Some, ap, inl, refl, subst, sym}
 use Rattle.wait_rule.specs.declared.journal.Item.TheVariants as item
-use Rattle.wait_rule.specs.Asked.{waits_at}
-use Rattle.wait_rule.specs.Known.{Known}
-use Rattle.wait_rule.specs.Queues.{index}
-use Rattle.wait_rule.specs.Says.{asks_for}
+use Rattle.wait_rule.specs.{Asked.waits_at, Known.Known, Queues.index, Says.asks_for}
 use Rattle.wait_rule.proofs.WorkedTests.HandedPage.{come_idle, locked_asks, page_head_fits, page_head_low, waits_on}
 use Rattle.wait_rule.proofs.WorkedTests.HandedPage.{waits_queued}
 use Rattle.head_tests.proofs.steps.pages.come_for_page.Goals as goal

@@ -2,12 +2,9 @@ use Rattle.std.proofs.Common.{◌∙◌, ◌≡◌, ℕ, ap, sym, Some}
 use Rattle.wait_model.specs.declared.steps.Step.TheVariants as step
 use Rattle.wait_model.specs.Views.{View as Told}
 use Rattle.wait_rule.specs.declared.journal.Item.TheVariants as item
-use Rattle.wait_rule.specs.Asked.{was_given_at}
-use Rattle.wait_rule.specs.Known.{Known}
-use Rattle.wait_rule.specs.Queues.{index, saw}
+use Rattle.wait_rule.specs.{Asked.was_given_at, Known.Known, Queues.index, Queues.saw}
 use Rattle.wait_rule.specs.Says.{added, asks_for, told_of}
-use Rattle.wait_rule.proofs.KnownLaws.AfterSteps.{told_added}
-use Rattle.wait_rule.proofs.WorkedTests.HandedPage.{given_found}
+use Rattle.wait_rule.proofs.{KnownLaws.AfterSteps.told_added, WorkedTests.HandedPage.given_found}
 use Rattle.head_tests.proofs.steps.pages.note_page.Goals as goal
 
 pub page_note-requires-clause-given : goal.page_note-requires-clause-given

@@ -1,9 +1,7 @@
 use Rattle.std.proofs.Common.{◌∙◌, ap, inl}
 use Rattle.wait_model.specs.declared.watches.Entry.{Entry}
 use Rattle.wait_model.specs.declared.steps.Step.TheVariants as step
-use Rattle.wait_rule.specs.Looking.{page_entry}
-use Rattle.wait_rule.specs.Queues.{index}
-use Rattle.wait_rule.specs.Says.{stored_with}
+use Rattle.wait_rule.specs.{Looking.page_entry, Queues.index, Says.stored_with}
 use Rattle.wait_rule.proofs.WorkedTests.HandedPage.{may_queue_page, page_head_low, shown_page}
 use Rattle.head_tests.proofs.steps.pages.queue_for_page.Goals as goal
 

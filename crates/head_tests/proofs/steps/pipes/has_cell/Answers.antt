@@ -1,8 +1,6 @@
 use Rattle.std.proofs.Common.{◌∙◌, ap, subst, sym, arith}
 use Rattle.std.proofs.lemmas.Bool.Decides.{nat_tests}
-use Rattle.wait_rule.specs.Known.{Known}
-use Rattle.wait_rule.specs.Passing.{HasPassedCells}
-use Rattle.wait_rule.specs.Pipes.{read_end}
+use Rattle.wait_rule.specs.{Known.Known, Passing.HasPassedCells, Pipes.read_end}
 use Rattle.wait_rule.specs.PipeSays.{IsSoundRead, end_at, reading}
 use Rattle.wait_rule.proofs.KnownLaws.PipeItems.{other_r}
 use Rattle.wait_rule.proofs.WorkedTests.PassedCells.{looks_others, looks_passed, sees_cell}

@@ -1,9 +1,7 @@
 use Rattle.std.proofs.Common.{◌∙◌, add-zero, ap, subst, sym, arith}
 use Rattle.std.specs.Prelude.{ℕ}
 use Rattle.std.proofs.lemmas.Bool.Decides.{nat_tests}
-use Rattle.wait_rule.specs.Known.{Known}
-use Rattle.wait_rule.specs.Passing.{HasPassedCells}
-use Rattle.wait_rule.specs.Pipes.{write_end}
+use Rattle.wait_rule.specs.{Known.Known, Passing.HasPassedCells, Pipes.write_end}
 use Rattle.wait_rule.specs.PipeSays.{IsSoundWrite, end_at, writing}
 use Rattle.wait_rule.proofs.KnownLaws.PipeItems.{other_w}
 use Rattle.wait_rule.proofs.WorkedTests.PassedCells.{looks_others, looks_passed, sees_room}

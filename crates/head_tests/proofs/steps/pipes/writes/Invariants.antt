@@ -1,6 +1,5 @@
 use Rattle.std.proofs.Common.{◌≤◌}
-use Rattle.wait_rule.specs.Passing.{HasPassedCells}
-use Rattle.wait_rule.specs.Pipes.{write_end}
+use Rattle.wait_rule.specs.{Passing.HasPassedCells, Pipes.write_end}
 use Rattle.head_tests.proofs.steps.pipes.writes.Given as goal
 
 abbrev pub invariant-loop : goal.invariant-loop

@@ -1,20 +1,14 @@
 use Rattle.std.proofs.Common.{◌≡◌, ◌<◌, ℕ, ◌∙◌, true, false, refl, sym, ap, arith, inl, inr}
+use Rattle.wait_model.specs.{declared.watches.Entry.Entry, Locations.mark_word, Tables.mark_of, Words.entry_of}
 use Rattle.wait_model.specs.declared.layout.TheConstants.{TASKS, SLOTS, ENTRIES, FIRST_PLAIN_HEAD, FIRST_PLACE}
-use Rattle.wait_model.specs.declared.watches.Entry.{Entry}
 use Rattle.wait_model.specs.declared.steps.Step.TheVariants as step
-use Rattle.wait_model.specs.Locations.{mark_word}
-use Rattle.wait_model.specs.Tables.{mark_of}
-use Rattle.wait_model.specs.Words.{entry_of}
 use Rattle.std.specs.Prelude.{◌+◌, ◌-◌, ◌*◌, Some}
-use Rattle.wait_rule.proofs.KnownLaws.MemberBits.{may_store}
-use Rattle.wait_model.proofs.WordLaws.DecodedWords.{mark_read}
-use Rattle.wait_rule.specs.declared.journal.Item.TheVariants as item
-use Rattle.wait_rule.specs.Known.{Known}
-use Rattle.wait_rule.specs.Says.{added, told_of}
-use Rattle.wait_rule.specs.Queues.{index, marked}
-use Rattle.wait_rule.proofs.KnownLaws.MemberLooks.{zero_mark}
+use Rattle.wait_rule.proofs.{KnownLaws.MemberBits.may_store, KnownLaws.MemberLooks.zero_mark}
 use Rattle.wait_rule.proofs.WorkedTests.QueuedEntry.{first, shown_first, may_queue, may_flag, may_mark, may_unmark}
 use Rattle.wait_rule.proofs.WorkedTests.QueuedEntry.{still_first}
+use Rattle.wait_model.proofs.WordLaws.DecodedWords.{mark_read}
+use Rattle.wait_rule.specs.declared.journal.Item.TheVariants as item
+use Rattle.wait_rule.specs.{Known.Known, Says.added, Says.told_of, Queues.index, Queues.marked}
 use Rattle.head_tests.proofs.steps.queues.queue_and_leave.Goals as goal
 
 few_tasks : (u n : ℕ) → u ≡ n → u < TASKS → n < TASKS

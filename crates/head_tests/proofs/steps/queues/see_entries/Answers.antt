@@ -1,9 +1,7 @@
 use Rattle.std.proofs.Common.{◌∙◌, sym, ap, subst}
 use Rattle.std.specs.Prelude.{◌≡◌, ◌+◌, ℕ, Bool, Some}
 use Rattle.wait_rule.specs.declared.journal.Item.TheVariants as item
-use Rattle.wait_rule.specs.Says.{added, told_of}
-use Rattle.wait_rule.specs.Queues.{saw}
-use Rattle.wait_rule.specs.Looking.{HasSeenEntries}
+use Rattle.wait_rule.specs.{Says.added, Says.told_of, Queues.saw, Looking.HasSeenEntries}
 use Rattle.wait_rule.proofs.KnownLaws.MemberLooks.{entry_more, entry_off, whose_entry}
 use Rattle.head_tests.proofs.steps.queues.see_entries.Goals.{then-queued, else-queued}
 use Rattle.head_tests.proofs.steps.queues.see_entries.Goals as goal

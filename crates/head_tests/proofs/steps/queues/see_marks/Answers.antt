@@ -1,9 +1,7 @@
 use Rattle.std.proofs.Common.{◌∙◌, sym, ap, subst}
 use Rattle.std.specs.Prelude.{◌≡◌, ◌+◌, Bool, Some}
-use Rattle.wait_model.specs.Views.{View as Told}
-use Rattle.wait_model.specs.Tables.{mark_of}
-use Rattle.wait_rule.specs.Says.{told_of}
-use Rattle.wait_rule.specs.Looking.{HasSeenMarks}
+use Rattle.wait_model.specs.{Views.View as Told, Tables.mark_of}
+use Rattle.wait_rule.specs.{Says.told_of, Looking.HasSeenMarks}
 use Rattle.wait_rule.proofs.KnownLaws.MemberLooks.{mark_more, mark_off, zero_mark}
 use Rattle.head_tests.proofs.steps.queues.see_marks.Goals.{then-mark_load-ne0, else-mark_load-ne0}
 use Rattle.head_tests.proofs.steps.queues.see_marks.Goals as goal

@@ -1,5 +1,4 @@
-use Rattle.wait_rule.specs.LookCounts.{Looked}
-use Rattle.wait_rule.specs.Stays.{Carries, unchanged}
+use Rattle.wait_rule.specs.{LookCounts.Looked, Stays.Carries, Stays.unchanged}
 use Rattle.head_tests.proofs.steps.queues.see_no_bits.Given as goal
 
 abbrev pub invariant-loop-i : goal.invariant-loop-i

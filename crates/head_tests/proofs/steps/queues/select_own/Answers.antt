@@ -1,13 +1,10 @@
 use Rattle.std.proofs.Common.{◌≡◌, ◌<◌, ◌∙◌, ℕ, true, refl, sym, ap, arith}
 use Rattle.std.specs.Prelude.{Some}
-use Rattle.wait_model.specs.declared.layout.TheConstants.{TASKS, FIRST_PLAIN_HEAD}
-use Rattle.wait_model.specs.declared.watches.Entry.{Entry}
+use Rattle.wait_model.specs.{declared.layout.TheConstants.TASKS, declared.layout.TheConstants.FIRST_PLAIN_HEAD}
+use Rattle.wait_model.specs.{declared.watches.Entry.Entry, Fold.met_task}
 use Rattle.wait_model.specs.declared.steps.Step.TheVariants as step
-use Rattle.wait_model.specs.Fold.{met_task}
 use Rattle.wait_rule.specs.declared.journal.Item.TheVariants as item
-use Rattle.wait_rule.specs.Known.{Known}
-use Rattle.wait_rule.specs.Says.{added}
-use Rattle.wait_rule.specs.Queues.{index}
+use Rattle.wait_rule.specs.{Known.Known, Says.added, Queues.index}
 use Rattle.wait_rule.proofs.KnownLaws.MemberBits.{may_store}
 use Rattle.wait_rule.proofs.WorkedTests.SelectedEntry.{chosen, shown_chosen, may_queue_chosen, may_rise}
 use Rattle.head_tests.proofs.steps.queues.select_own.Goals as goal

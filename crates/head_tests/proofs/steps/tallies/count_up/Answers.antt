@@ -1,19 +1,14 @@
 use Rattle.std.proofs.Common.{◌∙◌, ap, sym, refl, subst, arith, le-leb, lt-ltb}
 use Rattle.std.specs.Prelude.{ℕ, zero, suc, ◌≡◌, ◌+◌, ◌-◌, ◌%◌, ◌^◌, ◌<◌, ◌==◌, ◌&&◌, if◌then◌else◌}
 use Rattle.std.specs.Prelude.{Bool, true, ltb, [], ◌∷◌}
-use Rattle.wait_model.specs.declared.layout.TheConstants.{TASKS}
+use Rattle.wait_model.specs.{declared.layout.TheConstants.TASKS, Words.flag}
 use Rattle.wait_model.specs.declared.steps.Step.TheVariants as step
 use Rattle.wait_model.specs.declared.watches.Watch.TheVariants as watch
-use Rattle.wait_model.specs.Words.{flag}
 use Rattle.wait_rule.specs.declared.journal.Item.TheVariants as item
-use Rattle.wait_rule.specs.Journals.{fresh}
-use Rattle.wait_rule.specs.Known.{Known}
+use Rattle.wait_rule.specs.{Journals.fresh, Known.Known, TableLaws.HasAll, TallyLaws.tally_in}
 use Rattle.wait_rule.specs.Says.{FindsTally, added, newcomer}
-use Rattle.wait_rule.specs.TableLaws.{HasAll}
-use Rattle.wait_rule.specs.TallyLaws.{tally_in}
+use Rattle.wait_rule.proofs.{KnownLaws.FoundTallies.all_sum_tallies, KnownLaws.TicketSteps.to_test}
 use Rattle.wait_rule.proofs.KnownLaws.CountedTallies.{adds_count, pushed_same, newcomers_count_none}
-use Rattle.wait_rule.proofs.KnownLaws.FoundTallies.{all_sum_tallies}
-use Rattle.wait_rule.proofs.KnownLaws.TicketSteps.{to_test}
 use Rattle.head_tests.proofs.steps.tallies.count_up.Goals as goal
 
 has_all : HasAll (fresh 0 1 (TASKS - 1))

@@ -30,11 +30,10 @@ use Rattle.std.proofs.alloc.Calls.{Al, Goes-blank}
 use Rattle.std.proofs.VecSteps.Shapes.{after}
 use Rattle.std.proofs.cell.Inside.{Good}
 use Rattle.std_alloc.proofs.BoxSteps.Form as box
-use Rattle.std_alloc.proofs.BoxSteps.Steps.{box_out, box_in}
+use Rattle.std_alloc.proofs.{BoxSteps.Steps.box_out, BoxSteps.Steps.box_in, boxed.Box.from_raw.Met.met}
 use Rattle.std.proofs.raw_atomic.Walks.{proved_at, leaves}
 use Rattle.sugwelan_c.proofs.BlockValues.{Row, pair_of, good, apart}
 use Rattle.std_alloc.specs.contracts.boxed.Box.from_raw as callee
-use Rattle.std_alloc.proofs.boxed.Box.from_raw.Met.{met}
 use Rattle.sugwelan_c.specs.contracts.blocks.Block.into_box.{ended, clauses}
 use Rattle.sugwelan_c.specs.contracts.blocks.Block.into_box.Key.{name as key}
 use Rattle.sugwelan_c.proofs.blocks.Block.into_box.Statement.{statement}

@@ -31,11 +31,10 @@ use denote.Triple.Walked.{Stays, stay_dropped, walk_of}
 use Rattle.std.proofs.alloc.Calls.{Al, Goes-blank, handle_tells}
 use Rattle.std_alloc.specs.Box.Ownership.{box_owns}
 use Rattle.std_alloc.proofs.BoxSteps.Form as box
-use Rattle.std_alloc.proofs.BoxSteps.Steps.{box_out, box_in}
+use Rattle.std_alloc.proofs.{BoxSteps.Steps.box_out, BoxSteps.Steps.box_in, boxed.Box.into_raw_with_allocator.Met.met}
 use Rattle.std.proofs.raw_atomic.Walks.{proved_at, leaves}
 use Rattle.sugwelan_c.proofs.BlockValues.{pair_of, good, together}
 use Rattle.std_alloc.specs.contracts.boxed.Box.into_raw_with_allocator as callee
-use Rattle.std_alloc.proofs.boxed.Box.into_raw_with_allocator.Met.{met}
 use Rattle.sugwelan_c.specs.contracts.blocks.Block.of.{ended, clauses}
 use Rattle.sugwelan_c.specs.contracts.blocks.Block.of.Key.{name as key}
 use Rattle.sugwelan_c.proofs.blocks.Block.of.Statement.{statement}

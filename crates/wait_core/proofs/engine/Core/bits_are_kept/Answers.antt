@@ -1,5 +1,4 @@
-use Rattle.wait_model.proofs.AccountLaws.LentPages.{no_run_leaves_page}
-use Rattle.wait_model.proofs.BitLaws.BitKeepers.{every_run_keeps_bits}
+use Rattle.wait_model.proofs.{AccountLaws.LentPages.no_run_leaves_page, BitLaws.BitKeepers.every_run_keeps_bits}
 use Rattle.wait_core.proofs.KeptCore.{by_law}
 use Rattle.wait_core.proofs.engine.Core.bits_are_kept.Goals as goal
 

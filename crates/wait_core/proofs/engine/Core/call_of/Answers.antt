@@ -1,12 +1,9 @@
 use Rattle.std.proofs.Common.{refl, arith, sym, ◌∙◌, ap, subst, ◌≡◌, ℕ, ◌<◌, ◌↔◌, List, Some, slice_get, slice_index_or}
 use Rattle.std.proofs.Common.{is_some, false}
-use Rattle.wait_model.specs.declared.layout.TheConstants.{TASKS}
+use Rattle.wait_model.specs.{declared.layout.TheConstants.TASKS, declared.calls.Ran.Ran}
+use Rattle.wait_model.specs.{declared.points.Progress.Progress, Runs.state_of, Openings.IsOpened}
 use Rattle.std.proofs.lemmas.Option.{get_or_from_slice_get}
-use Rattle.wait_model.specs.declared.calls.Ran.{Ran}
-use Rattle.wait_model.specs.declared.points.Progress.{Progress}
 use Rattle.wait_model.specs.declared.points.Progress.TheVariants as now
-use Rattle.wait_model.specs.Runs.{state_of}
-use Rattle.wait_model.specs.Openings.{IsOpened}
 use Rattle.wait_model.proofs.WaitLaws.Openings.{fresh_told}
 use Rattle.wait_core.specs.Stepped.{call_shown}
 use Rattle.wait_core.proofs.engine.Core.call_of.Goals as goal

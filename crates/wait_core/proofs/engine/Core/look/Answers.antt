@@ -1,10 +1,7 @@
 use Rattle.std.specs.Prelude.{◌<◌, List}
-use Rattle.wait_model.specs.declared.layout.TheConstants.{TASKS}
-use Rattle.wait_model.specs.declared.calls.Ran.{Ran}
+use Rattle.wait_model.specs.{declared.layout.TheConstants.TASKS, declared.calls.Ran.Ran, Runs.state_of}
 use Rattle.std.proofs.Common.{arith, subst}
-use Rattle.wait_model.specs.Runs.{state_of}
-use Rattle.wait_core.specs.declared.reads.Found.{Found}
-use Rattle.wait_core.specs.Stepped.{IsFound}
+use Rattle.wait_core.specs.{declared.reads.Found.Found, Stepped.IsFound}
 use Rattle.wait_core.proofs.KeptCore.{sound, call_sound}
 use Rattle.wait_core.proofs.StepAnswers.{standing, read_here, shown_in, call_limit, call_reaches, call_fits}
 use Rattle.wait_core.proofs.engine.Core.look.Goals as goal

@@ -1,13 +1,10 @@
 use Rattle.std.specs.Prelude.{◌<◌}
-use Rattle.wait_model.specs.declared.layout.TheConstants.{TASKS}
+use Rattle.wait_model.specs.{declared.layout.TheConstants.TASKS, Runs.state_of}
 use Rattle.std.proofs.Common.{arith, sym, append-nil, ap}
-use Rattle.wait_model.specs.Runs.{state_of}
-use Rattle.wait_core.proofs.KeptCore.{sound}
-use Rattle.wait_core.proofs.StepAnswers.{planned_here, opened_again, shown_in, busy, full, made}
-use Rattle.wait_core.proofs.StepAnswers.{stepped_core, stepped_keepers, stepped_taken, grown_run, room_left}
-use Rattle.wait_core.proofs.StepAnswers.{plan_allowed, plan_joins, plan_located, plan_marked, in_range_here}
-use Rattle.wait_core.proofs.KeptBits.{page_small}
-use Rattle.wait_core.proofs.FollowedRuns.{left_by, left_now}
+use Rattle.wait_core.proofs.{KeptCore.sound, KeptBits.page_small, FollowedRuns.left_by, FollowedRuns.left_now}
+use Rattle.wait_core.proofs.StepAnswers.{planned_here, opened_again, shown_in, busy, full, made, stepped_core}
+use Rattle.wait_core.proofs.StepAnswers.{stepped_keepers, stepped_taken, grown_run, room_left, plan_allowed, plan_joins}
+use Rattle.wait_core.proofs.StepAnswers.{plan_located, plan_marked, in_range_here}
 use Rattle.wait_core.proofs.engine.Core.make.Goals as goal
 
 pub held_head-requires-clause-head : goal.held_head-requires-clause-head

@@ -1,7 +1,5 @@
 use Rattle.wait_model.specs.Runs.{state_of}
-use Rattle.wait_core.proofs.KeptCore.{sound}
-use Rattle.wait_core.proofs.StepAnswers.{read_here}
-use Rattle.wait_core.proofs.Members.{next_member}
+use Rattle.wait_core.proofs.{KeptCore.sound, StepAnswers.read_here, Members.next_member}
 use Rattle.wait_core.proofs.engine.Core.member_from.Goals as goal
 
 pub returns-clause-member : goal.returns-clause-member

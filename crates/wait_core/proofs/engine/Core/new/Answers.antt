@@ -1,9 +1,7 @@
 use Rattle.std.proofs.Common.{List, rules, sym, subst, arith}
-use Rattle.wait_model.specs.declared.calls.Ran.{Ran}
-use Rattle.wait_model.specs.Runs.{state_of}
+use Rattle.wait_model.specs.{declared.calls.Ran.Ran, Runs.state_of}
 use Rattle.wait_core.specs.Keepers.{ShowsKeepers, ShowsTaken}
-use Rattle.wait_core.proofs.IndexChanges.{start_index}
-use Rattle.wait_core.proofs.KeptBits.{start_keepers, start_taken}
+use Rattle.wait_core.proofs.{IndexChanges.start_index, KeptBits.start_keepers, KeptBits.start_taken}
 use Rattle.wait_core.proofs.engine.Core.new.Goals as goal
 
 pub invariant_of-result : goal.invariant_of-result

@@ -1,6 +1,5 @@
-use Rattle.wait_model.proofs.RunLaws.EveryRun.{no_lost_wake, no_lost_flag}
-use Rattle.wait_model.proofs.HistoryLaws.NoLostWake.{no_run_loses_wake}
-use Rattle.wait_model.proofs.WaitLaws.Sleepers.{no_run_loses_waiter}
+use Rattle.wait_model.proofs.{RunLaws.EveryRun.no_lost_wake, RunLaws.EveryRun.no_lost_flag}
+use Rattle.wait_model.proofs.{HistoryLaws.NoLostWake.no_run_loses_wake, WaitLaws.Sleepers.no_run_loses_waiter}
 use Rattle.wait_core.proofs.KeptCore.{by_law}
 use Rattle.wait_core.proofs.engine.Core.no_lost_wake.Goals as goal
 

@@ -1,8 +1,7 @@
 use Rattle.std.proofs.Common.{◌<◌, arith}
 use Rattle.wait_model.specs.declared.layout.TheConstants.{TASKS}
 use Rattle.wait_core.proofs.StepAnswers.{read_here, closed_here, room_to_open, queued_refused, lacking_refused}
-use Rattle.wait_core.proofs.StepAnswers.{may_open, started_core, started_keepers, started_taken}
-use Rattle.wait_core.proofs.StepAnswers.{started_ok}
+use Rattle.wait_core.proofs.StepAnswers.{may_open, started_core, started_keepers, started_taken, started_ok}
 use Rattle.wait_core.proofs.engine.Core.start.Goals as goal
 
 pub log-requires : goal.log-requires

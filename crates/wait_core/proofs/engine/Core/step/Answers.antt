@@ -1,10 +1,8 @@
 use Rattle.std.specs.Prelude.{ℕ, ◌<◌, ◌≤◌, true, false}
 use Rattle.wait_model.specs.declared.layout.TheConstants.{TASKS, EVENTS}
 use Rattle.std.proofs.Common.{arith, sym, subst, append-nil}
-use Rattle.wait_core.proofs.StepAnswers.{read_progress, opened_at, may_step, read_here, runs_not, no_call}
-use Rattle.wait_core.proofs.StepAnswers.{asleep}
-use Rattle.wait_core.proofs.SpokenCalls.{ended_well}
-use Rattle.wait_core.proofs.FollowedRuns.{left_now}
+use Rattle.wait_core.proofs.{SpokenCalls.ended_well, FollowedRuns.left_now}
+use Rattle.wait_core.proofs.StepAnswers.{read_progress, opened_at, may_step, read_here, runs_not, no_call, asleep}
 use Rattle.wait_core.proofs.engine.Core.step.Goals as goal
 
 pub returns-in_default : goal.returns-in_default

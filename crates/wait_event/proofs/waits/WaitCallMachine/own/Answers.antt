@@ -2,8 +2,7 @@ use Rattle.std.proofs.Common.{refl}
 use Rattle.wait_event.proofs.FirstLoads.{first_advances}
 use Rattle.wait_model.specs.declared.layout.TheConstants.{HEADS}
 use Rattle.wait_model.specs.declared.steps.Step.TheVariants as step
-use Rattle.wait_class.proofs.AwakeSteps.{awake_step}
-use Rattle.wait_class.proofs.Handed.{given_as, given_step}
+use Rattle.wait_class.proofs.{AwakeSteps.awake_step, Handed.given_as, Handed.given_step}
 use Rattle.wait_event.proofs.waits.WaitCallMachine.own.Goals as goal
 
 pub returns-clause-turned : goal.returns-clause-turned

@@ -1,8 +1,7 @@
 use Rattle.std.proofs.Common.{◌≡◌}
 use Rattle.wait_class.specs.Posts.{own_of}
 use Rattle.wait_event.specs.Prepares.{MayFinish, MayPrepare}
-use Rattle.wait_rule.specs.Says.{OwesBut, no_excuse}
-use Rattle.wait_rule.specs.Stays.{with_entry}
+use Rattle.wait_rule.specs.{Says.OwesBut, Says.no_excuse, Stays.with_entry}
 use Rattle.wait_tests.proofs.events.parts.wait_in_turns.Given as goal
 
 abbrev pub invariant-loop : goal.invariant-loop

@@ -1,8 +1,7 @@
 use Rattle.std.proofs.Common.{refl}
 use Rattle.wait_model.specs.declared.watches.Mode.TheVariants as mode
 use Rattle.wait_model.specs.declared.watches.Watch.TheVariants as watch
-use Rattle.wait_rule.specs.Says.{no_excuse}
-use Rattle.wait_rule.specs.Stays.{wake_all_change, with_entry}
+use Rattle.wait_rule.specs.{Says.no_excuse, Stays.wake_all_change, Stays.with_entry}
 use Rattle.wait_rule.proofs.KnownLaws.CarriedCounts.{excused_more}
 use Rattle.wait_class.specs.Posts.{own_of}
 use Rattle.wait_tests.proofs.Hearers.{hearer_on, owes_own}

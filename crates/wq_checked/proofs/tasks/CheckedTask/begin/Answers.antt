@@ -1,8 +1,7 @@
 use Rattle.std.proofs.Common.{sym}
 use Rattle.wq_checked.specs.Begins.{is_unlisted, numbers_fit, keeping_reason}
 use Rattle.wq_checked.specs.Reasons.{busy_reason}
-use Rattle.wq_checked.proofs.Readiness.{ready_of}
-use Rattle.wq_checked.proofs.Within.{none_busy}
+use Rattle.wq_checked.proofs.{Readiness.ready_of, Within.none_busy}
 use Rattle.wq_checked.proofs.tasks.CheckedTask.begin.Goals as goal
 
 pub begin_call-next-requires-clause-ready : goal.begin_call-next-requires-clause-ready

@@ -1,8 +1,6 @@
 use Rattle.std.proofs.Common.{rules, ◌≡◌, subst}
 use Rattle.std.specs.Prelude.{◌||◌, true, None, Option}
-use Rattle.wq_checked.specs.Checked.{Checked}
-use Rattle.wq_checked.specs.Locks.{Passes, awaited_in}
-use Rattle.wq_checked.specs.Reasons.{stopped_reason}
+use Rattle.wq_checked.specs.{Checked.Checked, Locks.Passes, Locks.awaited_in, Reasons.stopped_reason}
 use Rattle.wq_checked.specs.declared.calls.Awaited.{Awaited}
 use Rattle.wq_checked.proofs.Drawn.{goes_drawn}
 use Rattle.wq_checked.proofs.tasks.CheckedTask.go.Goals as goal

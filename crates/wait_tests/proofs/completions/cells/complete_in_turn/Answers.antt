@@ -10,7 +10,7 @@ pub draw_lock-requires-clause-head : goal.draw_lock-requires-clause-head
 draw_lock-requires-clause-head g c = fits 2 c.head_of.result (omega arith) c.head_of.ensures
 
 -- its ticket is drawn
-pub cell_stretch-turn-requires-2-clause-at : goal.cell_stretch-turn-requires-clause-at
+pub cell_stretch-turn-requires-2-clause-at : goal.cell_stretch-turn-requires-2-clause-at
 cell_stretch-turn-requires-2-clause-at g c =
     let k = c.args.other.now in
     let r = c.new-before in (

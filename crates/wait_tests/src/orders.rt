@@ -7,7 +7,7 @@ ghost use Rattle.wait_event.specs.Waits.{wait_table};
 ghost use Rattle.wait_event.specs.declared.waits.WaitStage.TheVariants as stage;
 ghost use Rattle.wait_model.specs.Tasks.{is_killable};
 ghost use Rattle.wait_rule.specs.Says.{IsClean, RestsIn};
-ghost use Rattle.wait_tests.specs.TurnTasks.{StandsIn};
+ghost use Rattle.wait_tests.specs.TurnTasks.{TurnsIn};
 
 use crate::completions::calls::{complete, try_wait};
 use crate::completions::threads::CELL;
@@ -224,8 +224,8 @@ fn play_two<R: Wait, C: Machine>(
     seed: u32,
 ) -> (Turn<C::Stage, C::Outcome>, Turn<C::Stage, C::Outcome>, u32)
     requires rests { RestsIn domain.now waker.old }
-    requires one { StandsIn domain.now C.table first.old one.old begins.0 }
-    requires two { StandsIn domain.now C.table second.old two.old begins.1 }
+    requires one { TurnsIn domain.now C.table first.old one.old begins.0 }
+    requires two { TurnsIn domain.now C.table second.old two.old begins.1 }
     ensures rests { RestsIn domain.now waker.new }
 {
     let (mut one_at, mut two_at) = begins;

@@ -1,7 +1,7 @@
 //! One turn of a wait that others take turns with on one thread.
 
 ghost use Rattle.wait_rule.specs.PassedLocks.{PassesNone};
-ghost use Rattle.wait_tests.specs.TurnTasks.{StandsIn};
+ghost use Rattle.wait_tests.specs.TurnTasks.{TurnsIn};
 
 use wait_class::machines::Machine;
 use wait_class::runs::{stretch, woke};
@@ -18,8 +18,8 @@ fn turn<C: Machine>(
     passing: &mut Passing,
 ) -> Turn<C::Stage, C::Outcome>
     requires passes { PassesNone passing.old }
-    requires waiting { StandsIn domain.now C.table task.old run.old last }
-    ensures waiting { StandsIn domain.now C.table task.new run.new result }
+    requires waiting { TurnsIn domain.now C.table task.old run.old last }
+    ensures waiting { TurnsIn domain.now C.table task.new run.new result }
 {
     C::lawful();
     match last {
@@ -43,8 +43,8 @@ pub(crate) fn go_on<C: Machine>(
     run: &mut Run<C>,
     last: Turn<C::Stage, C::Outcome>,
 ) -> Turn<C::Stage, C::Outcome>
-    requires waiting { StandsIn domain.now C.table task.old run.old last }
-    ensures waiting { StandsIn domain.now C.table task.new run.new result }
+    requires waiting { TurnsIn domain.now C.table task.old run.old last }
+    ensures waiting { TurnsIn domain.now C.table task.new run.new result }
 {
     let mut passing = Passing::none();
     let next = turn(domain, task, run, last, &mut passing);
@@ -61,8 +61,8 @@ pub(crate) fn go_often<C: Machine>(
     last: Turn<C::Stage, C::Outcome>,
     turns: u32,
 ) -> Turn<C::Stage, C::Outcome>
-    requires waiting { StandsIn domain.now C.table task.old run.old last }
-    ensures waiting { StandsIn domain.now C.table task.new run.new result }
+    requires waiting { TurnsIn domain.now C.table task.old run.old last }
+    ensures waiting { TurnsIn domain.now C.table task.new run.new result }
 {
     let mut at = last;
     for _ in 0..turns {

@@ -3,7 +3,7 @@
 
 ghost use Rattle.wait_model.specs.declared.watches.Watch.TheVariants as watch;
 ghost use Rattle.wait_rule.specs.{Bits.KeepsBitOf, Says.RestsIn};
-ghost use Rattle.wait_tests.specs.TurnTasks.{IsIdleIn, StandsIn};
+ghost use Rattle.wait_tests.specs.TurnTasks.{IsIdleIn, TurnsIn};
 
 use crate::bits::alone::{give, take};
 use crate::turns::{go_often, go_on};
@@ -51,7 +51,7 @@ fn rouse_and_go<R: Wait, C: Machine>(
     seed: u32,
 ) -> Turn<C::Stage, C::Outcome>
     requires rest { IsIdleIn domain.now waker.old }
-    requires waiting { StandsIn domain.now C.table waiter.old run.old last }
+    requires waiting { TurnsIn domain.now C.table waiter.old run.old last }
     ensures rest { IsIdleIn domain.now waker.new }
 {
     let who = waiter.number();
@@ -81,7 +81,7 @@ fn play_order<R: Wait, C: Machine>(
 ) -> Turn<C::Stage, C::Outcome>
     requires rest { IsIdleIn domain.now holder.old }
     requires keeps { KeepsBitOf holder.old (watch.Bit 0 0) }
-    requires waiting { StandsIn domain.now C.table waiter.old run.old begins }
+    requires waiting { TurnsIn domain.now C.table waiter.old run.old begins }
     ensures rest { IsIdleIn domain.now holder.new }
 {
     let at = go_often(domain, waiter, run, begins, seed % BEFORE);

@@ -6,7 +6,7 @@ ghost use Rattle.wq_head.specs.declared.wakes.WakeTurn.TheVariants as turns;
 ghost use Rattle.wq_head.specs.Turns.{WakeRests};
 ghost use Rattle.wait_rule.specs.Says.{RestsIn};
 ghost use Rattle.wait_event.specs.Waits.{wait_table};
-ghost use Rattle.wait_tests.specs.TurnTasks.{StandsIn};
+ghost use Rattle.wait_tests.specs.TurnTasks.{TurnsIn};
 
 use crate::events::stretches::is_over;
 use crate::turns::go_on;
@@ -93,8 +93,8 @@ fn wait_if(
     last: WaitTurn,
     its_turn: bool,
 ) -> WaitTurn
-    requires stands { StandsIn domain.now wait_table task.old run.old last }
-    ensures stands { StandsIn domain.now wait_table task.new run.new result }
+    requires stands { TurnsIn domain.now wait_table task.old run.old last }
+    ensures stands { TurnsIn domain.now wait_table task.new run.new result }
 {
     if its_turn {
         go_on(domain, task, run, last)

@@ -2,7 +2,7 @@
 //! stretches.
 
 ghost use Rattle.wait_rule.specs.Says.{RestsIn};
-ghost use Rattle.wait_tests.specs.TurnTasks.{IsUpIn, StandsIn};
+ghost use Rattle.wait_tests.specs.TurnTasks.{IsUpIn, TurnsIn};
 
 use crate::bits::alone::lock;
 use crate::turns::go_often;
@@ -67,8 +67,8 @@ fn reach<R: Wait, C: Machine>(
     turns: u32,
 ) -> Turn<C::Stage, C::Outcome>
     requires up { IsUpIn domain.now other.old }
-    requires waiting { StandsIn domain.now C.table task.old run.old first }
-    ensures waiting { StandsIn domain.now C.table task.new run.new result }
+    requires waiting { TurnsIn domain.now C.table task.old run.old first }
+    ensures waiting { TurnsIn domain.now C.table task.new run.new result }
 {
     match go_often(domain, task, run, first, turns) {
         Turn::Locked(stage) => Turn::Again(stage),
@@ -91,8 +91,8 @@ fn out_on<C: Leavable>(
     run: &mut Run<C>,
     last: Turn<C::Stage, C::Outcome>,
 ) -> Turn<C::Stage, C::Outcome>
-    requires waiting { StandsIn domain.now C.table task.old run.old last }
-    ensures waiting { StandsIn domain.now C.table task.new run.new result }
+    requires waiting { TurnsIn domain.now C.table task.old run.old last }
+    ensures waiting { TurnsIn domain.now C.table task.new run.new result }
 {
     let stage = match last {
         Turn::Again(stage) => stage,
@@ -114,8 +114,8 @@ fn out_often<C: Leavable>(
     run: &mut Run<C>,
     last: Turn<C::Stage, C::Outcome>,
 ) -> Turn<C::Stage, C::Outcome>
-    requires waiting { StandsIn domain.now C.table task.old run.old last }
-    ensures waiting { StandsIn domain.now C.table task.new run.new result }
+    requires waiting { TurnsIn domain.now C.table task.old run.old last }
+    ensures waiting { TurnsIn domain.now C.table task.new run.new result }
 {
     let mut at = last;
     for _ in 0..AFTER {
@@ -135,8 +135,8 @@ fn way_out<R: Wait, C: Leavable>(
     way: Way,
 ) -> Turn<C::Stage, C::Outcome>
     requires up { IsUpIn domain.now other.old }
-    requires waiting { StandsIn domain.now C.table task.old run.old first }
-    ensures waiting { StandsIn domain.now C.table task.new run.new result }
+    requires waiting { TurnsIn domain.now C.table task.old run.old first }
+    ensures waiting { TurnsIn domain.now C.table task.new run.new result }
 {
     let at = reach(rt, domain, other, task, run, first, way.turns);
     if way.by_stretches {

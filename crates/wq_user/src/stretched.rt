@@ -162,7 +162,7 @@ pub(crate) fn go_on<R: Wait, W: Stretched>(
 }
 
 /// Waits for condition 0: true where it was set, and false where a signal ended the wait, or no place was left.
-pub fn wait_by_stretches<R: Wait>(rt: &R, domain: &Domain, task: &mut Task, how: How) -> bool
+pub fn wait_cond<R: Wait>(rt: &R, domain: &Domain, task: &mut Task, how: How) -> bool
     requires rests { RestsIn domain.now task.old }
     ensures rests { RestsIn domain.now task.new }
 {
@@ -172,7 +172,7 @@ pub fn wait_by_stretches<R: Wait>(rt: &R, domain: &Domain, task: &mut Task, how:
 }
 
 /// Waits until variable 0 differs from `old`: true where it did.
-pub fn wait_var_by_stretches<R: Wait>(
+pub fn wait_var<R: Wait>(
     rt: &R,
     domain: &Domain,
     task: &mut Task,
@@ -188,12 +188,7 @@ pub fn wait_var_by_stretches<R: Wait>(
 }
 
 /// Waits until completion 0 is done, and takes one: true where it took one.
-pub fn take_by_stretches<R: Wait>(
-    rt: &R,
-    domain: &Domain,
-    task: &mut Task,
-    state: SleepState,
-) -> bool
+pub fn take<R: Wait>(rt: &R, domain: &Domain, task: &mut Task, state: SleepState) -> bool
     requires rests { RestsIn domain.now task.old }
     ensures rests { RestsIn domain.now task.new }
 {

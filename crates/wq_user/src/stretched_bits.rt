@@ -47,12 +47,7 @@ impl Stretched for BitWaits {
 }
 
 /// Waits until bit 0 of bit word 0 is clear: true where it was seen clear.
-pub fn look_by_stretches<R: Wait>(
-    rt: &R,
-    domain: &Domain,
-    task: &mut Task,
-    state: SleepState,
-) -> bool
+pub fn look<R: Wait>(rt: &R, domain: &Domain, task: &mut Task, state: SleepState) -> bool
     requires rests { RestsIn domain.now task.old }
     ensures rests { RestsIn domain.now task.new }
 {
@@ -62,13 +57,7 @@ pub fn look_by_stretches<R: Wait>(
 }
 
 /// Takes a page by stretches: true where the task keeps it.
-pub fn lock_by_stretches<R: Wait>(
-    rt: &R,
-    domain: &Domain,
-    task: &mut Task,
-    page: u8,
-    state: SleepState,
-) -> bool
+pub fn lock<R: Wait>(rt: &R, domain: &Domain, task: &mut Task, page: u8, state: SleepState) -> bool
     requires rests { RestsIn domain.now task.old }
     requires page { page < BIT_WORDS }
     ensures of { task.new.domain ≡ domain.now }
@@ -83,16 +72,11 @@ pub fn lock_by_stretches<R: Wait>(
 }
 
 /// Takes page 0 by stretches, and gives it back: true where it took it.
-pub fn hold_by_stretches<R: Wait>(
-    rt: &R,
-    domain: &Domain,
-    task: &mut Task,
-    state: SleepState,
-) -> bool
+pub fn hold<R: Wait>(rt: &R, domain: &Domain, task: &mut Task, state: SleepState) -> bool
     requires rests { RestsIn domain.now task.old }
     ensures rests { RestsIn domain.now task.new }
 {
-    if lock_by_stretches(rt, domain, task, 0, state) {
+    if lock(rt, domain, task, 0, state) {
         unlock_page(rt, domain, task, 0);
         return true;
     }

@@ -45,7 +45,7 @@ impl Stretched for LockWaits {
 }
 
 /// Takes a bit by stretches: true where the task keeps it.
-pub fn take_bit_by_stretches<R: Wait>(
+pub fn take_bit<R: Wait>(
     rt: &R,
     domain: &Domain,
     task: &mut Task,
@@ -68,16 +68,11 @@ pub fn take_bit_by_stretches<R: Wait>(
 }
 
 /// Takes bit 1 of bit word 0 by stretches, and gives it back: true where it took it.
-pub fn hold_bit_by_stretches<R: Wait>(
-    rt: &R,
-    domain: &Domain,
-    task: &mut Task,
-    state: SleepState,
-) -> bool
+pub fn hold_bit<R: Wait>(rt: &R, domain: &Domain, task: &mut Task, state: SleepState) -> bool
     requires rests { RestsIn domain.now task.old }
     ensures rests { RestsIn domain.now task.new }
 {
-    if take_bit_by_stretches(rt, domain, task, 0, 1, state) {
+    if take_bit(rt, domain, task, 0, 1, state) {
         clear_and_wake_bit(rt, domain, task, 0, 1);
         return true;
     }

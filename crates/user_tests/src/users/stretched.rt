@@ -5,9 +5,9 @@ use test_tasks::wants::{all_so, begin_two};
 use wait_model::tasks::{How, SleepState};
 use wq_user::completions::complete_one;
 use wq_user::events::set_zero;
-use wq_user::stretched::{take_by_stretches, wait_by_stretches, wait_var_by_stretches};
-use wq_user::stretched_bits::{hold_by_stretches, look_by_stretches};
-use wq_user::stretched_locks::hold_bit_by_stretches;
+use wq_user::stretched::{take, wait_cond, wait_var};
+use wq_user::stretched_bits::{hold, look};
+use wq_user::stretched_locks::hold_bit;
 
 /// Each ends as its whole call does, and the task is taken in.
 #[test]
@@ -20,12 +20,12 @@ fn waits_by_stretches_are_over(rt: HostRuntime) -> Result<(), Fail> {
     complete_one(&rt, &domain, &mut task);
     let seen = [
         set_zero(&rt, &domain, &mut task) == 0,
-        wait_by_stretches(&rt, &domain, &mut other, how),
-        wait_var_by_stretches(&rt, &domain, &mut other, 1, SleepState::Killable),
-        take_by_stretches(&rt, &domain, &mut other, SleepState::Killable),
-        look_by_stretches(&rt, &domain, &mut other, SleepState::Killable),
-        hold_by_stretches(&rt, &domain, &mut other, SleepState::Killable),
-        hold_bit_by_stretches(&rt, &domain, &mut other, SleepState::Interruptible),
+        wait_cond(&rt, &domain, &mut other, how),
+        wait_var(&rt, &domain, &mut other, 1, SleepState::Killable),
+        take(&rt, &domain, &mut other, SleepState::Killable),
+        look(&rt, &domain, &mut other, SleepState::Killable),
+        hold(&rt, &domain, &mut other, SleepState::Killable),
+        hold_bit(&rt, &domain, &mut other, SleepState::Interruptible),
     ];
     all_so(&seen)?;
     task.join(&domain, other);

@@ -7,7 +7,6 @@ use crate::meetings::rows::WAITERS;
 use crate::meetings::{ROUNDS, meet_often};
 use std::sync::Wait;
 use std::test::Fail;
-use test_tasks::late::yield_often;
 use wait_event::conds::set_and_wake;
 use wait_model::queues::Walked;
 use wait_model::watches::Mode;
@@ -19,22 +18,6 @@ pub(crate) fn set<R: Wait>(rt: &R, domain: &Domain, task: &mut Task, count: u32)
     ensures rests { RestsIn domain.now task.new }
 {
     set_and_wake(rt, domain, task, 0, 1, Mode::Normal, count)
-}
-
-/// Yields so often, and sets it.
-pub(crate) fn set_late<R: Wait>(
-    rt: &R,
-    domain: &Domain,
-    task: &mut Task,
-    late: u32,
-    count: u32,
-) -> bool
-    requires rests { RestsIn domain.now task.old }
-    ensures rests { RestsIn domain.now task.new }
-{
-    yield_often(late);
-    set(rt, domain, task, count);
-    true
 }
 
 /// Whatever the order of the steps, both waits end, and the waker takes both tasks in.

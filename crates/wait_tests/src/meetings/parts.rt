@@ -10,7 +10,7 @@ use crate::completions::threads::{CELL, complete_thrice};
 use crate::events::flags::hear_until_set;
 use crate::events::parts::{see_by_turns, wait_by_turns};
 use crate::events::selected::wait_exclusive;
-use crate::events::threads::set_late;
+use crate::events::threads::set;
 use crate::leaves::holders::{bit_turn, bit_until, page_turn, page_until, sees_clear};
 use crate::leaves::pool::{open, post_all, work};
 use crate::leaves::threads::{Left, leave, passes_on, take_it};
@@ -23,7 +23,7 @@ use crate::simple_queues::threads::swake_all_or_two;
 use crate::variables::threads::{announce_twice, wait_twice};
 use std::alloc::AllocError;
 use std::sync::Wait;
-use test_tasks::late::{ask_late, signal_late};
+use test_tasks::late::{ask_late, signal_late, yield_often};
 use test_tasks::meetings;
 use wait_model::tasks::SleepState;
 use wait_rule::{Domain, Task};
@@ -118,7 +118,11 @@ impl Part {
         let round = shared.round;
         match self {
             Part::Rests => true,
-            Part::Sets { late, count } => set_late(rt, domain, task, late.yields(round), count),
+            Part::Sets { late, count } => {
+                yield_often(late.yields(round));
+                set(rt, domain, task, count);
+                true
+            }
             Part::Waits => wait_for_zero(rt, domain, task, SleepState::Uninterruptible),
             Part::WaitsByTurns => wait_by_turns(rt, domain, task),
             Part::WaitsExclusively => wait_exclusive(rt, domain, task),

@@ -72,7 +72,8 @@ impl Part for Plays<'_> {
                 who,
             } => take_and_ask(rt, domain, task, flag, took, other, who),
             Plays::TakesUnlessAsked { flag, took } => {
-                take_unless_asked(rt, domain, task, flag, took)
+                take_until(rt, domain, task, flag, took);
+                true
             }
             Plays::Gives { late } => give_late(rt, domain, task, late),
             Plays::Signals { who, late } => signal_late(rt, domain, task, who, late),
@@ -149,21 +150,6 @@ fn take_and_ask<R: Wait>(
     } else {
         true
     }
-}
-
-/// Takes one, or leaves.
-fn take_unless_asked<R: Wait>(
-    rt: &R,
-    domain: &Domain,
-    task: &mut Task,
-    flag: &AtomicU64,
-    took: &AtomicU64,
-) -> bool
-    requires rests { RestsIn domain.now task.old }
-    ensures rests { RestsIn domain.now task.new }
-{
-    take_until(rt, domain, task, flag, took);
-    true
 }
 
 /// How many permits are counted, of two at most.

@@ -6,7 +6,7 @@ pub(crate) mod threads;
 ghost use Rattle.wait_rule.specs.Says.{RestsIn};
 
 use crate::bits::alone::take;
-use crate::completions::calls::wait_for;
+use crate::completions::calls::takes;
 use bit_wait::{BitEnd, wait_on_bit, wait_on_bit_lock};
 use std::sync::Wait;
 use std::test::Fail;
@@ -108,7 +108,7 @@ fn is_ended<R: Wait>(rt: &R, domain: &Domain, task: &mut Task, waits: Waits) -> 
         Waits::ForBit => interrupted(wait_on_bit(rt, domain, task, 2, 5, light)) == Some(32),
         Waits::ToTakeBit => interrupted(wait_on_bit_lock(rt, domain, task, 2, 5, killable))
             == Some(32),
-        Waits::ForCompletion => !wait_for(rt, domain, task, 3, light),
+        Waits::ForCompletion => !takes(rt, domain, task, 3, light),
         Waits::InSimpleQueue => is_signalled(swait_event(
             rt,
             domain,

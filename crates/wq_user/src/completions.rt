@@ -1,7 +1,7 @@
 //! A task that waits for completion 0, and one that completes it: each owes nothing after it, and is taken in.
 
-ghost use Rattle.std.specs.Prelude.{◌≡◌};
-ghost use Rattle.wait_rule.specs.Says.{IsClean, IsUp, RestsIn};
+ghost use Rattle.wait_rule.specs.Says.{RestsIn};
+ghost use Rattle.wq_user.specs.Joining.{IsUpIn};
 
 use completion_cell::asks::{is_done, reinit, try_wait};
 use completion_cell::await_calls::wait_for;
@@ -50,11 +50,9 @@ pub fn take_one<R: Wait>(rt: &R, domain: &Domain, task: &mut Task) -> bool
 
 /// Waits for one, and then is taken in by another task.
 pub fn take_and_join<R: Wait>(rt: &R, domain: &Domain, into: &mut Task, mut task: Task) -> bool
-    requires of { (into.old.domain ≡ domain.now) × (task.domain ≡ domain.now) }
-    requires up { IsUp into.old }
-    requires clean { IsClean task }
-    ensures of { into.new.domain ≡ domain.now }
-    ensures up { IsUp into.new }
+    requires into { IsUpIn domain.now into.old }
+    requires rests { RestsIn domain.now task }
+    ensures into { IsUpIn domain.now into.new }
 {
     let took = wait_for_one(rt, domain, &mut task, SleepState::Killable);
     into.join(domain, task);
@@ -63,11 +61,9 @@ pub fn take_and_join<R: Wait>(rt: &R, domain: &Domain, into: &mut Task, mut task
 
 /// Completes it for one, and then is taken in by another task.
 pub fn complete_and_join<R: Wait>(rt: &R, domain: &Domain, into: &mut Task, mut task: Task)
-    requires of { (into.old.domain ≡ domain.now) × (task.domain ≡ domain.now) }
-    requires up { IsUp into.old }
-    requires clean { IsClean task }
-    ensures of { into.new.domain ≡ domain.now }
-    ensures up { IsUp into.new }
+    requires into { IsUpIn domain.now into.old }
+    requires rests { RestsIn domain.now task }
+    ensures into { IsUpIn domain.now into.new }
 {
     complete_one(rt, domain, &mut task);
     into.join(domain, task);

@@ -2,8 +2,9 @@
 
 ghost use Rattle.std.specs.Prelude.{◌≡◌};
 ghost use Rattle.wait_event.specs.Entries.{HasWokenEntry, MayRemove};
-ghost use Rattle.wait_rule.specs.Says.{IsClean, IsUp, RestsIn};
+ghost use Rattle.wait_rule.specs.Says.{RestsIn};
 ghost use Rattle.wait_rule.specs.Stays.{Carries, unchanged};
+ghost use Rattle.wq_user.specs.Joining.{IsUpIn};
 
 use std::sync::Wait;
 use wait_event::conds::{set_and_wake, take_cond};
@@ -107,11 +108,9 @@ pub fn take_zero(domain: &Domain, task: &mut Task) -> u64
 
 /// Waits, and then is taken in by another task.
 pub fn wait_and_join<R: Wait>(rt: &R, domain: &Domain, task: &mut Task, mut other: Task)
-    requires of { (task.old.domain ≡ domain.now) × (other.domain ≡ domain.now) }
-    requires up { IsUp task.old }
-    requires clean { IsClean other }
-    ensures of { task.new.domain ≡ domain.now }
-    ensures up { IsUp task.new }
+    requires into { IsUpIn domain.now task.old }
+    requires rests { RestsIn domain.now other }
+    ensures into { IsUpIn domain.now task.new }
 {
     wait_for_zero(rt, domain, &mut other, SleepState::Killable);
     task.join(domain, other);

@@ -1,8 +1,9 @@
 //! Holds of a head in which nothing is queued, and wakes, by a task that owes nothing.
 
-ghost use Rattle.std.specs.Prelude.{◌≡◌, ◌<◌};
+ghost use Rattle.std.specs.Prelude.{◌<◌};
 ghost use Rattle.wait_model.specs.declared.layout.TheConstants.{FIRST_DONE_HEAD};
-ghost use Rattle.wait_rule.specs.Says.{IsClean, IsUp, RestsIn};
+ghost use Rattle.wait_rule.specs.Says.{RestsIn};
+ghost use Rattle.wq_user.specs.Joining.{IsUpIn};
 
 use std::sync::Wait;
 use wait_model::watches::{Mode, Watch};
@@ -67,11 +68,9 @@ pub fn pass_and_wake<R: Wait>(rt: &R, domain: &Domain, task: &mut Task, head: u1
 
 /// Sets condition 0, wakes all who wait for it, and is taken in by another task.
 pub fn wake_and_join<R: Wait>(rt: &R, domain: &Domain, into: &mut Task, task: Task) -> u32
-    requires of { (into.old.domain ≡ domain.now) × (task.domain ≡ domain.now) }
-    requires up { IsUp into.old }
-    requires clean { IsClean task }
-    ensures of { into.new.domain ≡ domain.now }
-    ensures up { IsUp into.new }
+    requires into { IsUpIn domain.now into.old }
+    requires rests { RestsIn domain.now task }
+    ensures into { IsUpIn domain.now into.new }
 {
     let mut task = task;
     let woken = set_and_wake(rt, domain, &mut task);

@@ -4,7 +4,8 @@
 ghost use Rattle.std.specs.Prelude.{◌≡◌, MatchBool};
 ghost use Rattle.wait_model.specs.declared.watches.Watch.TheVariants as watch;
 ghost use Rattle.bit_wait.specs.Holders.{IsHolder};
-ghost use Rattle.wait_rule.specs.Says.{IsClean, IsUp, RestsIn};
+ghost use Rattle.wait_rule.specs.Says.{IsClean, RestsIn};
+ghost use Rattle.wq_user.specs.Joining.{IsUpIn};
 
 use page_lock::{add_tally, lock_page, try_lock_page, unlock_page};
 use std::sync::Wait;
@@ -77,11 +78,9 @@ pub fn count_and_join<R: Wait>(
     mut task: Task,
     amount: u64,
 ) -> Option<u64>
-    requires of { (into.old.domain ≡ domain.now) × (task.domain ≡ domain.now) }
-    requires up { IsUp into.old }
-    requires clean { IsClean task }
-    ensures of { into.new.domain ≡ domain.now }
-    ensures up { IsUp into.new }
+    requires into { IsUpIn domain.now into.old }
+    requires rests { RestsIn domain.now task }
+    ensures into { IsUpIn domain.now into.new }
 {
     let before = count_in_page(rt, domain, &mut task, amount);
     into.join(domain, task);

@@ -1,8 +1,8 @@
 //! A task that waits in the simple queue of the first condition that has one, and one that wakes there: each owes
 //! nothing after it, and is taken in.
 
-ghost use Rattle.std.specs.Prelude.{◌≡◌};
-ghost use Rattle.wait_rule.specs.Says.{IsClean, IsUp, RestsIn};
+ghost use Rattle.wait_rule.specs.Says.{RestsIn};
+ghost use Rattle.wq_user.specs.Joining.{IsUpIn};
 
 use std::sync::Wait;
 use swait_queue::{swait_event, swake_all, swake_all_locked, swake_locked, swake_one};
@@ -67,11 +67,9 @@ pub fn swake_in_hold<R: Wait>(rt: &R, domain: &Domain, task: &mut Task) -> (bool
 
 /// Wakes all who wait, with nothing set before, and is taken in by another task: how many they were.
 pub fn swake_and_join<R: Wait>(rt: &R, domain: &Domain, into: &mut Task, mut task: Task) -> u32
-    requires of { (into.old.domain ≡ domain.now) × (task.domain ≡ domain.now) }
-    requires up { IsUp into.old }
-    requires clean { IsClean task }
-    ensures of { into.new.domain ≡ domain.now }
-    ensures up { IsUp into.new }
+    requires into { IsUpIn domain.now into.old }
+    requires rests { RestsIn domain.now task }
+    ensures into { IsUpIn domain.now into.new }
 {
     let woken = swake_all(rt, domain, &mut task, COND);
     into.join(domain, task);

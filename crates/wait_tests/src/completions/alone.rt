@@ -1,6 +1,6 @@
 //! One task alone: each call once, with what it answers where nobody else is there.
 
-use crate::completions::calls::{complete, complete_all, is_done, reinit, try_wait, wait_for};
+use crate::completions::calls::{complete, complete_all, is_done, reinit, takes, try_wait};
 use std::test::Fail;
 use test_tasks::wants::all_so;
 use wait_model::tasks::SleepState;
@@ -15,7 +15,7 @@ fn one_is_taken(rt: HostRuntime) -> Result<(), Fail> {
     let (domain, mut task) = Domain::new(rt.alloc())?;
     complete(&rt, &domain, &mut task, CELL);
     let seen = [
-        wait_for(&rt, &domain, &mut task, CELL, SleepState::Interruptible),
+        takes(&rt, &domain, &mut task, CELL, SleepState::Interruptible),
         !try_wait(&rt, &domain, &mut task, CELL),
         !is_done(&rt, &domain, &mut task, CELL),
     ];

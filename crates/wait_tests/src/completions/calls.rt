@@ -51,13 +51,7 @@ pub fn try_wait<R: Wait>(rt: &R, domain: &Domain, task: &mut Task, cell: u8) -> 
 }
 
 /// True where it took one.
-pub fn wait_for<R: Wait>(
-    rt: &R,
-    domain: &Domain,
-    task: &mut Task,
-    cell: u8,
-    state: SleepState,
-) -> bool
+pub fn takes<R: Wait>(rt: &R, domain: &Domain, task: &mut Task, cell: u8, state: SleepState) -> bool
     requires rests { RestsIn domain.now task.old }
     requires cell { cell < COMPLETIONS }
     ensures rests { RestsIn domain.now task.new }

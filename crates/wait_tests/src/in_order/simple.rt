@@ -1,6 +1,6 @@
 //! The calls of a completion.
 
-use crate::completions::calls::{complete, complete_all, is_done, reinit, try_wait, wait_for};
+use crate::completions::calls::{complete, complete_all, is_done, reinit, takes, try_wait};
 use std::test::Fail;
 use wait_model::tasks::SleepState;
 use wait_rule::Domain;
@@ -12,7 +12,7 @@ const CELL: u8 = 1;
 fn completed_then_taken_then_done_for_all(rt: HostRuntime) -> Result<(), Fail> {
     let (domain, mut task) = Domain::new(rt.alloc())?;
     complete(&rt, &domain, &mut task, CELL);
-    let took = wait_for(&rt, &domain, &mut task, CELL, SleepState::Uninterruptible);
+    let took = takes(&rt, &domain, &mut task, CELL, SleepState::Uninterruptible);
     let again = try_wait(&rt, &domain, &mut task, CELL);
     complete_all(&rt, &domain, &mut task, CELL);
     let done = is_done(&rt, &domain, &mut task, CELL);

@@ -2,7 +2,8 @@
 //! stretches.
 
 ghost use Rattle.wait_rule.specs.Says.{RestsIn};
-ghost use Rattle.wait_tests.specs.TurnTasks.{IsUpIn, TurnsIn};
+ghost use Rattle.wq_user.specs.Joining.{IsUpIn};
+ghost use Rattle.wait_tests.specs.TurnTasks.{TurnsIn};
 
 use crate::bits::alone::lock;
 use crate::turns::go_often;

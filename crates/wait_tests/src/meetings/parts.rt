@@ -4,7 +4,7 @@ ghost use Rattle.wait_rule.specs.Says.{RestsIn};
 
 use crate::bits::lock_threads::take_turns;
 use crate::bits::tallies;
-use crate::completions::calls::wait_for;
+use crate::completions::calls::takes;
 use crate::completions::leave_threads::{complete_late, take_until};
 use crate::completions::threads::{CELL, complete_thrice};
 use crate::events::flags::hear_until_set;
@@ -138,7 +138,7 @@ impl Part {
             Part::Swaits => swait(rt, domain, task),
             Part::CompletesThrice => complete_thrice(rt, domain, task),
             Part::Completes { late } => complete_late(rt, domain, task, late.yields(round)),
-            Part::TakesOne => wait_for(rt, domain, task, CELL, SleepState::Uninterruptible),
+            Part::TakesOne => takes(rt, domain, task, CELL, SleepState::Uninterruptible),
             Part::TakesUntil => take_until(rt, domain, task, shared),
             Part::AnnouncesTwice => announce_twice(rt, domain, task),
             Part::WaitsTwice => wait_twice(rt, domain, task),

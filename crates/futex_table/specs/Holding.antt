@@ -4,7 +4,7 @@ use Rattle.std.specs.Prelude.{ℕ, ◌≡◌, ◌≢◌, ◌==◌, ◌||◌, not
 use Rattle.wait_model.specs.declared.steps.Step.{Step}
 use Rattle.wait_model.specs.declared.steps.Step.TheVariants as step
 use Rattle.wait_model.specs.declared.watches.Watch.TheVariants as watch
-use Rattle.wait_rule.specs.{Known.Known, Says.history_of}
+use Rattle.wait_rule.specs.{Known.Known, Queues.IsIdle, Says.IsUp, Says.history_of}
 
 -- A take of the word of mutex m that found a value takes the mutex, and a store in the word gives it back.
 abbrev pub holds_after : ℕ → Step → Bool → Bool
@@ -25,6 +25,13 @@ holds_mutex k m = holds_in m (history_of k)
 
 abbrev pub HoldsMutex : Known → ℕ → Type 0
 HoldsMutex k m = holds_mutex k m ≡ true
+
+-- The task may signal who waits for a condition: it is awake and idle, and holds the mutex, which is another futex.
+pub record MaySignal (k : Known) (cond lock : ℕ) : Type 0 where
+  pub up : IsUp k
+  pub idle : IsIdle k
+  pub apart : cond ≢ lock
+  pub held : HoldsMutex k lock
 
 -- A call takes and gives back no mutex, or none but this one.
 abbrev pub StayHeld : Known → Known → Type 0

@@ -8,7 +8,7 @@ ghost use Rattle.wait_rule.specs.{Queues.IsIdle, Queues.index, Says.IsUp, Stays.
 ghost use Rattle.wait_class.specs.Posts.{IsOut};
 ghost use Rattle.wait_event.specs.Conds.{set_change};
 ghost use Rattle.futex_table.specs.CondVars.{SignalsCond, WaitsForCond, cond_answer, cond_change, is_mutex_held};
-ghost use Rattle.futex_table.specs.Holding.{HoldsMutex, OthersStayHeld, holds_mutex};
+ghost use Rattle.futex_table.specs.Holding.{HoldsMutex, MaySignal, OthersStayHeld, holds_mutex};
 ghost use Rattle.futex_table.specs.TalliedTasks.{CountsAdd, StayTallied};
 ghost use Rattle.futex_table.specs.TallyUses.{AddsToTally, LeavesTallies};
 
@@ -153,11 +153,8 @@ fn change_and_wake<R: Wait>(
     count: u32,
 ) -> u32
     requires of { task.old.domain ≡ domain.now }
-    requires up { IsUp task.old }
-    requires idle { IsIdle task.old }
     requires cond { cond < FIRST_SIMPLE }
-    requires apart { cond ≢ lock }
-    requires held { HoldsMutex task.old lock }
+    requires may { MaySignal task.old cond lock }
     ensures signals { SignalsCond task.old task.new cond count result }
     ensures up { IsUp task.new }
     ensures idle { IsIdle task.new }

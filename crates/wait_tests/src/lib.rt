@@ -1,5 +1,6 @@
 //! The tests of the crates of waits and wakes: a module for each crate. They use its public calls alone, so that those
 //! crates, which have no tests of their own, are proved once. This crate has nothing but tests.
+#![tactic(auto)]
 
 #[cfg(test)]
 mod bits;

@@ -1,7 +1,6 @@
 //! A wait to take a bit that goes on by stretches: a task keeps the bit, or owes nothing, once the wait is over.
 
-ghost use Rattle.std.specs.Prelude.{◌≡◌, ◌<◌, MatchBool};
-ghost use Rattle.wait_model.specs.declared.layout.TheConstants.{BIT_WORDS, WORD_BITS};
+ghost use Rattle.std.specs.Prelude.{◌≡◌, MatchBool};
 ghost use Rattle.wait_model.specs.declared.watches.Watch.TheVariants as watch;
 ghost use Rattle.wait_rule.specs.Says.{IsClean, RestsIn};
 ghost use Rattle.bit_wait.specs.{Holders.IsHolder, LockTables.lock_table};
@@ -44,22 +43,13 @@ impl Stretched for LockWaits {
     }
 }
 
-/// Takes a bit by stretches: true where the task keeps it.
-pub fn take_bit<R: Wait>(
-    rt: &R,
-    domain: &Domain,
-    task: &mut Task,
-    word: u8,
-    bit: u8,
-    state: SleepState,
-) -> bool
+/// Takes bit 1 of bit word 0 by stretches: true where the task keeps it.
+pub fn take_bit<R: Wait>(rt: &R, domain: &Domain, task: &mut Task, state: SleepState) -> bool
     requires rests { RestsIn domain.now task.old }
-    requires word { word < BIT_WORDS }
-    requires bit { bit < WORD_BITS }
     ensures of { task.new.domain ≡ domain.now }
-    ensures holder { MatchBool result (IsHolder task.new (watch.Bit word bit)) (IsClean task.new) }
+    ensures holder { MatchBool result (IsHolder task.new (watch.Bit 0 1)) (IsClean task.new) }
 {
-    let mut wait = begin_lock(task, word, bit, state);
+    let mut wait = begin_lock(task, 0, 1, state);
     let outcome = go_on::<R, LockWaits>(rt, domain, task, &mut wait, Stage::Test(LockTest::First));
     match end_lock(domain, task, &wait, outcome) {
         Ok(()) => true,
@@ -72,7 +62,7 @@ pub fn hold_bit<R: Wait>(rt: &R, domain: &Domain, task: &mut Task, state: SleepS
     requires rests { RestsIn domain.now task.old }
     ensures rests { RestsIn domain.now task.new }
 {
-    if take_bit(rt, domain, task, 0, 1, state) {
+    if take_bit(rt, domain, task, state) {
         clear_and_wake_bit(rt, domain, task, 0, 1);
         return true;
     }

@@ -1,5 +1,4 @@
-use Rattle.std.proofs.Common.{◌∙◌, ap, refl}
-use Rattle.wait_model.specs.{declared.watches.Aim.Aim, Watches.head_of}
+use Rattle.std.proofs.Common.{refl}
 use Rattle.wait_class.specs.declared.stages.Turn.TheVariants as turn
 use Rattle.wait_leave.specs.OnTheWay.{straight}
 use Rattle.wq_head.specs.declared.wakes.WakeStage.TheVariants as wakes
@@ -66,16 +65,3 @@ returns-in-Done-clause-came c b start x =
       fresh = e.fresh;
       came = straight new c.begin_futex-first.result (turn.Again stage.First) e.came;
     }
-
--- the wake is one of the mutex
-pub returns-in-Broken-clause-gives : goal.returns-in-Broken-clause-gives
-returns-in-Broken-clause-gives c =
-    let x = c.requires.at.2 in
-    c.in-Broken.ensures.passes
-    ∙ ap (λ (a : Aim). head_of a.watch) ((c.in-Broken.ensures.turned x.stored x.walks).aim ∙ x.aim)
-
-pub returns-in-Done-clause-gives : goal.returns-in-Done-clause-gives
-returns-in-Done-clause-gives c =
-    let x = c.requires.at.2 in
-    c.in-Done.ensures.passes
-    ∙ ap (λ (a : Aim). head_of a.watch) ((c.in-Done.ensures.turned x.stored x.walks).aim ∙ x.aim)

@@ -1,16 +1,11 @@
-use Rattle.wait_model.specs.declared.watches.Watch.TheVariants as watch
-use Rattle.wait_event.proofs.Setting.{set_idle, sets}
+use Rattle.wait_event.proofs.Setting.{sets}
 use Rattle.futex_table.proofs.{Mutexing.stored_frees, Mutexing.stored_others, TalliedCalls.stay_apart}
-use Rattle.futex_table.proofs.{Tallying.adds_none, Tallying.stored_apart}
+use Rattle.futex_table.proofs.Tallying.{stored_apart}
 use Rattle.futex_table.proofs.futexes.futex_store.Goals as goal
 
 pub returns-clause-stored : goal.returns-clause-stored
 returns-clause-stored c =
     let s = c.publish.ensures.step in sets c.args.task.now c.publish.new.task c.args.futex c.args.value s.0 s.1
-
-pub returns-clause-idle : goal.returns-clause-idle
-returns-clause-idle c = set_idle (watch.Plain c.args.futex) c.args.task.now c.publish.new.task c.requires.idle
-    c.publish.ensures.carries
 
 pub returns-clause-free : goal.returns-clause-free
 returns-clause-free c =
@@ -21,15 +16,6 @@ pub returns-clause-held : goal.returns-clause-held
 returns-clause-held c =
     let s = c.publish.ensures.step in
     stored_others c.args.futex c.args.value s.0 c.args.task.now c.publish.new.task s.1
-
-pub returns-clause-stores : goal.returns-clause-stores
-returns-clause-stores c =
-    let s = c.publish.ensures.step in record {
-      found = s.0;
-      stored = c.publish.new.task;
-      is = s.1;
-      behind = λ m d. adds_none m d c.publish.new.task;
-    }
 
 pub returns-clause-tallies : goal.returns-clause-tallies
 returns-clause-tallies c =

@@ -1,8 +1,7 @@
 use Rattle.std.proofs.Common.{◌∙◌, subst, sym}
 use Rattle.futex_table.specs.FutexEnds.{EndsFutexWait}
 use Rattle.futex_table.specs.declared.waits.FutexStage.TheVariants as stage
-use Rattle.futex_table.proofs.FutexEndings.{ends_carried, ends_futex, ends_idle, ends_out, ends_up}
-use Rattle.futex_table.proofs.WordSteps.{futex_holds}
+use Rattle.futex_table.proofs.{FutexEndings.ends_carried, FutexEndings.ends_futex, WordSteps.futex_holds}
 use Rattle.futex_table.proofs.futexes.futex_wait.Goals as goal
 
 pub returns-clause-waited : goal.returns-clause-waited
@@ -12,19 +11,6 @@ returns-clause-waited g c = subst
     (ends_futex c.args.task.now c.run-outcome.new.task c.begin_futex-wait.result c.run-outcome.new.run
     c.args.futex c.args.expected c.args.state c.begin_futex-wait.ensures.fresh c.run-outcome.result
     c.run-outcome.ensures)
-
-pub returns-clause-up : goal.returns-clause-up
-returns-clause-up g c = ends_up c.args.task.now c.run-outcome.new.task c.begin_futex-wait.result
-    c.run-outcome.new.run stage.First c.run-outcome.result c.run-outcome.ensures
-
-pub returns-clause-idle : goal.returns-clause-idle
-returns-clause-idle g c = ends_idle c.args.task.now c.run-outcome.new.task c.begin_futex-wait.result
-    c.run-outcome.new.run stage.First c.run-outcome.result c.run-outcome.ensures
-    c.requires.idle.unmarked
-
-pub returns-clause-out : goal.returns-clause-out
-returns-clause-out g c = ends_out c.args.task.now c.run-outcome.new.task c.begin_futex-wait.result
-    c.run-outcome.new.run stage.First c.run-outcome.result c.run-outcome.ensures
 
 pub returns-clause-carries : goal.returns-clause-carries
 returns-clause-carries g c = ends_carried c.args.task.now c.run-outcome.new.task c.begin_futex-wait.result

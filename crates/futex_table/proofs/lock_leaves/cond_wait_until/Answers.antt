@@ -1,29 +1,11 @@
-use Rattle.std.proofs.Common.{◌∙◌, subst, sym}
-use Rattle.std.specs.Prelude.{◌≡◌, Result}
-use Rattle.wait_model.specs.declared.watches.Watch.TheVariants as watch
-use Rattle.wait_leave.specs.declared.exits.Until.{Until}
-use Rattle.futex_table.specs.{declared.cond_vars.CondEnd.CondEnd, Holding.holds_mutex, LockLeaves.is_held_until}
-use Rattle.futex_table.proofs.{LockLeaving.cond_until_held, Mutexing.idle_still, Mutexing.out_still}
-use Rattle.futex_table.proofs.{LeftTallies.until_leaves, TalliedCalls.stay_tallied, Tallying.leaves_on}
-use Rattle.futex_table.proofs.Tallying.{load_leaves}
-use Rattle.futex_table.proofs.CondVaring.{cond_carries, idle_agreed, load_held, sets_out}
+use Rattle.std.proofs.Common.{◌∙◌}
+use Rattle.futex_table.proofs.{CondVaring.cond_carries, CondVaring.load_held, LeftTallies.until_leaves}
+use Rattle.futex_table.proofs.{TalliedCalls.stay_tallied, Tallying.leaves_on, Tallying.load_leaves}
 use Rattle.futex_table.proofs.lock_leaves.cond_wait_until.Goals as goal
-
-pub cond_load-seen-requires-clause-agreed : goal.cond_load-seen-requires-clause-agreed
-cond_load-seen-requires-clause-agreed g c = idle_agreed c.args.task.now c.requires.idle
-
-pub mutex_unlock-requires-clause-idle : goal.mutex_unlock-requires-clause-idle
-mutex_unlock-requires-clause-idle g c = idle_still c.args.task.now c.cond_load-seen.new.task
-    c.cond_load-seen.ensures.carries c.requires.idle
 
 pub mutex_unlock-requires-clause-held : goal.mutex_unlock-requires-clause-held
 mutex_unlock-requires-clause-held g c = load_held c.args.cond c.cond_load-seen.result c.args.task.now
     c.cond_load-seen.new.task c.cond_load-seen.ensures.step c.args.lock ∙ c.requires.held
-
-pub futex_wait_until-end-requires-clause-out : goal.futex_wait_until-end-requires-clause-out
-futex_wait_until-end-requires-clause-out g c = sets_out (watch.Plain c.args.lock) c.cond_load-seen.new.task
-    c.mutex_unlock.new.task c.mutex_unlock.ensures.carries
-    (out_still c.args.task.now c.cond_load-seen.new.task c.cond_load-seen.ensures.carries c.requires.out)
 
 pub returns-clause-waited : goal.returns-clause-waited
 returns-clause-waited g c = record {
@@ -47,22 +29,12 @@ returns-clause-carries g c = cond_carries c.args.lock c.args.task.now c.cond_loa
     c.mutex_unlock.new.task c.futex_wait_until-end.new.task c.mutex_lock-locked.new.task c.cond_load-seen.ensures.carries
     c.mutex_unlock.ensures.carries c.futex_wait_until-end.ensures.carries c.mutex_lock-locked.ensures.carries
 
-pub returns-clause-held : goal.returns-clause-held
-returns-clause-held g c = subst
-    (λ (r : Until (Result (Unit {0}) CondEnd)). holds_mutex c.mutex_lock-locked.new.task c.args.lock ≡ is_held_until r)
-    (sym c.cond_until_answer.ensures)
-    (cond_until_held _ c.futex_wait_until-end.result c.mutex_lock-locked.result c.mutex_lock-locked.new.task c.args.lock
-    (c.futex_wait_until-end.ensures.held c.args.lock ∙ c.mutex_unlock.ensures.free) c.mutex_lock-locked.ensures.held)
-
 pub returns-clause-others : goal.returns-clause-others
 returns-clause-others g c m ne = c.mutex_lock-locked.ensures.others m ne
     ∙ (c.futex_wait_until-end.ensures.held m
     ∙ (c.mutex_unlock.ensures.others m ne
     ∙ load_held c.args.cond c.cond_load-seen.result c.args.task.now c.cond_load-seen.new.task
     c.cond_load-seen.ensures.step m))
-
-pub returns-clause-holds : goal.returns-clause-holds
-returns-clause-holds g c sure = returns-clause-held g c ∙ sure
 
 pub returns-clause-tallies : goal.returns-clause-tallies
 returns-clause-tallies g c = leaves_on c.args.lock c.args.task.now c.cond_load-seen.new.task

@@ -1,17 +1,9 @@
 use Rattle.std.proofs.Common.{◌∙◌, sym}
 use Rattle.std.specs.Prelude.{true}
 use Rattle.wait_model.specs.declared.tasks.SleepState.TheVariants as states
-use Rattle.futex_table.proofs.{FutexLeaving.until_as, LeftTallies.until_leaves, TalliedCalls.stay_tallied}
-use Rattle.futex_table.proofs.{Tallying.leaves_none, Tallying.leaves_on}
-use Rattle.futex_table.proofs.LockLeaving.{asks_carries, asks_more, asks_none}
+use Rattle.futex_table.proofs.{FutexLeaving.until_as, LeftTallies.until_leaves, LockLeaving.asks_carries}
+use Rattle.futex_table.proofs.{LockLeaving.asks_more, TalliedCalls.stay_tallied, Tallying.leaves_on}
 use Rattle.futex_table.proofs.lock_leaves.mutex_lock_until.Goals as goal
-
-pub loop-init : goal.loop-init
-loop-init g c = (
-  asks_none (g.Q.Fn.post c.args.asks tt true) c.args.task.now c.args.lock c.requires.up c.requires.idle c.requires.out,
-  c.requires.of,
-  leaves_none c.args.lock c.args.task.now,
-)
 
 pub loop-preserved : goal.loop-preserved
 loop-preserved g c =

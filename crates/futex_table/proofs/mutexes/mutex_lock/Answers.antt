@@ -1,15 +1,7 @@
 use Rattle.std.proofs.Common.{◌∙◌, sym}
-use Rattle.futex_table.proofs.Mutexing.{round_carries, round_more, waits_none}
-use Rattle.futex_table.proofs.Tallying.{leaves_none, leaves_on, waited_leaves}
+use Rattle.futex_table.proofs.{Mutexing.round_carries, Mutexing.round_more, Tallying.leaves_on, Tallying.waited_leaves}
 use Rattle.futex_table.proofs.TalliedCalls.{stay_tallied}
 use Rattle.futex_table.proofs.mutexes.mutex_lock.Goals as goal
-
-pub loop-init : goal.loop-init
-loop-init g c = (
-  waits_none c.args.task.now c.args.lock c.requires.up c.requires.idle c.requires.out,
-  c.requires.of,
-  leaves_none c.args.lock c.args.task.now,
-)
 
 pub loop-preserved : goal.loop-preserved
 loop-preserved g c =

@@ -1,14 +1,11 @@
 use Rattle.std.proofs.Common.{refl}
 use Rattle.futex_table.proofs.{Tallying.took_leaves, TalliedCalls.stay_tallied}
-use Rattle.futex_table.proofs.Mutexing.{idle_still, took_holds, took_others, took_tried, tried_holds}
+use Rattle.futex_table.proofs.Mutexing.{took_holds, took_others, took_tried, tried_holds}
 use Rattle.futex_table.proofs.mutexes.mutex_try.Goals as goal
 
 pub returns-clause-tried : goal.returns-clause-tried
 returns-clause-tried c = took_tried c.args.lock c.consume.result c.args.task.now c.consume.new.task
     c.consume.ensures.step _ refl
-
-pub returns-clause-idle : goal.returns-clause-idle
-returns-clause-idle c = idle_still c.args.task.now c.consume.new.task c.consume.ensures.carries c.requires.idle
 
 pub returns-clause-held : goal.returns-clause-held
 returns-clause-held c = took_holds c.args.lock c.consume.result c.args.task.now c.consume.new.task

@@ -1,24 +1,13 @@
-use Rattle.std.proofs.Common.{◌∙◌}
 use Rattle.wait_model.specs.declared.watches.Mode.TheVariants as mode
-use Rattle.wait_model.specs.declared.watches.Watch.TheVariants as watch
-use Rattle.wait_event.proofs.Setting.{has_set, set_carries, set_idle}
+use Rattle.wait_event.proofs.Setting.{has_set}
 use Rattle.futex_table.proofs.{Mutexing.set_frees, Mutexing.set_others, Tallying.woken_adds}
 use Rattle.futex_table.proofs.stores.store_and_wake.Goals as goal
-
-pub wake-requires-clause-idle : goal.wake-requires-clause-idle
-wake-requires-clause-idle g c = set_idle (watch.Plain c.args.word) c.args.task.now c.publish.new.task c.requires.idle
-    c.publish.ensures.carries
 
 pub returns-clause-set : goal.returns-clause-set
 returns-clause-set g c =
     let s = c.publish.ensures.step in
     has_set c.args.task.now c.publish.new.task c.wake.new.task c.args.word c.args.value s.0 mode.Normal c.args.count
     c.wake.result s.1 c.wake.ensures.woken c.wake.ensures.ended
-
-pub returns-clause-carries : goal.returns-clause-carries
-returns-clause-carries g c = set_carries (watch.Plain c.args.word) mode.Normal c.args.task.now c.publish.new.task
-    c.wake.new.task c.requires.idle c.wake.ensures.idle (c.told.ensures.head ∙ c.requires.idle.free.head)
-    c.publish.ensures.carries c.wake.ensures.carries
 
 pub returns-clause-free : goal.returns-clause-free
 returns-clause-free g c =

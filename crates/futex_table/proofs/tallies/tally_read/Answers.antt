@@ -1,13 +1,6 @@
 use Rattle.std.proofs.Common.{◌∙◌}
-use Rattle.futex_table.proofs.{CondVaring.idle_agreed, CondVaring.load_held, Mutexing.idle_still, TalliedCalls.read_is}
-use Rattle.futex_table.proofs.TalliedCalls.{read_stays}
+use Rattle.futex_table.proofs.{CondVaring.load_held, TalliedCalls.read_is, TalliedCalls.read_stays}
 use Rattle.futex_table.proofs.tallies.tally_read.Goals as goal
-
-pub cond_load-requires-clause-agreed : goal.cond_load-requires-clause-agreed
-cond_load-requires-clause-agreed c = idle_agreed c.args.task.now c.requires.idle
-
-pub returns-clause-idle : goal.returns-clause-idle
-returns-clause-idle c = idle_still c.args.task.now c.cond_load.new.task c.cond_load.ensures.carries c.requires.idle
 
 pub returns-clause-held : goal.returns-clause-held
 returns-clause-held c = load_held c.args.tally c.cond_load.result c.args.task.now c.cond_load.new.task

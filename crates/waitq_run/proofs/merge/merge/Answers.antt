@@ -3,13 +3,8 @@ use Rattle.waitq_copy.specs.Copying.{outside}
 use Rattle.waitq_merge.specs.Merging.{merge_text}
 use Rattle.waitq_alone.specs.declared.fault.Fault.TheVariants as fault
 use Rattle.waitq_copy.proofs.Unbegun.{lists_kept, task_kept}
-use Rattle.waitq_merge.proofs.{MergeAnswers.causes, MergeAnswers.short_sum, MergePassed.from_begun}
+use Rattle.waitq_merge.proofs.{MergeAnswers.causes, MergePassed.from_begun}
 use Rattle.waitq_run.proofs.merge.merge.Goals as goal
-
-pub conclude-requires : goal.conclude-requires
-conclude-requires g c = record {
-  short = λ none. short_sum _ _ _ _ _ _ _ _ _ _ _ _ _ _ _ _ c.in_ok-done.ensures.through none;
-}
 
 pub returns-clause-left : goal.returns-clause-left
 returns-clause-left g c =

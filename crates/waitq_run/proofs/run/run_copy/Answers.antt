@@ -1,12 +1,7 @@
 use Rattle.std.proofs.Common.{sym, ◌∙◌}
 use Rattle.waitq_copy.proofs.{Delivered.delivered, Fronts.spares}
-use Rattle.waitq_copy.proofs.Asked.{fine_status, left_silent, plain, status_fits}
+use Rattle.waitq_copy.proofs.Asked.{fine_status, left_silent, plain}
 use Rattle.waitq_run.proofs.run.run_copy.Goals as goal
-
-pub returns-clause-statuses : goal.returns-clause-statuses
-returns-clause-statuses g c =
-    rw c.finish.ensures.number (status_fits _ _ _ _ _ c.args.order.src.now c.args.order.dst.now c.args.order.plan.now
-    _ _ c.copy-answer.ensures.left)
 
 pub returns-clause-no_text : goal.returns-clause-no_text
 returns-clause-no_text g c = λ quiet.

@@ -1,5 +1,5 @@
 -- The table of a wait until a bit is clear keeps its laws; and what a whole wait says.
-use Rattle.std.proofs.Common.{◌∙◌, ap, sym, refl, subst, inl, inr, arith, append_assoc}
+use Rattle.std.proofs.Common.{◌∙◌, ap, sym, refl, subst, inl, arith, append_assoc}
 use Rattle.std.specs.Prelude.{ℕ, ◌≡◌, ◌<◌, ◌+◌, ◌*◌, ◌&&◌, not, Bool, true, false, if◌then◌else◌}
 use Rattle.std.specs.Prelude.{Option, None, Result, IfOk, IfErr, List, [], ◌∷◌, ◌++◌}
 use Rattle.wait_model.specs.{declared.layout.TheConstants.FIRST_DONE_HEAD, declared.layout.TheConstants.WORD_BITS}
@@ -24,7 +24,7 @@ use Rattle.wait_rule.specs.Queues.{IsIdle, IsTold, index, IsFrontPlace}
 use Rattle.wait_rule.specs.Says.{Excuse, IsClean, IsOutBut, IsUp, OwesBut, history_of, no_excuse, told_of}
 use Rattle.wait_rule.proofs.KnownLaws.StayingParts.{owes_also, owes_out}
 use Rattle.wq_head.specs.{Holds.IsHolding, declared.adds.Worn.Worn}
-use Rattle.wq_head.specs.Adds.{HasAdded, IsFor, IsFrontWorn, front_entry}
+use Rattle.wq_head.specs.Adds.{HasAdded, IsFrontWorn, front_entry}
 use Rattle.wq_head.proofs.FullHeads.{hashed_low}
 use Rattle.wait_event.specs.Ends.{wait_change}
 use Rattle.wait_event.proofs.Behind.{StandsOver}
@@ -298,10 +298,6 @@ bit_lawful = record {
   sleep_still = λ old new r calm u. (ends_still old new (loads_set r []) calm u.0, u.1);
   look_still = λ old new r calm u. (u.0, ends_still old new (loads_set r (step.Sleep u.0 ∷ [])) calm u.1, u.2);
 }
-
--- the add
-pub bit_for : (r : WaitBit) → IsRunningBitWait r → (c : Watch) → c ≡ wait_bit_in r → IsFor c kind.Bit
-bit_for r runs c is = inr (inl (refl, (r.word, r.bit, is, runs.word, runs.bit)))
 
 pub bit_adds : (r : WaitBit) (c : Watch) → c ≡ wait_bit_in r → (old new : Known) (o : Result (Unit {0}) Worn)
     → IfOk o (λ _. HasAdded IsFrontPlace old new 0 (front_entry c kind.Bit)) → IfErr o (λ w. IsFrontWorn old new w)

@@ -1,7 +1,6 @@
 -- Whole waits: how they begin, and what they say at their end.
 use Rattle.std.proofs.Common.{◌∙◌, ap, sym, refl, subst}
-use Rattle.std.specs.Prelude.{ℕ, ◌≡◌, ◌<◌, Bool, false, MatchBool, Result, None}
-use Rattle.wait_model.specs.{declared.layout.TheConstants.BIT_WORDS, declared.layout.TheConstants.WORD_BITS}
+use Rattle.std.specs.Prelude.{ℕ, ◌≡◌, Bool, false, MatchBool, Result, None}
 use Rattle.wait_model.specs.{declared.tasks.SleepState.SleepState, declared.watches.Watch.Watch, Tasks.state_mask}
 use Rattle.wait_model.specs.declared.calls.Call.TheVariants as calls
 use Rattle.wait_model.specs.declared.watches.Watch.TheVariants as watch
@@ -27,14 +26,6 @@ use Rattle.wait_event.proofs.Behind.{StandsOver}
 use Rattle.wait_leave.specs.Leaves.{with_asked}
 use Rattle.wait_class.proofs.Wholes.{Rested, begins, ended_runs, rested_idle, rested_out, rests}
 use Rattle.bit_wait.proofs.{Holders.clean_idle, Holders.clean_out, LockKinds.locks_clean, LockKinds.takes_bit}
-
--- the numbers of a call are in their ranges
-pub fresh_runs : (r : LockBit) (w b : ℕ) (st : SleepState) → IsFreshLock r w b st → w < BIT_WORDS → b < WORD_BITS
-    → IsRunningLock r
-fresh_runs r w b st fresh few small = record {
-  word = subst (λ (n : ℕ). n < BIT_WORDS) (sym fresh.word) few;
-  bit = subst (λ (n : ℕ). n < WORD_BITS) (sym fresh.bit) small;
-}
 
 -- a task that is idle, with its entry off, may begin
 pub begins_at : (k : Known) (r : Run (Framed LockBit)) → IsRunningLock r.of.wait → IsTold k → IsUp k → IsIdle k → IsOut k

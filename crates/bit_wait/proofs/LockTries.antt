@@ -1,5 +1,5 @@
 -- The bit is tried.
-use Rattle.std.proofs.Common.{◌∙◌, ap, sym, refl, subst, inl}
+use Rattle.std.proofs.Common.{ap, sym, refl, subst, inl}
 use Rattle.std.specs.Prelude.{ℕ, ◌≡◌, ◌&&◌, not, Bool, true, false, if◌then◌else◌, Ok, Some, [], ◌∷◌, ◌++◌}
 use Rattle.wait_model.specs.declared.calls.Answer.TheVariants as answer
 use Rattle.wait_model.specs.{declared.calls.Event.Event, declared.points.Planned.Planned, declared.points.Point.Point}
@@ -12,12 +12,12 @@ use Rattle.wait_model.specs.declared.points.Point.TheVariants as at
 use Rattle.wait_model.specs.declared.points.PreparePoint.TheVariants as preparing
 use Rattle.wait_model.specs.declared.steps.Step.TheVariants as step
 use Rattle.wait_rule.specs.declared.journal.Item.TheVariants as item
-use Rattle.wait_rule.specs.{Bits.SetsBit, Ends.WasWorn, Known.Known, Queues.IsAgreedHold, Queues.index, Says.added}
+use Rattle.wait_rule.specs.{Bits.SetsBit, Ends.WasWorn, Known.Known, Queues.index, Says.added}
 use Rattle.wait_rule.specs.{Says.history_of, Transitions.IsMadeFor, Transitions.by_step}
 use Rattle.wait_rule.proofs.{KnownLaws.TaskHistories.history_after, WornHeads.WornNotes.notes_stay}
 use Rattle.wait_class.specs.{Posts.EndsWith, Findings.with_value, declared.frame_stages.Framed.Framed}
 use Rattle.wait_class.specs.{declared.stages.Run.Run, Laws.IsPlainTurn}
-use Rattle.wait_class.specs.Tables.{IsAt, Turned, falls}
+use Rattle.wait_class.specs.Tables.{IsAt, Turned}
 use Rattle.wait_class.proofs.{Histories.ends_more, Ground.Standing.home_waits, Turns.GoesOn, Turns.advance_by}
 use Rattle.wait_class.proofs.Ways.{either_event}
 use Rattle.wait_class.specs.declared.frame_stages.Stage.TheVariants as stage
@@ -29,11 +29,6 @@ use Rattle.bit_wait.specs.LockTables.{lock_head_in, lock_frame, lock_table, trie
 use Rattle.bit_wait.specs.declared.lock_runs.LockOutcome.TheVariants as outcome
 use Rattle.bit_wait.specs.declared.lock_runs.LockTest.TheVariants as test
 use Rattle.bit_wait.proofs.{LockKinds.set_goes, LockLaws.more_signal}
-
--- no head is held there
-pub may_try : (old : Known) (r : Run (Framed LockBit)) (x : LockTest) → IsAt lock_table old r (stage.Test x)
-    → IsAgreedHold old
-may_try old r x a h at = a.stands.agreed h (sym a.stands.head ∙ at)
 
 module _ (old new : Known) (r : Run (Framed LockBit)) (v : ℕ)
     (is : new ≡ added old (item.Made (step.Consume (lock_bit_in r.of.wait) 1 v)))
@@ -179,18 +174,6 @@ plain_tries test.Worn true = tt
 plain_tries test.Worn false = tt
 plain_tries test.Last true = tt
 plain_tries test.Last false = tt
-
-pub tries_fall : (x : LockTest) (b : Bool) → falls lock_table (stage.Test x) (tried_to x b) ≡ true
-tries_fall test.First true = refl
-tries_fall test.First false = refl
-tries_fall test.Load true = refl
-tries_fall test.Load false = refl
-tries_fall test.Again true = refl
-tries_fall test.Again false = refl
-tries_fall test.Worn true = refl
-tries_fall test.Worn false = refl
-tries_fall test.Last true = refl
-tries_fall test.Last false = refl
 
 abbrev run_after : Run (Framed LockBit) → ℕ → Bool → Run (Framed LockBit)
 run_after r v worn = record r { of = record { wait = record r.of.wait { seen = v; worn = worn } } }

@@ -20,7 +20,7 @@ use Rattle.wait_event.specs.Waits.{is_queue}
 use Rattle.wait_rule.proofs.{KnownLaws.TaskHistories.history_after, KnownLaws.Transitions.only_none}
 use Rattle.wait_class.specs.{Findings.with_value, declared.stages.Run.Run}
 use Rattle.wait_class.specs.Posts.{HasSeenOwn, IsStateFor, KeepsBut, Post, Stands, own_of}
-use Rattle.wait_class.specs.Tables.{IsAt, Turned, falls, next_in, post_of}
+use Rattle.wait_class.specs.Tables.{IsAt, Turned, next_in, post_of}
 use Rattle.wait_class.specs.Laws.{IsPlainTurn, TurnTrail, turn_post}
 use Rattle.wait_class.proofs.{CalmSteps.calm_saw, OwnSteps.own_goes, Turns.GoesOn, Turns.advance_by}
 use Rattle.wait_class.proofs.Ground.Keeping.{keeps_none, keeps_of, keeps_on, own_keeps}
@@ -52,14 +52,6 @@ counted_plain true true waited = refl
 counted_plain true false waited = refl
 counted_plain false looks true = refl
 counted_plain false looks false = refl
-
-counted_falls : (waited zero looks : Bool) → falls await_table (load_stage waited) (counted_by zero looks waited) ≡ true
-counted_falls true true true = refl
-counted_falls true true false = refl
-counted_falls true false looks = refl
-counted_falls false true true = refl
-counted_falls false true false = refl
-counted_falls false false looks = refl
 
 pub none_is : (v : ℕ) → (v == 0) ≡ true → v ≡ 0
 none_is v is = grind (arith, nat_tests, is)
@@ -170,14 +162,6 @@ first_turned old new run v a is finds carries u to = subst (λ (z : AwaitTurn). 
     (record run { of = record run.of { count = v } }) stage.FirstLoad z) (sym to)
     (load_turned old old new run v a.fits (only_none old) a.trail a.up (keeps_none (own_of old) old) is finds carries
     false a.stands)
-
-pub first_agreed : (old : Known) (run : Run AwaitCall) → IsAt await_table old run stage.FirstLoad → IsAgreedHold old
-first_agreed old run a i held = a.stands.agreed (await_head run.of) refl
-
-pub load_falls : (waited : Bool) (r : AwaitCall) (v : ℕ) (u : AwaitTurn)
-    → u ≡ counted_to (record r { count = v }) waited → falls await_table (load_stage waited) u ≡ true
-load_falls waited r v u to = ap (falls await_table (load_stage waited)) to
-    ∙ counted_falls waited (v == 0) (looks_in r.state)
 
 -- a further one, behind a look at the own entry
 module _ (old mid : Known) (run : Run AwaitCall) (o : Option Entry) (h : HasSeenOwn old mid o)

@@ -28,7 +28,7 @@ use Rattle.wait_rule.proofs.KnownLaws.Transitions.{only_none}
 use Rattle.wait_class.specs.{Handing.LastGiven, Handing.given_back_by, Findings.saw_nothing, Findings.with_value}
 use Rattle.wait_class.specs.declared.stages.Run.{Run}
 use Rattle.wait_class.specs.Posts.{HasSeenOwn, Post, Stands, own_of}
-use Rattle.wait_class.specs.Tables.{IsAt, SleepsNot, Turned, falls, is_sleep, post_of, run_post}
+use Rattle.wait_class.specs.Tables.{IsAt, SleepsNot, Turned, is_sleep, post_of, run_post}
 use Rattle.wait_class.specs.Laws.{Calm, IsPlainTurn, is_quiet_event, turn_post}
 use Rattle.wait_class.proofs.{AwakeSteps.awake_step, Handed.given_as, Handed.given_step, Histories.unlocked_history}
 use Rattle.wait_class.proofs.{OwnSteps.own_goes, Turns.GoesOn, Turns.advance_by}
@@ -272,18 +272,6 @@ module _ (start k : Known) (run : Run AwaitCall) (found : Bool) (t : TakesFrom s
   pub ended_owes : (took : Bool) → TakesOne n took → took ≡ false → OwesNoPermit k
   ended_owes true takes miss = absurd (cc)
   ended_owes false takes miss = over_owes takes
-
-pub take_falls : (found : Bool) → falls await_table (take_stage found) (turn.Again stage.TakeUnlock) ≡ true
-take_falls true = refl
-take_falls false = refl
-
-pub over_falls : (found : Bool) → falls await_table (take_stage found) (turn.Done outcome.Over) ≡ true
-over_falls true = refl
-over_falls false = refl
-
-pub quit_falls : (found : Bool) → falls await_table (quit_stage found) (turn.Done (outcome.Signalled found)) ≡ true
-quit_falls true = refl
-quit_falls false = refl
 
 -- a wait that was signalled
 module _ (start k : Known) (run : Run AwaitCall) (found : Bool) (q : QuitsFrom start k run found) where

@@ -1,11 +1,11 @@
 -- A call on a completion that is made by stretches: its first steps, and its looks at its ticket.
 use Rattle.std.proofs.Common.{◌∙◌, sym, subst}
-use Rattle.std.specs.Prelude.{ℕ, ◌≡◌, ◌<◌, Bool, true, false, MatchBool}
+use Rattle.std.specs.Prelude.{ℕ, ◌≡◌, ◌<◌, true, false}
 use Rattle.wait_model.specs.declared.layout.TheConstants.{HEADS, COMPLETIONS}
 use Rattle.wait_model.specs.declared.steps.Step.TheVariants as step
 use Rattle.wait_model.specs.declared.watches.Watch.TheVariants as watch
 use Rattle.wait_rule.specs.declared.journal.Item.TheVariants as item
-use Rattle.wait_rule.specs.{LeftEntries.LeftOff, Known.Known, Queues.IsTold, Stays.Carries, Stays.unchanged}
+use Rattle.wait_rule.specs.{Known.Known, Queues.IsTold, Stays.Carries, Stays.unchanged}
 use Rattle.wait_rule.specs.Says.{IsFree, IsUp, added}
 use Rattle.wq_head.specs.LockTurns.{AwaitsLock, TookLock}
 use Rattle.completion_cell.specs.{declared.cell_turns.CellCall.CellCall, declared.cell_turns.CellRun.CellRun}
@@ -20,22 +20,6 @@ use Rattle.completion_cell.proofs.Asking.{asked_none, free_on, tried_none}
 
 pub fits : (d h : ℕ) → d < COMPLETIONS → h ≡ cell_head d → h < HEADS
 fits d h there same = subst (λ (n : ℕ). n < HEADS) (sym same) (head_there d there)
-
--- before its first steps the task is as the call began
-pub first_up : (start now : Known) (r : CellRun) → IsAtCell start now r stage.First → IsUp now
-first_up start now r at = subst IsUp (sym at.stands) at.up
-
-pub first_free : (start now : Known) (r : CellRun) → IsAtCell start now r stage.First → IsFree now
-first_free start now r at = subst IsFree (sym at.stands) at.free
-
-pub first_left : (start now : Known) (r : CellRun) → IsAtCell start now r stage.First → LeftOff r.cell now
-first_left start now r at = subst (LeftOff r.cell) (sym at.stands) at.left
-
-pub from_start : (start now new : Known) (r s : CellRun) (hit : Bool) → IsAtCell start now r stage.First
-    → MatchBool hit (IsAtCell now new s stage.Turn) (IsCellOver r.call r.cell false now new)
-    → MatchBool hit (IsAtCell start new s stage.Turn) (IsCellOver r.call r.cell false start new)
-from_start start now new r s hit at did = subst (λ (k : Known). MatchBool hit (IsAtCell k new s stage.Turn)
-    (IsCellOver r.call r.cell false k new)) at.stands did
 
 -- a call that found the count 0 is over
 pub peeked_none : (c : CellCall) (d v : ℕ) (start new : Known) → true ≡ peeks_first c → IsUp start → IsFree start

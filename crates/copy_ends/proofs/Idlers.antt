@@ -2,17 +2,16 @@
 -- pipe.
 use Rattle.std.proofs.Common.{refl, sym, ◌∙◌, subst, arith}
 use Rattle.std.proofs.lemmas.Bool.{eqb-false, eqb-true}
-use Rattle.std.specs.Prelude.{ℕ, zero, suc, ◌≡◌, ◌+◌, ◌-◌, ◌&&◌, eqb, not, Bool, true, false, List, []}
+use Rattle.std.specs.Prelude.{ℕ, zero, suc, ◌≡◌, ◌+◌, ◌&&◌, eqb, not, Bool, true, false, List, []}
 use Rattle.std.specs.Prelude.{Result, Ok, Err, MatchResult}
 use Rattle.atomic_table.specs.Seated.{TableId}
 use Rattle.bit_wait.specs.declared.wait_calls.BitEnd.{BitEnd}
 use Rattle.bit_wait.specs.declared.wait_calls.BitEnd.TheVariants as bit_end
-use Rattle.wait_rule.specs.{declared.journal.Journal.Journal, declared.journal.Part.Part, Aside.Grows, Known.Known}
+use Rattle.wait_rule.specs.{declared.journal.Journal.Journal, declared.journal.Part.Part, Known.Known}
 use Rattle.wait_rule.specs.{Queues.IsIdle, Queues.index, Tallies.amounts_of}
 use Rattle.wait_rule.specs.Says.{Obligation, IsClean, OwesBut, end_unclosed, excuses, has_duty, newcomer, no_excuse}
 use Rattle.wait_rule.specs.Says.{page_asked, seen_with, wake_of}
-use Rattle.wait_rule.proofs.KnownLaws.CalledPermits.{newcomers_leave_none}
-use Rattle.copy_plan.specs.declared.TheConstants.{COUNTED_PAGE, ENDED_CELL}
+use Rattle.copy_plan.specs.declared.TheConstants.{COUNTED_PAGE}
 use Rattle.copy_ends.specs.Copied.{AwaitsWorker, ControlEnds, Controlled, IsControlEnd, ReadTally, WaitsTimes}
 use Rattle.copy_ends.specs.Did.{IsIdler}
 use Rattle.copy_turns.specs.Turns.{CountedAll}
@@ -71,14 +70,6 @@ controlled old new i a = record {
   signals = a.signals;
 }
 
-pub controlled_same : (k : Known) → IsIdler k → Grows k k → Controlled k k
-controlled_same k i g = record {
-  served = record { idler = i; domain = refl; grows = g };
-  ends = λ j. refl;
-  sums = λ p. refl;
-  signals = refl;
-}
-
 pub controlled_then : (a b c : Known) → Controlled a b → Controlled b c → Controlled a c
 controlled_then a b c one two = record {
   served = record {
@@ -118,30 +109,6 @@ pub control_ends : (n : ℕ) (a b c : Known) (total : Result ℕ BitEnd) → Wai
 control_ends n a b c (Ok total) one two = record { waited = b; waits = one; reads = two }
 control_ends n a b c (Err (bit_end.Worn h p)) one two = two
 control_ends n a b c (Err (bit_end.Interrupted seen)) one two = two
-
--- a task that has made no step
-pub newcomer_idles : (domain : TableId) (number next spare : ℕ) → IsIdler (newcomer domain number next spare)
-newcomer_idles domain number next spare = record {
-  clean = record {
-    up = refl;
-    running = refl;
-    free = record { head = refl; ticket = refl };
-    settled = record {
-      unmarked = refl;
-      debts = record { none = by; off = λ none d o. refl; shows = λ none d o. refl };
-      unqueued = λ i. refl;
-      holds = λ c. refl;
-      tries = λ c. refl;
-      tries_none = λ x c. refl;
-    };
-  };
-  off = newcomers_leave_none domain number next spare ENDED_CELL;
-}
-  where
-    by : (d : Obligation) → (has_duty (newcomer domain number next spare) d && not (excuses no_excuse d)) ≡ false
-    by (wake_of c σ) = refl
-    by page_asked = refl
-    by (end_unclosed e) = refl
 
 -- and one that has made none but has joined others
 abbrev joined_parts : ℕ → ℕ → List Part → Journal

@@ -4,23 +4,12 @@ use Rattle.std.specs.Prelude.{ℕ, ◌≡◌, ◌≤◌, ◌+◌, ◌++◌, List
 use Rattle.copy_plan.specs.declared.plan.Planned.{Planned}
 use Rattle.copy_plan.specs.Plans.{Rises, due_at, due_in, fatal_of}
 use Rattle.copy_plan.proofs.DueParts.{fatal_append}
-use Rattle.copy_plan.proofs.Dues.{due_none, due_split, kills_split}
+use Rattle.copy_plan.proofs.Dues.{due_none, kills_split}
 
 rise_within : (from : ℕ) (ns : List ℕ) (to : ℕ) → Rises from ns to → from ≤ to + 1
 rise_within from [] to r = omega (arith, r)
 rise_within from (n ∷ ns) to r =
     let low = r.0 in let high = rise_within (n + 1) ns to r.1 in omega arith
-
-pub due_at_length : (from : ℕ) (ns : List ℕ) (to : ℕ) → Rises from ns to → (ps : List Planned)
-    → length (due_at from ns ps) ≡ length (due_in from to ps)
-due_at_length from [] to r ps = sym (ap length (due_none from to (omega (arith, r)) ps))
-due_at_length from (n ∷ ns) to r ps =
-    let low = r.0 in
-    let high = rise_within (n + 1) ns to r.1 in
-    let both = length-append (due_in from n ps) (due_at (n + 1) ns ps) in
-    let later = due_at_length (n + 1) ns to r.1 ps in
-    let parts = due_split from n to (omega arith) (omega arith) ps in
-    omega arith
 
 pub due_at_kills : (from : ℕ) (ns : List ℕ) (to : ℕ) → Rises from ns to → (ps : List Planned)
     → length (fatal_of (due_at from ns ps)) ≡ length (fatal_of (due_in from to ps))

@@ -1,5 +1,5 @@
 -- What sends of planned signals have raised so far.
-use Rattle.std.proofs.Common.{refl, sym, ◌∙◌, ap, subst, append-nil, append_assoc, arith}
+use Rattle.std.proofs.Common.{refl, sym, ◌∙◌, ap, subst, append_assoc, arith}
 use Rattle.std.proofs.lemmas.List.{take_more}
 use Rattle.std.specs.Prelude.{ℕ, ◌≡◌, ◌≤◌, ◌<◌, ◌+◌, ◌++◌, Bool, true, false, if◌then◌else◌, List, [], ◌∷◌, length, take, get_or}
 use Rattle.wait_rule.specs.{Aside.Raised, Aside.signals_of, Known.Known, PipeSays.EndsStay, Says.HasSignalled}
@@ -10,9 +10,9 @@ use Rattle.copy_plan.proofs.DueParts.{due_passed_before, due_passed_behind, due_
 use Rattle.copy_plan.specs.Plans.{due_in, fatal_of, target_of}
 use Rattle.copy_turns.specs.Raises.{kills_in, raised_for, sent_to}
 use Rattle.copy_turns.specs.Transfers.{SendsEach}
-use Rattle.copy_turns.specs.Work.{IsAtWork, SumsStay, TookNoKill, Works}
+use Rattle.copy_turns.specs.Work.{SumsStay, TookNoKill, Works}
 use Rattle.copy_turns.proofs.Trails.{sends_each_then}
-use Rattle.copy_turns.proofs.PartLaws.{ends_then, sums_then, works_same, works_then}
+use Rattle.copy_turns.proofs.PartLaws.{ends_then, sums_then, works_then}
 
 -- signals that were raised, and nothing else done
 pub record Sends (old new : Known) (raised : List Raised) : Type 0 where
@@ -22,16 +22,6 @@ pub record Sends (old new : Known) (raised : List Raised) : Type 0 where
   pub spared : TookNoKill old new
   pub signals : signals_of new.view.items ≡ signals_of old.view.items ++ raised
   pub each : SendsEach raised old new
-
-pub sends_none : (k : Known) → IsAtWork k → Sends k k []
-sends_none k work = record {
-  works = works_same k work;
-  ends = λ j. refl;
-  sums = λ p. refl;
-  spared = refl;
-  signals = sym (append-nil (signals_of k.view.items));
-  each = refl;
-}
 
 pub sends_then : (a b c : Known) (xs ys : List Raised) → Sends a b xs → Sends b c ys → Sends a c (xs ++ ys)
 sends_then a b c xs ys one two = record {
@@ -59,11 +49,6 @@ pub sends_more : (a b c : Known) (targets : List ℕ) (xs ys : List Planned) (p 
 sends_more a b c targets xs ys p more one two = subst (Sends a c)
     (sym (ap (sent_to targets) more ∙ sent_append targets xs (p ∷ [])))
     (sends_then a b c (sent_to targets xs) (raised_for targets p ∷ []) one two)
-
--- as many are raised as are due, and as many fatal ones
-pub sent_length : (targets : List ℕ) (ps : List Planned) → length (sent_to targets ps) ≡ length ps
-sent_length targets [] = refl
-sent_length targets (p ∷ ps) = let e = sent_length targets ps in omega arith
 
 pub sent_kills : (targets : List ℕ) (ps : List Planned) → length (kills_in (sent_to targets ps)) ≡ length (fatal_of ps)
 sent_kills targets [] = refl

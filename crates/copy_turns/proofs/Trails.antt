@@ -1,7 +1,7 @@
 -- Whole calls one behind the other: of a piece that is put, of one that is got, and of signals that are sent.
-use Rattle.std.proofs.Common.{arith, refl, sym, subst}
-use Rattle.std.proofs.lemmas.List.{drop_all, drop-drop}
-use Rattle.std.specs.Prelude.{ℕ, ◌≡◌, ◌+◌, ◌-◌, ◌++◌, false, Ok, Err, List, [], ◌∷◌, length, take, drop}
+use Rattle.std.proofs.Common.{sym, subst}
+use Rattle.std.proofs.lemmas.List.{drop-drop}
+use Rattle.std.specs.Prelude.{ℕ, ◌+◌, ◌-◌, ◌++◌, false, Ok, Err, List, [], ◌∷◌, length, take, drop}
 use Rattle.edge_io.proofs.Known.{take-rest}
 use Rattle.wait_rule.specs.{Aside.Raised, Known.Known}
 use Rattle.wait_pipe.specs.{declared.pieces.PipeEnd.PipeEnd, Pieces.IsReadCause, Trails.ReadsPiece, Trails.WritesPiece}
@@ -59,15 +59,6 @@ module _ (k : ℕ) (text : List ℕ) (a b c : Known) (n : ℕ) (puts : Puts k te
     ends = subst (λ (x : Known). WritesPiece k b x (drop n text) (Err (pipe_end.Worn q p))) (sym by.1)
         (same_call (pipe_end.Worn q p) w);
   })
-
-pub puts_all : (k : ℕ) (text : List ℕ) (a b : Known) (n : ℕ) → Puts k text a (drop n text) b → n ≡ length text
-    → PutsWhole k a b text (Ok tt)
-puts_all k text a b n puts whole = record {
-  left = drop n text;
-  last = b;
-  puts = puts;
-  ends = (drop_all n text (omega arith), refl);
-}
 
 -- A piece that is got.
 abbrev pub GetsNone : ℕ → Known → Known → Type 0

@@ -58,13 +58,6 @@ first_plain true false ends = refl
 first_plain false looks true = refl
 first_plain false looks false = refl
 
-pub first_falls : (zero looks ends : Bool)
-    → falls down_table stage.FirstLoad (turn.Again (first_by zero looks ends)) ≡ true
-first_falls true true ends = refl
-first_falls true false ends = refl
-first_falls false looks true = refl
-first_falls false looks false = refl
-
 again_goes : (queued zero looks ends : Bool)
     → (◌≡◌ {A = Next} (if queued
     then next.Go (if zero then at.Prepare (if looks then preparing.Look else preparing.Queue)
@@ -79,10 +72,6 @@ again_goes true false looks ends = (refl, refl, refl)
 again_goes false true looks ends = (refl, refl, refl)
 again_goes false false looks true = (refl, refl, refl)
 again_goes false false looks false = (refl, tt, refl)
-
-pub again_falls : (queued zero looks ends : Bool)
-    → falls down_table stage.AgainLoad (again_by queued zero looks ends) ≡ true
-again_falls queued zero looks ends = (again_goes queued zero looks ends).2
 
 pub end_is : (v : ℕ) → (v == ALL_DONE) ≡ true → ALL_DONE ≤ v
 end_is v is = let e = eqb-true v ALL_DONE is in omega (arith, e)
@@ -181,9 +170,6 @@ module _ (old new : Known) (run : Run DownCall) (v : ℕ) (a : IsAt down_table o
       (turn.Again z)) (sym to)
       (advance_by down_table old new run (record run { of = fq }) stage.FirstLoad (turn.Again (first_to fq)) refl a.fits
       (first_plain (v == 0) (looks_in fr.state) (v == ALL_DONE)) first_goes)
-
-pub first_agreed : (old : Known) (run : Run DownCall) → IsAt down_table old run stage.FirstLoad → IsAgreedHold old
-first_agreed old run a i held = a.stands.agreed (down_head run.of) refl
 
 -- a further one, behind a look at the own entry
 module _ (old mid : Known) (run : Run DownCall) (o : Option Entry) (h : HasSeenOwn old mid o)

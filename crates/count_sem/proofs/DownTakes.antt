@@ -18,7 +18,7 @@ use Rattle.wait_rule.proofs.{KnownLaws.MemberBits.bit_looks, KnownLaws.Transitio
 use Rattle.wq_head.specs.{Adds.HasRemoved, Holds.IsHolding}
 use Rattle.wait_class.specs.{Findings.saw_nothing, Findings.with_value, declared.stages.Run.Run}
 use Rattle.wait_class.specs.Posts.{Post, Stands, own_of}
-use Rattle.wait_class.specs.Tables.{IsAt, Turned, falls, next_in, post_of}
+use Rattle.wait_class.specs.Tables.{IsAt, Turned, next_in, post_of}
 use Rattle.wait_class.specs.Laws.{Calm, IsPlainTurn, TurnTrail, turn_post}
 use Rattle.wait_class.specs.declared.stages.Turn.TheVariants as turn
 use Rattle.wait_class.proofs.{CalmSteps.calm_removed, Ground.Keeping.keeps_taken, Ground.Standing.carried_stands}
@@ -40,10 +40,6 @@ takes_next false = refl
 takes_plain : (ends : Bool) → IsPlainTurn down_table (turn.Again (takes_by ends))
 takes_plain true = refl
 takes_plain false = refl
-
-pub takes_falls : (ends : Bool) → falls down_table stage.TakeQueue (turn.Again (takes_by ends)) ≡ true
-takes_falls true = refl
-takes_falls false = refl
 
 -- the own entry, which the hold has seen, is taken off
 module _ (old : Known) (run : Run DownCall) (a : IsAt down_table old run stage.TakeQueue) where

@@ -25,13 +25,6 @@ book_on k mid new one two = record {
   at = two.at ∙ one.at;
 }
 
-pub book_none : (k new : Known) → new ≡ k → SameBook k new
-book_none k new is = record {
-  book = ap (λ (x : Known). (told_of x).hold.book) is;
-  marks = ap (λ (x : Known). (noted x).marks) is;
-  at = ap (λ (x : Known). x.at) is;
-}
-
 -- a step that touches neither
 book_made : (e : Step) (k new : Known) → new ≡ added k (item.Made e)
     → (told_of (added k (item.Made e))).hold.book ≡ (told_of k).hold.book

@@ -1,7 +1,7 @@
 -- Laws of bytes that are known of a sink or a source. Only proofs use them.
 use Rattle.std.proofs.Common.{◌≡◌, ℕ, ◌+◌, ◌-◌, arith, List, ◌++◌, length, take, drop, Option, Some, None, refl, ap}
 use Rattle.std.proofs.Common.{sym, ◌∙◌, append_assoc}
-use Rattle.std.proofs.lemmas.List.{take_at, take-append-drop, drop-drop}
+use Rattle.std.proofs.lemmas.List.{take-append-drop, drop-drop}
 use Rattle.std.proofs.lemmas.Grind.{common_steps}
 use Rattle.std.proofs.Math.Seq.{take-add}
 use Rattle.std.specs.Io.KnownBytes.{append_known}
@@ -19,13 +19,6 @@ append_known-more old now new text n m first then_ =
     then_ ∙ ap (λ o. append_known o (take m (drop n text))) first
     ∙ append_known-twice old (take n text) (take m (drop n text))
     ∙ ap (append_known old) (sym (take-add n m text))
-
--- what was copied to the front of a buffer is the front of what was left
-pub handed-out : (left copied buf : List ℕ) (n : ℕ) → copied ≡ take n left → length copied ≡ n
-    → left ≡ take n (copied ++ drop n buf) ++ drop n left
-handed-out left copied buf n is len =
-    sym (take-append-drop n left)
-    ∙ ap (λ x. x ++ drop n left) (sym (take_at copied (drop n buf) n len ∙ is))
 
 -- `&xs[n..]`
 pub take-rest : (xs : List ℕ) (n : ℕ) → take (length xs - n) (drop n xs) ≡ drop n xs

@@ -61,16 +61,6 @@ breaks_off old now new buffer piece rest left text m e sent = record {
   held = sent.held ∙ ap (λ o. append_known o sent.front) m.held ∙ append_known-twice old m.front sent.front;
 }
 
--- nothing is to come any more
-pub all_buffered : (old now : Option (List ℕ)) (buffer left text : List ℕ)
-    → Midway old now (buffer ++ left) text
-    → left ≡ [] → Midway old now buffer text
-all_buffered old now buffer left text m e = record {
-  front = m.front;
-  whole = m.whole ∙ ap (λ xs. m.front ++ (buffer ++ xs)) e ∙ ap (λ xs. m.front ++ xs) (append-nil buffer);
-  held = m.held;
-}
-
 -- the buffer was emptied into the sink
 pub emptied : (old now new : Option (List ℕ)) (buffer after left text : List ℕ)
     → Midway old now (buffer ++ left) text

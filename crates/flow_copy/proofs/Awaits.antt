@@ -1,6 +1,6 @@
 -- What the waits of a controller leave of it: for a completion, and for the page whose tally it reads.
-use Rattle.std.proofs.Common.{refl, sym, ◌∙◌, ap, append-nil, arith}
-use Rattle.std.specs.Prelude.{ℕ, ◌≡◌, ◌==◌, if◌then◌else◌, Bool, true, false, None, Some, Result, Err}
+use Rattle.std.proofs.Common.{refl, ◌∙◌, ap, append-nil, arith}
+use Rattle.std.specs.Prelude.{ℕ, ◌≡◌, ◌==◌, if◌then◌else◌, Bool, true, false, Result, Err}
 use Rattle.std.proofs.lemmas.Bool.{false≢true}
 use Rattle.wait_model.specs.declared.calls.Call.TheVariants as calls
 use Rattle.wait_model.specs.declared.points.AwaitPoint.TheVariants as awaiting
@@ -13,7 +13,7 @@ use Rattle.wait_model.specs.declared.watches.Watch.TheVariants as watch
 use Rattle.wait_rule.specs.{declared.journal.Item.Item, Bits.SetsBit, HandedPermits.StaysOff, Known.Known}
 use Rattle.wait_rule.specs.{PipeSays.EndsStay, Stays.Carries, Tallies.amount_of, Transitions.call_program}
 use Rattle.wait_rule.specs.Aside.{Grows, GrowsAside, signals_of}
-use Rattle.wait_rule.specs.Queues.{IsAgreedHold, IsIdle, index}
+use Rattle.wait_rule.specs.Queues.{IsIdle, index}
 use Rattle.wait_rule.specs.Says.{FindsTally, IsClean, IsUp, added}
 use Rattle.wait_rule.specs.declared.journal.Item.TheVariants as item
 use Rattle.wait_rule.proofs.{KnownLaws.AsideCalls.calls_grow_aside, KnownLaws.CarriedEnds.programs_leave_ends}
@@ -28,7 +28,7 @@ use Rattle.copy_plan.specs.declared.TheConstants.{COUNTED_PAGE, ENDED_CELL}
 use Rattle.copy_ends.specs.Copied.{IsControlEnd, ReadTally}
 use Rattle.copy_turns.specs.Work.{Apart, IsAtWork, but_ends}
 use Rattle.copy_turns.proofs.Frames.{item_end, item_grows, item_signals, item_sum}
-use Rattle.copy_turns.proofs.PartLaws.{grows_same, grows_then}
+use Rattle.copy_turns.proofs.PartLaws.{grows_then}
 
 -- no signal is admitted in state UNINTERRUPTIBLE
 admits_none : (t : TaskRecord) → pending (state_mask states.Uninterruptible) t ≡ true → ⊥
@@ -77,11 +77,6 @@ module _ (old new : Known) (result : Result (Unit {0}) WaitEnd)
     signals = awaited_aside.signals;
   }
 
-pub awaited_worn : (old new : Known) (h p : ℕ)
-    → EndsAwait old new ENDED_CELL states.Uninterruptible (Err (wait_end.Worn h p))
-    → IsControlEnd new (bit_end.Worn h p)
-awaited_worn old new h p waited = waited.cause.noted
-
 pub awaited_signal : (old new : Known) (seen : ℕ) (selected : Bool)
     → EndsAwait old new ENDED_CELL states.Uninterruptible (Err (wait_end.Signal seen selected)) → ⊥
 awaited_signal old new seen selected waited = admits_none (task_of waited.cause.look) waited.cause.showed
@@ -90,10 +85,6 @@ pub locked_end : (old new : Known) (e : BitEnd)
     → EndsPageLock old new COUNTED_PAGE states.Uninterruptible (Err e) → IsControlEnd new e
 locked_end old new (bit_end.Worn h p) waited = waited.cause.noted
 locked_end old new (bit_end.Interrupted seen) waited = admits_none (task_of waited.cause.look) waited.cause.pends
-
--- What a number that it reads under the lock of the page leaves of its list: a try, an add of nothing and an unlock.
-pub aside_same : (k : Known) → GrowsAside k k
-aside_same k = record { grows = grows_same k; sums = λ p. refl; signals = refl; claims = λ j. refl }
 
 pub aside_then : (a b c : Known) → GrowsAside a b → GrowsAside b c → GrowsAside a c
 aside_then a b c one two = record {
@@ -146,9 +137,6 @@ pub record Trying (old now : Known) : Type 0 where
   pub domain : now.domain ≡ old.domain
   pub aside : GrowsAside old now
 
-pub tries_none : (k : Known) → IsClean k → Trying k k
-tries_none k clean = record { clean = clean; domain = refl; aside = aside_same k }
-
 pub tries_more : (old a b : Known) (clear : Bool) → Trying old a → HasTriedBit a b COUNTED_PAGE 0 clear
     → SetsBit a b (page COUNTED_PAGE) clear → IsClean b → Trying old b
 tries_more old a b clear t tried sets clean = record {
@@ -156,6 +144,3 @@ tries_more old a b clear t tried sets clean = record {
   domain = sets.stays.domain ∙ t.domain;
   aside = aside_then old a b t.aside (tried_aside a b clear tried);
 }
-
-pub agreed_free : (k : Known) → IsClean k → IsAgreedHold k
-agreed_free k clean h e = let f : None ≡ Some h = sym clean.free.head ∙ e in absurd (cc)

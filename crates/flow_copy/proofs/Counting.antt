@@ -1,6 +1,6 @@
 -- What a lock of the page, an add to its tally and an unlock leave of a worker.
 use Rattle.std.proofs.Common.{refl, sym, ◌∙◌, ap, subst, inr, append-nil, arith}
-use Rattle.std.specs.Prelude.{ℕ, ◌≡◌, ◌≢◌, ◌+◌, ◌<◌, ◌==◌, ◌&&◌, not, if◌then◌else◌, Bool, true, false, None, Result}
+use Rattle.std.specs.Prelude.{ℕ, ◌≡◌, ◌≢◌, ◌+◌, ◌<◌, ◌==◌, if◌then◌else◌, Bool, true, false, None, Result}
 use Rattle.std.proofs.lemmas.Bool.Decides.{nat_tests}
 use Rattle.wait_model.specs.{declared.calls.Call.Call, declared.layout.TheConstants.FIRST_DONE_HEAD}
 use Rattle.wait_model.specs.{declared.points.Next.Next, declared.queues.Walked.Walked}
@@ -15,8 +15,8 @@ use Rattle.wait_rule.specs.{declared.journal.Item.Item, Aside.GrowsAside, Aside.
 use Rattle.wait_rule.specs.{HandedPermits.StaysOff, Known.Known, PipeSays.EndsStay, Tallies.amount_of}
 use Rattle.wait_rule.specs.{Tallies.amounts_of, Transitions.call_program}
 use Rattle.wait_rule.specs.Queues.{IsIdle, IsTold, index}
-use Rattle.wait_rule.specs.Says.{AsksNoPage, Obligation, Excuse, IsUp, OwesBut, TriesNone, added, excuses, has_duty}
-use Rattle.wait_rule.specs.Says.{no_excuse, page_asked, told_of}
+use Rattle.wait_rule.specs.Says.{Excuse, IsUp, OwesBut, TriesNone, added}
+use Rattle.wait_rule.specs.Says.{told_of}
 use Rattle.wait_rule.specs.Stays.{Carries, unchanged, with_bit, with_bits}
 use Rattle.wait_rule.specs.declared.journal.Item.TheVariants as item
 use Rattle.wait_rule.proofs.{KnownLaws.AsideCalls.calls_grow_aside, KnownLaws.CarriedEnds.programs_leave_ends}
@@ -33,11 +33,6 @@ use Rattle.copy_turns.proofs.PartLaws.{ends_then, grows_then, sums_then}
 -- a task at work holds no head
 pub holds_none : (k : Known) → IsTold k → IsIdle k → (told_of k).hold.head ≡ None
 holds_none k told idle = told.head ∙ idle.free.head
-
--- and asks for no page
-pub asks_none : (k : Known) → IsAtWork k → AsksNoPage k
-asks_none k work d is = subst (λ (e : Obligation). (has_duty k e && not (excuses no_excuse e)) ≡ false) (sym is)
-    (work.owes.debts.none page_asked)
 
 -- A call about a page, whatever it is.
 low : head_of (page COUNTED_PAGE) < FIRST_DONE_HEAD

@@ -4,12 +4,11 @@ use Rattle.std.specs.Prelude.{ℕ, ◌≡◌, ◌==◌, ◌+◌, ◌<◌, ◌≤
 use Rattle.std.specs.Prelude.{List, [], length, take}
 use Rattle.std.specs.Io.KnownBytes.{prepend_known}
 use Rattle.atomic_table.specs.Seated.{TableId}
-use Rattle.wait_model.specs.declared.queues.Walked.{Walked}
 use Rattle.wait_rule.specs.declared.journal.EndAct.TheVariants as act
 use Rattle.wait_rule.specs.declared.journal.Item.TheVariants as item
 use Rattle.wait_rule.specs.{Journals.has_of, Known.Known, Pipes.write_end, Says.added, Says.newcomer}
 use Rattle.wait_pipe.specs.Trails.{ClosesEnd}
-use Rattle.bit_wait.specs.{Clears.HasClearedBit, declared.wait_calls.BitEnd.BitEnd}
+use Rattle.bit_wait.specs.{declared.wait_calls.BitEnd.BitEnd}
 use Rattle.bit_wait.specs.declared.wait_calls.BitEnd.TheVariants as bit_end
 use Rattle.page_lock.specs.PageEnds.{EndsPageLock}
 use Rattle.wait_model.specs.declared.tasks.SleepState.TheVariants as state
@@ -22,8 +21,8 @@ use Rattle.copy_turns.specs.Transfers.{Again, GetsPiece, Heard, SendsEach}
 use Rattle.copy_turns.proofs.ReaderTurns.{prepend_none, prepend_twice}
 use Rattle.copy_ends.specs.Copied.{worker_numbers}
 use Rattle.flow_copy.proofs.Awaits.{locked_end}
-use Rattle.flow_copy.specs.PageWaits.{InterruptedWait, LastWaits, PageWaits}
-use Rattle.flow_copy.specs.Workers.{AddsLocked, ClaimsEnd, ControllerGoes, CountsBytes, FollowsPrograms, FromSource}
+use Rattle.flow_copy.specs.PageWaits.{InterruptedWait}
+use Rattle.flow_copy.specs.Workers.{ClaimsEnd, ControllerGoes, CountsBytes, FollowsPrograms, FromSource}
 use Rattle.flow_copy.specs.Workers.{GetsAnd, HandsBytes, ReaderGoes, ReaderTurn, ReaderTurns, ReaderWorks, ReadsLocked}
 use Rattle.flow_copy.specs.Workers.{RelayGoes, RelayTurn, RelayTurns, SinksPiece, WriterGoes, WriterTurn, WriterTurns}
 use Rattle.flow_copy.specs.Workers.{a_turn, get_halted, pipe_ended, reader_hands, reader_works, sink_took, source_long}
@@ -32,14 +31,6 @@ use Rattle.flow_copy.specs.Workers.{stops_by}
 -- waits for the page so far
 abbrev pub Waited : Known → Known → Type 0
 Waited a b = Again (λ x y. Heard InterruptedWait x y false) a b
-
-pub waited_until : (a b c : Known) (r : Result (Unit {0}) Halt) → Waited a b → LastWaits r b c → PageWaits a c r
-waited_until a b c r one two = record { last = b; again = one; ends = two }
-
-pub adds_locked : (n found : ℕ) (a b c : Known) (walked : Walked) → b ≡ added a (item.Tally COUNTED_PAGE n found)
-    → HasClearedBit b c COUNTED_PAGE 0 walked → AddsLocked n found a c
-adds_locked n found a b c walked is cleared =
-    (walked, subst (λ (k : Known). HasClearedBit k c COUNTED_PAGE 0 walked) is cleared)
 
 -- bytes that are counted, by their number
 pub counts_length : (n : ℕ) (buf : List ℕ) (a b : Known) (r : Result (Unit {0}) Halt) → n ≡ length (take n buf)

@@ -1,9 +1,7 @@
 -- What looks at a merger's sides, and waits for them, leave of it.
 use Rattle.std.proofs.Common.{refl, sym, ◌∙◌, ap, subst, inl, inr, arith}
 use Rattle.std.proofs.lemmas.Bool.{eqb-true}
-use Rattle.std.specs.Prelude.{ℕ, ◌≡◌, ◌≢◌, ◌<◌, ◌==◌, if◌then◌else◌, Bool, true, false, List, length, take, Option, None, Some, Result, Ok, Err, IfSome}
-use Rattle.wait_model.specs.declared.layout.TheConstants.{PIPES}
-use Rattle.wait_model.specs.declared.points.Point.TheVariants as at
+use Rattle.std.specs.Prelude.{ℕ, ◌≡◌, ◌==◌, if◌then◌else◌, Bool, true, false, List, length, take, Option, None, Some, Result, Ok, Err, IfSome}
 use Rattle.wait_rule.specs.{Ends.WasWorn, Known.Known, Queues.IsIdle, Queues.index, Says.IsUp, Stays.Carries}
 use Rattle.wait_rule.specs.Pipes.{End, bytes_in, moved_bytes, read_end, write_end}
 use Rattle.wait_rule.specs.PipeSays.{KeepsEnd, reading, writing}
@@ -153,15 +151,6 @@ still_at_end e f is at_end = record {
   ended = ap (λ (x : End). x.ended) is ∙ at_end.ended;
   all = ap (λ (x : End). x.count) is ∙ (at_end.all ∙ sym (ap (λ (x : End). x.seen) is));
 }
-
--- the pipes of the sides
-pub side_few : (s : Side) → side_pipe s < PIPES
-side_few sides.Left = omega arith
-side_few sides.Right = omega arith
-
-pub side_apart : (s : Side) → side_pipe s ≢ MERGED_PIPE
-side_apart sides.Left = λ e. omega (arith, e)
-side_apart sides.Right = λ e. omega (arith, e)
 
 -- why a wait for both stopped a merger
 pub worn_cause : (a b : Known) (how : Option Stop) → IfSome how (IsWornStop b) → IfStopped how (IsMergerStop a b)

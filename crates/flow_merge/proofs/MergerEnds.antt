@@ -78,16 +78,6 @@ shut_end k old new q = record {
   claims = q.claims;
 }
 
-pub shut_none : (k : ℕ) (old : Known) → IsAtWork old → Shut k false old old
-shut_none k old work = record {
-  rests = record { domain = refl; grows = grows_same old; sums = λ p. refl; signals = refl };
-  work = work;
-  owes = λ x o. o;
-  own = refl;
-  others = λ j other. refl;
-  claims = λ j. refl;
-}
-
 -- what stays of an end that was closed where it was had
 shut_moved : (got : Bool) (e f : End) → f ≡ (if got then closed e else e) → moved_bytes f ≡ moved_bytes e
 shut_moved true e f is = ap moved_bytes is

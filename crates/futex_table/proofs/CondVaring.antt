@@ -1,26 +1,22 @@
 -- What calls on condition variables leave of a task.
-use Rattle.std.proofs.Common.{◌∙◌, ap, refl, sym, subst}
-use Rattle.std.specs.Prelude.{ℕ, ◌≡◌, ◌||◌, Bool, false, Some, None, Result, Ok, Err, IfOk}
+use Rattle.std.proofs.Common.{◌∙◌, refl, subst}
+use Rattle.std.specs.Prelude.{ℕ, ◌≡◌, Result, Ok, Err}
 use Rattle.wait_model.specs.declared.steps.Step.TheVariants as step
 use Rattle.wait_model.specs.declared.watches.Mode.TheVariants as mode
 use Rattle.wait_model.specs.declared.watches.Watch.{Watch}
 use Rattle.wait_model.specs.declared.watches.Watch.TheVariants as watch
 use Rattle.wait_rule.specs.declared.journal.Item.TheVariants as item
 use Rattle.wait_rule.specs.{Known.Known, Says.added, Stays.Carries, Stays.unchanged}
-use Rattle.wait_rule.specs.Queues.{IsAgreedHold, IsIdle, index}
+use Rattle.wait_rule.specs.Queues.{index}
 use Rattle.wq_head.specs.declared.adds.Worn.{Worn}
 use Rattle.wait_class.specs.Posts.{IsOut}
 use Rattle.wait_event.specs.{Conds.set_change, Ends.wait_change}
 use Rattle.wait_event.proofs.Changes.{carried_on, carried_wider, out_on}
-use Rattle.futex_table.specs.{declared.cond_vars.CondEnd.CondEnd, declared.futexes.FutexEnd.FutexEnd, Mutexes.is_locked}
+use Rattle.futex_table.specs.{declared.futexes.FutexEnd.FutexEnd, Mutexes.is_locked}
 use Rattle.futex_table.specs.CondVars.{cond_answer, cond_change, is_mutex_held}
-use Rattle.futex_table.specs.Holding.{HoldsMutex, StayHeld, holds_mutex}
+use Rattle.futex_table.specs.Holding.{StayHeld}
 use Rattle.futex_table.specs.declared.futexes.FutexEnd.TheVariants as futex_end
 use Rattle.futex_table.proofs.Mutexing.{one_holds}
-
--- a task that holds no head may load
-pub idle_agreed : (k : Known) → IsIdle k → IsAgreedHold k
-idle_agreed k idle h held = absurd (let none : Some h ≡ None = sym held ∙ idle.free.head in cc)
 
 pub load_held : (c v : ℕ) (old new : Known) → new ≡ added old (item.Made (step.Load (watch.Plain c) v))
     → StayHeld old new
@@ -71,12 +67,3 @@ answer_held (Err futex_end.Interrupted) (Err w) = refl
 answer_held (Err futex_end.Interrupted) (Ok u) = refl
 answer_held (Ok v) (Err w) = refl
 answer_held (Ok v) (Ok u) = refl
-
-pub cond_held : (b : Bool) (end : Result (Unit {0}) FutexEnd) (lock : Result (Unit {0}) Worn) (k : Known) (m : ℕ)
-    → b ≡ false → holds_mutex k m ≡ (b || is_locked lock) → holds_mutex k m ≡ is_mutex_held (cond_answer end lock)
-cond_held b end lock k m free is = is ∙ (ap (λ (c : Bool). c || is_locked lock) free ∙ sym (answer_held end lock))
-
-pub answered_holds : (k : Known) (m : ℕ) (o : Result (Unit {0}) CondEnd) → holds_mutex k m ≡ is_mutex_held o
-    → IfOk o (λ _. HoldsMutex k m)
-answered_holds k m (Ok u) is = is
-answered_holds k m (Err e) is = tt

@@ -1,5 +1,5 @@
 -- The add of a wait's entry.
-use Rattle.std.proofs.Common.{◌∙◌, ap, sym, refl, subst, inl, inr, lt-ltb}
+use Rattle.std.proofs.Common.{ap, sym, refl, subst, lt-ltb}
 use Rattle.std.specs.Prelude.{ℕ, ◌≡◌, ◌<◌, Bool, if◌then◌else◌, Result, Ok, Err, IfOk, IfErr}
 use Rattle.wait_model.specs.{declared.layout.TheConstants.FIRST_SIMPLE, declared.watches.Kind.Kind}
 use Rattle.wait_model.specs.{declared.watches.Watch.Watch, Watches.kind_for}
@@ -10,7 +10,7 @@ use Rattle.wq_head.specs.{declared.adds.Worn.Worn, Holds.IsHolding}
 use Rattle.wq_head.specs.Adds.{HasAdded, IsFormPlace, IsFormWorn}
 use Rattle.wait_class.specs.declared.stages.Doing.TheVariants as doing
 use Rattle.wait_class.specs.Laws.{AddsOwn, HasJoined, IsWornFor}
-use Rattle.wait_class.specs.Queueing.{IsForBy, form_entry}
+use Rattle.wait_class.specs.Queueing.{form_entry}
 use Rattle.wait_class.proofs.FormPlaces.{form_is, form_left, form_worn}
 use Rattle.wait_class.proofs.Ground.Keeping.{keeps_queued}
 use Rattle.futex_table.specs.{declared.waits.FutexStage.FutexStage, declared.waits.FutexWait.FutexWait}
@@ -24,15 +24,6 @@ queue_only s here = absurd (cc)
 -- the kind of its entry
 pub kind_is : (f : ℕ) → f < FIRST_SIMPLE → kind_for (futex_word f) ≡ kind.Autoremove
 kind_is f few = ap (λ (b : Bool). if b then kind.Autoremove else kind.Simple) (lt-ltb f FIRST_SIMPLE few)
-
-pub futex_for : (f : ℕ) → f < FIRST_SIMPLE → (w : Watch) → w ≡ futex_word f → (k : Kind) → k ≡ kind_for w
-    → IsForBy forms.Tail w k
-futex_for f few w is k its = inl (f, is, few, inr (inl (its ∙ (ap kind_for is ∙ kind_is f few))))
-
-pub never_woken : {A : Type 0} (f : ℕ) → f < FIRST_SIMPLE → (w : Watch) → w ≡ futex_word f → (k : Kind)
-    → k ≡ kind_for w → k ≡ kind.Woken → A
-never_woken f few w is k its woken = absurd (let no : kind.Woken ≡ kind.Autoremove = sym woken
-    ∙ (its ∙ (ap kind_for is ∙ kind_is f few)) in cc)
 
 module _ (r : FutexWait) (old new : Known) where
   joined : HasAdded (IsFormPlace forms.Tail) old new 0 (form_entry forms.Tail (futex_word r.futex)

@@ -14,18 +14,12 @@ use Rattle.futex_table.specs.LockLeaves.{AsksRound, HasAskedRounds, LocksMutexUn
 use Rattle.futex_table.specs.LockLeaves.{is_locked_until, round_end, worn_until}
 use Rattle.futex_table.specs.Mutexes.{HasTriedMutex, is_locked, worn_in}
 use Rattle.futex_table.proofs.CondVaring.{answer_held}
-use Rattle.futex_table.proofs.Mutexing.{IsBetween, again_between, again_carries, again_held, again_unlocked, between_none}
+use Rattle.futex_table.proofs.Mutexing.{IsBetween, again_between, again_carries, again_held, again_unlocked}
 
 -- What a task is while it waits for a mutex and may be asked to leave: as it began, and it has made rounds.
 pub record IsAsking (A : Type 0) (old now : Known) (m : ℕ) : Type 0 where
   pub asked : HasAskedRounds A m old now
   pub between : IsBetween old now
-
-pub asks_none : (A : Type 0) (k : Known) (m : ℕ) → IsUp k → IsIdle k → IsOut k → IsAsking A k k m
-asks_none A k m up idle out = record {
-  asked = record { count = 0; rounds = refl };
-  between = between_none k up idle out;
-}
 
 -- a lock that ends with a wait has not taken the mutex
 never_none : (o : Option Worn) (x : Until (Result (Unit {0}) Worn)) → worn_until o ≡ Some x → is_locked_until x ≡ false

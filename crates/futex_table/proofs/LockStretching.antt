@@ -8,9 +8,9 @@ use Rattle.wait_rule.specs.Stays.{unchanged}
 use Rattle.wait_rule.specs.declared.journal.Item.TheVariants as item
 use Rattle.wq_head.specs.declared.adds.Worn.{Worn}
 use Rattle.wait_class.specs.{Posts.IsOut, declared.stages.Run.Run}
-use Rattle.wait_class.specs.Tables.{Advances, IsStop, Lands, SleepsNot, ticket_at}
+use Rattle.wait_class.specs.Tables.{Advances, Lands, SleepsNot}
 use Rattle.wait_class.specs.declared.stages.Turn.TheVariants as turn
-use Rattle.wait_class.proofs.{AwakeSteps.only_awake, AwakeSteps.sleeps_not_on, Turns.free_head, UnderWay.woke_on}
+use Rattle.wait_class.proofs.{AwakeSteps.only_awake, AwakeSteps.sleeps_not_on, UnderWay.woke_on}
 use Rattle.wait_event.specs.Ends.{wait_change}
 use Rattle.wait_leave.specs.declared.exits.Until.{Until}
 use Rattle.wait_leave.specs.declared.exits.Until.TheVariants as until
@@ -20,7 +20,7 @@ use Rattle.wait_leave.proofs.Ways.{way_again, way_as, way_lands, way_risen, way_
 use Rattle.futex_table.specs.{declared.futexes.FutexEnd.FutexEnd, declared.lock_stretches.LockStage.LockStage}
 use Rattle.futex_table.specs.{declared.waits.FutexOutcome.FutexOutcome, declared.waits.FutexStage.FutexStage}
 use Rattle.futex_table.specs.{declared.waits.FutexWait.FutexWait, FutexEnds.EndsFutexWait, FutexEnds.futex_end_in}
-use Rattle.futex_table.specs.{FutexTables.futex_point, FutexTables.futex_table, TallyUses.LeavesTallies}
+use Rattle.futex_table.specs.{FutexTables.futex_table, TallyUses.LeavesTallies}
 use Rattle.futex_table.specs.FutexLeaves.{EndsFutexUntil, futex_exits, futex_until_in}
 use Rattle.futex_table.specs.Holding.{OthersStayHeld, StayHeld, holds_mutex}
 use Rattle.futex_table.specs.LockLeaves.{AsksRound, AsksRounds, HasAskedRounds, LocksMutexUntil, is_locked_until}
@@ -246,16 +246,6 @@ pub round_lands : (b : Bool) (m : ℕ) (old k : Known) (q : Run FutexWait) (u : 
     → IsInRound (AskedIf b) m old k q u → Lands futex_table k q u
 round_lands b m old k q u x = way_lands (AskedIf b) futex_table futex_exits futex_may_leave futex_lawful x.tried x.first
     stage.First k q u x.came
-
-pub outside_by : (k : Known) (q : Run FutexWait) (u : FutexWaitTurn) → Lands futex_table k q u → IsStop futex_table u
-    → k.book.head ≡ None
-outside_by k q (turn.Again s) l stop = l.stands.head
-    ∙ free_head (ticket_at futex_table s q.ticket) (futex_table.plan_of q.of) (futex_point s) stop
-outside_by k q (turn.Asleep s) l stop = l.stands.head
-    ∙ free_head (ticket_at futex_table s q.ticket) (futex_table.plan_of q.of) (futex_point s) stop
-outside_by k q (turn.Locked s) l stop = l.stands.head
-    ∙ free_head (ticket_at futex_table s q.ticket) (futex_table.plan_of q.of) (futex_point s) stop
-outside_by k q (turn.Done o) l stop = l.stands.head
 
 -- A lock that nobody asked to leave says at its end what one says that can't be left.
 straight_only : (old : Known) (r : Run FutexWait) (s : FutexStage) (new : Known) (q : Run FutexWait) (u : FutexWaitTurn)

@@ -13,7 +13,7 @@ use Rattle.wait_model.specs.declared.watches.Watch.TheVariants as watch
 use Rattle.wait_rule.specs.declared.journal.Item.TheVariants as item
 use Rattle.wait_rule.specs.{Known.Known, Queues.IsIdle, Queues.index, Stays.Carries, Stays.unchanged}
 use Rattle.wait_rule.specs.Says.{IsUp, added, history_of}
-use Rattle.wait_rule.proofs.{KnownLaws.TaskHistories.history_after, KnownLaws.CarriedTasks.unchanged_none}
+use Rattle.wait_rule.proofs.{KnownLaws.TaskHistories.history_after}
 use Rattle.wq_head.specs.{declared.adds.Worn.Worn, Walks.HasWoken}
 use Rattle.wait_class.specs.Posts.{IsOut}
 use Rattle.wait_event.specs.Ends.{wait_change}
@@ -110,15 +110,6 @@ pub record IsBetween (old now : Known) : Type 0 where
   pub carries : Carries (wait_change (index old.view.number 0) now.at) old now
   pub held : StayHeld old now
 
-pub between_none : (k : Known) → IsUp k → IsIdle k → IsOut k → IsBetween k k
-between_none k up idle out = record {
-  up = up;
-  idle = idle;
-  out = out;
-  carries = still_waits k k (unchanged_none k) (index k.view.number 0);
-  held = λ n. refl;
-}
-
 -- a try behind the rounds
 module _ (old now tried : Known) (m : ℕ) (b : IsBetween old now) (still : Carries unchanged now tried) where
   pub try_carries : Carries (wait_change (index old.view.number 0) tried.at) old tried
@@ -179,16 +170,6 @@ pub record IsWaiting (old now : Known) (m : ℕ) : Type 0 where
   pub out : IsOut now
   pub carries : Carries (wait_change (index old.view.number 0) now.at) old now
   pub held : StayHeld old now
-
-pub waits_none : (k : Known) (m : ℕ) → IsUp k → IsIdle k → IsOut k → IsWaiting k k m
-waits_none k m up idle out = record {
-  waited = record { count = 0; rounds = refl };
-  up = up;
-  idle = idle;
-  out = out;
-  carries = still_waits k k (unchanged_none k) (index k.view.number 0);
-  held = λ n. refl;
-}
 
 module _ (old now tried : Known) (m : ℕ) (w : IsWaiting old now m) (still : Carries unchanged now tried) where
   between : IsBetween old now

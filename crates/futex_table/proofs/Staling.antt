@@ -39,9 +39,6 @@ tail_is x y xs ys is = cc
 head_is : (x y : Step) (xs ys : List Step) → x ∷ xs ≡ y ∷ ys → x ≡ y
 head_is x y xs ys is = cc
 
-none_more : {A : Type 0} (x : Step) (fs : List Step) (z : Step) → [] ≡ x ∷ (fs ++ z ∷ []) → A
-none_more x fs z is = absurd (cc)
-
 some_last : {A : Type 0} (es : List Step) (y : Step) → es ++ y ∷ [] ≡ [] → A
 some_last [] y is = absurd (cc)
 some_last (e ∷ es) y is = absurd (cc)

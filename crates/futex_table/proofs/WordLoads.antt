@@ -1,14 +1,14 @@
 -- The load of the word in a hold.
 use Rattle.std.proofs.Common.{refl, subst, sym}
-use Rattle.std.specs.Prelude.{ℕ, ◌≡◌, true}
+use Rattle.std.specs.Prelude.{ℕ, ◌≡◌}
 use Rattle.wait_model.specs.declared.steps.Step.TheVariants as step
 use Rattle.wait_model.specs.declared.watches.Watch.{Watch}
 use Rattle.wait_rule.specs.declared.journal.Item.TheVariants as item
 use Rattle.wait_rule.specs.{Known.Known, Says.added, Stays.Carries, Stays.unchanged}
 use Rattle.wait_class.specs.declared.stages.Doing.TheVariants as doing
 use Rattle.wait_class.specs.{declared.stages.Run.Run, declared.stages.Turn.Turn, Laws.LoadLaw}
-use Rattle.wait_class.specs.Tables.{IsAt, Turned, falls, stage_watch}
-use Rattle.wait_class.proofs.States.{load_advances, load_falls}
+use Rattle.wait_class.specs.Tables.{IsAt, Turned, stage_watch}
+use Rattle.wait_class.proofs.States.{load_advances}
 use Rattle.futex_table.specs.{declared.waits.FutexOutcome.FutexOutcome, declared.waits.FutexStage.FutexStage}
 use Rattle.futex_table.specs.declared.waits.FutexWait.{FutexWait}
 use Rattle.futex_table.specs.FutexTables.{futex_doing, futex_loaded, futex_table}
@@ -32,7 +32,3 @@ pub word_advances : (old new : Known) (r : Run FutexWait) (s : FutexStage) → f
     → Turned futex_table old new r (record r { of = q }) s u
 word_advances old new r s here a w same v is carries u to q notes = load_advances futex_table futex_lawful old new r s a
     w same v (own_law r.of s here v) is carries u to q notes
-
-pub word_falls : (r : FutexWait) (s : FutexStage) → futex_doing s ≡ doing.Own → (v : ℕ)
-    → (u : Turn FutexStage FutexOutcome) → u ≡ futex_loaded r s v → falls futex_table s u ≡ true
-word_falls r s here v u to = load_falls futex_table futex_lawful r s v (own_law r s here v) u to

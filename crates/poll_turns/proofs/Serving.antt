@@ -174,16 +174,6 @@ pub works_as : (p : Poll) (old new : Known) (s n : PollStage) (u : PollTurn) →
     → WorksHeld p old new s u
 works_as p old new s n u is = subst (λ (m : PollStage). WorksHeld p old new m u) (sym is)
 
--- no other stage has a hold
-pub no_hold : (p : Poll) (h t : ℕ) (s : PollStage) → ((n : ℕ) → s ≡ stage.HoldFirst n → ⊥)
-    → ((n : ℕ) → s ≡ stage.HoldSecond n → ⊥) → ((e : PollUntil) (m n : ℕ) → s ≡ stage.HoldTakeFirst e m n → ⊥)
-    → ((e : PollUntil) (m n : ℕ) → s ≡ stage.HoldTakeSecond e m n → ⊥) → Awaits p s h t → ⊥
-no_hold p h t (stage.HoldFirst n) a b c d x = a n refl
-no_hold p h t (stage.HoldSecond n) a b c d x = b n refl
-no_hold p h t (stage.HoldTakeFirst e m n) a b c d x = c e m n refl
-no_hold p h t (stage.HoldTakeSecond e m n) a b c d x = d e m n refl
-no_hold p h t s a b c d x = x
-
 -- the first entry is queued
 module _ (p : Poll) (is : IsPoll p) (a : Known) (n : ℕ) where
   served_first : (start old : Known) (x : AwaitsFirst p start old n) → TookAwaited p old a (stage.HoldFirst n)

@@ -1,8 +1,8 @@
 -- What calls carry on, one after the other.
-use Rattle.std.proofs.Common.{◌∙◌, ap, sym, refl, subst}
-use Rattle.std.specs.Prelude.{ℕ, ◌≡◌, ◌==◌, ◌||◌, Bool, true, false, Option, Some}
+use Rattle.std.proofs.Common.{refl}
+use Rattle.std.specs.Prelude.{ℕ, ◌≡◌, ◌==◌, ◌||◌, Bool, true, false, Option}
 use Rattle.wait_model.specs.declared.watches.Entry.{Entry}
-use Rattle.wait_rule.specs.{Known.Known, Queues.index}
+use Rattle.wait_rule.specs.{Known.Known}
 use Rattle.wait_rule.specs.Says.{Excuse, IsOutBut, OwesBut, told_of}
 use Rattle.wait_rule.specs.Stays.{Carries, Change, unchanged, with_entry}
 use Rattle.wait_rule.proofs.KnownLaws.Debts.{entries_debts}

@@ -34,15 +34,6 @@ suits_by w how front never = absurd never
 pub polled_low : (w : Watch) → IsPolled w → head_of w < FIRST_DONE_HEAD
 polled_low w is = suits_low w (kind_for w) any_how (suits_by w any_how refl is)
 
-pub none_bit : {A : Type 0} (w : Watch) → IsPolled w → kind_for w ≡ kind.Bit → A
-none_bit (watch.Plain c) full is = by (nat_lt c FIRST_SIMPLE) is
-  where
-    by : {A : Type 0} (b : Bool) → (if b then kind.Autoremove else kind.Simple) ≡ kind.Bit → A
-    by true is = absurd (cc)
-    by false is = absurd (cc)
-none_bit (watch.Var v o) few is = absurd (cc)
-none_bit w never is = absurd never
-
 pub part_low : (w : Watch) (k : Kind) (o : Option Entry) → head_of w < FIRST_DONE_HEAD → IsPart w k o → IsNoWaiter o
 part_low w k None low part = tt
 part_low w k (Some e) low part = subst (λ (h : ℕ). h < FIRST_DONE_HEAD) (sym (ap head_of part.0 ∙ bare_head w)) low

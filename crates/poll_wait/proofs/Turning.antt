@@ -4,7 +4,7 @@ use Rattle.std.specs.Prelude.{ℕ, ◌≡◌, true, false, Option, Result, List,
 use Rattle.wait_rule.specs.{Known.Known, Queues.IsIdle, Queues.index, Says.IsUp, Says.told_of}
 use Rattle.wait_rule.specs.Stays.{Carries, no_entries, unchanged, with_entry}
 use Rattle.wait_rule.proofs.{KnownLaws.CarriedTasks.unchanged_none, KnownLaws.StayingParts.owes_also}
-use Rattle.wait_class.specs.Posts.{IsOut, own_of}
+use Rattle.wait_class.specs.Posts.{IsOut}
 use Rattle.wait_event.specs.Prepares.{IsPart}
 use Rattle.wait_event.proofs.Changes.{idle_on, out_on}
 use Rattle.wait_model.specs.Watches.{kind_for}

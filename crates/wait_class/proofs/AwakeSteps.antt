@@ -11,7 +11,7 @@ use Rattle.wait_rule.specs.declared.journal.Item.TheVariants as item
 use Rattle.wait_rule.proofs.{KnownLaws.TaskHistories.history_after, KnownLaws.Transitions.only_looked}
 use Rattle.wait_rule.proofs.TableSteps.ItemLists.{steps_append}
 use Rattle.wq_head.specs.Looks.{Looks}
-use Rattle.wait_class.specs.{Laws.Calm, Laws.HasJoined, Posts.HasSeenOwn}
+use Rattle.wait_class.specs.{Laws.HasJoined, Posts.HasSeenOwn}
 use Rattle.wait_class.specs.Tables.{CallTable, SleepsNot, has_sleep, is_sleep}
 use Rattle.wait_class.proofs.Histories.{awake_more, stored_history, unlocked_history}
 use Rattle.wait_class.proofs.Turns.{looks_history}
@@ -46,9 +46,6 @@ awake_stored old new e is none = record {
   history = stored_history old new e is;
   awake = ap (λ (b : Bool). b || false) none;
 }
-
-pub awake_calm : (old new : Known) (es : List Step) → Calm es old new → has_sleep es ≡ false → SleepsNot old new
-awake_calm old new es calm none = record { steps = es; history = calm.history; awake = none }
 
 pub awake_still : (old new : Known) → history_of new ≡ history_of old → SleepsNot old new
 awake_still old new still = record {

@@ -4,7 +4,7 @@ use Rattle.std.specs.Prelude.{ℕ, ◌≡◌, Bool, true, false, is_some, Option
 use Rattle.wait_model.specs.declared.steps.Step.TheVariants as step
 use Rattle.wait_model.specs.{declared.watches.Entry.Entry, declared.watches.Watch.Watch, Watches.bare, Watches.head_of}
 use Rattle.wait_model.specs.{Tasks.pending, Tasks.task_of, Words.entry_of}
-use Rattle.wait_model.specs.PointFacts.{Zone, IsHome, absent, free, pages, parts, seated, stands, waits}
+use Rattle.wait_model.specs.PointFacts.{Zone, IsHome, absent, pages, parts, seated, stands, waits}
 use Rattle.wait_rule.specs.{Tickets.taken, HandedPermits.OwesNoPermit, Items.Book, Known.Known, Transitions.OnlyLooks}
 use Rattle.wait_rule.specs.Says.{added, told_of, unlocked_with}
 use Rattle.wait_rule.specs.Queues.{MayUnqueue, index, saw}

@@ -109,11 +109,6 @@ pub record IsInStretch {C S O : Type 0} (t : CallTable C S O) (old new : Known) 
   pub given : LastGiven old new HEADS
   pub low : t.depth n + turns ≤ 6
 
--- a place at which no head is held
-pub unheld : (h r : Bool) → r ≡ not h → r ≡ true → h ≡ false
-unheld true r is up = absurd (cc)
-unheld false r is up = refl
-
 pub held_yes : (h r : Bool) → r ≡ not h → r ≡ false → h ≡ true
 held_yes true r is down = refl
 held_yes false r is down = absurd (cc)

@@ -197,7 +197,3 @@ pub tells_asked : (k : Known) (asked : Bool) → asked ≡ true → (found : Boo
 tells_asked k false asks found whole tells = absurd (cc)
 tells_asked k true asks true whole has = record { tells = sym (shown_some k has); whole = λ _. whole }
 tells_asked k true asks false whole none = record { tells = sym (shown_none k none); whole = λ _. whole }
-
-pub tells_unasked : (k : Known) (asked : Bool) → asked ≡ false → TellsFirst asked k false
-tells_unasked k true unasked = absurd (cc)
-tells_unasked k false unasked = record { tells = refl; whole = λ yes. absurd (cc) }

@@ -1,7 +1,7 @@
 -- A ticket is drawn, the lock taken by it, and given back.
 use Rattle.std.proofs.Common.{◌∙◌, ap, append-nil, sym, refl, subst}
-use Rattle.std.specs.Prelude.{ℕ, ◌≡◌, ◌≢◌, ◌<◌, not, Bool, true, false, Option, Some, None, List, [], ◌∷◌}
-use Rattle.wait_model.specs.{declared.layout.TheConstants.HEADS, declared.points.Point.Point, declared.steps.Step.Step}
+use Rattle.std.specs.Prelude.{ℕ, ◌≡◌, ◌≢◌, not, Bool, true, false, Option, Some, None, List, [], ◌∷◌}
+use Rattle.wait_model.specs.{declared.points.Point.Point, declared.steps.Step.Step}
 use Rattle.wait_model.specs.{declared.watches.Entry.Entry, PointFacts.IsHome, Watches.head_of, Fold.view_of}
 use Rattle.wait_model.specs.declared.points.Next.TheVariants as next
 use Rattle.wait_model.specs.declared.steps.Step.TheVariants as step
@@ -26,11 +26,6 @@ use Rattle.wait_class.specs.declared.stages.Doing.TheVariants as doing
 use Rattle.wait_class.specs.declared.stages.Turn.TheVariants as turn
 use Rattle.wait_class.proofs.CalmSteps.{calm_on, calm_quiet, calm_step, calm_unlock}
 use Rattle.wait_class.proofs.Turns.{GoesOn, advance_by, drawn_post, free_task, free_ticket, held_head, moves_quiet, stands_plain, stops_by}
-
--- the head is there
-pub head_fits : {C S O : Type 0} (t : CallTable C S O) (law : IsLawfulCallTable t) (r : C) (s : S) → t.Fits r → (h : ℕ) → h ≡ head_in t r s
-    → h < HEADS
-head_fits t law r s fits h same = subst (λ (n : ℕ). n < HEADS) (sym same) (law.few r s fits)
 
 -- the head that it took last is no part of a history
 placed_calm : (es : List Step) (old mid new : Known) → new.view ≡ mid.view → new.book.state ≡ mid.book.state

@@ -1,13 +1,13 @@
 -- What the scan finds is the queue's member, and what the words show is what the task sees.
-use Rattle.std.specs.Prelude.{◌≡◌, ℕ, ◌+◌, ◌-◌, ◌*◌, Bool, true, false, nat_lt, ◌<◌, ◌≤◌}
+use Rattle.std.specs.Prelude.{◌≡◌, ℕ, ◌-◌, ◌*◌, Bool, true, false, nat_lt, ◌<◌, ◌≤◌}
 use Rattle.std.specs.Prelude.{if◌then◌else◌, min, List, slice_index, IfSome, Option, Some, None}
 use Rattle.wait_model.specs.{declared.watches.Entry.Entry, declared.queues.Member.Member, Tasks.task_word}
 use Rattle.wait_model.specs.{Tasks.task_of, declared.queues.Mark.Mark, Runs.State, declared.watches.Watch.Watch}
-use Rattle.wait_model.specs.declared.layout.TheConstants.{TASKS, ENTRIES, MEMBERS, CONDITIONS, HEADS, ENTRY_AT}
-use Rattle.wait_model.specs.declared.layout.TheConstants.{BOOKMARK_AT, PLACES, MIDDLE, FIRST_PRIORITY, FIRST_PLACE}
+use Rattle.wait_model.specs.declared.layout.TheConstants.{TASKS, ENTRIES, MEMBERS, CONDITIONS, HEADS}
+use Rattle.wait_model.specs.declared.layout.TheConstants.{PLACES, MIDDLE, FIRST_PRIORITY, FIRST_PLACE}
 use Rattle.wait_model.specs.declared.layout.TheConstants.{INDEXES, EVENTS}
-use Rattle.wait_model.specs.Watches.{head_of, IsThere, number_of}
-use Rattle.wait_model.specs.Words.{entry_word, entry_of, head_word, held_of, spent_of, done_word, flag_of}
+use Rattle.wait_model.specs.Watches.{IsThere, number_of}
+use Rattle.wait_model.specs.Words.{entry_word, entry_of, held_of, spent_of, done_word, flag_of}
 use Rattle.wait_model.specs.Tables.{mark_of, Table, value_of}
 use Rattle.wait_model.specs.Queues.{stand_by, stand_of, is_entry, rank, rank_at, first_from, member_from, entry_from}
 use Rattle.wait_model.specs.Queues.{entries_of, last_within, place_before, place_behind, front_place, tail_place}
@@ -414,37 +414,3 @@ pub mark_small : (w : ℕ) (o : Option Mark) → o ≡ mark_of w → IfSome o (�
 unfolding mark_of
 mark_small w None h = tt
 mark_small w (Some k) h = grind arith
-
-stand_small : (words : List ℕ) (x : ℕ) (k : Mark) → shown_stand words x ≡ Some k → k.place < PLACES
-stand_small words x k = by (nat_lt x ENTRIES)
-  where
-    entry_case : (o : Option Entry) → IfSome o (λ e. e.place < PLACES) → stand_by o ≡ Some k → k.place < PLACES
-    entry_case None h s = absurd (cc)
-    entry_case (Some e) h s =
-        let r : record { head = head_of e.watch; place = e.place } ≡ k = cc in
-        let p : e.place ≡ k.place = ap (λ (c : Mark). c.place) r in
-        omega (arith, h)
-
-    mark_case : (o : Option Mark) → IfSome o (λ c. c.place < PLACES) → o ≡ Some k → k.place < PLACES
-    mark_case None h s = absurd (cc)
-    mark_case (Some c) h s = let r : c ≡ k = cc in let p : c.place ≡ k.place = ap (λ (d : Mark). d.place) r in
-        omega (arith, h)
-
-    by : (b : Bool) → (if b then stand_by (entry_in_words words x) else shown_mark words (x - ENTRIES)) ≡ Some k
-        → k.place < PLACES
-    by true s = entry_case (entry_in_words words x)
-        (entry_small (slice_index words (ENTRY_AT + x)) (entry_in_words words x) refl) s
-    by false s = mark_case (shown_mark words (x - ENTRIES))
-        (mark_small (slice_index words (BOOKMARK_AT + (x - ENTRIES))) (shown_mark words (x - ENTRIES)) refl) s
-
-pub pick_fits : (words : List ℕ) (count : ℕ) (span : Span) (r : Option Member)
-    → IsPicked (shown_stand words) count span r
-    → IfSome r (λ m. (m.at < count) × (span.low ≤ rank m) × (rank m < span.high) × (m.place < PLACES))
-pick_fits words count span None h = tt
-pick_fits words count span (Some b) h =
-    let same : h.stand.place ≡ b.place = h.place in (
-      h.inside,
-      (let c = (counted_of span b.at h.stand h.counted).1 in omega (arith, c)),
-      (let c = (counted_of span b.at h.stand h.counted).2 in omega (arith, c)),
-      (let small : h.stand.place < PLACES = stand_small words b.at h.stand h.stands in omega arith),
-    )

@@ -3,11 +3,11 @@ use Rattle.std.specs.Prelude.{◌≡◌, ◌≢◌, ℕ, ◌+◌, ◌-◌, ◌*�
 use Rattle.std.specs.Prelude.{nat_lt, List, [], length, slice_index_or, slice_index, slice_set, Option, Some, None}
 use Rattle.wait_model.specs.{declared.queues.Mark.Mark, Functions.put, Queues.stand_by, Words.entry_of, Tables.mark_of}
 use Rattle.wait_model.specs.Tables.{start}
-use Rattle.wait_model.specs.declared.layout.TheConstants.{TASKS, ENTRIES, MEMBERS, PLAIN_CONDITIONS, FIRST_DONE}
+use Rattle.wait_model.specs.declared.layout.TheConstants.{ENTRIES, MEMBERS, PLAIN_CONDITIONS, FIRST_DONE}
 use Rattle.wait_model.specs.declared.layout.TheConstants.{FIRST_BIT_WORD, FIRST_VARIABLE, ENTRY_AT, BOOKMARK_AT, WORDS}
 use Rattle.wait_model.specs.declared.layout.TheConstants.{PLACES, INDEXES}
-use Rattle.wait_model.specs.Locations.{Location, Entry, Bookmark, Plain, Done, Bits, Var, IsLocation, Shows}
-use Rattle.wait_model.specs.Locations.{position_of, cond_at}
+use Rattle.wait_model.specs.Locations.{Location, Entry, Bookmark, Plain, Done, Bits, Var, Shows}
+use Rattle.wait_model.specs.Locations.{cond_at}
 use Rattle.wait_core.specs.{declared.index.TheConstants.RANKS, declared.index.RankedMember.RankedMember}
 use Rattle.wait_core.specs.Scan.{entry_in_words, shown_mark, shown_stand}
 use Rattle.wait_core.specs.Index.{IsListedMember, IsIndex, class_of, key, key_at, standing_of}
@@ -462,14 +462,6 @@ shown_other words at left x entry mark = by (nat_lt x ENTRIES) refl
       nat_tests,
     )))))
 
--- a word of another class shows no member
-other_at : (l : Location) → IsLocation l → class_of l ≡ class.Other
-    → ((x : ℕ) → x < ENTRIES → position_of (Entry x) ≢ position_of l)
-    × ((t : ℕ) → t < TASKS → position_of (Bookmark t) ≢ position_of l)
-other_at (Entry x) there is = absurd (cc)
-other_at (Bookmark t) there is = absurd (cc)
-other_at l there is = (λ x lt e. absurd (omega arith), λ t lt e. absurd (omega arith))
-
 pub cond_class : (c : ℕ) → class_of (cond_at c) ≡ class.Other
 cond_class c = by (nat_lt c PLAIN_CONDITIONS) (nat_lt c FIRST_BIT_WORD) (nat_lt c FIRST_VARIABLE)
   where
@@ -489,15 +481,6 @@ pub mark_class : (l : Location) (t : ℕ) → class_of l ≡ class.Bookmark t �
 mark_class (Entry y) t is = absurd (cc)
 mark_class (Bookmark y) t is = let e : y ≡ t = cc in ap Bookmark e
 mark_class l t is = absurd (cc)
-
-pub untouched : (words : List ℕ) (l : Location) (left : ℕ) (index : List RankedMember)
-    → IsIndex (shown_stand words) index → IsLocation l → class_of l ≡ class.Other
-    → IsIndex (shown_stand (slice_set words (position_of l) left)) index
-untouched words l left index h there is =
-    let away = other_at l there is in
-    index_same (shown_stand words) (shown_stand (slice_set words (position_of l) left)) index
-    (λ x lt. shown_other words (position_of l) left x (λ small. away.0 x small)
-    (λ big. away.1 (x - ENTRIES) (omega arith))) h
 
 module _ (words : List ℕ) (count : length words ≡ WORDS) (at left : ℕ) (after : List RankedMember) (n : ℕ) where
   pub entry_changed : n + ENTRY_AT ≡ at → n < ENTRIES
@@ -550,14 +533,6 @@ mark_stood words n t is =
     let b : nat_lt n ENTRIES ≡ false = grind (arith, nat_tests) in
     let e : n - ENTRIES ≡ t = omega arith in
     rw (b, e) refl
-
--- what was not there changes nothing
-pub nothing_out : (f : ℕ → Option Mark) (n : ℕ) (index : List RankedMember) → IsIndex f index → f n ≡ None
-    → IsIndex (put f n None) index
-nothing_out f n index h s = index_same f (put f n None) index (λ x lt. elim (eqb_tells x n) [
-  | inl e ↦ ap f e.1 ∙ s ∙ sym (put_here f n x None e.1)
-  | inr e ↦ (let ne : x ≢ n = e.1 in sym (put_other f n None x ne))
-]) h
 
 pub emptied : (f : ℕ → Option Mark) (n : ℕ) → put f n None n ≡ None
 emptied f n = put_here f n n None refl

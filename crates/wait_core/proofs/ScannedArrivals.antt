@@ -3,7 +3,7 @@ use Rattle.std.proofs.lemmas.Bool.Decides.{nat_tests}
 use Rattle.wait_model.specs.{declared.queues.Member.Member, declared.watches.Watch.Watch, Watches.is_for, Runs.State}
 use Rattle.wait_model.specs.{Runs.arrives_from, Reached.IsSound, Locations.Shows}
 use Rattle.wait_model.specs.declared.layout.TheConstants.{PLACES, INDEXES, BREAK}
-use Rattle.wait_model.specs.Queues.{rank, rank_at, member_from, entry_from, members_from, has_members, is_entry}
+use Rattle.wait_model.specs.Queues.{rank, rank_at, member_from, entry_from, members_from, is_entry}
 use Rattle.wait_model.specs.Queues.{Arrival, arrive, IsIn, IsInOrder}
 use Rattle.std.proofs.Common.{refl, sym, ◌∙◌, ap, subst, arith, inl, inr}
 use Rattle.std.specs.Prelude.{ℕ, ◌≡◌, ◌+◌, ◌*◌, ◌<◌, ◌≤◌, ◌&&◌, Bool, true, false, cond, min, nat_le, nat_lt, is_some}
@@ -150,13 +150,6 @@ module _ (key : Member → Bool) (calls : ℕ) (enough : nat_lt BREAK calls ≡ 
       → arrive key calls (members_from least q) ≡ before (member_from least q)
   breaks_ahead least [] = refl
   breaks_ahead least (m ∷ ms) = breaks_here least m ms (nat_le least (rank m)) (breaks_ahead least ms)
-
--- a head has members where it has a first one
-pub has_first : (q : List Member) → is_some (member_from 0 q) ≡ has_members q
-has_first [] = refl
-has_first (m ∷ ms) =
-    let t : nat_le 0 (rank m) ≡ true = grind (arith, nat_tests) in
-    ap (λ b. is_some (if b then Some m else member_from 0 ms)) t
 
 -- the walk of a scan: it begins at a rank that stands for the place
 module _ (words : List ℕ) (s : State) (n : ℕ) (shown : Shows words s.table) (sound : IsSound s n) (head : ℕ) (c : Watch)

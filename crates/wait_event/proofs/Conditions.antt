@@ -3,7 +3,7 @@ use Rattle.std.proofs.Common.{◌∙◌, ap, sym, refl, subst, inl, inr, arith}
 use Rattle.std.proofs.lemmas.Bool.Decides.{nat_tests}
 use Rattle.std.specs.Prelude.{ℕ, ◌≡◌, ◌+◌, ◌<◌, ◌≤◌, nat_lt, Bool, true, false, if◌then◌else◌}
 use Rattle.wait_model.specs.{declared.queues.Form.Form, declared.tasks.How.How, declared.watches.Kind.Kind}
-use Rattle.wait_model.specs.{declared.watches.Watch.Watch, Queues.is_priority}
+use Rattle.wait_model.specs.{declared.watches.Watch.Watch}
 use Rattle.wait_model.specs.declared.layout.TheConstants.{BIT_WORDS, FIRST_DONE_HEAD, FIRST_SIMPLE, HEADS}
 use Rattle.wait_model.specs.declared.layout.TheConstants.{PLAIN_CONDITIONS, VARIABLES}
 use Rattle.wait_model.specs.Watches.{IsThere, bare, head_of, kind_for}
@@ -77,26 +77,6 @@ wait_for r runs form is w same k its = by r.watch runs.there runs.suits same
     by (watch.Plain c) there suits from = plain_for r.how c there suits form is w from k its
     by (watch.Var v o) there suits from = var_for r.how v there suits form is w from k its
     by u there suits from = absurd suits
-
--- the entry of a wait is none of kind Woken
-pub wait_none_woken : {A : Type 0} (w : Watch) (k : Kind) → k ≡ kind_for w → k ≡ kind.Woken → A
-wait_none_woken w k its woken = not_so w (sym its ∙ woken)
-  where
-    none_of : {A : Type 0} (b : Bool) → (if b then kind.Autoremove else kind.Simple) ≡ kind.Woken → A
-    none_of true is = absurd (cc)
-    none_of false is = absurd (cc)
-
-    not_so : {A : Type 0} (w : Watch) → kind_for w ≡ kind.Woken → A
-    not_so (watch.Plain c) is = none_of (nat_lt c FIRST_SIMPLE) is
-    not_so _ is = absurd (cc)
-
--- what a prepare may queue, by its form
-tail_or_front : (b : Bool) → is_priority (if b then forms.Tail else forms.Front) ≡ true → ⊥
-tail_or_front true is = absurd (cc)
-tail_or_front false is = absurd (cc)
-
-pub suits_few : (how : How) (form : Form) → form ≡ wait_form how → is_priority form ≡ true → ⊥
-suits_few how form is prior = tail_or_front how.exclusive (sym (ap is_priority is) ∙ prior)
 
 tail_of : (how : How) (w : Watch) (k : Kind) → how.exclusive ≡ true → IsForBy forms.Tail w k → IsForBy (wait_form how) w k
 tail_of how w k tail is = subst (λ (b : Bool). IsForBy (if b then forms.Tail else forms.Front) w k) (sym tail) is

@@ -25,7 +25,7 @@ use Rattle.wait_rule.proofs.{KnownLaws.MemberBits.bit_looks, KnownLaws.Transitio
 use Rattle.wait_rule.proofs.{KnownLaws.Transitions.only_looked, KnownLaws.Turns.serve_looks}
 use Rattle.wait_rule.proofs.WornHeads.WornNotes.{notes_stay}
 use Rattle.wq_head.specs.{declared.adds.Worn.Worn, Holds.HasLocked, Holds.HasUnlocked}
-use Rattle.wq_head.specs.Adds.{HasAdded, IsForPlain, IsFormPlace, IsFormWorn}
+use Rattle.wq_head.specs.Adds.{HasAdded, IsFormPlace, IsFormWorn}
 use Rattle.wq_head.proofs.LockWaits.{turn_looks, turn_of}
 use Rattle.wait_event.specs.Entries.{EndsAdd, HasWokenEntry, MayRemove, add_change, hold_change}
 use Rattle.wait_class.specs.{Posts.Runs, Posts.own_of, Queueing.form_entry, Findings.saw_nothing, Findings.with_worn}
@@ -132,10 +132,6 @@ given_is c k simple form p q is i = record {
   priority = is_priority form;
   kind = k;
 }
-
-pub own_for : (c : ℕ) (k : Kind) → c < FIRST_SIMPLE → IsOwnKind k → IsForPlain (watch.Plain c) k
-own_for c k full (inl is) = (c, refl, full, inl is)
-own_for c k full (inr is) = (c, refl, full, inr (inr is))
 
 own_simple : (k : Kind) → IsOwnKind k → is_simple k ≡ false
 own_simple k (inl is) = ap is_simple is

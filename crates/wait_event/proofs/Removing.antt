@@ -33,12 +33,6 @@ head_plain : (c : ℕ) → head_of (watch.Plain c) ≡ FIRST_PLAIN_HEAD + c
 unfolding head_of
 head_plain c = refl
 
--- the entry stands
-pub not_gone : (old : Known) → MayRemove old → (o : Option Entry)
-    → ((e : Entry) → (told_of old).bits.stored (own_of old) ≡ Some e → IsOwnKind e.kind → o ≡ Some e) → o ≡ None → ⊥
-not_gone old may o tells gone =
-    let no : None ≡ Some may.entry = sym gone ∙ tells may.entry may.queued may.kind in absurd (cc)
-
 -- what a removal says
 pub record Removes (old new : Known) : Type 0 where
   pub removed : HasRemovedOwn old new

@@ -1,9 +1,8 @@
 -- The add of a wait's entry.
-use Rattle.std.proofs.Common.{◌∙◌, ap, sym, refl, subst}
-use Rattle.std.specs.Prelude.{◌≡◌, Bool, true, false, if◌then◌else◌, Result, Ok, Err, IfOk, IfErr}
+use Rattle.std.proofs.Common.{ap, sym, refl, subst}
+use Rattle.std.specs.Prelude.{◌≡◌, Result, Ok, Err, IfOk, IfErr}
 use Rattle.wait_model.specs.{declared.queues.Form.Form, declared.watches.Kind.Kind, declared.watches.Watch.Watch}
-use Rattle.wait_model.specs.{Queues.is_priority, Watches.bare, Watches.kind_for}
-use Rattle.wait_model.specs.declared.queues.Form.TheVariants as forms
+use Rattle.wait_model.specs.{Watches.bare, Watches.kind_for}
 use Rattle.wait_model.specs.declared.watches.Watch.TheVariants as watch
 use Rattle.wait_rule.specs.{Ends.WasWorn, Known.Known, Queues.index}
 use Rattle.wq_head.specs.{declared.adds.Worn.Worn, Holds.IsHolding}
@@ -20,15 +19,6 @@ use Rattle.wait_event.specs.declared.waits.WaitStage.TheVariants as stage
 pub queue_only : (s : WaitStage) → wait_doing s ≡ doing.Queue → s ≡ stage.PrepareQueue
 queue_only stage.PrepareQueue here = refl
 queue_only s here = absurd (cc)
-
--- a wait has no priority
-wait_plain : (b : Bool) → is_priority (if b then forms.Tail else forms.Front) ≡ false
-wait_plain true = refl
-wait_plain false = refl
-
-pub add_few : (r : WaitCall) (form : Form) → form ≡ wait_form r.how → is_priority form ≡ true → ⊥
-add_few r f is prior =
-    let no : true ≡ false = sym prior ∙ (ap is_priority is ∙ wait_plain r.how.exclusive) in absurd (cc)
 
 -- the old value of a variable does not matter to the kind
 bare_kind : (w : Watch) → kind_for (bare w) ≡ kind_for w

@@ -1,7 +1,6 @@
 -- Plans of calls that prepare and finish as the waits for bits do, asked to leave or not.
 use Rattle.std.proofs.Common.{◌∙◌, ap, refl}
 use Rattle.std.specs.Prelude.{ℕ, ◌≡◌, Bool}
-use Rattle.wait_model.specs.declared.points.FinishPoint.TheVariants as finishing
 use Rattle.wait_model.specs.{declared.points.Next.Next, declared.points.Point.Point, declared.points.Seen.Seen}
 use Rattle.wait_model.specs.declared.points.Point.TheVariants as at
 use Rattle.wait_model.specs.declared.points.PreparePoint.TheVariants as preparing

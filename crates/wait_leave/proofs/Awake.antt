@@ -13,7 +13,7 @@ use Rattle.wait_rule.specs.Transitions.{after_step_or_look, after_transition, by
 use Rattle.wait_rule.specs.declared.journal.Item.TheVariants as item
 use Rattle.wait_rule.proofs.{KnownLaws.TaskHistories.history_after, TableSteps.ItemLists.steps_append}
 use Rattle.wait_class.specs.declared.stages.Doing.TheVariants as doing
-use Rattle.wait_class.specs.{declared.stages.Run.Run, declared.stages.Turn.Turn, Laws.IsPlainTurn, Wholes.HasRested}
+use Rattle.wait_class.specs.{declared.stages.Run.Run, declared.stages.Turn.Turn, Wholes.HasRested}
 use Rattle.wait_class.specs.Tables.{CallTable, ShowsTurn, SleepsNot, SleptLast, has_sleep, is_sleep}
 use Rattle.wait_class.specs.declared.stages.Turn.TheVariants as turn
 use Rattle.wait_class.proofs.AwakeSteps.{only_awake, sleeps_not_on, sleeps_not_same}
@@ -100,7 +100,3 @@ pub up_turn : {C S O : Type 0} (t : CallTable C S O) (old new : Known) (r q : Ru
     → SleepsNot old new → StaysUp u
 up_turn t old new r q (turn.Asleep s) shows a = not_slept old new a shows
 up_turn t old new r q _ shows a = tt
-
-pub up_plain : {C S O : Type 0} (t : CallTable C S O) (u : Turn S O) → IsPlainTurn t u → StaysUp u
-up_plain t (turn.Asleep s) plain = plain
-up_plain t _ plain = tt

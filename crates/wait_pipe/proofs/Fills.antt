@@ -17,14 +17,14 @@ use Rattle.wait_rule.specs.Pipes.{End, bytes_in, cell_bytes, end_word, moved_byt
 use Rattle.wait_rule.specs.Pipes.{with_cell, word_counts, write_end}
 use Rattle.wait_rule.specs.PipeSays.{EndBecomes, IsOpen, KeepsEnd, end_at, reading, writing}
 use Rattle.wait_rule.specs.declared.journal.Item.TheVariants as item
-use Rattle.wait_rule.proofs.KnownLaws.CarriedTasks.{unchanged_none, unchanged_on}
+use Rattle.wait_rule.proofs.KnownLaws.CarriedTasks.{unchanged_on}
 use Rattle.var_wait.specs.VarPublishes.{HasPublished}
 use Rattle.wait_pipe.specs.Pieces.{HasSeen, IsAtEnd, IsSettled, Moved, OtherPipesStay, LeavesAside, ShowsNoCell}
 use Rattle.wait_pipe.specs.Pieces.{WaitsAtPipe}
 use Rattle.wait_pipe.specs.Trails.{LoadsCells, LoadsOther, LooksOver, PassesCells, StoresCells, WakesAfter, cell_items}
 use Rattle.wait_pipe.specs.declared.looks.Look.{Look}
-use Rattle.wait_rule.proofs.KnownLaws.Transitions.{grown_more, grown_none}
-use Rattle.wait_pipe.proofs.Asides.{quiet_cell, quiet_none, quiet_on}
+use Rattle.wait_rule.proofs.KnownLaws.Transitions.{grown_more}
+use Rattle.wait_pipe.proofs.Asides.{quiet_cell, quiet_on}
 use Rattle.wait_pipe.proofs.PieceChanges.{others_becomes, others_on, settled_still}
 
 -- all the bytes of an end that has nothing outstanding
@@ -83,9 +83,6 @@ pub record HasCells (k : ℕ) (old now : Known) : Type 0 where
   pub is : now ≡ grown old (cell_items k cells) old.book
   pub grew : (end_at k now).cells ≡ (end_at k old).cells ++ cells
 
-cells_none : (k : ℕ) (j : Known) → HasCells k j j
-cells_none k j = record { cells = []; is = grown_none j; grew = sym (append-nil (end_at k j).cells) }
-
 cells_append : (k w : ℕ) (ws : List ℕ)
     → cell_items k ws ++ item.Piped k act.Cell w ∷ [] ≡ cell_items k (ws ++ w ∷ [])
 cells_append k w [] = refl
@@ -138,23 +135,6 @@ pub record Filling (p : ℕ) (old now : Known) (bytes : List ℕ) (at left done 
   pub dense : length (writing p now).cells ≡ length (writing p old).cells + (done + 6) / 7
   pub whole : (done % 7 ≡ 0) ⊎ (done ≡ length bytes)
   pub stored : HasCells (write_end p) old now
-
-pub fill_begins : (p : ℕ) (k : Known) (bytes : List ℕ) (at left : ℕ) → IsSettled (writing p k)
-    → at ≡ length (writing p k).cells % word_counts
-    → left + length (writing p k).cells ≡ (writing p k).seen + PIPE_CELLS → 0 < left → Filling p k k bytes at left 0
-fill_begins p k bytes at left settled place room some_left = record {
-  same = unchanged_none k;
-  quiet = quiet_none k;
-  others = λ j ne. refl;
-  midway = begun (writing p k) settled.still;
-  place = place;
-  room = room;
-  fits = omega arith;
-  some_done = omega arith;
-  dense = omega arith;
-  whole = inl refl;
-  stored = cells_none (write_end p) k;
-}
 
 -- a cell that is not the last has 7 bytes
 whole_front : (done size : ℕ) → (done % 7 ≡ 0) ⊎ (done ≡ size) → done < size → done % 7 ≡ 0
@@ -268,22 +248,6 @@ pub record Draining (p : ℕ) (old now : Known) (size : ℕ) (buf : List ℕ) (a
   pub fits : done ≤ size
   pub some_done : 0 < left + done
   pub loaded : HasCells (read_end p) old now
-
-pub drain_begins : (p : ℕ) (k : Known) (buf : List ℕ) (at left : ℕ) → IsSettled (reading p k)
-    → at ≡ length (reading p k).cells % word_counts → left + length (reading p k).cells ≡ (reading p k).seen → 0 < left
-    → Draining p k k (length buf) buf at left 0
-drain_begins p k buf at left settled place there some_left = record {
-  same = unchanged_none k;
-  quiet = quiet_none k;
-  others = λ j ne. refl;
-  midway = begun (reading p k) settled.still;
-  place = place;
-  there = there;
-  size_is = refl;
-  fits = omega arith;
-  some_done = omega arith;
-  loaded = cells_none (read_end p) k;
-}
 
 pub drain_goes : (p : ℕ) (old now next : Known) (size : ℕ) (buf after : List ℕ) (at left done end w : ℕ)
     → Draining p old now size buf at left done → 0 < left → done < end → end ≤ size

@@ -37,7 +37,7 @@ use Rattle.wait_event.specs.declared.wait_leaves.WaitUntil.TheVariants as wait_u
 use Rattle.wait_event.specs.declared.waits.WaitStage.TheVariants as stage
 use Rattle.wait_event.proofs.{Plans.program_is, Changes.keeps_join, Changes.keeps_same}
 use Rattle.var_wait.specs.{VarLeaves.EndsVarUntil, VarLeaves.until_loaded, VarWaits.shared_in}
-use Rattle.wait_pipe.specs.PieceLeaves.{AwaitsUntil, IsPieceUntil, end_of_until}
+use Rattle.wait_pipe.specs.PieceLeaves.{IsPieceUntil, end_of_until}
 use Rattle.wait_pipe.specs.Pieces.{ShowsNoCell, WaitsAtPipe}
 use Rattle.wait_pipe.proofs.Asides.{quiet_none, var_low}
 use Rattle.wait_pipe.proofs.Looking.{end_cause, none_kept, waits_by}
@@ -264,14 +264,3 @@ until_caused A k v word old new result is w waits none =
     subst (λ (r : WaitUntil (Result ℕ WaitEnd)). IsPieceUntil A k new (end_of_until r)) (sym w.loads)
     (cause_at A k word new (none_kept k word (end_at k old) (end_at k new) waits.keeps none) l.at.of.seen
     l.at.of.queued w.answer cause w.waited.asked)
-
-pub until_awaits : (A : Type 0) (k v word : ℕ) (old new : Known) (outcome : WaitUntil (Result ℕ WaitEnd))
-    → v ≡ other_end k → EndsVarUntil A old new v word state.Interruptible outcome
-    → ShowsNoCell k (end_at k old) word → IsOut old → AwaitsUntil A k word old new (end_of_until outcome)
-until_awaits A k v word old new outcome is w none out = record {
-  none = none;
-  out = out;
-  outcome = outcome;
-  waits = subst (λ (u : ℕ). EndsVarUntil A old new u word state.Interruptible outcome) is w;
-  answers = refl;
-}

@@ -1,11 +1,11 @@
 -- A look at the other end of a pipe, and a wait for it.
 use Rattle.std.proofs.Common.{refl, sym, ◌∙◌, ap, subst, arith}
 use Rattle.std.specs.Prelude.{ℕ, ◌≡◌, ◌≢◌, ◌+◌, ◌-◌, ◌*◌, ◌/◌, ◌%◌, ◌<◌, ◌==◌, ◌&&◌, not, if◌then◌else◌, Bool, true}
-use Rattle.std.specs.Prelude.{false, Some, None, Result, Ok, Err, IfErr, List, [], ◌∷◌}
+use Rattle.std.specs.Prelude.{false, None, Result, Ok, Err, IfErr, List, [], ◌∷◌}
 use Rattle.std.proofs.lemmas.Bool.Decides.{nat_tests}
 use mathlib.Core.Logic.{dite}
 use native.Mathlib.Decide.{ℕ_discrete}
-use Rattle.wait_model.specs.declared.layout.TheConstants.{CLAIMS, PIPE_ENDS, VARIABLES}
+use Rattle.wait_model.specs.declared.layout.TheConstants.{PIPE_ENDS}
 use Rattle.wait_model.specs.declared.calls.Call.TheVariants as calls
 use Rattle.wait_model.specs.declared.points.Point.TheVariants as at
 use Rattle.wait_model.specs.declared.points.Next.TheVariants as next
@@ -18,7 +18,7 @@ use Rattle.wait_rule.specs.{Transitions.call_program, Transitions.Transition}
 use Rattle.wait_rule.specs.Pipes.{End, after_end_look, count_on, end_item, end_word, if_unclosed, no_end, other_end}
 use Rattle.wait_rule.specs.Pipes.{read_end, word_counts, write_end}
 use Rattle.wait_rule.specs.PipeSays.{EndsKept, IsOpen, IsSoundEnd, KeepsEnd, end_at}
-use Rattle.wait_rule.specs.Queues.{IsAgreedHold, IsIdle, index}
+use Rattle.wait_rule.specs.Queues.{IsIdle, index}
 use Rattle.wait_rule.specs.Says.{IsFree, IsUp, added, told_of}
 use Rattle.wait_rule.specs.declared.journal.Item.TheVariants as item
 use Rattle.wait_rule.proofs.KnownLaws.PipeWords.{test_off, test_on}
@@ -29,16 +29,12 @@ use Rattle.wait_event.specs.{Waits.has_queued_in, declared.wait_events.WaitEnd.W
 use Rattle.wait_event.specs.Ends.{IsEndCause, WasSignalled, wait_change}
 use Rattle.wait_event.specs.declared.wait_events.WaitEnd.TheVariants as wait_end
 use Rattle.var_wait.specs.VarWaits.{EndsVarWait, IsVarCause, answer_of_var_end, shared_in}
-use Rattle.wait_pipe.specs.{PipeStates.OnlyLooked, Trails.AwaitsOther, Trails.LoadsOther}
-use Rattle.wait_pipe.specs.{declared.pieces.PipeEnd.PipeEnd, declared.looks.Look.Look}
+use Rattle.wait_pipe.specs.{PipeStates.OnlyLooked, Trails.LoadsOther}
+use Rattle.wait_pipe.specs.{declared.looks.Look.Look}
 use Rattle.wait_pipe.specs.Pieces.{HasSeen, IsReadCause, OtherPipesStay, LeavesAside, ShowsNoCell, WaitsAtPipe}
 use Rattle.wait_pipe.specs.Pieces.{end_of_wait}
 use Rattle.wait_pipe.proofs.Asides.{quiet_load, waited_quiet}
-use Rattle.wait_pipe.proofs.PieceChanges.{free_still, idle_still, of_wait, out_still, rests_still, settled_still}
-
--- a task that holds nothing agrees
-pub free_agreed : (k : Known) → IsFree k → IsAgreedHold k
-free_agreed k free h held = absurd (let z : None ≡ Some h = sym free.head ∙ held in cc)
+use Rattle.wait_pipe.proofs.PieceChanges.{free_still, idle_still, of_wait, out_still, settled_still}
 
 -- the number of the other end of end e of pipe p
 pub other_is : (p e : ℕ) → e < PIPE_ENDS → PIPE_ENDS * p + (1 - e) ≡ other_end (PIPE_ENDS * p + e)
@@ -66,13 +62,6 @@ other_pipe k = by (k % PIPE_ENDS == 0) refl
     by : (b : Bool) → (k % PIPE_ENDS == 0) ≡ b → (if b then k + 1 else k - 1) / PIPE_ENDS ≡ k / PIPE_ENDS
     by true even = let low : k % PIPE_ENDS ≡ 0 = grind (arith, nat_tests) in omega arith
     by false uneven = let high : k % PIPE_ENDS ≢ 0 = grind (arith, nat_tests) in omega (arith, high)
-
-pub other_below : (k : ℕ) → k < CLAIMS → other_end k < VARIABLES
-other_below k few = by (k % PIPE_ENDS == 0)
-  where
-    by : (b : Bool) → (if b then k + 1 else k - 1) < VARIABLES
-    by true = omega arith
-    by false = omega arith
 
 module _ (k v r : ℕ) (old new : Known) (other : v ≡ other_end k) (pipe : v / PIPE_ENDS ≡ k / PIPE_ENDS)
     (is : new ≡ added old (item.Made (step.Load (watch.Var v 0) r))) where
@@ -131,14 +120,6 @@ module _ (k v r : ℕ) (old new : Known) (other : v ≡ other_end k) (pipe : v /
   pub look_loads : (w : ℕ) → w ≡ r → LoadsOther k w old new
   look_loads w word_is = is ∙ (ap (λ (u : ℕ). added old (item.Made (step.Load (watch.Var u 0) r))) other
       ∙ ap (λ (s : ℕ). added old (item.Made (step.Load (watch.Var (other_end k) 0) s))) (sym word_is))
-
--- and as the turn of a call, by an idle task with no entry queued
-pub only_waits : (k : ℕ) (old new : Known) → OnlyLooked k old new → IsUp old → IsIdle old → IsOut old → WaitsAtPipe k old new
-only_waits k old new l up idle out = record {
-  others = l.others;
-  keeps = l.keeps;
-  rests = rests_still k old new l.carries (record { aside = l.aside; off = l.off }) up idle out;
-}
 
 -- a wait for the other end's word
 pub waits_by : {k v : ℕ} {old new : Known} → v ≢ k → v / PIPE_ENDS ≡ k / PIPE_ENDS → EndsKept v old new
@@ -206,14 +187,3 @@ pub wait_caused : (k v word : ℕ) (old new : Known) (result : Result ℕ WaitEn
 wait_caused k v word old new result is w waits none = cause_at k new word w.runs.transitions result
     (subst (λ (u : ℕ). IsVarCause new u word state.Interruptible w.runs.transitions result) is w.cause)
     (none_kept k word (end_at k old) (end_at k new) waits.keeps none)
-
-pub wait_awaits : (k v word : ℕ) (old new : Known) (outcome : Result ℕ WaitEnd) (result : Result (Unit {0}) PipeEnd)
-    → v ≡ other_end k → EndsVarWait old new v word state.Interruptible outcome → result ≡ end_of_wait outcome
-    → ShowsNoCell k (end_at k old) word → IsOut old → AwaitsOther k word old new result
-wait_awaits k v word old new outcome result is w answers none out = record {
-  none = none;
-  out = out;
-  outcome = outcome;
-  waits = subst (λ (u : ℕ). EndsVarWait old new u word state.Interruptible outcome) is w;
-  answers = answers;
-}

@@ -8,12 +8,11 @@ use Rattle.wait_rule.specs.{Known.Known, Pipes.End, Pipes.new_end, Queues.IsIdle
 use Rattle.wait_rule.specs.PipeSays.{EndBecomes, KeepsEnd, end_at}
 use Rattle.wait_rule.specs.Says.{Excuse, IsFree, IsUp, told_of}
 use Rattle.wait_rule.specs.Stays.{Carries, Change, publish_change, unchanged, wake_all_change}
-use Rattle.wait_rule.proofs.KnownLaws.CarriedTasks.{unchanged_none}
 use Rattle.wait_class.specs.Posts.{IsOut}
 use Rattle.wait_event.specs.Ends.{wait_change}
-use Rattle.wait_event.proofs.Changes.{carried_on, carried_wider, free_on, idle_on, keeps_join, keeps_same, out_on}
-use Rattle.wait_pipe.specs.Pieces.{IsPipeOpened, IsReadyAtPipe, IsSettled, LeavesIdle, OtherPipesStay, LeavesAside, RestsBehindPiece, WaitsAtPipe, piece_change}
-use Rattle.wait_pipe.proofs.Asides.{quiet_none, quiet_on}
+use Rattle.wait_event.proofs.Changes.{carried_on, carried_wider, free_on, idle_on, keeps_join, out_on}
+use Rattle.wait_pipe.specs.Pieces.{IsPipeOpened, IsSettled, LeavesIdle, OtherPipesStay, LeavesAside, RestsBehindPiece, WaitsAtPipe, piece_change}
+use Rattle.wait_pipe.proofs.Asides.{quiet_on}
 
 module _ (k i : ℕ) (old new : Known) where
   pub of_unchanged : Carries unchanged old new → Carries (piece_change k i new.at) old new
@@ -51,24 +50,6 @@ module _ {old new : Known} (c : Carries unchanged old new) where
 
   pub out_still : IsOut old → IsOut new
   out_still = out_on c refl
-
-pub rests_still : (k : ℕ) (old new : Known) → Carries unchanged old new → LeavesAside old new → IsUp old → IsIdle old
-    → IsOut old → RestsBehindPiece k old new
-rests_still k old new c q up idle out = record {
-  up = c.awake ∙ up;
-  idle = idle_still c idle;
-  out = out_still c out;
-  carries = of_unchanged k (index old.view.number 0) old new c;
-  aside = q.aside;
-  off = q.off;
-}
-
-pub rests_none : (k : ℕ) (j : Known) → IsUp j → IsIdle j → IsOut j → RestsBehindPiece k j j
-rests_none k j = rests_still k j j (unchanged_none j) (quiet_none j)
-
--- a task that was ready is so behind a call
-pub ready_on : {domain : _} {c : Change} {old new : Known} → LeavesIdle c old new → IsReadyAtPipe domain old → IsReadyAtPipe domain new
-ready_on l r = record { of = l.carries.domain ∙ r.of; up = l.up; idle = l.idle; out = l.out }
 
 -- over a publish of the own end and its wake, which ends what the task owed more before the publish
 module _ (f : Excuse → Excuse) (k : ℕ) (old mid new : Known) (up : IsUp new) (idle : IsIdle old)
@@ -123,13 +104,6 @@ others_becomes k old new e b j ne = b.others j (λ q. ne (ap (λ (i : ℕ). i / 
 
 pub others_on : (k : ℕ) (x y z : Known) → OtherPipesStay k x y → OtherPipesStay k y z → OtherPipesStay k x z
 others_on k x y z a b j ne = b j ne ∙ a j ne
-
-pub waits_none : {domain : _} (k : ℕ) (j : Known) → IsReadyAtPipe domain j → WaitsAtPipe k j j
-waits_none k j ready = record {
-  others = λ i ne. refl;
-  keeps = keeps_same refl;
-  rests = rests_none k j ready.up ready.idle ready.out;
-}
 
 pub waits_on : {k : ℕ} {x y z : Known} → WaitsAtPipe k x y → WaitsAtPipe k y z → WaitsAtPipe k x z
 waits_on {k = k} {x = x} {y = y} {z = z} a b = record {

@@ -4,12 +4,12 @@ use Rattle.std.specs.Prelude.{ℕ, zero, suc, ◌≡◌, ◌<◌, ◌≤◌, ◌
 use Rattle.std.specs.Prelude.{take, Result, Ok, Err, MatchResult}
 use Rattle.wait_rule.specs.{Known.Known, Pipes.read_end, Pipes.write_end, PipeSays.reading, PipeSays.writing}
 use Rattle.wait_pipe.specs.{declared.pieces.PipeEnd.PipeEnd, PassedOn.Drained, PassedOn.Filled, PieceLeaves.SeesNoCell}
-use Rattle.wait_pipe.specs.Pieces.{Got, GotNone, IsAtEnd, IsPipeCause, IsReadCause, IsReadyAtPipe, IsSettled, Put}
+use Rattle.wait_pipe.specs.Pieces.{Got, GotNone, IsAtEnd, IsPipeCause, IsReadCause, IsSettled, Put}
 use Rattle.wait_pipe.specs.Pieces.{PutNone, RestsBehindPiece, WaitsAtPipe}
 use Rattle.wait_pipe.specs.Trails.{AwaitsOther, FillsCells, LoadsCells, LooksOver, ReadEnds, ReadsPiece, StoresCells}
 use Rattle.wait_pipe.specs.Trails.{WaitingTurn, WaitingTurns, WriteEnds, WritesPiece}
 use Rattle.wait_pipe.specs.declared.pieces.PipeEnd.TheVariants as pipe_end
-use Rattle.wait_pipe.proofs.PieceChanges.{rests_on, waits_none, waits_on}
+use Rattle.wait_pipe.proofs.PieceChanges.{rests_on, waits_on}
 use Rattle.wait_pipe.proofs.Fills.{waited_none, waited_then}
 
 -- why a wait ended is also why nothing was written
@@ -103,9 +103,6 @@ pub record Turning (k : ℕ) (old now : Known) : Type 0 where
   pub turns : List Known
   pub goes : WaitingTurns k old turns now
 
-pub turning_none : {domain : _} {k : ℕ} {j : Known} → IsReadyAtPipe domain j → Turning k j j
-turning_none {k = k} {j = j} ready = record { waits = waits_none k j ready; turns = []; goes = refl }
-
 pub turning_on : {k : ℕ} {old now new : Known} → Turning k old now → WaitsAtPipe k now new → WaitingTurn k now new (Ok tt)
     → Turning k old new
 turning_on {k = k} {old = old} {now = now} {new = new} t w turn = record {
@@ -142,11 +139,6 @@ pub read_some : {k n : ℕ} {old looked new : Known} {buf : List ℕ} → LooksO
 read_some {n = zero} l some loads = absurd (omega arith)
 read_some {n = suc n} {looked = looked} l some loads = record { looked = looked; looks = l; loads = loads }
 
--- a call whose first turn ends it, and one whose first turn waits
-pub wrote_first : {k : ℕ} {old new : Known} {text : List ℕ} {r : Result ℕ PipeEnd} → WriteEnds k old new text r
-    → WritesPiece k old new text r
-wrote_first {old = old} ends = record { turns = []; last = old; waits = refl; ends = ends }
-
 pub wrote_later : {k : ℕ} {old now new : Known} {text : List ℕ} {r : Result ℕ PipeEnd} → WaitingTurn k old now (Ok tt)
     → WritesPiece k now new text r → WritesPiece k old new text r
 wrote_later {now = now} turn w = record {
@@ -155,10 +147,6 @@ wrote_later {now = now} turn w = record {
   waits = (turn, w.waits);
   ends = w.ends;
 }
-
-pub got_first : {k : ℕ} {old new : Known} {buf : List ℕ} {r : Result ℕ PipeEnd} → ReadEnds k old new buf r
-    → ReadsPiece k old new buf r
-got_first {old = old} ends = record { turns = []; last = old; waits = refl; ends = ends }
 
 pub got_later : {k : ℕ} {old now new : Known} {buf : List ℕ} {r : Result ℕ PipeEnd} → WaitingTurn k old now (Ok tt)
     → ReadsPiece k now new buf r → ReadsPiece k old new buf r

@@ -10,8 +10,8 @@ use Rattle.wait_pipe.specs.declared.pieces.PipeEnd.TheVariants as pipe_end
 use Rattle.wait_pipe.specs.PieceLeaves.{AwaitsUntil, GotUntil, LeftNone, PutUntil, ReadEndsUntil, ReadsUntil}
 use Rattle.wait_pipe.specs.PieceLeaves.{SeesNoCell, TurnGoesOn, UntilTurn, UntilTurns, WasPieceLeft, WriteEndsUntil}
 use Rattle.wait_pipe.specs.PieceLeaves.{WritesUntil}
-use Rattle.wait_pipe.specs.Pieces.{IsReadCause, IsReadyAtPipe, IsSettled, WaitsAtPipe}
-use Rattle.wait_pipe.proofs.{Fills.waited_none, Fills.waited_then, PieceChanges.waits_none, PieceChanges.waits_on}
+use Rattle.wait_pipe.specs.Pieces.{IsReadCause, IsSettled, WaitsAtPipe}
+use Rattle.wait_pipe.proofs.{Fills.waited_none, Fills.waited_then, PieceChanges.waits_on}
 use Rattle.wait_pipe.proofs.{Turns.got_then, Turns.put_then}
 
 -- over turns that only wait
@@ -47,9 +47,6 @@ pub record UntilTurning (A : Type 0) (k : ℕ) (old now : Known) : Type 0 where
   pub waits : WaitsAtPipe k old now
   pub turns : List Known
   pub goes : UntilTurns A k old turns now
-
-pub until_none : {A : Type 0} {domain : _} {k : ℕ} {j : Known} → IsReadyAtPipe domain j → UntilTurning A k j j
-until_none {k = k} {j = j} ready = record { waits = waits_none k j ready; turns = []; goes = refl }
 
 pub until_on : {A : Type 0} {k : ℕ} {old now new : Known} → UntilTurning A k old now → WaitsAtPipe k now new
     → TurnGoesOn A k now new → UntilTurning A k old new

@@ -1,15 +1,14 @@
 -- Where a line is cut into words.
 use Rattle.std.proofs.Common.{◌≡◌, ℕ, ◌+◌, ◌-◌, ◌<◌, ◌≢◌, Bool, true, false, cond, eqb, not, List, [], ◌∷◌, ◌++◌, Some}
 use Rattle.std.proofs.Common.{None, length, map, take, drop, get_or, refl, ap, sym, ◌∙◌, arith, nat_lt, position}
-use Rattle.std.proofs.Common.{append_assoc, subst, suc, ◌≤◌, Result}
+use Rattle.std.proofs.Common.{append_assoc, subst, suc}
 use Rattle.std.proofs.lemmas.Bool.Decides.{nat_tests}
 use Rattle.std.proofs.lemmas.Grind.{common_steps}
 use Rattle.std.proofs.lemmas.List.{map_push}
 use Rattle.std.specs.List.{list_all, onto_first, position_or_len}
 use denote.Ref.{Bor}
 use mathlib.Core.Bool.{◌&&◌}
-use Rattle.wait_model.specs.declared.layout.TheConstants.{LINE_BYTES}
-use Rattle.wait_script.specs.{declared.reason.Reason.Reason, Lines.is_printable, Lines.plain_at, Words.words_of}
+use Rattle.wait_script.specs.{Lines.is_printable, Words.words_of}
 use Rattle.wait_script.specs.Reading.{is_stop}
 use Rattle.wait_script.proofs.Truths.{some_by, none_by}
 
@@ -152,12 +151,6 @@ module _ (line : List ℕ) (words : List (Bor (List ℕ))) (rest : List ℕ) (so
             ∙ sym (so_far.0 ∙ ap (λ ws. map (λ w. w.now) words ++ ws) l.0),
         sym (so_far.1 ∙ l.1),
       )
-
--- what a line of plain text says
-pub said_at : {A : Type 0} (says : List ℕ → Result A Reason) (line : List ℕ) → length line ≤ LINE_BYTES
-    → list_all is_printable line ≡ true → plain_at says line ≡ says line
-said_at says line few plain = let short : nat_lt LINE_BYTES (length line) ≡ false = grind (arith, nat_tests) in
-    rw (short, plain) refl
 
 -- `&text[n..]`
 pub rest_from : (text : List ℕ) (n : ℕ) → take (length text - n) (drop n text) ≡ drop n text

@@ -1,13 +1,13 @@
 -- What is read of digits, one after another.
 use Rattle.std.proofs.Common.{◌≡◌, ℕ, ◌+◌, ◌-◌, ◌*◌, ◌<◌, ◌≤◌, ◌^◌, List, [], ◌∷◌, Option, Some, None, Bool, true}
-use Rattle.std.proofs.Common.{false, cond, eqb, nat_lt, length, drop, get_or, arith, refl, sym, ap, ◌∙◌}
+use Rattle.std.proofs.Common.{false, cond, nat_lt, length, drop, get_or, arith, refl, sym, ap, ◌∙◌}
 use mathlib.Core.Bool.{◌&&◌}
 use Rattle.std.specs.Char.{is_ascii_digit, digit_value}
 use Rattle.std.specs.Str.{all_ascii_digits}
-use Rattle.std.specs.Str.Parse.{digits_value_after, digits_value}
+use Rattle.std.specs.Str.Parse.{digits_value_after}
 use Rattle.std.proofs.lemmas.List.{drop_more, at_drop_all}
 use Rattle.std.proofs.lemmas.Bool.Decides.{nat_tests}
-use Rattle.wait_script.specs.{Number.numeral_value, Number.is_plain, Reading.fitting, Reading.digits_of}
+use Rattle.wait_script.specs.{Reading.fitting, Reading.digits_of}
 
 -- what digits say after those of a number
 abbrev pub reads_on : ℕ → List ℕ → Option ℕ
@@ -50,19 +50,6 @@ module _ (word : List ℕ) (i n : ℕ) (inside : i < length word) (same : reads_
       let m = n * 10 + (get_or word i 0 - 48) in
       sym (unfit (all_ascii_digits (drop (i + 1) word)) m (digits_value_after 10 m (drop (i + 1) word))
       (more_digits (drop (i + 1) word) m) none) ∙ goes_on e
-
--- a number that isn't empty, and is plain, is what its digits spell
-pub plain_number : (word : List ℕ) → false ≡ eqb (length word) 0 → is_plain word ≡ true
-    → digits_of word ≡ numeral_value word
-plain_number word some plain = all (all_ascii_digits word) (nat_lt 0 (length word)) (is_plain word)
-    (nat_lt (digits_value 10 word) (2 ^ 64)) (digits_value 10 word) (grind (arith, nat_tests)) plain
-  where
-    all : (a b c d : Bool) (v : ℕ) → b ≡ true → c ≡ true
-        → cond a (cond d (Some v) None) None ≡ cond (a && b && c && d) (Some v) None
-    all true true true d v p q = refl
-    all false b c d v p q = refl
-    all true false c d v p q = cc
-    all true true false d v p q = cc
 
 -- a number of 64 bits, when no digit is left
 pub ended : (word : List ℕ) (i n : ℕ) → length word ≤ i → reads_on n (drop i word) ≡ digits_of word → n < 2 ^ 64

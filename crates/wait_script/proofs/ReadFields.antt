@@ -1,11 +1,10 @@
 -- What a word that is read in its place is spelled as.
 use Rattle.std.proofs.Common.{◌≡◌, ◌⊎◌, inl, inr, ⊎_elim, ℕ, ◌+◌, ◌-◌, ◌<◌, Bool, true, false, cond, eqb, List, [], ◌∷◌}
-use Rattle.std.proofs.Common.{◌++◌, Option, Some, None, Result, Ok, Err, codes, decimal, append_assoc, take, drop, length}
-use Rattle.std.proofs.Common.{get_or, ◌^◌, refl, ap, sym, ◌∙◌, subst, arith, nat_le, nat_lt, ◌≤◌, position}
+use Rattle.std.proofs.Common.{◌++◌, Option, Some, None, Result, Ok, Err, codes, decimal, append_assoc, drop, length}
+use Rattle.std.proofs.Common.{get_or, ◌^◌, refl, ap, sym, ◌∙◌, subst, arith, nat_le, nat_lt, ◌≤◌}
 use mathlib.Core.Bool.{◌&&◌, ◌||◌, not}
 use Rattle.std.proofs.lemmas.Bool.Decides.{nat_tests}
 use Rattle.std.proofs.lemmas.Grind.{common_steps}
-use Rattle.std.proofs.lemmas.List.{take_rest}
 use Rattle.std.proofs.lemmas.List.Sums.{split_at_first, passes_at_first}
 use Rattle.std.specs.List.{position_or_len, before_first, after_first}
 use Rattle.std.specs.Str.{bytes_eq}
@@ -25,7 +24,7 @@ use Rattle.wait_script.specs.Fields.{extents, how_at, state_at, simple_state_at,
 use Rattle.wait_script.specs.Fields.{all_at}
 use Rattle.wait_script.specs.Spelling.{cond_word, cell_word, page_word, var_word, how_word, state_word, mode_word}
 use Rattle.wait_script.specs.Spelling.{kind_word, fatal_word, extent_word}
-use Rattle.wait_script.proofs.{ReadNumbers.number_is, Truths.some_by, WordCounts.two}
+use Rattle.wait_script.proofs.{ReadNumbers.number_is}
 pub use Rattle.wait_script.proofs.Truths.{both_true}
 
 pub chosen : {A : Type 0} (b : Bool) (x y z : A) → cond b x y ≡ z → ((b ≡ true) × (x ≡ z))
@@ -175,18 +174,6 @@ bit_ok word p e =
         (number_is (after_first is_dot word) p.1
         (within_ok BadCondition 0 last_bit (numeral_value (after_first is_dot word)) p.1 f.1).0)
     found false h f = absurd (no_dot word p.1 h f.1)
-
--- a bit as it is cut at the first dot
-pub cut_bit : (text : List ℕ) (n : ℕ) {r : Result (ℕ × ℕ) Reason} {u v : Result ℕ Reason} → r ≡ both_of u v
-    → u ≡ numbered_at 98 0 last_word (take n text)
-    → v ≡ number_within BadCondition 0 last_bit (numeral_value (take (length text - (n + 1)) (drop (n + 1) text)))
-    → Some n ≡ position is_dot text → r ≡ bit_at text
-cut_bit text n is first second at =
-    let p = position_or_len is_dot text in
-    let there = sym (some_by (nat_lt p (length text)) p n (sym at)).1 in
-    two is (first ∙ ap (λ k. numbered_at 98 0 last_word (take k text)) there)
-    (second ∙ ap (λ w. number_within BadCondition 0 last_bit (numeral_value w))
-    (take_rest text (n + 1) ∙ ap (λ k. drop (k + 1) text) there))
 
 pub bit_below : (word : List ℕ) (p : ℕ × ℕ) → bit_at word ≡ Ok p
     → (nat_lt p.0 BIT_WORDS && nat_lt p.1 WORD_BITS) ≡ true

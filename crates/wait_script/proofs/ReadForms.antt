@@ -1,5 +1,5 @@
 -- A call that is read is spelled so, and is one that a core has: a lemma a form.
-use Rattle.std.proofs.Common.{◌≡◌, ⊎_elim, ℕ, ◌^◌, ◌<◌, Bool, true, false, if◌then◌else◌, nat_lt, List, [], ◌∷◌, ◌++◌}
+use Rattle.std.proofs.Common.{◌≡◌, ⊎_elim, ℕ, ◌^◌, ◌<◌, true, nat_lt, List, [], ◌∷◌}
 use Rattle.std.proofs.Common.{Result, Ok, codes, refl, sym, subst, arith}
 use mathlib.Core.Bool.{◌||◌, not}
 use Rattle.std.specs.Str.{bytes_eq}
@@ -102,22 +102,6 @@ lock_page_ok words c e =
 further_read : (v : Version) → AreRead v (further_forms v)
 further_read One = tt
 further_read Two = (lock_page_ok, tt)
-
--- a name that is another than that of the last form of a table, and one that is a form's
-pub call_more : (table : List (List ℕ × (List (List ℕ) → Result Call Reason))) (last : List ℕ)
-    (form : List (List ℕ) → Result Call Reason) (name : List ℕ) (rest : List (List ℕ)) → bytes_eq name last ≡ false
-    → call_in (table ++ (last, form) ∷ []) name rest ≡ call_in table name rest
-call_more [] last form name rest other = rw other refl
-call_more (entry ∷ table) last form name rest other =
-    either (bytes_eq name entry.0) (entry.1 rest) (call_more table last form name rest other)
-  where
-    either : (b : Bool) (x : Result Call Reason) {y z : Result Call Reason} → y ≡ z
-        → (if b then x else y) ≡ (if b then x else z)
-    either true x h = refl
-    either false x h = h
-
-pub same_name : (a b : List ℕ) → bytes_eq a b ≡ true → a ≡ b
-same_name a b h = same_text a b (sym h)
 
 module _ (v : Version) where
   wait_ok : (words : List (List ℕ)) (c : Call) → wait_at words ≡ Ok c → IsRead v (codes "wait") words c

@@ -7,7 +7,7 @@ use Rattle.wait_model.specs.declared.calls.Call.{Call}
 use Rattle.wait_script.specs.{declared.names.Name.Name, declared.reason.Reason.Reason}
 use Rattle.wait_script.specs.declared.reason.Reason.TheVariants.{UnknownWord}
 use Rattle.wait_script.specs.{declared.reason.Reason.TheVariants.BadForm, declared.version.Version.Version}
-use Rattle.wait_script.specs.{Fields.keyword_at, Forms.call_in, Forms.shared_forms, Words.made_of}
+use Rattle.wait_script.specs.{Fields.keyword_at, Forms.call_in, Forms.shared_forms}
 use Rattle.wait_script.specs.Names.{value_in, spelled_names, form_of}
 
 -- what the words say after a word that is this name, or none
@@ -30,10 +30,6 @@ pub some_said : (v : Version) (word : List ℕ) (rest : List (List ℕ)) (name :
     → value_in spelled_names word ≡ Some name → call_in (shared_forms v) word rest ≡ form_of v name rest
 some_said v word rest name is = table_said v spelled_names word rest ∙ ap (λ found. said v found rest) is
 
-pub none_said : (v : Version) (word : List ℕ) (rest : List (List ℕ))
-    → value_in spelled_names word ≡ None → call_in (shared_forms v) word rest ≡ Err UnknownWord
-none_said v word rest is = table_said v spelled_names word rest ∙ ap (λ found. said v found rest) is
-
 -- a keyword's value is the table's, or the reason why there is none
 pub keyword_in : {A : Type 0} (table : List (List ℕ × A)) (word : List ℕ)
     → ok_or (value_in table word) BadForm ≡ keyword_at table word
@@ -44,15 +40,3 @@ keyword_in {A = A} (entry ∷ table) word = either (bytes_eq word entry.0) entry
         → ok_or (if b then Some x else found) BadForm ≡ (if b then Ok x else r)
     either true x found r h = refl
     either false x found r h = h
-
--- what is made of each value of a table is made of the value that is found
-pub keyword_map : {A B : Type 0} (make : A → B) (table : List (List ℕ × A)) (word : List ℕ)
-    → made_of make (keyword_at table word) ≡ keyword_at (map (λ entry. (entry.0, make entry.1)) table) word
-keyword_map make [] word = refl
-keyword_map {A = A} {B = B} make (entry ∷ table) word =
-    either (bytes_eq word entry.0) (keyword_at table word) _ (keyword_map make table word)
-  where
-    either : (b : Bool) (found : Result A Reason) (r : Result B Reason) → made_of make found ≡ r
-        → made_of make (if b then Ok entry.1 else found) ≡ (if b then Ok (make entry.1) else r)
-    either true found r h = refl
-    either false found r h = h

@@ -1,15 +1,14 @@
 -- The words of a form: too few of them, too many, and as many as there are fields.
-use Rattle.std.proofs.Common.{◌≡◌, ℕ, ◌<◌, ◌≤◌, List, [], ◌∷◌, Result, Ok, Err, length, map, get_or, take, drop, take_all, ◌-◌, arith, refl, sym}
+use Rattle.std.proofs.Common.{◌≡◌, ℕ, ◌<◌, ◌≤◌, List, [], ◌∷◌, Result, Ok, Err, length, map, get_or, take, drop, ◌-◌, arith, refl, sym}
 use Rattle.std.proofs.Common.{ap, ◌∙◌}
 use Rattle.std.specs.Result.{IsErrAnd}
 use denote.Ref.{Bor}
-use Rattle.wait_model.specs.{declared.calls.Call.Call, declared.layout.TheConstants.EVENTS}
-use Rattle.wait_script.specs.{declared.line.Line.Line, declared.reason.Reason.Reason}
+use Rattle.wait_model.specs.{declared.calls.Call.Call}
+use Rattle.wait_script.specs.{declared.reason.Reason.Reason}
 use Rattle.wait_script.specs.{declared.reason.Reason.TheVariants.WordCount, declared.version.Version.Version}
-use Rattle.wait_script.specs.{Versions.last_task, Words.both_of, Words.made_of, Fields.number_at, Lines.step_at}
+use Rattle.wait_script.specs.{Words.both_of, Words.made_of, Lines.step_at}
 use Rattle.wait_script.specs.Lines.{call_at}
-use Rattle.wait_script.specs.Forms.{form1, form2, form3, last_of, named_at}
-use Rattle.wait_script.specs.declared.line.Line.TheVariants as line
+use Rattle.wait_script.specs.Forms.{form1, form2, form3}
 
 -- an error that is passed on
 pub passed : {A B : Type 0} (make : A → B) (fields : Result A Reason) (e : Reason) → Err e ≡ fields
@@ -137,30 +136,6 @@ many_step v (a ∷ []) n = absurd (omega arith)
 many_step v (a ∷ b ∷ []) n = absurd (omega arith)
 many_step v (a ∷ b ∷ c ∷ more) n = refl
 
--- the two words of a line of steps
-at_step : (v : Version) (words : List (Bor (List ℕ))) (d : Bor (List ℕ)) → 2 ≤ length words → length words < 3
-    → step_at v (map (λ w. w.now) words)
-    ≡ made_of (λ x. line.Step x.0 x.1)
-    (both_of (number_at 0 (last_task v) (get_or words 0 d).now) (number_at 1 EVENTS (get_or words 1 d).now))
-at_step v [] d n m = absurd (omega arith)
-at_step v (a ∷ []) d n m = absurd (omega arith)
-at_step v (a ∷ b ∷ []) d n m = refl
-at_step v (a ∷ b ∷ c ∷ more) d n m = absurd (omega arith)
-
-pub ok_step : (v : Version) (words : List (Bor (List ℕ))) (d : Bor (List ℕ)) {x : ℕ × ℕ} {t n : Result ℕ Reason}
-    → 2 ≤ length words → length words < 3 → Ok x ≡ both_of t n
-    → t ≡ number_at 0 (last_task v) (get_or words 0 d).now → n ≡ number_at 1 EVENTS (get_or words 1 d).now
-    → Ok (line.Step x.0 x.1) ≡ step_at v (map (λ w. w.now) words)
-ok_step v words d n m is h k = ap (made_of (λ x. line.Step x.0 x.1)) (two is h k) ∙ sym (at_step v words d n m)
-
-pub err_step : (v : Version) (words : List (Bor (List ℕ))) (d : Bor (List ℕ)) {e : Reason} {t n : Result ℕ Reason}
-    {r : Result Line Reason}
-    → 2 ≤ length words → length words < 3 → Err e ≡ both_of t n
-    → t ≡ number_at 0 (last_task v) (get_or words 0 d).now → n ≡ number_at 1 EVENTS (get_or words 1 d).now
-    → IsErrAnd r (λ why. why ≡ e) → r ≡ step_at v (map (λ w. w.now) words)
-err_step v words d {e = e} {r = r} n m is h k fault =
-    passed (λ x. line.Step x.0 x.1) _ e (two is h k) r fault ∙ sym (at_step v words d n m)
-
 pub few_call : (v : Version) (words : List (Bor (List ℕ))) → length words < 2
     → Err WordCount ≡ call_at v (map (λ w. w.now) words)
 few_call v [] n = refl
@@ -170,36 +145,3 @@ few_call v (a ∷ b ∷ more) n = absurd (omega arith)
 -- the words after the first two
 abbrev pub others : List (Bor (List ℕ)) → List (List ℕ)
 others words = map (λ w. w.now) (take (length words - 2) (drop 2 words))
-
--- the words of a line of a call
-at_call : (v : Version) (words : List (Bor (List ℕ))) (d : Bor (List ℕ)) → 2 ≤ length words
-    → call_at v (map (λ w. w.now) words)
-    ≡ made_of (λ x. line.Call x.0 x.1)
-    (both_of (number_at 0 (last_of v (get_or words 1 d).now (others words)) (get_or words 0 d).now)
-    (named_at v (get_or words 1 d).now (others words)))
-at_call v [] d n = absurd (omega arith)
-at_call v (a ∷ []) d n = absurd (omega arith)
-at_call v (a ∷ b ∷ more) d n =
-    ap (λ (rest : List (Bor (List ℕ))). call_at v (a.now ∷ b.now ∷ map (λ w. w.now) rest))
-    (sym (take_all (length (a ∷ b ∷ more) - 2) more (omega arith)))
-
-pub ok_call : (v : Version) (words : List (Bor (List ℕ))) (d : Bor (List ℕ)) {x : ℕ × Call} {l : ℕ}
-    {t : Result ℕ Reason} {n : Result Call Reason} → 2 ≤ length words → Ok x ≡ both_of t n
-    → l ≡ last_of v (get_or words 1 d).now (others words)
-    → t ≡ number_at 0 l (get_or words 0 d).now
-    → n ≡ named_at v (get_or words 1 d).now (others words)
-    → Ok (line.Call x.0 x.1) ≡ call_at v (map (λ w. w.now) words)
-ok_call v words d m is last h k =
-    ap (made_of (λ x. line.Call x.0 x.1)) (two is (h ∙ ap (λ l. number_at 0 l (get_or words 0 d).now) last) k)
-    ∙ sym (at_call v words d m)
-
-pub err_call : (v : Version) (words : List (Bor (List ℕ))) (d : Bor (List ℕ)) {e : Reason} {l : ℕ}
-    {t : Result ℕ Reason} {n : Result Call Reason} {r : Result Line Reason} → 2 ≤ length words → Err e ≡ both_of t n
-    → l ≡ last_of v (get_or words 1 d).now (others words)
-    → t ≡ number_at 0 l (get_or words 0 d).now
-    → n ≡ named_at v (get_or words 1 d).now (others words)
-    → IsErrAnd r (λ why. why ≡ e) → r ≡ call_at v (map (λ w. w.now) words)
-err_call v words d {e = e} {r = r} m is last h k fault =
-    passed (λ x. line.Call x.0 x.1) _ e
-    (two is (h ∙ ap (λ l. number_at 0 l (get_or words 0 d).now) last) k) r fault
-    ∙ sym (at_call v words d m)

@@ -1,6 +1,6 @@
 -- Whoever such a wait has put asleep sleeps on its watch.
 use Rattle.std.proofs.Common.{refl, sym, ◌∙◌, ap, subst, arith}
-use Rattle.std.specs.Prelude.{ℕ, ◌≡◌, ◌≢◌, Bool, true, false, if◌then◌else◌, Option, Some, None, List}
+use Rattle.std.specs.Prelude.{ℕ, ◌≡◌, ◌≢◌, Bool, true, false, Option, Some, None, List}
 use Rattle.wait_model.specs.{declared.calls.Call.Call, declared.calls.Event.Event, declared.points.Planned.Planned}
 use Rattle.wait_model.specs.{declared.points.Point.Point, declared.points.Given.Given, declared.steps.Step.Step}
 use Rattle.wait_model.specs.{declared.points.Seen.Seen, declared.tasks.Sleep.Sleep}

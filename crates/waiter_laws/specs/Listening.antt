@@ -1,6 +1,6 @@
 -- To be believed.
 -- Whoever a wait for a flag has put asleep sleeps on each watch that it tested since its flag was cleared.
-use Rattle.std.specs.Prelude.{ℕ, ◌≡◌, ◌<◌, true, false, Some, List, ◌∷◌, ◌++◌}
+use Rattle.std.specs.Prelude.{ℕ, ◌≡◌, ◌<◌, true, false, Some, List}
 use Rattle.wait_model.specs.{declared.layout.TheConstants.SLOTS, declared.tasks.SleepState.SleepState}
 use Rattle.wait_model.specs.{declared.watches.Entry.Entry, declared.watches.Watch.Watch, Readings.HasTestedUnheard}
 use Rattle.wait_model.specs.{Tables.Table, Watches.same}

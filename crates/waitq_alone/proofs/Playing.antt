@@ -52,10 +52,6 @@ module _ (count i : ℕ) (run : List Ran) (task : ℕ) (answer : Stepped) (new :
       first true text now more = ([], sym (append-nil text))
       first false text now more = (more.0, refl)
 
-pub no_steps : (count i : ℕ) (run : List Ran) (task : ℕ) → count ≤ i
-    → played_steps (count - i) run task ≡ ([], run)
-no_steps count i run task le = let none : count - i ≡ 0 = omega arith in ap (λ n. played_steps n run task) none
-
 -- the next line
 pub replay-at : (lines : List Line) (i : ℕ) (d : Line) (run : List Ran) → i < length lines
     → replay_from run (drop i lines)

@@ -6,13 +6,13 @@ use Rattle.std.specs.List.{list_all}
 use Rattle.std.specs.Str.{bytes_eq}
 use Rattle.std.proofs.lemmas.Slice.Eq.{bytes_eq-Decides}
 use Rattle.std.proofs.lemmas.Bool.Decides.{not_from_Decides, Decides-eqb, nat_tests}
-use Rattle.clap.specs.{declared.error.Error.Error, declared.error.kind.ErrorKind.TheVariants.OutOfMemory, Kinds.or_else}
-use Rattle.clap.specs.Words.{HasKind, Kinds, Row, Text, fault_of, kind_of, subcommand_of}
+use Rattle.clap.specs.{Kinds.or_else}
+use Rattle.clap.specs.Words.{Row, Text, fault_of, subcommand_of}
 use Rattle.copy_plan.specs.declared.plan.Planned.{Planned}
 use Rattle.wait_script.specs.Number.{numeral_value}
 use Rattle.waitq_alone.specs.Commands.{Request, command_of, copy_at, drill_at, drill_of, is_name, merge_of}
 use Rattle.waitq_alone.specs.Events.{event_of, events_of, before, plan_of}
-use Rattle.waitq_alone.specs.Parsed.{are_names, asked_of, asks_help, waitq_app, found_text, found_texts}
+use Rattle.waitq_alone.specs.Parsed.{are_names, asked_of, waitq_app, found_text, found_texts}
 use Rattle.waitq_alone.proofs.PlainWords.{nobody, unknown, replay_entered, drill_entered, copy_entered, replay_faults}
 use Rattle.waitq_alone.proofs.PlainWords.{drill_faults, copy_faults, replay_alone, replay_more, drill_row, drill_rows}
 use Rattle.waitq_alone.proofs.PlainWords.{drill_passes, drill_more, src_row, copy_rows, copy_rows_told, copy_passes}
@@ -323,15 +323,6 @@ unnamed (w ∷ rest) e = go (is_name w) refl e
     go true f g = long rest g
     go false f g = no_command w rest f
 
-pub helped : (words : List Text) → asks_help words ≡ true → command_of words ≡ None
-helped [] e = refl
-helped (w ∷ rest) e = go rest ((bytes_eq-Decides w (codes "help")).0 e)
-  where
-    go : (more : List Text) → w ≡ codes "help" → command_of (w ∷ more) ≡ None
-    go [] f = rw f refl
-    go (x ∷ []) f = refl
-    go (x ∷ y ∷ more) f = rw f refl
-
 -- the test of all words, of the strings that hold them
 pub all_names : {X : Type 0} (bytes : X → Text) (xs : List X)
     → list_all (λ x. is_name (bytes x)) xs ≡ are_names (map bytes xs)
@@ -355,9 +346,3 @@ paired a b n r (Some y) (Some x) e f =
     let h : b y ≡ r x = cc in
     let pair : Text → List Row → Option (Text × List Row) = λ u v. Some (u, v) in
     ap₂ pair g h
-
--- an error of another kind than want of memory has one of the kinds
-pub unpassed : (kinds : Kinds) (e : Error) → HasKind kinds e → (kind_of e ≡ OutOfMemory → ⊥) → kinds ≡ [] → ⊥
-unpassed [] e (inl h) n f = n h
-unpassed [] e (inr h) n f = h
-unpassed (k ∷ ks) e h n f = cc

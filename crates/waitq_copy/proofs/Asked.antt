@@ -17,10 +17,6 @@ use Rattle.waitq_copy.specs.Run.{IfCopy}
 use Rattle.waitq_alone.specs.declared.fault.Fault.TheVariants as fault
 use Rattle.waitq_copy.proofs.Sent.{no_kill}
 
-pub if_copy : (o : Option Request) (src dst : List ℕ) (plan : List Planned)
-    (P : List ℕ → List ℕ → List Planned → Type 0) → Some (Copy src dst plan) ≡ o → P src dst plan → IfCopy o P
-if_copy o src dst plan P e h = subst (λ (x : Option Request). IfCopy x P) e h
-
 pub no_copy : (o : Option Request) (P : List ℕ → List ℕ → List Planned → Type 0) → takes_files o ≡ false → IfCopy o P
 no_copy (Some (Copy src dst plan)) P e = absurd (false≢true (sym e))
 no_copy (Some (Merge a b dst)) P e = tt

@@ -1,8 +1,7 @@
 -- What watchers tell, and their lines, one after another.
-use Rattle.std.proofs.Common.{◌≡◌, ℕ, zero, suc, ◌+◌, ◌<◌, ◌≤◌, List, [], ◌∷◌, ◌++◌, length, drop, sym, ap, ◌∙◌}
+use Rattle.std.proofs.Common.{◌≡◌, ℕ, zero, suc, ◌+◌, ◌<◌, List, [], ◌∷◌, ◌++◌, length, drop, sym, ap, ◌∙◌}
 use Rattle.std.proofs.Common.{arith, add-one, append_assoc, codes, decimal}
 use Rattle.std.specs.Prelude.{slice_index_or}
-use Rattle.std.proofs.lemmas.List.{drop_all, length-map}
 use Rattle.func_head.specs.Walks.{EntryState, seen_by, told_by}
 use Rattle.waitq_copy.specs.Copying.{copy_text, told_pieces, watch_line, watch_lines}
 use Rattle.waitq_alone.specs.Drill.{number_line}
@@ -20,11 +19,6 @@ pub next_line : (es : List EntryState) (i r : ℕ) → i < length es
     → watch_lines i (drop i (told_pieces es)) ≡ watch_line i r ++ watch_lines (i + 1) (drop (i + 1) (told_pieces es))
 next_line es i r lt h = next es i i r lt h
     ∙ ap (λ (n : ℕ). watch_line i r ++ watch_lines (i + 1) (drop n (told_pieces es))) (sym (add-one i))
-
-pub no_line : (es : List EntryState) (i : ℕ) → length es ≤ i → watch_lines i (drop i (told_pieces es)) ≡ []
-no_line es i le =
-    let few : length (told_pieces es) ≤ i = simp length-map le in
-    ap (watch_lines i) (drop_all i (told_pieces es) few)
 
 -- what an entry of a head tells is told by it as it is seen
 pub seen_at : {E : Type 0} (see : E → EntryState) (es : List E) (i r : ℕ) → i < length es

@@ -1,7 +1,6 @@
 pub mod Masks
 pub mod Going
 pub mod Readiness
-pub mod Resting
 pub mod Begun
 pub mod Once
 pub mod Elsewhere

@@ -4,7 +4,7 @@ use Rattle.std.specs.Prelude.{ℕ, ◌≡◌, ◌||◌, ◌&&◌, ◌==◌, not,
 use Rattle.wait_model.specs.{declared.watches.Watch.Watch, Watches.same}
 use Rattle.wait_model.specs.declared.watches.Watch.TheVariants as watch
 use Rattle.wait_model.proofs.Functions.{both_left, both_right}
-use Rattle.wait_rule.specs.{Bits.SetsBit, Bits.taken_bits, HandedPermits.StaysOff, Known.Known, Queues.IsAgreedHold}
+use Rattle.wait_rule.specs.{Bits.SetsBit, Bits.taken_bits, HandedPermits.StaysOff, Known.Known}
 use Rattle.wait_rule.specs.Queues.{index}
 use Rattle.wait_rule.specs.Says.{AsksNoPage, Obligation, OwesBut, excuses, has_duty, no_excuse, told_of, wake_of}
 use Rattle.wait_rule.specs.Says.{page_asked, end_unclosed}
@@ -18,10 +18,6 @@ use Rattle.wq_checked.specs.declared.calls.Running.TheVariants as running
 pub or_none : (b : Bool) → (b || false) ≡ b
 or_none true = refl
 or_none false = refl
-
--- it holds no head
-pub ready_agreed : (ks : KeptBits) (k : Known) → IsReadyWith ks k → IsAgreedHold k
-ready_agreed ks k r h is = absurd (let e = r.idle.free.head in cc)
 
 -- its entries are off, and it asks for no page
 pub ready_out : (ks : KeptBits) (k : Known) → IsReadyWith ks k → IsOut k
@@ -138,9 +134,6 @@ idle_is running.Starved is = absurd (cc)
 -- there the task is ready, and the other way
 pub ready_of : (ks : KeptBits) (k : Known) (r : Running) → busy_reason r ≡ None → IsRunningSound r ks k → IsReadyWith ks k
 ready_of ks k r is s = subst (λ (q : Running). IsRunningSound q ks k) (idle_is r is) s
-
-pub sound_idle : (ks : KeptBits) (k : Known) (r : Running) → busy_reason r ≡ None → IsReadyWith ks k → IsRunningSound r ks k
-sound_idle ks k r is ready = subst (λ (q : Running). IsRunningSound q ks k) (sym (idle_is r is)) ready
 
 -- a call that changes nothing of it, and one that takes a bit where it is clear
 pub ready_carried : (ks : KeptBits) (old new : Known) → Carries unchanged old new → StaysOff old new → IsReadyWith ks old

@@ -30,12 +30,6 @@ way_by A B f t x old r s _ _ _ (straight new q u a) = straight new q u a
 way_by A B f t x old r s _ _ _ (left_at mid m n new q u c w l) = left_at mid m n new q u (f c)
     (way_by A B f t x old r s mid m (turn.Again n) w) l
 
-pub way_straight : {C S O : Type 0} (t : CallTable C S O) (x : Exits C S O) (old : Known) (r : Run C)
-    (s : S) (new : Known) (q : Run C) (u : Turn S O) → OnTheWay (false ≡ true) t x old r s new q u
-    → Advances t old new r q s u
-way_straight t x old r s _ _ _ (straight new q u a) = a
-way_straight t x old r s _ _ _ (left_at mid m n new q u c w l) = absurd (let no = c in cc)
-
 module _ {C S O : Type 0} (t : CallTable C S O) (x : Exits C S O) (law : AreLawfulExits t x) (lawful : IsLawfulCallTable t)
   where
     out_awake : (e u : Turn S O) (k new : Known) (r q : Run C) → GoesOut t k new r q e u → stays_awake t x e ≡ true

@@ -2,17 +2,17 @@
 use Rattle.std.proofs.Common.{◌∙◌, ap, sym, refl, subst, inl, inr, eq-eqb, arith}
 use Rattle.std.proofs.lemmas.Bool.{and_right}
 use Rattle.std.proofs.lemmas.Bool.Decides.{nat_tests}
-use Rattle.std.specs.Prelude.{ℕ, ◌≡◌, ◌+◌, ◌-◌, ◌*◌, ◌%◌, ◌<◌, ◌≤◌, ◌⊎◌, ◌&&◌, ◌||◌, ◌==◌, not}
+use Rattle.std.specs.Prelude.{ℕ, ◌≡◌, ◌+◌, ◌-◌, ◌%◌, ◌<◌, ◌≤◌, ◌&&◌, ◌||◌, ◌==◌, not}
 use Rattle.std.specs.Prelude.{Bool, true, false, nat_lt, if◌then◌else◌, Option, Some, None, length}
 use Rattle.std.specs.Prelude.{IfErr, IfOk, Result, Ok, Err}
 use Rattle.std.proofs.lemmas.Result.{IfOk-weaker}
 use Rattle.wait_model.specs.{declared.queues.Form.Form, declared.watches.Watch.Watch, declared.watches.Kind.Kind}
 use Rattle.wait_model.specs.{declared.watches.Entry.Entry, Words.entry_of, Fold.after}
-use Rattle.wait_model.specs.declared.layout.TheConstants.{SLOTS, ENTRIES, MEMBERS, MEMBER_WORDS, PLAIN_CONDITIONS}
-use Rattle.wait_model.specs.declared.layout.TheConstants.{PLACES, MIDDLE, FIRST_PLACE, FIRST_PRIORITY, PRIORITY_TASKS}
+use Rattle.wait_model.specs.declared.layout.TheConstants.{SLOTS, ENTRIES, MEMBERS, MEMBER_WORDS}
+use Rattle.wait_model.specs.declared.layout.TheConstants.{PLACES, MIDDLE, FIRST_PLACE, FIRST_PRIORITY}
 use Rattle.wait_model.specs.declared.layout.TheConstants.{FIRST_DONE_HEAD}
-use Rattle.wait_model.specs.Watches.{is_simple, is_page, head_of}
-use Rattle.wait_model.specs.Queues.{even_below, even_above, is_priority}
+use Rattle.wait_model.specs.Watches.{is_page, head_of}
+use Rattle.wait_model.specs.Queues.{even_below, even_above}
 use Rattle.wait_model.specs.Places.{front_for, tail_for, priority_for}
 use Rattle.wait_model.specs.Views.{View as Told, off, look_at, is_trying_for}
 use Rattle.wait_model.specs.declared.queues.Form.TheVariants as forms
@@ -36,7 +36,7 @@ use Rattle.wq_head.specs.{declared.looks.ShownMember.ShownMember, Holds.IsHoldin
 use Rattle.wq_head.specs.declared.adds.Worn.{Worn}
 use Rattle.wq_head.specs.Looks.{Looks, IsLow, AreLow, AreSeen, IsBetween, IsFirst, IsLast, place_of_shown}
 use Rattle.wq_head.specs.Adds.{IsForPlain, IsFullKind, IsFormPlace, IsWornBy, HasAdded, HasAddedForCell, HasPut}
-use Rattle.wq_head.specs.Adds.{HasQueued, HasRemoved, tail_entry, priority_entry}
+use Rattle.wq_head.specs.Adds.{HasQueued, HasRemoved}
 use Rattle.wait_rule.proofs.KnownLaws.MemberBits.{told_stored}
 
 -- a member's place, in both words
@@ -166,18 +166,6 @@ pub priority_below : (o : Option ℕ) (p : ℕ) → priority_for o ≡ Some p �
 priority_below None p is = first_below p is
 priority_below (Some l) p is = within_below (even_above l) p (omega arith) is
 
--- the entries of adds may stand there
-or_kind : (k : Kind) → IsFullKind k → (k ≡ kind.Default)
-    ⊎ ((k ≡ kind.Autoremove) ⊎ ((k ≡ kind.Woken) ⊎ (k ≡ kind.Simple)))
-or_kind k (inl a) = inl a
-or_kind k (inr (inl b)) = inr (inl b)
-or_kind k (inr (inr w)) = inr (inr (inl w))
-
-kind_simple : (k : Kind) → IsFullKind k → is_simple k ≡ false
-kind_simple k (inl a) = ap is_simple a
-kind_simple k (inr (inl b)) = ap is_simple b
-kind_simple k (inr (inr w)) = ap is_simple w
-
 no_bit : (k : Kind) → IsFullKind k → k ≡ kind.Bit → ⊥
 no_bit k (inl a) is = absurd (cc)
 no_bit k (inr (inl b)) is = absurd (cc)
@@ -187,48 +175,6 @@ pub full_unpaged : (k : Kind) → IsFullKind k → not (is_page k) ≡ true
 full_unpaged k (inl is) = ap (λ (q : Kind). not (is_page q)) is
 full_unpaged k (inr (inl is)) = ap (λ (q : Kind). not (is_page q)) is
 full_unpaged k (inr (inr is)) = ap (λ (q : Kind). not (is_page q)) is
-
-pub no_paged : (k : Kind) → not (is_page k) ≡ true → is_page k ≡ true → ⊥
-no_paged k none paged = let both : not true ≡ true = ap not (sym paged) ∙ none in absurd (cc)
-
-pub plain_stands : (x : ℕ) (b : Bool) (w : Watch) (k : Kind) (p : ℕ) → IsForPlain w k → IsAfter p
-    → IsStanding x (tail_entry b w k p)
-plain_stands x b w k p is at = subst (λ (c : Watch). IsStanding x (tail_entry b c k p)) (sym is.1) (record {
-  lawful = record { place = at.small; suited = (few, or_kind k is.3, λ far. absurd (omega (arith, is.2))) };
-  kind = λ _. kind_simple k is.3;
-  slot = λ bit. absurd (no_bit k is.3 bit);
-  page_slot = λ paged. absurd (no_paged k (full_unpaged k is.3) paged);
-  even = at.even;
-  priority = λ e. absurd (cc);
-  plain = λ _. at.middle_on;
-})
-  where
-    few : is.0 < PLAIN_CONDITIONS
-    few = omega (arith, is.2)
-
-pub priority_stands : (x : ℕ) (w : Watch) (k : Kind) (p : ℕ) → IsForPlain w k → IsBelow p → x % 2 ≡ 0
-    → x < SLOTS * PRIORITY_TASKS → IsStanding x (priority_entry w k p)
-priority_stands x w k p is at first low =
-    subst (λ (c : Watch). IsStanding x (priority_entry c k p)) (sym is.1) (record {
-      lawful = record {
-        place = let s = at.small in omega (arith, s);
-        suited = (few, or_kind k is.3, λ far. absurd (omega (arith, is.2)));
-      };
-      kind = λ _. kind_simple k is.3;
-      slot = λ bit. absurd (no_bit k is.3 bit);
-      page_slot = λ paged. absurd (no_paged k (full_unpaged k is.3) paged);
-      even = at.even;
-      priority = λ e. (refl, (at.small, (first, low)));
-      plain = λ e. absurd (cc);
-    })
-  where
-    few : is.0 < PLAIN_CONDITIONS
-    few = omega (arith, is.2)
-
--- slot 0 of one of the first tasks
-pub first_index : (n slot : ℕ) → slot ≡ 0 → n < PRIORITY_TASKS
-    → (index n slot % 2 ≡ 0) × (index n slot < SLOTS * PRIORITY_TASKS)
-first_index n slot first few = (omega (arith, first), omega (arith, first, few))
 
 -- by no entry for a plain condition does a task try a bit, or ask for a page
 abbrev pub TriesNo : Entry → Type 0
@@ -563,12 +509,6 @@ module _ (old new : Known) (who slot : ℕ) (is : new ≡ stored_with old (step.
     carries = remove_carried;
   }
 
--- an add of a form has the place that the entry's word says
-pub form_placed : (f : Form) (k : Known) (p : ℕ) → IsFormPlace f k p → IsPlaceFor k (is_priority f) p
-form_placed forms.Front k p is = inl is
-form_placed forms.Tail k p is = inr is
-form_placed forms.Priority k p is = is
-
 pub form_queued : (f : Form) (mid new : Known) (slot : ℕ) (e : Entry) (q : HasQueued mid new slot e)
     → IsFormPlace f mid e.place → IsFormPlace f q.seen e.place
 form_queued forms.Front mid new slot e q is = q.front is
@@ -649,11 +589,3 @@ pub added_holds : (old mid new : Known) (slot : ℕ) (e : Entry) → Looks old m
     → IsHolding new
 added_holds old mid new slot e first q held = queued_holds q.seen new _ e
     (holding_on old q.seen (looks_on old mid q.seen first q.looks) held) q.is
-
-pub removed_holding : (old new : Known) (x : ℕ) → IsHolding old
-    → new ≡ stored_with old (step.Unqueue x) → IsHolding new
-removed_holding old new x held now = subst IsHolding (sym now) (record {
-  locked = held.locked;
-  agreed = refl;
-  told = ap (λ (u : Told). u.hold.head) (told_stored old (step.Unqueue x)) ∙ held.told;
-})

@@ -2,10 +2,8 @@
 use Rattle.std.proofs.Common.{◌∙◌, ap, sym, refl, subst}
 use Rattle.std.proofs.lemmas.Bool.{and_right}
 use Rattle.std.specs.Prelude.{ℕ, Option, ◌≡◌, ◌&&◌, not, Bool, true, false}
-use Rattle.wait_model.specs.{declared.watches.Aim.Aim, declared.watches.Entry.Entry, declared.watches.Kind.Kind}
-use Rattle.wait_model.specs.Watches.{is_page}
-use Rattle.wait_model.specs.declared.watches.Kind.TheVariants as kind
-use Rattle.wait_rule.specs.{Known.Known, Pages.uses_flag}
+use Rattle.wait_model.specs.{declared.watches.Aim.Aim}
+use Rattle.wait_rule.specs.{Known.Known}
 use Rattle.wait_rule.specs.Asked.{Asked, nothing_asked, is_asking}
 use Rattle.wait_rule.specs.Says.{AsksNoPage, Debts, Obligation, Excuse, asks_for, excuses, has_duty, no_excuse}
 use Rattle.wait_rule.specs.Says.{end_unclosed, has_end, page_asked, told_of, wake_of}
@@ -48,22 +46,6 @@ stays_unasked old new debts none = debts_unasked all_but_page new refl
 
 pub looks_unasked : (old new : Known) → Looks old new → asks_for old ≡ nothing_asked → asks_for new ≡ nothing_asked
 looks_unasked old new l = stays_unasked old new l.stays.debts
-
--- an entry of another kind is none for a page
-pub no_page : {A : Type 0} (e f : Entry) → e ≡ f → not (is_page f.kind) ≡ true → is_page e.kind ≡ true → A
-no_page e f same none paged =
-    let both : not true ≡ true = ap not (sym paged ∙ ap (λ (d : Entry). is_page d.kind) same) ∙ none in absurd (cc)
-
--- nor does it wait by its flag word
-pub no_flag : {A : Type 0} (e f : Entry) → e ≡ f → not (uses_flag f.kind) ≡ true → uses_flag e.kind ≡ true → A
-no_flag e f same none uses =
-    let both : not true ≡ true = ap not (sym uses ∙ ap (λ (d : Entry). uses_flag d.kind) same) ∙ none in absurd (cc)
-
--- of the kinds that are none for a page Woken alone does
-pub flag_woken : (k : Kind) → not (is_page k) ≡ true → uses_flag k ≡ true → k ≡ kind.Woken
-flag_woken kind.Woken none uses = refl
-flag_woken kind.Page none uses = absurd (cc)
-flag_woken k none uses = absurd (cc)
 
 -- over a lock
 pub asks_none : (k : Known) → asks_for k ≡ nothing_asked → AsksNoPage k

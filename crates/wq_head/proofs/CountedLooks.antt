@@ -57,9 +57,6 @@ shown_later old new l seen = queue_same (place_by old) (place_by new) MEMBERS
 abbrev pub IsCounted : Known → Known → ℕ → Type 0
 IsCounted start k n = LooksAtMost (words_to n + length (queue_below (place_by k) n)) start k
 
-pub counted_none : (k : Known) → IsCounted k k 0
-counted_none k = omega arith
-
 -- it has come to an index
 module _ (start old mid : Known) (one : Looks old mid) (n to m : ℕ) (seen : AreSeen old n) (few : n ≤ m)
     (none : AreNone mid n m) (counted : IsCounted start old n) (loaded : HasLoaded old mid n to) where

@@ -8,7 +8,7 @@ use Rattle.wq_head.specs.Looks.{Looks, is_seen_member, AreSeen, IsEmpty, HasMemb
 use Rattle.wq_head.specs.Looking.{IsClear, IsSet, IsByBit, AreNone}
 use Rattle.wq_head.specs.Members.{AreStanding}
 use Rattle.wq_head.proofs.FirstAndLast.{below_or}
-use Rattle.wq_head.proofs.OneMoreLook.{looks_none, looks_on, whole_of}
+use Rattle.wq_head.proofs.OneMoreLook.{looks_on, whole_of}
 use Rattle.wq_head.proofs.BitLooks.{AreBitLooks, clear_on, set_on}
 
 -- whether one of the first indexes is a member
@@ -22,14 +22,6 @@ pub record HasFound (old now : Known) (n : ℕ) (found : Bool) : Type 0 where
   pub looked : Looked n old now
   pub seen : AreSeen now (WORD_BITS * n)
   pub told : IsFound found now (WORD_BITS * n)
-
-pub found_none_yet : (k : Known) → HasFound k k 0 false
-found_none_yet k = record {
-  looks = looks_none k;
-  looked = omega arith;
-  seen = λ m low. absurd (omega arith);
-  told = λ m low under. absurd (omega arith);
-}
 
 bit_seen : (k : Known) (m : ℕ) (bit : Bool) → IsByBit bit k m → is_seen_member (told_of k) (noted k) m ≡ true
 bit_seen k m true s = s.seen

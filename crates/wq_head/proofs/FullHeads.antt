@@ -159,26 +159,6 @@ bit_kinds x e at is = by e.watch e.kind at.lawful.suited is
     by (watch.Bit w b) k suits is = elim suits.2 [ inl bit ↦ inl bit | inr paged ↦ inr paged.0 ]
     by (watch.Var v o) k suits is = absurd (cc)
 
--- an entry of kind Var is not exclusive, and its watch none of a bit
-plain_var : (k : Kind) → (k ≡ kind.Default) ⊎ ((k ≡ kind.Autoremove) ⊎ ((k ≡ kind.Woken) ⊎ (k ≡ kind.Simple)))
-    → k ≡ kind.Var → ⊥
-plain_var k (inl is) var = absurd (cc)
-plain_var k (inr (inl is)) var = absurd (cc)
-plain_var k (inr (inr (inl is))) var = absurd (cc)
-plain_var k (inr (inr (inr is))) var = absurd (cc)
-
-pub var_shared : (x : ℕ) (e : Entry) → IsStanding x e → e.kind ≡ kind.Var → e.exclusive ≡ false
-var_shared x e at is = by e.watch e.kind e.exclusive at.lawful.suited at.kind is
-  where
-    by : (w : Watch) (k : Kind) (t : Bool) → Suited w k → IsKindFor w k t → k ≡ kind.Var → t ≡ false
-    by (watch.Plain c) k t suits for is = absurd (plain_var k suits.1 is)
-    by (watch.Done d) k t suits for is = let both : kind.Simple ≡ kind.Var = sym suits.1 ∙ is in absurd (cc)
-    by (watch.Bit w b) k t suits for is = elim suits.2 [
-      | inl bit ↦ let both : kind.Bit ≡ kind.Var = sym bit ∙ is in absurd (cc)
-      | inr page ↦ let both : kind.Page ≡ kind.Var = sym page.0 ∙ is in absurd (cc)
-    ]
-    by (watch.Var v o) k t suits for is = for
-
 -- an entry that is of none of these kinds is for a counted watch
 pub plain_counts : (x : ℕ) (e : Entry) → IsStanding x e → e.kind ≢ kind.Bit → e.kind ≢ kind.Page → e.kind ≢ kind.Var
     → counted e.watch ≡ true

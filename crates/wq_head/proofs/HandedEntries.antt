@@ -8,7 +8,7 @@ use Rattle.wait_model.specs.{declared.queues.Walking.Walking, declared.points.Ne
 use Rattle.wait_model.specs.{Programs.past, Programs.reached}
 use Rattle.wait_model.specs.declared.layout.TheConstants.{SLOTS, ENTRIES, MEMBERS}
 use Rattle.wait_model.specs.Watches.{is_bit, is_simple, mask_of, misses, owner, page, same, was_clear, word_of}
-use Rattle.wait_model.specs.Views.{View as Told, Walk, Look, unseen, off, elsewhere, shown, is_trying_for}
+use Rattle.wait_model.specs.Views.{View as Told, Walk, Look, off, shown, is_trying_for}
 use Rattle.wait_model.specs.Fold.{after, is_for_page, met_task}
 use Rattle.wait_model.specs.declared.watches.Kind.TheVariants as kind
 use Rattle.wait_model.specs.declared.watches.Mode.TheVariants as mode

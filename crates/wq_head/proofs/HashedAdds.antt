@@ -1,9 +1,9 @@
 -- The entries of adds for bits and variables.
-use Rattle.std.proofs.Common.{◌∙◌, ap, sym, refl, subst, inl, inr, eq-eqb, eqb-true, arith}
+use Rattle.std.proofs.Common.{◌∙◌, ap, sym, refl, subst, inl, inr, eq-eqb, eqb-true}
 use Rattle.std.proofs.lemmas.Bool.{and_right}
-use Rattle.std.specs.Prelude.{ℕ, ◌≡◌, ◌≢◌, ◌<◌, ◌&&◌, ◌||◌, ◌==◌, not, Bool, true, false}
+use Rattle.std.specs.Prelude.{ℕ, ◌≡◌, ◌≢◌, ◌&&◌, ◌||◌, ◌==◌, not, Bool, true, false}
 use Rattle.std.specs.Prelude.{Option, Some}
-use Rattle.wait_model.specs.{declared.layout.TheConstants.BIT_WORDS, declared.watches.Watch.Watch}
+use Rattle.wait_model.specs.{declared.watches.Watch.Watch}
 use Rattle.wait_model.specs.{declared.watches.Kind.Kind, declared.watches.Entry.Entry, Views.View as Told}
 use Rattle.wait_model.specs.{Views.is_trying_for, Fold.after}
 use Rattle.wait_model.specs.Watches.{is_page, page, same}
@@ -12,70 +12,18 @@ use Rattle.wait_model.specs.declared.watches.Kind.TheVariants as kind
 use Rattle.wait_model.specs.declared.steps.Step.TheVariants as step
 use Rattle.wait_model.proofs.Functions.{put_at}
 use Rattle.wait_rule.specs.declared.journal.Item.TheVariants as item
-use Rattle.wait_rule.specs.{Asked.is_asking, Asked.waits_for, Known.Known, Members.IsStanding, Queues.index}
+use Rattle.wait_rule.specs.{Asked.is_asking, Asked.waits_for, Known.Known, Queues.index}
 use Rattle.wait_rule.specs.Says.{Debts, Obligation, Excuse, IsOutBut, OwesBut, TriesNone, added, asks_for, end_unclosed}
 use Rattle.wait_rule.specs.Says.{excuses, has_duty, has_end, is_excused, page_asked, stored_with, told_of, wake_of}
 use Rattle.wait_rule.specs.Stays.{Carries, only_looks, with_entry, with_page}
 use Rattle.wait_rule.proofs.{KnownLaws.AskedPages.asked_added, KnownLaws.StayingParts.owes_also}
 use Rattle.wait_rule.proofs.KnownLaws.Debts.{LeavesNone, end_added, leaves_of, leaves_stored}
 use Rattle.wq_head.proofs.CarriedHolds.{looks_carried}
-use Rattle.wq_head.specs.Adds.{IsFor, IsForBit, IsForVar, HasAddedForBit, HasAddedForPage, HasPut, front_entry}
+use Rattle.wq_head.specs.Adds.{IsFor, HasAddedForBit, HasAddedForPage, HasPut, front_entry}
 use Rattle.wq_head.specs.Adds.{page_change, tail_entry}
-use Rattle.wq_head.proofs.AddedEntries.{IsAfter, TriesNo, full_unpaged, no_paged, plain_stands, put_counts, put_is}
+use Rattle.wq_head.proofs.AddedEntries.{TriesNo, full_unpaged, put_counts, put_is}
 use Rattle.wq_head.proofs.AddedEntries.{put_looks, put_off, put_sort, queue_carried, queue_memberd, queue_other, queue_told}
 use Rattle.wq_head.proofs.PermitHeads.{page_low}
-
-bit_unpaged : (k : Kind) → k ≡ kind.Bit → is_page k ≡ true → ⊥
-bit_unpaged k bit = no_paged k (ap (λ (q : Kind). not (is_page q)) bit)
-
--- an entry for a bit, exclusive or not, in slot 0
-pub bit_stands : (n : ℕ) (b : Bool) (w : Watch) (k : Kind) (p : ℕ) → IsForBit w k → IsAfter p
-    → IsStanding (index n 0) (tail_entry b w k p)
-bit_stands n b w k p bit at = subst (λ (c : Watch). IsStanding (index n 0) (tail_entry b c k p)) (sym bit.1.2)
-    (record {
-      lawful = record { place = at.small; suited = (bit.1.3, bit.1.4, inl bit.0) };
-      kind = λ paged. absurd (bit_unpaged k bit.0 paged);
-      slot = λ is. omega arith;
-      page_slot = λ paged. absurd (bit_unpaged k bit.0 paged);
-      even = at.even;
-      priority = λ e. absurd (cc);
-      plain = λ _. at.middle_on;
-    })
-
--- an exclusive one for a page, in slot 0
-pub page_stands : (n w p : ℕ) → w < BIT_WORDS → IsAfter p
-    → IsStanding (index n 0) (tail_entry true (page w) kind.Page p)
-page_stands n w p few at = record {
-  lawful = record { place = at.small; suited = (few, omega arith, inr (refl, refl)) };
-  kind = λ paged. refl;
-  slot = λ is. omega arith;
-  page_slot = λ is. omega arith;
-  even = at.even;
-  priority = λ e. absurd (cc);
-  plain = λ _. at.middle_on;
-}
-
-var_stands : (x : ℕ) (w : Watch) (k : Kind) (p : ℕ) → IsForVar w k → IsAfter p → IsStanding x (front_entry w k p)
-var_stands x w k p var at = subst (λ (c : Watch). IsStanding x (front_entry c k p)) (sym var.1.1) (record {
-  lawful = record { place = at.small; suited = (var.1.2, refl, var.0) };
-  kind = refl;
-  slot = λ bit. absurd (no_bit bit);
-  page_slot = λ paged. absurd (no_paged k (ap (λ (q : Kind). not (is_page q)) var.0) paged);
-  even = at.even;
-  priority = λ e. absurd (cc);
-  plain = λ _. at.middle_on;
-})
-  where
-    no_bit : k ≡ kind.Bit → ⊥
-    no_bit bit = let both : kind.Var ≡ kind.Bit = sym var.0 ∙ bit in absurd (cc)
-
--- what an add at the front queues
-pub front_stands : (n slot : ℕ) (w : Watch) (k : Kind) (p : ℕ) → IsFor w k → (k ≡ kind.Bit → slot ≡ 0) → IsAfter p
-    → IsStanding (index n slot) (front_entry w k p)
-front_stands n slot w k p (inl plain) first at = plain_stands (index n slot) false w k p plain at
-front_stands n slot w k p (inr (inl bit)) first at =
-    subst (λ (s : ℕ). IsStanding (index n s) (front_entry w k p)) (sym (first bit.0)) (bit_stands n false w k p bit at)
-front_stands n slot w k p (inr (inr var)) first at = var_stands (index n slot) w k p var at
 
 pub front_tries : (w : Watch) (k : Kind) (p : ℕ) → IsFor w k → TriesNo (front_entry w k p)
 front_tries w k p is = (λ c. refl, unpaged is)

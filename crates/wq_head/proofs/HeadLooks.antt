@@ -17,10 +17,10 @@ use Rattle.wait_rule.specs.Says.{Excuse, OwesBut, told_of, history_of, added, gr
 use Rattle.wait_rule.specs.Stays.{with_wakes, Carries, unchanged}
 use Rattle.wait_rule.specs.Transitions.{AreScansOf, has_bit, has_word}
 use Rattle.wait_rule.specs.declared.journal.Item.TheVariants as item
-use Rattle.wait_rule.proofs.{KnownLaws.AfterSteps.told_added, KnownLaws.Transitions.grown_none}
-use Rattle.wait_rule.proofs.{KnownLaws.Transitions.grown_more, KnownLaws.StayingParts.stays_same}
+use Rattle.wait_rule.proofs.{KnownLaws.AfterSteps.told_added}
+use Rattle.wait_rule.proofs.{KnownLaws.Transitions.grown_more}
 use Rattle.wait_rule.proofs.TableSteps.ItemLists.{steps_append}
-use Rattle.wait_rule.proofs.KnownLaws.CarriedTasks.{or_none, owes_more, owes_wakes, unchanged_on, stays_carried}
+use Rattle.wait_rule.proofs.KnownLaws.CarriedTasks.{or_none, owes_more, owes_wakes, unchanged_on}
 use Rattle.wq_head.specs.Scanned.{HasScanned, HasEndedAt, spares_head}
 use Rattle.wq_head.proofs.FirstAndLast.{below_or}
 
@@ -111,17 +111,6 @@ module _ (old now new : Known) (h n w : ℕ) (s : HasFoundNone old now h n) (mad
 
   pub carried : Carries unchanged old new
   carried = unchanged_on old now new s.carries carry
-
-pub none_yet : (k : Known) (h : ℕ) → HasFoundNone k k h 0
-none_yet k h = record {
-  is = grown_none k;
-  bits = refl;
-  mark = refl;
-  looked = omega arith;
-  carries = stays_carried (λ o. o) (λ t. t) (λ o. o) false k k (stays_same k) refl refl refl refl refl (λ c σ none.
-      none)
-      (λ x _. refl);
-}
 
 -- a look that found no bit at all
 module _ (old new : Known) (h : ℕ) (s : HasFoundNone old new h MEMBER_WORDS) where

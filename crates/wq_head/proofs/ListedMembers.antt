@@ -49,16 +49,6 @@ numbers_few at zero = omega arith
 numbers_few at (suc n) = let few = numbers_few_by n n (at n) (numbers_below at n) (numbers_few at n) in omega
     (arith, few)
 
--- a list of none
-pub listed_none : (k : Known) (words : List ℕ) → length words ≡ MEMBERS → AreListed k 0 [] words
-listed_none k words long = record {
-  whole = long;
-  seen = λ m few. absurd (omega arith);
-  stands = λ m few. absurd (omega arith);
-  numbers = refl;
-  shows = λ m p few. absurd (omega arith);
-}
-
 -- a hold that has seen more of what it has seen
 module _ (old new : Known) (l : Looks old new) (n : ℕ) (ms words : List ℕ) (s : AreListed old n ms words) where
   pub listed_later : AreListed new n ms words

@@ -45,7 +45,3 @@ looked_later old new l s h = record {
   loaded = λ more b few. bit_on old new l (WORD_BITS * (s.next / WORD_BITS) + b) (bit_at s.word b)
       (h.loaded more b few);
 }
-
--- one that goes on from the first index
-pub looked_none : (k : Known) → IsLookingBy k (record { word = 0; next = 0 })
-looked_none k = record { within = omega arith; loaded = λ more. absurd (omega arith) }

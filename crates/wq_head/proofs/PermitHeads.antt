@@ -2,7 +2,7 @@
 -- is known as before.
 use Rattle.std.proofs.Common.{refl, ◌∙◌, ap, arith, inl, inr}
 use Rattle.std.specs.Prelude.{ℕ, ◌≡◌, ◌+◌, ◌*◌, ◌<◌, ◌-◌, Option, None, List, [], ◌∷◌, ◌++◌}
-use Rattle.wait_model.specs.{declared.steps.Step.Step, declared.watches.Entry.Entry, declared.watches.Kind.Kind}
+use Rattle.wait_model.specs.{declared.steps.Step.Step, declared.watches.Kind.Kind}
 use Rattle.wait_model.specs.{declared.watches.Watch.Watch, Watches.head_of, Watches.page}
 use Rattle.wait_model.specs.declared.layout.TheConstants.{BIT_WORDS, WORD_BITS, FIRST_DONE_HEAD}
 use Rattle.wait_model.specs.declared.watches.Watch.TheVariants as watch
@@ -11,7 +11,7 @@ use Rattle.wait_rule.specs.{Items.steps_of, Known.Known, Says.history_of, Transi
 use Rattle.wait_rule.specs.HeldValues.{count_in, value_after, value_from}
 use Rattle.wait_rule.proofs.TableSteps.ItemLists.{steps_append}
 use Rattle.wq_head.specs.{Looks.Looks, Walks.IsFull}
-use Rattle.wq_head.specs.Adds.{HasQueued, IsFor, IsForBit, IsForPlain, IsForVar}
+use Rattle.wq_head.specs.Adds.{IsFor, IsForBit, IsForPlain, IsForVar}
 use Rattle.wq_head.proofs.{FullHeads.hashed_low, FullHeads.head_small, LookedItems.looks_by}
 
 -- heads below those of completions
@@ -89,9 +89,3 @@ looks_found old new slot l f =
             ∙ (looked_count (old.at - FIRST_DONE_HEAD) old new l ∙ zero.1),
       )
     ]
-
--- an add is at the head that was held before
-pub added_there : (old seen new : Known) (slot : ℕ) (e : Entry) → Looks old seen → HasQueued seen new slot e
-    → new.at ≡ old.at
-added_there old seen new slot e l q = ap (λ (k : Known). k.at) q.is ∙ (ap (λ (k : Known). k.at) q.looks.is
-    ∙ ap (λ (k : Known). k.at) l.is)

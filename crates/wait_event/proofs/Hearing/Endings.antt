@@ -1,48 +1,18 @@
 -- Whole waits for a flag: how they begin, go on turn by turn, and what they say at their end.
-use Rattle.std.proofs.Common.{◌∙◌, ap, sym, subst}
+use Rattle.std.proofs.Common.{◌∙◌, sym, subst}
 use Rattle.std.specs.Prelude.{ℕ, ◌≡◌, None}
-use Rattle.wait_model.specs.{declared.points.Next.Next, declared.tasks.SleepState.SleepState, Reached.IsHome}
-use Rattle.wait_model.specs.{Reached.free, Admission.is_standing}
+use Rattle.wait_model.specs.{declared.points.Next.Next, declared.tasks.SleepState.SleepState}
 use Rattle.wait_model.specs.declared.points.Next.TheVariants as next
-use Rattle.wait_model.specs.declared.watches.Watch.TheVariants as watch
-use Rattle.wait_rule.specs.{Known.Known, Queues.IsTold, Stays.Carries, Stays.unchanged, Transitions.Goes}
+use Rattle.wait_rule.specs.{Known.Known, Stays.Carries, Stays.unchanged, Transitions.Goes}
 use Rattle.wait_rule.specs.Says.{IsFree, IsUp, told_of}
-use Rattle.wait_event.specs.{Entries.HasWokenEntry, Entries.MayRemove, declared.woken_waits.WokenStage.WokenStage}
+use Rattle.wait_event.specs.{Entries.MayRemove, declared.woken_waits.WokenStage.WokenStage}
 use Rattle.wait_event.specs.declared.woken_waits.WokenTurn.{WokenTurn}
-use Rattle.wait_event.specs.WokenWaits.{EndsWoken, Hears, IsHearing, WentHearing, woken_next, woken_point}
+use Rattle.wait_event.specs.WokenWaits.{EndsWoken, Hears, WentHearing, woken_next, woken_point}
 use Rattle.wait_event.specs.WokenWaits.{woken_program}
 use Rattle.wait_event.specs.declared.woken_waits.WokenStage.TheVariants as stage
 use Rattle.wait_event.specs.declared.woken_waits.WokenTurn.TheVariants as turn
-use Rattle.wait_class.proofs.Ground.Going.{runs_none, runs_on}
-use Rattle.wait_event.proofs.Hearing.Entries.{keeps_none, keeps_on, woken_leaves}
-
--- a task whose entry of kind Woken is queued may begin
-pub begins_woken : (k : Known) (st : SleepState) (s : WokenStage) → s ≡ stage.State → IsTold k → IsUp k → IsFree k
-    → k.book.state ≡ 0 → HasWokenEntry k → IsHearing k st s
-begins_woken k st s first told up free_of running entry = subst (IsHearing k st) (sym first) (record {
-  up = up;
-  stands = record {
-    head = free_of.head;
-    at = λ h is. absurd (cc);
-    told = told.head ∙ free_of.head;
-    ticket = free_of.ticket;
-    agreed = λ h is. absurd (cc);
-    state = running;
-    home = subst (IsHome free (watch.Plain 0)) (sym entry.queued) (ap is_standing entry.kind);
-  };
-  entry = entry;
-  trail = tt;
-})
-
--- nothing yet
-pub hears_none : (k : Known) (st : SleepState) (s : WokenStage) → IsHearing k st s → Hears k k st s (turn.Again s)
-hears_none k st s a = record {
-  went = record {
-    runs = runs_none (woken_program k.view.number st) k (next.Go (woken_point s));
-    keeps = keeps_none k;
-  };
-  lands = a;
-}
+use Rattle.wait_class.proofs.Ground.Going.{runs_on}
+use Rattle.wait_event.proofs.Hearing.Entries.{keeps_on, woken_leaves}
 
 -- a part, and then a turn
 went_on : (old mid new : Known) (st : SleepState) (from by to : Next) → WentHearing old mid st from by

@@ -8,18 +8,6 @@ use Rattle.wait_class.proofs.Ground.Keeping.{same_owing}
 use Rattle.wait_event.specs.{Entries.HasWokenEntry, Entries.MayRemove, WokenWaits.KeepsEntries}
 use Rattle.wait_class.specs.Posts.{own_of}
 
-pub keeps_none : (k : Known) → KeepsEntries k k
-keeps_none k = record {
-  domain = refl;
-  number = refl;
-  at = refl;
-  mark = refl;
-  fewer = λ w σ is. is;
-  stored = λ x. refl;
-  keeps = λ d. refl;
-  owes = λ x o. o;
-}
-
 pub keeps_on : (old mid new : Known) → KeepsEntries old mid → KeepsEntries mid new → KeepsEntries old new
 keeps_on old mid new a b = record {
   domain = b.domain ∙ a.domain;

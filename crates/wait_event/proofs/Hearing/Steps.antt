@@ -22,8 +22,8 @@ use Rattle.wait_event.specs.WokenWaits.{heard_steps, unless_set, woken_point, wo
 use Rattle.wait_event.specs.declared.woken_waits.WokenStage.{WokenStage}
 use Rattle.wait_event.specs.declared.woken_waits.WokenStage.TheVariants as stage
 use Rattle.wait_event.specs.declared.woken_waits.WokenTurn.TheVariants as turn
-use Rattle.wait_class.proofs.{Ground.Standing.stands_on, Ground.Going.runs_none, Ground.Going.runs_one}
-use Rattle.wait_event.proofs.Hearing.Entries.{keeps_by, keeps_none, keeps_told, woken_stays}
+use Rattle.wait_class.proofs.{Ground.Standing.stands_on, Ground.Going.runs_one}
+use Rattle.wait_event.proofs.Hearing.Entries.{keeps_by, keeps_told, woken_stays}
 
 -- the last steps, with one more
 ends_more : (k : Known) (e : Step) (es : List Step) → EndsWith k es → EndsWith (added k (item.Made e)) (es ++ e ∷ [])
@@ -265,18 +265,6 @@ pub down_hears : (old new : Known) (st : SleepState) → IsHearing old st stage.
 down_hears old new st a w is x tells asleep =
     subst (λ (k : Known). Hears old k st stage.Sleep turn.Asleep) (sym is)
     (sleep_down old st w a (sym tells ∙ asleep))
-
--- a try that did nothing
-pub again_hears : (old new : Known) (st : SleepState) → IsHearing old st stage.Sleep → new ≡ old
-    → Hears old new st stage.Sleep (turn.Again stage.Sleep)
-again_hears old new st a is =
-    subst (λ (k : Known). Hears old k st stage.Sleep (turn.Again stage.Sleep)) (sym is) (record {
-      went = record {
-        runs = runs_none (woken_program old.view.number st) old (next.Go (woken_point stage.Sleep));
-        keeps = keeps_none old;
-      };
-      lands = a;
-    })
 
 pub run_hears : (old new : Known) (st : SleepState) → IsHearing old st stage.Run
     → new ≡ added old (item.Made (step.State 0)) → Carries (state_change 0) old new

@@ -31,7 +31,7 @@ use Rattle.wait_model.specs.declared.points.BitPoint.TheVariants as biting
 use Rattle.wait_model.proofs.{WaitLaws.WaitStages.FitsStage, WaitLaws.PageTurns.paging_locks}
 use Rattle.wait_model.proofs.{AccountLaws.PageTrails.PageTrailAt, RunLaws.FineEvents.none_there}
 use Rattle.wait_model.proofs.{AccountLaws.Refusals.refusal, AccountLaws.Refusals.not_interrupted}
-use Rattle.wait_model.proofs.WaitLaws.OutsideStages.{either, both, unset, is_aside, aside_step}
+use Rattle.wait_model.proofs.WaitLaws.OutsideStages.{either, both, unset, is_aside}
 use Rattle.wait_model.specs.declared.points.PagePoint.TheVariants as paging
 use Rattle.std.specs.Prelude.{◌⊎◌}
 use Rattle.std.proofs.Common.{inl, inr}

@@ -23,7 +23,7 @@ use Rattle.wait_model.specs.Runs.{State, entry_for, event_steps, is_publishing, 
 use Rattle.wait_model.specs.Runs.{set_step}
 use Rattle.wait_model.specs.Tables.{next, steps, value_of}
 use Rattle.wait_model.specs.Tasks.{looks_in, pending, state_mask}
-use Rattle.wait_model.specs.Views.{Look, View, off, elsewhere, shown, unseen}
+use Rattle.wait_model.specs.Views.{Look, View, shown}
 use Rattle.wait_model.specs.Watches.{head_of, same, stands_at}
 use Rattle.wait_model.specs.declared.calls.Call.TheVariants as calls
 use Rattle.wait_model.specs.declared.calls.Event.TheVariants as event

@@ -12,8 +12,8 @@ use Rattle.wait_model.specs.{Words.head_word, Points.call_watch, Queues.place_fo
 use Rattle.wait_model.specs.{Locations.cond_at, Locations.word_in, declared.calls.Call.Call}
 use Rattle.wait_model.specs.declared.points.Point.{Point}
 use Rattle.wait_model.specs.Runs.{State, own, entry_for, after_event}
-use Rattle.wait_model.specs.Reached.{Zone, absent, waits, free, stands, parts, IsHome, HomeAt, held_at, is_preparing}
-use Rattle.wait_model.specs.Reached.{IsTaken, IsFlagged, aimed_by, IsPlaced, seated, zone, pages}
+use Rattle.wait_model.specs.Reached.{Zone, stands, parts, IsHome, HomeAt, held_at, is_preparing}
+use Rattle.wait_model.specs.Reached.{IsTaken, IsFlagged, aimed_by, IsPlaced, seated, zone}
 use Rattle.wait_model.proofs.{WordLaws.CondWords.head_of_bare, WordLaws.CondWords.set_rest}
 use Rattle.wait_model.proofs.{HistoryLaws.HoldLooks.looks_same, HistoryLaws.UnlockedLooks.peeks_same, Functions.put_at}
 use Rattle.wait_model.proofs.Functions.{put_other}

@@ -1,6 +1,6 @@
 -- At each point of a call's program some events are left that come to the end of its sentence.
 use Rattle.std.proofs.Common.{refl, arith}
-use Rattle.std.specs.Prelude.{ℕ, zero, suc, ◌+◌, ◌==◌, Bool, true, false, if◌then◌else◌, [], ◌∷◌}
+use Rattle.std.specs.Prelude.{ℕ, zero, suc, ◌+◌, ◌==◌, Bool, true, false, [], ◌∷◌}
 use Rattle.wait_model.specs.{declared.layout.TheConstants.ALL_DONE, declared.calls.Call.Call}
 use Rattle.wait_model.specs.{declared.calls.Answer.Answer, declared.queues.CalledEntry.CalledEntry}
 use Rattle.wait_model.specs.{declared.queues.Walking.Walking, declared.watches.Watch.Watch, declared.points.Point.Point}

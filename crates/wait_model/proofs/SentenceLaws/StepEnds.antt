@@ -3,7 +3,7 @@ use Rattle.std.proofs.lemmas.Nat.{pow_pos}
 use Rattle.std.proofs.lemmas.Nat.Bits.{bit_at-pow_same}
 use Rattle.std.proofs.Common.{ap, refl, sym, subst, arith, inl, inr}
 use Rattle.std.proofs.lemmas.Bool.Decides.{eqb_tells, nat_tests}
-use Rattle.std.specs.Prelude.{◌<◌, ◌/◌, ◌%◌, ◌^◌, ℕ, ◌≡◌, ◌+◌, ◌-◌, ◌==◌, Bool, true, false, not, if◌then◌else◌, ◌∷◌}
+use Rattle.std.specs.Prelude.{◌<◌, ◌/◌, ◌%◌, ◌^◌, ℕ, ◌≡◌, ◌+◌, ◌-◌, ◌==◌, Bool, true, false, not, ◌∷◌}
 use Rattle.wait_model.specs.{declared.layout.TheConstants.ALL_DONE, declared.queues.Form.Form}
 use Rattle.wait_model.specs.{declared.watches.Watch.Watch, Words.flag, Words.bit_at, SentenceBits.tries}
 use Rattle.wait_model.specs.{SentenceCounts.counts, SentenceCounts.lowers, Findings.Noted}

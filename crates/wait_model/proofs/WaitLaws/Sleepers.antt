@@ -2,7 +2,7 @@
 use Rattle.std.proofs.lemmas.Bool.{both_ways}
 use Rattle.std.proofs.lemmas.Bool.Decides.{nat_tests}
 use Rattle.std.proofs.Common.{refl, sym, ◌∙◌, ap, subst, arith}
-use Rattle.std.specs.Prelude.{ℕ, ◌≡◌, ◌≢◌, ◌≤◌, Bool, true, false, if◌then◌else◌, Option, Some, None, List}
+use Rattle.std.specs.Prelude.{ℕ, ◌≡◌, ◌≢◌, ◌≤◌, Bool, true, false, Option, Some, None, List}
 use Rattle.wait_model.specs.{declared.layout.TheConstants.EVENTS, declared.watches.Watch.Watch}
 use Rattle.wait_model.specs.{declared.watches.Kind.Kind, declared.watches.Entry.Entry, declared.steps.Step.Step}
 use Rattle.wait_model.specs.{declared.calls.Call.Call, declared.calls.Ran.Ran, declared.points.Point.Point}

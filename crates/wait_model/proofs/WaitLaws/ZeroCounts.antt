@@ -31,7 +31,7 @@ use Rattle.wait_model.specs.declared.points.BitPoint.TheVariants as biting
 use Rattle.wait_model.proofs.{Functions.put_at, HistoryLaws.HoldLooks.steps_own, HistoryLaws.HoldLooks.steps_other}
 use Rattle.wait_model.proofs.{WaitLaws.NextStages.misses_fails, StepLaws.UnlockSteps.unlock_checks}
 use Rattle.wait_model.proofs.RunLaws.EveryRun.{opened_sound, made_sound, start_sound}
-use Rattle.wait_model.proofs.WaitLaws.OutsideStages.{either, both, unset, is_aside, aside_step}
+use Rattle.wait_model.proofs.WaitLaws.OutsideStages.{either, both, unset, is_aside}
 
 -- in its hold the view has a load of the count that found 0, and after the store of a state it keeps it
 abbrev pub FoundZero : Call → View → Type 0

@@ -9,7 +9,7 @@ use Rattle.wait_model.specs.declared.layout.TheConstants.{PLAIN_CONDITIONS, WORD
 use Rattle.wait_model.specs.declared.layout.TheConstants.{RUNNABLE, SIGNAL, FATAL}
 use Rattle.wait_model.specs.Tasks.{bit, task_word, task_of, IsLawful}
 use Rattle.wait_model.specs.Words.{flag, kind_code, kind_numbered, key_of, watch_at, entry_word, Suited, IsLawfulEntry}
-use Rattle.wait_model.specs.Words.{entry_of, head_word, held_of, spent_of, flag_of, flag_word, done_word}
+use Rattle.wait_model.specs.Words.{entry_of, head_word, held_of, spent_of, flag_of, done_word}
 use Rattle.wait_model.specs.declared.watches.Watch.TheVariants as watch
 use Rattle.wait_model.specs.declared.watches.Kind.TheVariants as kind
 
@@ -194,11 +194,6 @@ unfolding flag_of
 done_read_back true true = refl
 done_read_back true false = refl
 done_read_back false done = refl
-
-pub flag_read_back : (woken : Bool) → flag_of (flag_word woken) ≡ woken
-unfolding flag_of
-flag_read_back true = refl
-flag_read_back false = refl
 
 pub head_plain : (c : ℕ) → head_of (watch.Plain c) ≡ FIRST_PLAIN_HEAD + c
 unfolding head_of

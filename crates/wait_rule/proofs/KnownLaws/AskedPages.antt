@@ -9,11 +9,11 @@ use Rattle.wait_model.specs.Watches.{is_page, was_clear, owner, page, word_of}
 use Rattle.wait_model.specs.declared.steps.Step.TheVariants as step
 use Rattle.wait_model.proofs.Functions.{put_case, put_same, put_other}
 use Rattle.wait_rule.specs.{declared.journal.Item.Item, MemberWords.index_named, Known.Known}
-use Rattle.wait_rule.specs.Items.{Difference, nothing, at_entry, at_mark, page_taken, page_told, steps_of}
+use Rattle.wait_rule.specs.Items.{Difference, nothing, at_entry, at_mark, steps_of}
 use Rattle.wait_rule.specs.Asked.{Asked, nothing_asked, waits_for, was_given, given_if, ask_step, after_item}
 use Rattle.wait_rule.specs.Asked.{asked_from, asked_by_items, all_asked, is_asking}
 use Rattle.wait_rule.specs.Pages.{taken_entry, IsHandedBy, ArePageStates}
-use Rattle.wait_rule.specs.Says.{AsksNoPage, Debts, Obligation, Excuse, added, asks_for, excuses, has_duty, no_excuse}
+use Rattle.wait_rule.specs.Says.{AsksNoPage, Obligation, added, asks_for, excuses, has_duty, no_excuse}
 use Rattle.wait_rule.specs.Says.{page_asked}
 use Rattle.wait_rule.specs.declared.journal.Item.TheVariants as item
 use Rattle.wait_rule.proofs.KnownLaws.PageStates.{none_some, IsSameAt, hands_still, state_still}
@@ -127,11 +127,3 @@ asks_no_page k none = asks_nothing_of (asks_for k) (by (is_asking (asks_for k)) 
 pub no_page_asked : (k : Known) → asks_for k ≡ nothing_asked → AsksNoPage k
 no_page_asked k none d is = subst (λ (o : Obligation). (has_duty k o && not (excuses no_excuse o)) ≡ false) (sym is)
     (ap (λ (q : Asked). is_asking q && true) none)
-
-pub asks_none_of : (x : Excuse) (k : Known) → x.asks ≡ false → Debts x k → asks_for k ≡ nothing_asked
-asks_none_of x k asks d = asks_nothing_of (asks_for k) (by (is_asking (asks_for k)) x.asks asks (d.none page_asked))
-  where
-    by : (b e : Bool) → e ≡ false → (b && not e) ≡ false → b ≡ false
-    by true true un is = un
-    by true false un is = is
-    by false e un is = refl

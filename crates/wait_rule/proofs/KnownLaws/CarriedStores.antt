@@ -16,7 +16,7 @@ use Rattle.wait_rule.specs.Says.{has_duty, is_excused, page_asked, stored_with, 
 use Rattle.wait_rule.specs.Stays.{Carries, only, put_change, take_off_change, unchanged, with_entry, with_left_entry}
 use Rattle.wait_rule.specs.Stays.{with_page}
 use Rattle.wait_rule.specs.Stores.{StaysOver, StoresEntry, StoresMark, TriesNoBit, place_of_mark}
-use Rattle.wait_rule.proofs.{KnownLaws.AfterSteps.told_added, KnownLaws.CarriedTasks.unchanged_first}
+use Rattle.wait_rule.proofs.{KnownLaws.AfterSteps.told_added}
 use Rattle.wait_rule.proofs.{KnownLaws.MemberBits.told_stored, KnownLaws.StayingParts.owes_also}
 use Rattle.wait_rule.proofs.KnownLaws.StayingParts.{owes_out}
 use Rattle.wait_rule.proofs.KnownLaws.Debts.{LeavesNone, added_debts, begins_none, end_added, entries_debts}
@@ -257,15 +257,6 @@ pub entry_off : (old new : Known) (i : ℕ) → new ≡ added old (item.Made (st
     → Carries (take_off_change i) old new
 entry_off old new i is = off_carried old new i (step_beside old new (step.Unqueue i) (at_entry i false) refl is)
     (ap told_of is ∙ told_added old (item.Made (step.Unqueue i))) (step_debts old new (step.Unqueue i) refl is)
-
-pub entry_taken : (old new : Known) (i : ℕ) → new ≡ stored_with old (step.Unqueue i) → Carries (take_off_change i) old new
-entry_taken old new i is = off_carried old new i (stored_beside old new (step.Unqueue i) (at_entry i false) refl is)
-    (ap told_of is ∙ told_stored old (step.Unqueue i)) (stored_debts old new (step.Unqueue i) refl is)
-
--- behind a call that changes nothing
-pub off_after : (x y z : Known) (i : ℕ) → Carries unchanged x y → Carries (take_off_change i) y z
-    → Carries (take_off_change i) x z
-off_after x y z i a b = unchanged_first (take_off_change i) x y z a b
 
 -- a bookmark that is put or taken out
 marks_none : (o : Option Mark) → begins_none (marked o) ≡ true

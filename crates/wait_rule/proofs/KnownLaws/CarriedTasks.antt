@@ -183,16 +183,6 @@ slept_ticket sleep.Stay b = refl
 slept_ticket sleep.Signal b = refl
 slept_ticket sleep.Asleep b = refl
 
-pub stayed_carried : (old new : Known) (w : ℕ) → new ≡ added old (item.Made (step.Sleep w))
-    → (sleep_of (task_of w) ≡ sleep.Asleep → ⊥) → Carries (moving (λ _. 0) (λ h. h) (λ h. h)) old new
-stayed_carried old new w is up =
-    let by = stays_awake (sleep_of (task_of w)) old.book up in
-    step_carried (λ _. 0) old new (step.Sleep w) is (ap (λ (k : Known). k.book.awake) is ∙ by.1)
-    (ap (λ (k : Known). k.book.state) is ∙ by.0)
-    (ap (λ (k : Known). k.book.head) is ∙ slept_head (sleep_of (task_of w)) old.book)
-    (slept_ticket (sleep_of (task_of w)) old.book) refl refl refl refl (λ c. refl)
-    (owes_after old new (step.Sleep w) refl is)
-
 pub risen_owing : (old mid new : Known) (w : ℕ) → mid ≡ added old (item.Made (step.Sleep w)) → IsAwakeAgain mid new
     → StaysOwing old new
 risen_owing old mid new w is h x o = owes_looks mid new h.looks (after_awake false true mid.book) h.no_steps h.no_adds

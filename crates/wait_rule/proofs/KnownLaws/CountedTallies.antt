@@ -32,12 +32,6 @@ sum_both (suc n) f g h is =
 add_none : (m n : ℕ) → n ≡ 0 → m + n ≡ m
 add_none m n none = omega arith
 
-middle_none : (a b c : ℕ) → b ≡ 0 → (a + b) + c ≡ a + c
-middle_none a b c none = omega arith
-
-middle_more : (a b c d : ℕ) → (a + b) + (c + d) ≡ (a + c) + (b + d)
-middle_more a b c d = omega arith
-
 -- more items of the own list
 pub pushed_same : (v : Journal) (p : ℕ) (xs : List Item) → amounts_of p xs ≡ 0
     → tally_in p (pushed v xs) ≡ tally_in p v

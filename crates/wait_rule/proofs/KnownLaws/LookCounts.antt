@@ -1,10 +1,10 @@
 -- Counting the looks of a task.
 use Rattle.std.proofs.Common.{refl, ◌∙◌, ap, arith}
-use Rattle.std.specs.Prelude.{ℕ, zero, suc, ◌≡◌, ◌+◌, ◌-◌, ◌*◌, ◌≤◌, Bool, true, false, nat_lt, Option, Some, None}
+use Rattle.std.specs.Prelude.{ℕ, zero, suc, ◌≡◌, ◌+◌, ◌-◌, ◌*◌, Bool, true, false, nat_lt, Option, Some, None}
 use Rattle.std.specs.Prelude.{List, [], ◌∷◌, ◌++◌}
 use Rattle.wait_model.specs.{declared.layout.TheConstants.ENTRIES, declared.layout.TheConstants.WORD_BITS, Words.bit_at}
-use Rattle.wait_rule.specs.{declared.journal.Item.Item, Items.Book, Known.Known, Says.added, Says.grown, Queues.saw}
-use Rattle.wait_rule.specs.LookCounts.{looks_with, looks_from, looks_made, Looked, LooksAtMost}
+use Rattle.wait_rule.specs.{declared.journal.Item.Item, Known.Known, Says.added, Queues.saw}
+use Rattle.wait_rule.specs.LookCounts.{looks_with, looks_from, looks_made, Looked}
 use Rattle.wait_rule.specs.MemberLooks.{SawKind, SawBits, SawWord}
 use Rattle.wait_rule.specs.declared.journal.Item.TheVariants as item
 
@@ -15,9 +15,6 @@ looks_append n (x ∷ xs) ys = looks_append (looks_with x n) xs ys
 -- with one item more, and with more of them
 pub looks_added : (k : Known) (x : Item) → looks_made (added k x) ≡ looks_with x (looks_made k)
 looks_added k x = looks_append 0 k.view.items (x ∷ [])
-
-pub looks_grown : (k : Known) (xs : List Item) (b : Book) → looks_made (grown k xs b) ≡ looks_from (looks_made k) xs
-looks_grown k xs b = looks_append 0 k.view.items xs
 
 -- one look, or none
 pub looked_one : (old new : Known) (x : Item) → ((n : ℕ) → looks_with x n ≡ n + 1) → new ≡ added old x
@@ -31,20 +28,6 @@ looked_none old new x none is = ap looks_made is ∙ (looks_added old x ∙ none
 pub saw_counts : (o : Option ℕ) (x w n : ℕ) → looks_with (item.Made (saw o x w)) n ≡ n + 1
 saw_counts None x w n = refl
 saw_counts (Some h) x w n = refl
-
--- looks one after the other
-pub at_most_on : (m n : ℕ) (old mid new : Known) → LooksAtMost m old mid → LooksAtMost n mid new
-    → LooksAtMost (m + n) old new
-at_most_on m n old mid new one two = omega arith
-
-pub at_most_more : (m n : ℕ) (old new : Known) → m ≤ n → LooksAtMost m old new → LooksAtMost n old new
-at_most_more m n old new less one = omega arith
-
-pub at_most_of : (n : ℕ) (old new : Known) → Looked n old new → LooksAtMost n old new
-at_most_of n old new is = omega arith
-
-pub at_most_none : (n : ℕ) (old new : Known) → looks_made new ≡ looks_made old → LooksAtMost n old new
-at_most_none n old new is = omega arith
 
 -- the looks for which the bits of a member word stand
 kind_looked : (b bit : Bool) (h x : ℕ) (old new : Known) → SawKind b bit h x old new → Looked 1 old new

@@ -92,12 +92,6 @@ given_nowhere true x nothing_asked is = refl
 given_nowhere true x (was_given u q) is = refl
 given_nowhere false x k is = refl
 
-pub given_stays : (b : Bool) (x p : ℕ) (k : Asked) → was_given_at x k ≡ Some p → given_if b x k ≡ k
-given_stays true x p (was_given u q) is = refl
-given_stays true x p nothing_asked is = none_some p is
-given_stays true x p (waits_for u q) is = none_some p is
-given_stays false x p k is = refl
-
 pub waits_took : (x : ℕ) (k : Asked) → waits_at x (took_off x k) ≡ None
 waits_took x (waits_for u q) = elim (eqb_tells u x) [
   | inl t ↦ ap (λ (b : Bool). waits_at x (if b then nothing_asked else waits_for u q)) t.0
@@ -105,14 +99,6 @@ waits_took x (waits_for u q) = elim (eqb_tells u x) [
 ]
 waits_took x nothing_asked = refl
 waits_took x (was_given u q) = refl
-
-pub took_nowhere : (x : ℕ) (k : Asked) → waits_at x k ≡ None → took_off x k ≡ k
-took_nowhere x (waits_for u q) is = elim (eqb_tells u x) [
-  | inl t ↦ none_some q (sym is ∙ choose u x (Some q) None t.1)
-  | inr t ↦ ap (λ (b : Bool). if b then nothing_asked else waits_for u q) t.0
-]
-took_nowhere x nothing_asked is = refl
-took_nowhere x (was_given u q) is = refl
 
 pub given_note : (x : ℕ) (k : Asked) → was_given_at x (took_note x k) ≡ None
 given_note x (was_given u q) = elim (eqb_tells u x) [

@@ -11,7 +11,7 @@ use Rattle.wait_model.specs.Views.{View as Told, Walk, off, all_passed}
 use Rattle.wait_model.proofs.Functions.{put_case, put_at, put_same, put_other, bool_or}
 use Rattle.wait_rule.specs.Items.{Difference, nothing, Book, learn_step}
 use Rattle.wait_rule.specs.Asked.{Asked, ask_step, waits_at, was_given_at}
-use Rattle.wait_rule.specs.Pages.{uses_flag, taken_entry, IsPageEntry, IsAskedAt, IsHandedBy, IsPageState, ArePageStates}
+use Rattle.wait_rule.specs.Pages.{uses_flag, taken_entry, IsAskedAt, IsHandedBy, IsPageState, ArePageStates}
 use Rattle.wait_rule.proofs.KnownLaws.PageStates.{none_some, IsSameAt, hands_still, state_still}
 
 pub some_same : (x y : ℕ) → ◌≡◌ {A = Option ℕ} (Some x) (Some y) → x ≡ y
@@ -22,11 +22,6 @@ not_both b t f = absurd (both_ways true (sym t ∙ f) refl)
 
 pub no_entry : {A : Type 0} (o : Option Entry) (e : Entry) → o ≡ None → o ≡ Some e → A
 no_entry o e n is = absurd (let z : ◌≡◌ {A = Option Entry} None (Some e) = sym n ∙ is in cc)
-
--- an entry for a page that stands is no other one
-pub page_there : (o : Option Entry) (e : Entry) (p : ℕ) → IsPageEntry o p → o ≡ Some e → is_page e.kind ≡ true
-page_there o e p i is = let same : i.entry ≡ e = (let z : Some i.entry ≡ Some e = sym i.is ∙ is in cc) in
-    subst (λ (d : Entry). is_page d.kind ≡ true) same i.kind
 
 pub unflagged : (k : Kind) → uses_flag k ≡ false → is_page k ≡ false
 unflagged k is = elim (bool_or (is_page k)) [

@@ -1,11 +1,11 @@
 -- The words of pipes: which are apart, what they show, and which belong to one pipe.
-use Rattle.std.proofs.Common.{◌≡◌, ℕ, ◌+◌, ◌*◌, ◌/◌, ◌%◌, ◌<◌, ◌≤◌, ◌≢◌, Bool, true, false, refl, ap, arith}
+use Rattle.std.proofs.Common.{◌≡◌, ℕ, ◌+◌, ◌/◌, ◌%◌, ◌≤◌, ◌≢◌, Bool, true, false, refl, ap, arith}
 use Rattle.std.specs.Prelude.{◌==◌}
 use Rattle.std.proofs.lemmas.Bool.Decides.{nat_tests}
 use Rattle.wait_model.specs.{declared.layout.TheConstants.PIPE_ENDS, declared.layout.TheConstants.PIPE_CELLS}
 use Rattle.wait_model.specs.{Words.flag, Locations.Location}
 use Rattle.wait_model.specs.Locations as place
-use Rattle.wait_rule.specs.Pipes.{write_end, read_end, cell_of, word_counts, end_word, count_on}
+use Rattle.wait_rule.specs.Pipes.{write_end, read_end, cell_of, end_word, count_on}
 
 pub test_on : (a b : ℕ) → a ≡ b → (a == b) ≡ true
 test_on a b is = grind (arith, nat_tests)
@@ -58,10 +58,6 @@ count_is seen n false low high = omega arith
 pub odd_is : (n : ℕ) (b : Bool) → (end_word n b % 2 == 1) ≡ b
 odd_is n true = grind (arith, nat_tests)
 odd_is n false = grind (arith, nat_tests)
-
-pub small_word : (n : ℕ) (b : Bool) → end_word n b < 2 * word_counts
-small_word n true = omega arith
-small_word n false = omega arith
 
 pub none_mine : (b : Bool) → flag b ≡ 0 → b ≡ false
 none_mine true is = absurd (omega arith)

@@ -42,10 +42,6 @@ and_right : (w b : Bool) → (not w && b) ≡ true → b ≡ true
 and_right false b is = is
 and_right true b is = absurd (cc)
 
-if_same : (s b : Bool) → (if s then b else b) ≡ b
-if_same true b = refl
-if_same false b = refl
-
 module _ (x : ℕ) where
   queue_unheard : (v : View) (y : ℕ) (e : Entry) (b : Bool) → IsUnheard x v b
       → IsUnheard x (after (step.Queue y e) v) (quiet_after x v (step.Queue y e) b)

@@ -14,7 +14,7 @@ use Rattle.wait_model.proofs.Functions.{put_at, put_same, put_other}
 use Rattle.wait_model.proofs.HistoryLaws.StepTotals.{total_grown, sum_grown, sum_zero}
 use Rattle.wait_model.proofs.StepLaws.UnlockSteps.{unlock_hold}
 use Rattle.wait_rule.specs.{declared.journal.Item.Item, Rule.AreLinked, Notes.Notes}
-use Rattle.wait_rule.specs.Tickets.{Ticket, no_ticket, drawn, served, taken, given, is_ticket_of, is_served, is_given}
+use Rattle.wait_rule.specs.Tickets.{Ticket, no_ticket, served, taken, given, is_ticket_of, is_served, is_given}
 use Rattle.wait_rule.specs.Tickets.{ShowsNumber, out_below}
 use Rattle.wait_rule.specs.TicketWords.{all_tickets, unlocks_at, unlocked_at, unserved, AreTickets}
 use Rattle.wait_rule.specs.Items.{Book, learn_step, after_sleep, book_from, book_of}

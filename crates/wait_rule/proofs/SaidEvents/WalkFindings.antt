@@ -10,7 +10,7 @@ use Rattle.wait_model.specs.{Facts.Agrees, Runs.arrives_from, Runs.called_by}
 use Rattle.wait_model.specs.declared.layout.TheConstants.{BREAK, MEMBERS, PLAIN_CONDITIONS}
 use Rattle.wait_model.specs.Watches.{same, head_of, counted, is_for}
 use Rattle.wait_model.specs.Queues.{IsIn, Arrival, arrive, is_entry, members_from, rank_at}
-use Rattle.wait_model.specs.Views.{View as Told, Look, unseen, off, elsewhere, shown}
+use Rattle.wait_model.specs.Views.{View as Told, Look, shown}
 use Rattle.wait_model.specs.declared.watches.Watch.TheVariants as watch
 use Rattle.wait_model.proofs.{QueueLaws.Arrivals.from_in, QueueLaws.QueueMarks.marked_in}
 use Rattle.wait_model.proofs.WordLaws.CondWords.{head_counted}

@@ -1,13 +1,13 @@
 -- The walk that the record of a hold names.
-use Rattle.std.proofs.Common.{refl, sym, ◌∙◌, ap, arith}
-use Rattle.std.specs.Prelude.{ℕ, ◌≡◌, ◌+◌, ◌-◌, ◌<◌, ◌≤◌, Bool, true, false, nat_lt, if◌then◌else◌, Option, Some, None}
+use Rattle.std.proofs.Common.{refl, ◌∙◌, ap, arith}
+use Rattle.std.specs.Prelude.{ℕ, ◌≡◌, ◌+◌, ◌-◌, ◌<◌, ◌≤◌, Bool, true, false, nat_lt, if◌then◌else◌, Option, Some}
 use Rattle.std.proofs.lemmas.Bool.Decides.{nat_tests}
 use Rattle.wait_model.specs.{declared.watches.Aim.Aim, Watches.head_of, Rows.AimsAt}
 use Rattle.wait_model.specs.declared.layout.TheConstants.{FIRST_PLAIN_HEAD, FIRST_SIMPLE_HEAD, FIRST_DONE_HEAD}
 use Rattle.wait_model.specs.declared.watches.Watch.TheVariants as watch
 use Rattle.wait_model.specs.declared.watches.Mode.TheVariants as mode
 use Rattle.wait_model.proofs.WordLaws.DecodedWords.{head_plain}
-use Rattle.wait_rule.specs.Queues.{simple_watch, walk_of_hold, IsWalkOfCall}
+use Rattle.wait_rule.specs.Queues.{simple_watch, walk_of_hold}
 
 head_done : (d : ℕ) → head_of (watch.Done d) ≡ FIRST_DONE_HEAD + d
 unfolding head_of
@@ -36,19 +36,3 @@ aims_hold h walk aims = by (nat_lt h FIRST_SIMPLE_HEAD) refl
         else Some (record { watch = simple_watch h; mode = mode.Normal; count = 0 })) h
     by true q = aims
     by false q = simple_head h (let far : FIRST_SIMPLE_HEAD ≤ h = grind (arith, nat_tests) in far)
-
--- the record of a hold names the walk that the call is on
-pub call_walk : (h : ℕ) (walk : Option Aim) → h < FIRST_SIMPLE_HEAD → IsWalkOfCall h (walk_of_hold h walk) walk
-call_walk h None few = refl
-call_walk h (Some a) few = (a, walk_full h (Some a) few, refl, refl, λ _. refl)
-
-pub call_simple : (h : ℕ) (a : Aim) → FIRST_SIMPLE_HEAD ≤ h → a.watch ≡ simple_watch h → a.mode ≡ mode.Normal
-    → IsWalkOfCall h (walk_of_hold h None) (Some a)
-call_simple h a far watch_is mode_is = (
-  record { watch = simple_watch h; mode = mode.Normal; count = 0 },
-  ap (λ (b : Bool). if b then None else Some (record { watch = simple_watch h; mode = mode.Normal; count = 0 }))
-      (let z : nat_lt h FIRST_SIMPLE_HEAD ≡ false = grind (arith, nat_tests) in z),
-  sym watch_is,
-  sym mode_is,
-  λ few. absurd (omega (arith, few, far)),
-)

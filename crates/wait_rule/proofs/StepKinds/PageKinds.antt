@@ -4,7 +4,7 @@ use Rattle.std.specs.Prelude.{ℕ, ◌≡◌, ◌⊎◌, ◌||◌, Bool, true, f
 use Rattle.wait_model.specs.{declared.layout.TheConstants.WORD_BITS, declared.layout.TheConstants.HANDED}
 use Rattle.wait_model.specs.{declared.watches.Watch.Watch, declared.watches.Entry.Entry, declared.steps.Step.Step}
 use Rattle.wait_model.specs.{Functions.put, Words.bit_word, Words.done_word, Views.Look, Views.shown, Tables.Table}
-use Rattle.wait_model.specs.{Facts.Agrees, Locations.Location, Locations.word_in}
+use Rattle.wait_model.specs.{Facts.Agrees}
 use Rattle.wait_model.specs.Watches.{head_of, is_page, is_woken, owner, was_clear, page}
 use Rattle.wait_model.specs.declared.steps.Step.TheVariants as step
 use Rattle.wait_model.specs.Locations as place

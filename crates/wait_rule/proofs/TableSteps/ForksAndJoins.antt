@@ -42,13 +42,6 @@ within_is a b t there = by_tests (leb a t) refl (ltb t b) refl
     by_tests true x_is false y_is = absurd (there (ap flag (ap (λ k. k && ltb t b) x_is ∙ y_is)))
     by_tests false x_is y y_is = absurd (there (ap (λ k. flag (k && ltb t b)) x_is))
 
-within_most : (a b t : ℕ) → one_within a b t ≤ 1
-within_most a b t = by_test (leb a t && ltb t b)
-  where
-    by_test : (x : Bool) → flag x ≤ 1
-    by_test true = omega arith
-    by_test false = omega arith
-
 within_low : (a b t : ℕ) → t < a → one_within a b t ≡ 0
 within_low a b t low = dite (ℕ_discrete (one_within a b t) 0) (λ (z : one_within a b t ≡ 0). z)
     (λ (z : one_within a b t ≢ 0). let i = within_is a b t z in absurd (omega arith))

@@ -7,7 +7,7 @@ use mathlib.Core.Path.{fun_ext}
 use mathlib.Core.Option.{none}
 use Rattle.atomic_table.specs.{Seated.TableId, Table.step as move, Table.Allows}
 use Rattle.wait_model.specs.{declared.watches.Entry.Entry, declared.steps.Step.Step, Functions.put, Watches.stands_at}
-use Rattle.wait_model.specs.{Words.bit_at, Words.entry_word, Fold.view_of, Tables.next}
+use Rattle.wait_model.specs.{Words.bit_at, Words.entry_word, Fold.view_of}
 use Rattle.wait_model.specs.declared.layout.TheConstants.{TASKS, ENTRIES, HEADS, MEMBER_WORDS, WORD_BITS, MEMBER_AT}
 use Rattle.wait_model.specs.Locations.{Location, IsLocation, position_of, mark_word}
 use Rattle.wait_model.specs.declared.steps.Step.TheVariants as step

@@ -5,7 +5,7 @@ use Rattle.std.specs.Prelude.{slice_index}
 use mathlib.Core.Option.{none}
 use Rattle.atomic_table.specs.{Seated.TableId, Table.step as move, Table.Allows}
 use Rattle.wait_model.specs.{declared.watches.Aim.Aim, Views.View as Told, Tables.Table, Tables.raised_spent}
-use Rattle.wait_model.specs.{Rows.AimsAt, Rows.MaySpend, Locations.word_in}
+use Rattle.wait_model.specs.{Rows.AimsAt, Rows.MaySpend}
 use Rattle.wait_model.specs.declared.layout.TheConstants.{TASKS, HEADS, HEAD_AT}
 use Rattle.wait_model.specs.Words.{head_word, held_of, spent_of}
 use Rattle.wait_model.specs.declared.steps.Step.TheVariants as step

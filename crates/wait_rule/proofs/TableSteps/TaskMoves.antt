@@ -15,7 +15,7 @@ use Rattle.wait_rule.specs.{Says.IsShown, Says.MeetsLaw, MemberWords.word_with, 
 use Rattle.wait_rule.specs.Items.{book_of, steps_of, first_book, Fits}
 use Rattle.wait_rule.specs.Journals.{Scene, owns, has_of}
 use Rattle.wait_rule.specs.Rule.{IsRuled, Law, Holds}
-use Rattle.wait_rule.specs.Plays.{Sat, seat_with, seat_tried, whose, looked_play, awoken_play, word_load_play, asked}
+use Rattle.wait_rule.specs.Plays.{Sat, seat_with, seat_tried, whose, looked_play, awoken_play, word_load_play}
 use Rattle.wait_rule.specs.Plays.{woke_play, run_stored_play, state_stored_play, fatal_bits, bits_of, audited_play}
 use Rattle.wait_rule.specs.Plays.{witnessed_play}
 use Rattle.wait_rule.specs.declared.journal.Item.TheVariants as item

@@ -1,5 +1,4 @@
 use Rattle.std.proofs.Common.{◌∙◌}
-use Rattle.wait_model.specs.declared.steps.Step.TheVariants as step
 use Rattle.wq_head.proofs.AwaitedLocks.{awaits_none}
 use Rattle.completion_cell.proofs.{CellDraws.fits, CellDraws.peeked_none, CellRousing.none_counted}
 use Rattle.completion_cell.proofs.cell_turns.begin.Goals as goal

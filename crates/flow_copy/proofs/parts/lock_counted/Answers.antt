@@ -1,4 +1,3 @@
-use Rattle.std.specs.Prelude.{Ok, Err}
 use Rattle.flow_copy.proofs.Counting.{locked, locks_after, unlocked}
 use Rattle.copy_turns.proofs.PartLaws.{apart_same, apart_then, took_before}
 use Rattle.copy_turns.specs.Transfers.{no_part, one_more}

@@ -1,20 +1,13 @@
-use Rattle.std.proofs.Common.{ap, refl, subst, sym}
+use Rattle.std.proofs.Common.{refl, subst, sym}
 use Rattle.wait_class.proofs.{Turns.advances_none, UnderWay.begun_here}
 use Rattle.page_lock.specs.declared.waits.PageStage.TheVariants as stage
 use Rattle.page_lock.proofs.{PageLaws.page_lawful, PageEndings.begins_at}
-use Rattle.page_lock.specs.{PageTables.IsRunningPageWait, PageTables.page_table, declared.waits.LockPage.LockPage}
+use Rattle.page_lock.specs.{PageTables.IsRunningPageWait, PageTables.page_table}
 use Rattle.page_lock.proofs.wait_calls.begin_page.Goals as goal
 
 pub returns-clause-at : goal.returns-clause-at
 returns-clause-at c = begins_at c.args.task.now c.new.result (subst IsRunningPageWait (sym c.new.ensures) c.requires.page)
     c.told.ensures c.requires.up c.requires.idle c.requires.out c.requires.asks
-
-pub returns-clause-fresh : goal.returns-clause-fresh
-returns-clause-fresh c = record {
-  page = ap (λ (r : LockPage). r.page) c.new.ensures;
-  state = ap (λ (r : LockPage). r.state) c.new.ensures;
-  unasked = ap (λ (r : LockPage). r.asked) c.new.ensures;
-}
 
 pub returns-clause-under : goal.returns-clause-under
 returns-clause-under c clean = begun_here page_table page_lawful (page_table.plan_of c.new.result.of) c.args.task.now

@@ -2,7 +2,7 @@ use Rattle.std.proofs.Common.{◌∙◌, subst, sym}
 use Rattle.std.specs.Prelude.{Result}
 use Rattle.page_lock.specs.{PageEnds.EndsPageLock, PageEnds.has_taken_page, PageStays.TakesPage}
 use Rattle.bit_wait.specs.declared.wait_calls.BitEnd.{BitEnd}
-use Rattle.page_lock.proofs.PageEndings.{ends_idle, ends_out, ends_takes, ends_up, ends_wait, locks_clean}
+use Rattle.page_lock.proofs.PageEndings.{ends_idle, ends_takes, ends_up, ends_wait, locks_clean}
 use Rattle.page_lock.proofs.wait_calls.lock_page.Goals as goal
 
 pub returns-clause-waited : goal.returns-clause-waited
@@ -19,10 +19,6 @@ pub returns-clause-idle : goal.returns-clause-idle
 returns-clause-idle g c = ends_idle c.args.task.now c.run-outcome.new.task c.begin_page-call.result
     c.run-outcome.new.run c.args.page c.args.state c.begin_page-call.ensures.fresh c.run-outcome.result
     c.run-outcome.ensures c.requires.idle.unmarked
-
-pub returns-clause-out : goal.returns-clause-out
-returns-clause-out g c = ends_out c.args.task.now c.run-outcome.new.task c.begin_page-call.result c.run-outcome.new.run
-    c.args.page c.args.state c.begin_page-call.ensures.fresh c.run-outcome.result c.run-outcome.ensures
 
 pub returns-clause-takes : goal.returns-clause-takes
 returns-clause-takes g c = subst (λ (r : Result (Unit {0}) BitEnd). TakesPage c.args.task.now c.run-outcome.new.task

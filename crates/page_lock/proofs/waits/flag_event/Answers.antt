@@ -1,7 +1,5 @@
-use Rattle.std.proofs.Common.{◌∙◌, ap, refl}
-use Rattle.wait_class.specs.Tables.{falls}
-use Rattle.page_lock.specs.PageTables.{page_table}
-use Rattle.page_lock.proofs.PageFlags.{flag_advances, flags_fall}
+use Rattle.std.proofs.Common.{refl}
+use Rattle.page_lock.proofs.PageFlags.{flag_advances}
 use Rattle.wait_model.specs.declared.steps.Step.TheVariants as step
 use Rattle.wait_rule.specs.Queues.{index}
 use Rattle.wait_class.proofs.{Handed.given_step, AwakeSteps.awake_step}
@@ -12,10 +10,6 @@ returns-clause-turned c = flag_advances c.args.task.now c.flag_load-word.new.tas
     c.requires.here c.requires.at c.flag_load-word.result c.flag_load-word.ensures.step
     c.flag_load-word.ensures.carries c.flag_load-word.ensures.given c.flag_load-word.ensures.none c.flag_of.result
     c.flag_of.ensures c.flagged_to.result c.flagged_to.ensures
-
-pub returns-clause-falls : goal.returns-clause-falls
-returns-clause-falls c = ap (falls page_table c.args.stage) c.flagged_to.ensures
-    ∙ flags_fall c.args.run.now.of c.args.stage c.requires.here c.flag_of.result
 
 pub returns-clause-given : goal.returns-clause-given
 returns-clause-given c = given_step c.args.task.now c.flag_load-word.new.task

@@ -1,16 +1,10 @@
 use Rattle.std.proofs.Common.{refl}
-use Rattle.page_lock.proofs.PageFlags.{note_advances, note_given, note_off}
+use Rattle.page_lock.proofs.PageFlags.{note_advances}
 use Rattle.std.specs.Prelude.{Some}
 use Rattle.wait_model.specs.declared.steps.Step.TheVariants as step
 use Rattle.wait_rule.specs.Queues.{index}
 use Rattle.wait_class.proofs.{Handed.given_step, AwakeSteps.awake_step}
 use Rattle.page_lock.proofs.waits.note_event.Goals as goal
-
-pub page_note-requires-clause-given : goal.page_note-requires-clause-given
-page_note-requires-clause-given c = note_given c.args.task.now c.args.run.now c.requires.at
-
-pub page_note-requires-clause-off : goal.page_note-requires-clause-off
-page_note-requires-clause-off c = note_off c.args.task.now c.args.run.now c.requires.at
 
 pub returns-clause-turned : goal.returns-clause-turned
 returns-clause-turned c = note_advances c.args.task.now c.page_note.new.task c.args.run.now c.page_note.ensures.step

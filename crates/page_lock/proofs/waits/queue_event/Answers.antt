@@ -1,32 +1,14 @@
-use Rattle.std.proofs.Common.{inl, inr, refl, sym}
-use Rattle.page_lock.proofs.PageQueues.{join_advances, queue_asks, queue_holds, queue_out, worn_advances, worn_owes}
+use Rattle.std.proofs.Common.{refl}
+use Rattle.page_lock.proofs.PageQueues.{join_advances, worn_advances, worn_owes}
 use Rattle.std.proofs.Common.{◌∙◌, false}
 use Rattle.wait_model.specs.declared.layout.TheConstants.{HEADS}
 use Rattle.wait_class.proofs.Handed.{given_added, given_as, given_member_looks, given_on, given_unlocked}
 use Rattle.wait_class.proofs.AwakeSteps.{awake_looked, awake_stored, awake_unlocked, sleeps_not_on}
 use Rattle.page_lock.proofs.waits.queue_event.Goals as goal
 
-pub add_for_page-requires-clause-held : goal.add_for_page-requires-clause-held
-add_for_page-requires-clause-held c = queue_holds c.args.task.now c.args.run.now c.requires.at
-
-pub add_for_page-requires-clause-head : goal.add_for_page-requires-clause-head
-add_for_page-requires-clause-head c = sym (c.requires.at.stands.at _ refl)
-
-pub add_for_page-requires-clause-word : goal.add_for_page-requires-clause-word
-add_for_page-requires-clause-word c = c.requires.at.fits
-
-pub add_for_page-requires-clause-out : goal.add_for_page-requires-clause-out
-add_for_page-requires-clause-out c = queue_out c.args.task.now c.args.run.now c.requires.at
-
-pub add_for_page-requires-clause-asks : goal.add_for_page-requires-clause-asks
-add_for_page-requires-clause-asks c = queue_asks c.args.task.now c.args.run.now c.requires.at
-
 pub returns-in-Ok-clause-turned : goal.returns-in-Ok-clause-turned
 returns-in-Ok-clause-turned c = join_advances c.args.task.now c.add_for_page.new.task c.args.run.now c.requires.at
     c.in-Ok.ensures.held c.in-Ok.ensures.queued
-
-pub returns-in-Ok-clause-passes : goal.returns-in-Ok-clause-passes
-returns-in-Ok-clause-passes c = inl c.requires.passes
 
 pub give_back-requires-clause-permits : goal.give_back-requires-clause-permits
 give_back-requires-clause-permits c = worn_owes c.args.task.now c.add_for_page.new.task c.args.run.now c.requires.at
@@ -36,9 +18,6 @@ pub returns-in-Err-clause-turned : goal.returns-in-Err-clause-turned
 returns-in-Err-clause-turned c = worn_advances c.args.task.now c.add_for_page.new.task c.give_back.new.task
     c.args.run.now c.requires.at c.in-Err.worn c.in-Err.ensures.worn c.in-Err.ensures.held c.in-Err.ensures.asks
     c.give_back.ensures.given c.in-Err.ensures.noted
-
-pub returns-in-Err-clause-passes : goal.returns-in-Err-clause-passes
-returns-in-Err-clause-passes c = inr refl
 
 pub returns-in-Ok-clause-given : goal.returns-in-Ok-clause-given
 returns-in-Ok-clause-given c =

@@ -1,23 +1,14 @@
-use Rattle.std.proofs.Common.{◌∙◌, ap, refl}
-use Rattle.wait_class.specs.Tables.{falls}
-use Rattle.page_lock.specs.PageTables.{page_table}
-use Rattle.page_lock.proofs.PageTries.{may_try, tries_fall, try_advances}
+use Rattle.std.proofs.Common.{refl}
+use Rattle.page_lock.proofs.PageTries.{try_advances}
 use Rattle.wait_model.specs.declared.steps.Step.TheVariants as step
 use Rattle.wait_model.specs.declared.watches.Watch.TheVariants as watch
 use Rattle.wait_class.proofs.{Handed.given_step, AwakeSteps.awake_step}
 use Rattle.page_lock.proofs.waits.try_event.Goals as goal
 
-pub bit_set-value-requires-clause-agreed : goal.bit_set-value-requires-clause-agreed
-bit_set-value-requires-clause-agreed c = may_try c.args.task.now c.args.run.now c.args.stage c.requires.at
-
 pub returns-clause-turned : goal.returns-clause-turned
 returns-clause-turned c = try_advances c.args.task.now c.bit_set-value.new.task c.args.run.now c.args.stage
     c.requires.here c.requires.at c.bit_set-value.result c.bit_set-value.ensures.step c.bit_set-value.ensures.sets
     c.bit_at.result c.bit_at.ensures c.tried_to.result c.tried_to.ensures
-
-pub returns-clause-falls : goal.returns-clause-falls
-returns-clause-falls c = ap (falls page_table c.args.stage) c.tried_to.ensures
-    ∙ tries_fall c.args.stage c.requires.here c.bit_at.result
 
 pub returns-clause-given : goal.returns-clause-given
 returns-clause-given c = given_step c.args.task.now c.bit_set-value.new.task

@@ -1,13 +1,10 @@
 use Rattle.std.proofs.Common.{refl}
-use Rattle.page_lock.proofs.PageFlags.{clear_advances, may_clear}
+use Rattle.page_lock.proofs.PageFlags.{clear_advances}
 use Rattle.std.specs.Prelude.{None}
 use Rattle.wait_model.specs.declared.steps.Step.TheVariants as step
 use Rattle.wait_rule.specs.Queues.{index}
 use Rattle.wait_class.proofs.{Handed.given_step, AwakeSteps.awake_step}
 use Rattle.page_lock.proofs.waits.unflag_event.Goals as goal
-
-pub woken_clear-requires-clause-may : goal.woken_clear-requires-clause-may
-woken_clear-requires-clause-may c = may_clear c.args.task.now c.args.run.now c.requires.at
 
 pub returns-clause-turned : goal.returns-clause-turned
 returns-clause-turned c = clear_advances c.args.task.now c.woken_clear.new.task c.args.run.now

@@ -1,6 +1,4 @@
 use Rattle.std.proofs.Common.{◌∙◌, ◌≤◌, ℕ, ap, subst, sym}
-use Rattle.std.proofs.lemmas.Result.{err_from_is_err_and}
-use Rattle.std.specs.Prelude.{Some}
 use Rattle.wait_model.specs.declared.layout.TheConstants.{FIRST_SIMPLE_HEAD}
 use Rattle.wait_rule.specs.Says.{unlocked_with}
 use Rattle.wq_head.specs.{Roused.RousesNone, Selects.HasSelected}
@@ -8,16 +6,6 @@ use Rattle.wq_head.proofs.{PermitHeads.owes_low, RousedTasks.none_unlocked, Rous
 use Rattle.swait_queue.specs.SwakeTurns.{swake_head}
 use Rattle.swait_queue.proofs.{SimpleWakeEnds.cond_low, SimpleWakeEnds.may_rise, SwakeHolds.high, SwakeHolds.is_over}
 use Rattle.swait_queue.proofs.swake_turns.hold.Goals as goal
-
-pub select_tries-requires-clause-up : goal.select_tries-requires-clause-up
-select_tries-requires-clause-up c = c.requires.holds.1.took.up
-
-pub select_tries-requires-clause-held : goal.select_tries-requires-clause-held
-select_tries-requires-clause-held c = c.requires.holds.1.took.held
-
-pub select_tries-requires-clause-head : goal.select_tries-requires-clause-head
-select_tries-requires-clause-head c =
-    c.head_of-head.ensures ∙ sym c.requires.holds.1.took.carries.at
 
 pub select_tries-requires-clause-simple : goal.select_tries-requires-clause-simple
 select_tries-requires-clause-simple c = subst (λ (n : ℕ). FIRST_SIMPLE_HEAD ≤ n) (sym c.head_of-head.ensures)
@@ -45,27 +33,9 @@ returns-clause-over c start i =
     c.in_ok-selected.ensures.selected) c.select_tries.ensures.hold c.select_tries.ensures.keeps
     (c.give_back.ensures.given ∙ ap (unlocked_with last last.at) c.is_swake_spent.ensures)
 
-pub returns-clause-passes : goal.returns-clause-passes
-returns-clause-passes c =
-    c.put.ensures ∙ (c.give_back.ensures.head ∙ (c.select_tries.ensures.carries.at ∙ c.requires.holds.1.took.carries.at))
-
 pub returns-clause-rouses : goal.returns-clause-rouses
 returns-clause-rouses c =
     let last = c.select_tries.new.task in
     rousing_on c.args.task.now last c.give_back.new.task c.select_tries.new.rousing
     (subst (RousesNone last) (sym c.give_back.ensures.given) (none_unlocked last last.at c.is_swake_spent.result))
     c.select_tries.ensures.rouses
-
--- where the tries of a wake failed
-pub returns-in_err-selected-clause-over : goal.returns-in_err-selected-clause-over
-returns-in_err-selected-clause-over c start i =
-    let p = err_from_is_err_and c.from_residual.result c.from_residual.ensures.1 in
-    rw (p.1, p.2) (record {
-      tries = c.in_err-selected.ensures.starved;
-      held = c.select_tries.ensures.held.locked ∙ ap Some (c.select_tries.ensures.carries.at ∙ i.took.carries.at);
-    })
-
-pub returns-in_err-selected-clause-passes : goal.returns-in_err-selected-clause-passes
-returns-in_err-selected-clause-passes c =
-    let p = err_from_is_err_and c.from_residual.result c.from_residual.ensures.1 in
-    rw p.1 c.requires.passes

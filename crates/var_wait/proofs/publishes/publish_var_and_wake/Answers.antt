@@ -3,15 +3,12 @@ use Rattle.wait_model.specs.declared.layout.TheConstants.{HEADS}
 use Rattle.wait_model.specs.declared.watches.Watch.TheVariants as watch
 use Rattle.wq_head.specs.Scanned.{HasEndedAt, HasScanned}
 use Rattle.wait_class.proofs.WatchHeads.{watch_fits}
-use Rattle.var_wait.proofs.Publishing.{silent, silent_leaves, walked_leaves, walked_on}
+use Rattle.var_wait.proofs.Publishing.{silent, silent_leaves, walked_on}
 use Rattle.var_wait.proofs.publishes.publish_var_and_wake.Goals as goal
 
 pub active-requires-clause-head : goal.active-requires-clause-head
 active-requires-clause-head g c = subst (λ (n : ℕ). n < HEADS) (sym c.head_of.ensures)
     (watch_fits (watch.Var c.args.var 0) c.requires.there)
-
-pub wake-requires-clause-full : goal.wake-requires-clause-full
-wake-requires-clause-full g c = c.requires.there
 
 pub returns-then-active-clause-published : goal.returns-then-active-clause-published
 returns-then-active-clause-published g c =
@@ -34,9 +31,3 @@ returns-else-active-clause-carries g c = silent_leaves (watch.Var c.args.var 0) 
     c.active.new.task c.requires.idle (c.told.ensures.head ∙ c.requires.idle.free.head) c.publish.ensures.carries
     (subst (HasEndedAt c.publish.new.task c.active.new.task) c.head_of.ensures
     (c.active.ensures.ended c.if-active.false)) c.active.ensures.carries
-
-pub returns-then-active-clause-carries : goal.returns-then-active-clause-carries
-returns-then-active-clause-carries g c = walked_leaves (watch.Var c.args.var 0) c.args.task.now c.publish.new.task
-    c.active.new.task c.wake.new.task c.requires.idle c.wake.ensures.idle
-    (c.told.ensures.head ∙ c.requires.idle.free.head) c.publish.ensures.carries c.active.ensures.carries
-    c.wake.ensures.carries

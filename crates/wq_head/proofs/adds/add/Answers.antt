@@ -1,8 +1,8 @@
 use Rattle.std.proofs.Common.{◌≡◌, subst, sym, true}
-use Rattle.wait_model.specs.{declared.queues.Form.Form, declared.watches.Entry.Entry}
+use Rattle.wait_model.specs.{declared.watches.Entry.Entry}
 use Rattle.wait_rule.specs.Pages.{uses_flag}
 use Rattle.wait_rule.proofs.KnownLaws.AskedPages.{asks_no_page}
-use Rattle.wq_head.specs.Adds.{IsFormPlace, entry_by}
+use Rattle.wq_head.specs.Adds.{IsFormPlace}
 use Rattle.wq_head.proofs.{AddedEntries.added_holds, AddedEntries.form_queued, AskedHolds.looks_unasked}
 use Rattle.wq_head.proofs.{OneMoreLook.holding_on, PermitHeads.looks_found, WornNotes.form_note}
 use Rattle.wq_head.proofs.adds.add.Goals as goal

@@ -1,5 +1,4 @@
 use Rattle.std.proofs.Common.{refl, false, arith}
-use Rattle.wait_model.specs.declared.layout.TheConstants.{WORD_BITS}
 use Rattle.wq_head.proofs.{BitLooks.clear_on, BitLooks.saw_word, FoundMembers.found_none, OneMoreLook.holding_on}
 use Rattle.wq_head.proofs.OneMoreLook.{looks_on}
 use Rattle.wq_head.proofs.found_queues.clear_words.Goals as goal

@@ -1,4 +1,3 @@
-use Rattle.wait_rule.specs.Tickets.{drawn}
 use Rattle.wq_head.proofs.LockWaits.{waited_none, waited_more, turn_on}
 use Rattle.wq_head.proofs.locks.await_turn.Goals as goal
 

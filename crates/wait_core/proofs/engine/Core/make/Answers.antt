@@ -1,6 +1,6 @@
 use Rattle.std.specs.Prelude.{◌<◌}
 use Rattle.wait_model.specs.{declared.layout.TheConstants.TASKS, Runs.state_of}
-use Rattle.std.proofs.Common.{arith, sym, append-nil, ap}
+use Rattle.std.proofs.Common.{arith, sym, append-nil}
 use Rattle.wait_core.proofs.{KeptCore.sound, KeptBits.page_small, FollowedRuns.left_by, FollowedRuns.left_now}
 use Rattle.wait_core.proofs.StepAnswers.{planned_here, opened_again, shown_in, busy, full, made, stepped_core}
 use Rattle.wait_core.proofs.StepAnswers.{stepped_keepers, stepped_taken, grown_run, room_left, plan_allowed, plan_joins}

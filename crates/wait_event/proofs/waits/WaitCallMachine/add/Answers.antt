@@ -2,7 +2,7 @@ use Rattle.std.proofs.Common.{◌∙◌, ◌<◌, ap, subst, sym}
 use Rattle.wait_model.specs.{declared.layout.TheConstants.FIRST_DONE_HEAD, Watches.head_of}
 use Rattle.std.specs.Prelude.{ℕ}
 use Rattle.wait_class.proofs.Ground.Standing.{bare_head}
-use Rattle.wait_event.proofs.{Conditions.wait_for, PermitHeads.run_low, WaitAdds.adds_own}
+use Rattle.wait_event.proofs.{PermitHeads.run_low, WaitAdds.adds_own}
 use Rattle.wait_event.proofs.waits.WaitCallMachine.add.Goals as goal
 
 pub add_by-requires-clause-head : goal.add_by-requires-clause-head

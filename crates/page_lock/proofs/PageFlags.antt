@@ -14,7 +14,7 @@ use Rattle.wait_model.specs.declared.points.PagePoint.TheVariants as paging
 use Rattle.wait_model.specs.declared.points.Point.TheVariants as at
 use Rattle.wait_model.specs.declared.steps.Step.TheVariants as step
 use Rattle.wait_rule.specs.declared.journal.Item.TheVariants as item
-use Rattle.wait_rule.specs.{Bits.KeepsBitOf, Known.Known, Queues.MayClearFlag, Queues.index, Quiet.is_quiet_at}
+use Rattle.wait_rule.specs.{Bits.KeepsBitOf, Known.Known, Queues.index, Quiet.is_quiet_at}
 use Rattle.wait_rule.specs.{Quiet.is_told, Transitions.IsMadeFor, Transitions.by_step}
 use Rattle.wait_rule.specs.Asked.{ask_step, was_given_at, nothing_asked, was_given}
 use Rattle.wait_rule.specs.PageCalls.{QueuesNoPage, ShowsGiven, ShowsNoFlag}
@@ -25,7 +25,7 @@ use Rattle.wait_rule.proofs.{KnownLaws.ToldFlags.told_more, KnownLaws.TaskHistor
 use Rattle.wait_rule.proofs.KnownLaws.Transitions.{only_none}
 use Rattle.wait_class.specs.{Posts.own_of, Findings.saw_nothing, declared.stages.Run.Run, Laws.IsPlainTurn}
 use Rattle.wait_class.specs.Laws.{turn_post}
-use Rattle.wait_class.specs.Tables.{IsAt, Turned, falls, post_of}
+use Rattle.wait_class.specs.Tables.{IsAt, Turned, post_of}
 use Rattle.wait_class.proofs.{Ground.Keeping.keeps_of, Histories.ends_more, OwnSteps.own_goes, OwnSteps.stands_same}
 use Rattle.wait_class.proofs.{Turns.GoesOn, Turns.advance_by, Wholes.none_of}
 use Rattle.wait_class.specs.declared.stages.Turn.TheVariants as turn
@@ -49,10 +49,6 @@ queues_none k c home e is =
 step_keeps : (old new : Known) (c : Watch) → Carries unchanged old new → PageKeeps (own_of old) c false false old new
 step_keeps old new c carries = page_keeps_of (own_of old) c false old new (keeps_of (own_of old) unchanged old new carries
     (λ w. refl) (λ x away. refl) (λ x. carries.owes (with_entry (own_of old) x)))
-
--- the flag is cleared
-pub may_clear : (old : Known) (r : Run LockPage) → IsAt page_table old r stage.Unflag → MayClearFlag old 0
-may_clear old r a = inl a.trail.0
 
 or_right : (a b : Bool) → b ≡ true → (a || b) ≡ true
 or_right true b is = refl
@@ -290,23 +286,6 @@ plain_flags r stage.Flag own hit = plain_turns hit (looks_in r.state)
 plain_flags r stage.Last own hit = plain_last hit
 plain_flags r s own hit = absurd own
 
-turns_fall : (hit looks : Bool) → falls page_table stage.Flag (if hit then turn.Again stage.FinishState
-    else if looks then turn.Again stage.Look else turn.Again stage.Sleep) ≡ true
-turns_fall true looks = refl
-turns_fall false true = refl
-turns_fall false false = refl
-
-last_falls : (hit : Bool) → falls page_table stage.Last (if hit then turn.Again stage.Clear
-    else turn.Done outcome.Interrupted) ≡ true
-last_falls true = refl
-last_falls false = refl
-
-pub flags_fall : (r : LockPage) (s : PageStage) → FlagsAt s → (hit : Bool)
-    → falls page_table s (flagged_to r s hit) ≡ true
-flags_fall r stage.Flag own hit = turns_fall hit (looks_in r.state)
-flags_fall r stage.Last own hit = last_falls hit
-flags_fall r s own hit = absurd own
-
 pub flag_advances : (old new : Known) (r : Run LockPage) (s : PageStage) → FlagsAt s → IsAt page_table old r s → (w : ℕ)
     → new ≡ added old (item.Made (step.Flag (own_of old) w)) → Carries unchanged old new
     → ShowsGiven old (own_of old) w → ShowsNoFlag old (own_of old) w → (hit : Bool) → hit ≡ flag_of w → (u : PageTurn)
@@ -324,9 +303,6 @@ pub note_given : (old : Known) (r : Run LockPage) → IsAt page_table old r stag
     → was_given_at (own_of old) (asks_for old) ≡ Some r.of.page
 note_given old r a = ap (was_given_at (own_of old)) a.trail
     ∙ ap (λ (b : Bool). if b then Some r.of.page else None) (same_number (own_of old))
-
-pub note_off : (old : Known) (r : Run LockPage) → IsAt page_table old r stage.Clear → QueuesNoPage old (own_of old)
-note_off old r a = queues_none old (page_in r.of) a.stands.home
 
 module _ (old : Known) (run : Run LockPage) (a : IsAt page_table old run stage.Clear) where
   abbrev n : Step

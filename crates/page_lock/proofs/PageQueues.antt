@@ -1,6 +1,6 @@
 -- The own entry is queued at the tail, and taken off in the same hold. Where no place is left the head is given back.
-use Rattle.std.proofs.Common.{◌∙◌, ap, sym, refl, subst, inl, eq-eqb}
-use Rattle.std.specs.Prelude.{ℕ, ◌≡◌, ◌&&◌, ◌==◌, not, Bool, true, false, if◌then◌else◌, Some, None}
+use Rattle.std.proofs.Common.{◌∙◌, ap, sym, refl, subst, eq-eqb}
+use Rattle.std.specs.Prelude.{ℕ, ◌≡◌, ◌&&◌, ◌==◌, not, Bool, true, false, if◌then◌else◌, None}
 use Rattle.std.specs.Prelude.{List, [], ◌∷◌, ◌++◌}
 use Rattle.wait_model.specs.declared.queues.Form.TheVariants as forms
 use Rattle.wait_model.specs.declared.steps.Step.TheVariants as step
@@ -10,10 +10,10 @@ use Rattle.wait_model.specs.PointFacts.{IsHome, absent, seated}
 use Rattle.wait_model.specs.declared.watches.Kind.TheVariants as kind
 use Rattle.wait_model.proofs.Functions.{put_same}
 use Rattle.wait_rule.specs.{declared.journal.Item.Item, Ends.WasWorn, HandedPermits.OwesNoPermit, Items.steps_of}
-use Rattle.wait_rule.specs.{Known.Known, Queues.MayUnqueue, Queues.index, Quiet.is_quiet_at, Transitions.AreLooks}
+use Rattle.wait_rule.specs.{Known.Known, Queues.index, Quiet.is_quiet_at, Transitions.AreLooks}
 use Rattle.wait_rule.specs.Transitions.{OnlyLooks}
 use Rattle.wait_rule.specs.Asked.{ask_step, nothing_asked, waits_for}
-use Rattle.wait_rule.specs.Says.{AsksNoPage, added, asks_for, history_of, stored_with, told_of, unlocked_with}
+use Rattle.wait_rule.specs.Says.{added, asks_for, history_of, stored_with, told_of, unlocked_with}
 use Rattle.wait_rule.specs.Stays.{Carries, only_looks, take_off_change}
 use Rattle.wait_rule.specs.declared.journal.Item.TheVariants as item
 use Rattle.wait_rule.proofs.{TableSteps.ItemLists.steps_append, KnownLaws.MemberBits.told_stored}
@@ -36,7 +36,7 @@ use Rattle.page_lock.specs.{PageEnds.are_calm, declared.waits.LockPage.LockPage}
 use Rattle.page_lock.specs.PageTables.{HasJoinedPage, IsQuiet, page_head_in, page_in, page_table}
 use Rattle.page_lock.specs.declared.waits.PageStage.TheVariants as stage
 use Rattle.page_lock.proofs.{PageLaws.page_lawful, PageTrails.asks_more, PageTrails.quiet_on}
-use Rattle.page_lock.proofs.PageGround.{page_keeps_on, page_keeps_queued, page_stays, unasked_asks}
+use Rattle.page_lock.proofs.PageGround.{page_keeps_on, page_keeps_queued, page_stays}
 
 -- the steps of looks are calm
 looks_calm : (xs : List Item) → AreLooks xs → are_calm (steps_of xs) ≡ true
@@ -170,21 +170,6 @@ module _ (old : Known) (run : Run LockPage) (a : IsAt page_table old run stage.Q
           },
         )
 
--- for the code
-pub queue_out : (old : Known) (r : Run LockPage) → IsAt page_table old r stage.Queue
-    → (told_of old).bits.stored (own_of old) ≡ None
-queue_out old r a = out_old old r a
-
-pub queue_holds : (old : Known) (r : Run LockPage) → IsAt page_table old r stage.Queue → IsHolding old
-queue_holds old r a = record {
-  locked = a.stands.head ∙ ap Some (sym (a.stands.at (page_head_in r.of) refl));
-  agreed = a.stands.agreed (page_head_in r.of) refl;
-  told = a.stands.told ∙ ap Some (sym (a.stands.at (page_head_in r.of) refl));
-}
-
-pub queue_asks : (old : Known) (r : Run LockPage) → IsAt page_table old r stage.Queue → AsksNoPage old
-queue_asks old r a = unasked_asks old a.trail.0
-
 pub worn_owes : (old mid : Known) (r : Run LockPage) → IsAt page_table old r stage.Queue → mid.at ≡ old.at
     → OwesNoPermit mid
 worn_owes old mid r a same = owes_low mid (page_head_in r.of) (same ∙ a.stands.at (page_head_in r.of) refl) (page_low r.of.page)
@@ -202,22 +187,6 @@ pub worn_advances : (old mid new : Known) (r : Run LockPage) → IsAt page_table
 worn_advances old mid new r a w worn held unasked is noted = advance_by page_table old new r
     (record r { of = record r.of { place = w.place } }) stage.Queue (turn.Again stage.Worn) refl a.fits refl
     (worn_from old r a mid new w worn held unasked is noted)
-
--- taken off in the hold in which it was queued
-pub off_may : (old : Known) (r : Run LockPage) → IsAt page_table old r stage.Off → (me : ℕ) → me ≡ old.view.number
-    → MayUnqueue old me 0
-off_may old r a me mine = record {
-  entry = a.trail.entry;
-  shows = ap (λ (n : ℕ). (told_of old).hold.book (index n 0)) mine ∙ a.trail.shows;
-  may = inl mine;
-}
-
-pub off_holds : (old : Known) (r : Run LockPage) → IsAt page_table old r stage.Off → IsHolding old
-off_holds old r a = record {
-  locked = a.stands.head ∙ ap Some (sym (a.stands.at (page_head_in r.of) refl));
-  agreed = a.stands.agreed (page_head_in r.of) refl;
-  told = a.stands.told ∙ ap Some (sym (a.stands.at (page_head_in r.of) refl));
-}
 
 -- who takes its entry off itself asks for no page
 stored_asks : (old new : Known) (x p : ℕ) → new ≡ stored_with old (step.Unqueue x) → asks_for old ≡ waits_for x p

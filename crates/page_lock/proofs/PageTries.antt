@@ -12,7 +12,7 @@ use Rattle.wait_model.specs.declared.points.Next.TheVariants as next
 use Rattle.wait_model.specs.declared.points.Point.TheVariants as at
 use Rattle.wait_model.specs.declared.steps.Step.TheVariants as step
 use Rattle.wait_rule.specs.declared.journal.Item.TheVariants as item
-use Rattle.wait_rule.specs.{Bits.KeepsBitOf, Bits.SetsBit, Known.Known, Queues.IsAgreedHold, Queues.index}
+use Rattle.wait_rule.specs.{Bits.KeepsBitOf, Bits.SetsBit, Known.Known, Queues.index}
 use Rattle.wait_rule.specs.{Quiet.is_quiet_at, Transitions.IsMadeFor, Transitions.by_step}
 use Rattle.wait_rule.specs.Says.{added, asks_for, history_of, told_of}
 use Rattle.wait_rule.proofs.{KnownLaws.AfterSteps.told_added, KnownLaws.AskedPages.asked_added}
@@ -20,7 +20,7 @@ use Rattle.wait_rule.proofs.{KnownLaws.QuietFlags.quiet_more, KnownLaws.TaskHist
 use Rattle.wait_rule.proofs.{KnownLaws.Transitions.only_none, WornHeads.WornNotes.notes_stay}
 use Rattle.wait_class.specs.{Posts.own_of, Findings.with_value, declared.stages.Run.Run, Laws.IsPlainTurn}
 use Rattle.wait_class.specs.Laws.{turn_post}
-use Rattle.wait_class.specs.Tables.{IsAt, Turned, falls, post_of}
+use Rattle.wait_class.specs.Tables.{IsAt, Turned, post_of}
 use Rattle.wait_class.proofs.{Histories.ends_more, OwnSteps.own_goes, OwnSteps.stands_same, Turns.GoesOn}
 use Rattle.wait_class.proofs.Turns.{advance_by}
 use Rattle.wait_class.specs.declared.stages.Turn.TheVariants as turn
@@ -30,10 +30,6 @@ use Rattle.page_lock.specs.PageTables.{tries_page}
 use Rattle.page_lock.specs.declared.waits.PageOutcome.TheVariants as outcome
 use Rattle.page_lock.specs.declared.waits.PageStage.TheVariants as stage
 use Rattle.page_lock.proofs.{PageGround.page_keeps_set, PageTrails.over_end}
-
--- the page may be tried, in a hold or outside of one
-pub may_try : (old : Known) (r : Run LockPage) (s : PageStage) → IsAt page_table old r s → IsAgreedHold old
-may_try old r s a h at = a.stands.agreed h (sym a.stands.head ∙ at)
 
 -- an entry that is seated may be one that waits
 seated_waits : (c : Watch) (o : Option Entry) → IsHome seated c o → IsHome pages c o
@@ -175,15 +171,6 @@ plain_tries stage.Try own false = refl
 plain_tries stage.Worn own true = tt
 plain_tries stage.Worn own false = tt
 plain_tries s own b = absurd own
-
-pub tries_fall : (s : PageStage) → TriesAt s → (b : Bool) → falls page_table s (page_tried_to s b) ≡ true
-tries_fall stage.First own true = refl
-tries_fall stage.First own false = refl
-tries_fall stage.Try own true = refl
-tries_fall stage.Try own false = refl
-tries_fall stage.Worn own true = refl
-tries_fall stage.Worn own false = refl
-tries_fall s own b = absurd own
 
 pub try_advances : (old new : Known) (r : Run LockPage) (s : PageStage) → TriesAt s → IsAt page_table old r s → (v : ℕ)
     → new ≡ added old (item.Made (step.Consume (page_in r.of) 1 v))

@@ -1,10 +1,10 @@
 -- The end of a wake of a simple queue: its transitions, and what it carries on.
-use Rattle.std.proofs.Common.{◌∙◌, ap, sym, refl, subst, inl, inr, eqb-true, arith}
+use Rattle.std.proofs.Common.{◌∙◌, ap, sym, refl, subst, inl, inr, arith}
 use Rattle.std.proofs.lemmas.Bool.Decides.{nat_tests}
 use Rattle.std.specs.Prelude.{ℕ, ◌≡◌, ◌≢◌, ◌<◌, ◌≤◌, ◌⊎◌, ◌==◌, ◌&&◌, not, Bool, true, false, None, [], ◌∷◌, pos}
 use Rattle.wait_model.specs.declared.layout.TheConstants.{FIRST_DONE_HEAD}
 use Rattle.wait_model.specs.{declared.layout.TheConstants.FIRST_SIMPLE_HEAD, declared.calls.Call.Call}
-use Rattle.wait_model.specs.{declared.watches.Watch.Watch, Points.count_of, Watches.head_of, Words.flag}
+use Rattle.wait_model.specs.{declared.watches.Watch.Watch, Points.count_of, Watches.head_of}
 use Rattle.wait_model.specs.Views.{View as Told}
 use Rattle.wait_model.specs.declared.calls.Answer.TheVariants as answer
 use Rattle.wait_model.specs.declared.calls.Call.TheVariants as calls
@@ -18,7 +18,7 @@ use Rattle.wait_rule.specs.Queues.{IsIdle, IsWholeBook, MayRise, simple_watch, w
 use Rattle.wait_rule.specs.Stays.{Carries, Stays, wake_all_change, no_entries}
 use Rattle.wait_rule.proofs.{KnownLaws.StayingParts.stays_on, KnownLaws.Transitions.goes_on}
 use Rattle.wq_head.specs.Holds.{HasLocked}
-use Rattle.wq_head.specs.Selects.{EndsSelection, HasSelected, IsSimpleHold, KeepsHold, ShowsNoEntry}
+use Rattle.wq_head.specs.Selects.{HasSelected, IsSimpleHold, KeepsHold, ShowsNoEntry}
 use Rattle.wq_head.proofs.LockWaits.{locked_at, locked_stays, locked_told}
 use Rattle.wq_head.proofs.SelectedRuns.{at_next, lock_goes, lock_transition, selected_ends}
 use Rattle.wq_head.proofs.SimpleHolds.{own_plain, simple_carried, simple_idle}
@@ -50,23 +50,6 @@ pub may_rise : (k : Known) (all : Bool) (n : ℕ) → (0 < n → MayRise k true)
     → MayRise k b
 may_rise k all n rises true is = rises (and_some n (n == most_of all) (sym is))
 may_rise k all n rises false is = record { used = λ no. absurd (cc); counts = λ w under no. absurd (cc) }
-
--- a number that is at most 1 is that of whether it is not 0
-pub flag_of_one : (n : ℕ) (b : Bool) → n ≤ 1 → b ≡ not (n == 0) → flag b ≡ n
-flag_of_one n true few is = by (n == 0) refl is
-  where
-    by : (z : Bool) → (n == 0) ≡ z → true ≡ not z → 1 ≡ n
-    by true none yes_it = absurd (cc)
-    by false some yes_it = let low : 0 < n = grind (arith, nat_tests) in omega (arith, low, few)
-flag_of_one n false few is = by (n == 0) refl is
-  where
-    by : (z : Bool) → (n == 0) ≡ z → false ≡ not z → 0 ≡ n
-    by true none no_it = sym (eqb-true n 0 none)
-    by false some no_it = absurd (cc)
-
-pub one_at_most : (k : Known) (n : ℕ) → EndsSelection k 1 n → n ≤ 1
-one_at_most k n (inl enough) = let e = enough.1 in omega (arith, e)
-one_at_most k n (inr none) = let few = none.1 (λ no_one. omega (arith, no_one)) in omega (arith, few)
 
 spent_is : (all : Bool) (n : ℕ) → most_of all ≢ 0 → n ≡ most_of all → is_swake_spent all n ≡ true
 spent_is true n some all_of = absurd (some refl)

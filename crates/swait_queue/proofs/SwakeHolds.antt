@@ -6,24 +6,16 @@ use Rattle.wait_model.specs.declared.watches.Mode.TheVariants as mode
 use Rattle.wait_model.specs.declared.watches.Watch.TheVariants as watch
 use Rattle.wait_model.specs.Watches.{head_of}
 use Rattle.wait_rule.specs.{Known.Known, Stays.Carries, Stays.wake_all_change}
-use Rattle.wait_rule.specs.Says.{IsFree, IsUp, unlocked_with}
+use Rattle.wait_rule.specs.Says.{unlocked_with}
 use Rattle.wait_rule.proofs.KnownLaws.CarriedCounts.{excused_more}
 use Rattle.wait_class.proofs.WatchHeads.{head_fits}
 use Rattle.wq_head.specs.LockTurns.{AwaitsLock, TookLock}
 use Rattle.wq_head.specs.Selects.{HasSelected, IsSimpleHold, KeepsHold}
-use Rattle.swait_queue.specs.{declared.swake_turns.SwakeRun.SwakeRun, declared.swake_turns.SwakeTurn.SwakeTurn}
+use Rattle.swait_queue.specs.{declared.swake_turns.SwakeRun.SwakeRun}
 use Rattle.swait_queue.specs.{SimpleWaits.IsSimpleCond, SimpleWakes.is_swake_spent, SimpleWakes.most_of}
-use Rattle.swait_queue.specs.SwakeTurns.{HasSwakeTurned, HoldsForSwake, IsAtSwake, IsSwakeOver, SwakeRests, swake_head}
+use Rattle.swait_queue.specs.SwakeTurns.{HoldsForSwake, IsAtSwake, IsSwakeOver, swake_head}
 use Rattle.swait_queue.specs.declared.swake_turns.SwakeStage.TheVariants as stage
-use Rattle.swait_queue.specs.declared.swake_turns.SwakeTurn.TheVariants as turn
 use Rattle.swait_queue.proofs.SimpleWakeEnds.{ends_wake, head_simple, wake_carries, wake_idle}
-
--- before the draw the task is as the wake began
-pub first_up : (start now : Known) (r : SwakeRun) → IsAtSwake start now r stage.First → IsUp now
-first_up start now r at = subst IsUp (sym at.stands) at.up
-
-pub first_free : (start now : Known) (r : SwakeRun) → IsAtSwake start now r stage.First → IsFree now
-first_free start now r at = subst IsFree (sym at.stands) at.idle.free
 
 -- after it
 pub draws : (start now new : Known) (r : SwakeRun) (h n : ℕ) → h ≡ swake_head r → AwaitsLock now new h n
@@ -86,9 +78,3 @@ module _ (start locked last new : Known) (r : SwakeRun) (n : ℕ) (i : HoldsForS
     carries = carries;
     owing = λ x owes. carries.owes x (excused_more (watch.Plain r.cond) x start owes);
   }
-
--- where a stretch leaves it, for who knows only that it began
-pub rests_of : (start now : Known) (r s : SwakeRun) (t : SwakeTurn) → HasSwakeTurned start now r s t → SwakeRests now s t
-rests_of start now r s turn.Locked h = (start, h.turns)
-rests_of start now r s (turn.Done n) h = (h.turns.up, h.turns.idle)
-rests_of start now r s (turn.Starved failed) h = h.turns

@@ -1,6 +1,6 @@
 -- A variable is published, its head looked at without the lock, and its waiters woken.
 use Rattle.std.proofs.Common.{◌∙◌, ap, eq-eqb, sym, refl, subst, arith}
-use Rattle.std.specs.Prelude.{ℕ, ◌≡◌, ◌<◌, ◌==◌, ◌&&◌, not, min, Bool, true, false, Some, None, List, [], ◌∷◌}
+use Rattle.std.specs.Prelude.{ℕ, ◌≡◌, ◌<◌, ◌==◌, ◌&&◌, not, min, Bool, true, false, None, List, [], ◌∷◌}
 use Rattle.wait_model.specs.declared.calls.Answer.TheVariants as answer
 use Rattle.wait_model.specs.declared.calls.Call.TheVariants as calls
 use Rattle.wait_model.specs.declared.points.Point.TheVariants as at
@@ -12,9 +12,8 @@ use Rattle.wait_model.specs.declared.steps.Step.TheVariants as step
 use Rattle.wait_model.specs.declared.watches.Mode.TheVariants as mode
 use Rattle.wait_model.specs.declared.watches.Watch.TheVariants as watch
 use Rattle.wait_rule.specs.{declared.journal.Item.Item, Items.Book, Items.book_from, Known.Known, Queues.IsIdle}
-use Rattle.wait_rule.specs.Queues.{index}
 use Rattle.wait_rule.specs.Says.{added, grown, told_of}
-use Rattle.wait_rule.specs.Stays.{Carries, publish_change, unchanged, wake_all_change, with_wakes}
+use Rattle.wait_rule.specs.Stays.{Carries, publish_change, unchanged, wake_all_change}
 use Rattle.wait_rule.specs.Transitions.{AreScansOf, Program, by_look, by_step, call_program}
 use Rattle.wait_rule.specs.declared.journal.Item.TheVariants as item
 use Rattle.wait_rule.proofs.KnownLaws.Transitions.{only_none}
@@ -179,36 +178,3 @@ silent_leaves c before stored looked idle held publishes ended still =
     let quiet = set_idle c before stored idle publishes in
     set_carries c mode.Normal before stored looked idle (still_idle c stored looked ended still quiet) held publishes
     (silent_carries c stored looked ended still quiet (publishes.hold ∙ held))
-
--- what a publish leaves, and then a look that changes nothing
-published_on : (c : Watch) (x y z : Known) → Carries (publish_change c) x y → Carries unchanged y z
-    → Carries (publish_change c) x z
-published_on c x y z a b = record {
-  domain = b.domain ∙ a.domain;
-  number = b.number ∙ a.number;
-  awake = b.awake ∙ a.awake;
-  state = b.state ∙ a.state;
-  head = b.head ∙ a.head;
-  ticket = b.ticket ∙ a.ticket;
-  hold = b.hold ∙ a.hold;
-  at = b.at ∙ a.at;
-  mark = b.mark ∙ a.mark;
-  fewer = λ w σ p is. b.fewer w σ refl (a.fewer w σ p is);
-  stored = λ i none p. b.stored i none p ∙ a.stored i none p;
-  out = λ i p is. b.out i p (a.out i p is);
-  stands = λ slot few p e is own.
-      subst (λ (m : ℕ). (told_of z).bits.stored (index m slot) ≡ Some e) a.number
-      (b.stands slot few refl e
-      (subst (λ (m : ℕ). (told_of y).bits.stored (index m slot) ≡ Some e) (sym a.number)
-      (a.stands slot few p e is own)) own);
-  keeps = λ d p. b.keeps d refl ∙ a.keeps d p;
-  owes = λ f o. b.owes (with_wakes c mode.Normal f) (a.owes f o);
-}
-
--- the whole call where some were found
-pub walked_leaves : (c : Watch) (before stored looked new : Known) → IsIdle before → IsIdle new
-    → (told_of before).hold.head ≡ None → Carries (publish_change c) before stored → Carries unchanged stored looked
-    → Carries (wake_all_change c mode.Normal new.at) looked new → Carries (set_change c mode.Normal new.at) before new
-walked_leaves c before stored looked new idle behind held publishes still wakes =
-    set_carries c mode.Normal before looked new idle behind held (published_on c before stored looked publishes still)
-    wakes

@@ -1,13 +1,9 @@
 use Rattle.std.proofs.Common.{subst, sym}
 use Rattle.std.specs.Prelude.{◌||◌}
-use Rattle.wq_checked.specs.{Calls.CameFrom, Calls.IsRunningSound, Outs.WentOut, declared.calls.Running.Running}
+use Rattle.wq_checked.specs.{Calls.CameFrom, Calls.IsRunningSound, declared.calls.Running.Running}
 use Rattle.wq_checked.specs.Advancing.{cell_left, cell_shown, swake_left, swake_shown, wake_left, wake_shown}
 use Rattle.wq_checked.proofs.{CellTurns.cell_turns, Going.went_as, SwakeTurns.swake_turns, WakeTurns.wake_turns}
 use Rattle.wq_checked.proofs.advances.go_on.Goals as goal
-
-pub wake_stretch-turn-requires-clause-at : goal.wake_stretch-turn-requires-clause-at
-wake_stretch-turn-requires-clause-at c = wake_turns.at c.args.kept.now c.args.task.now c.in-Wake.run' c.in-Wake.stage
-    (subst (λ (r : Running). IsRunningSound r c.args.kept.now c.args.task.now) c.in-Wake.is c.requires.sound)
 
 pub returns-in-Wake-clause-sound : goal.returns-in-Wake-clause-sound
 returns-in-Wake-clause-sound c =
@@ -25,14 +21,6 @@ returns-in-Wake-clause-goes c may start first came =
     (wake_turns.goes may (c.args.asks || may) start first c.args.task.now t.new.task c.in-Wake.run' t.new.run c.in-Wake.stage
     t.result (subst (λ (r : Running). CameFrom may start first c.args.task.now r) c.in-Wake.is came) t.ensures.turned)
 
-pub returns-in-Wake-clause-asks : goal.returns-in-Wake-clause-asks
-returns-in-Wake-clause-asks c asked = subst (λ (r : Running). WentOut c.args.task.now r c.wake_stretch-turn.new.task
-    c.wake_leaves.result.0 c.wake_leaves.result.1) (sym c.in-Wake.is) tt
-
-pub swake_stretch-turn-requires-clause-at : goal.swake_stretch-turn-requires-clause-at
-swake_stretch-turn-requires-clause-at c = swake_turns.at c.args.kept.now c.args.task.now c.in-Swake.run' c.in-Swake.stage
-    (subst (λ (r : Running). IsRunningSound r c.args.kept.now c.args.task.now) c.in-Swake.is c.requires.sound)
-
 pub returns-in-Swake-clause-sound : goal.returns-in-Swake-clause-sound
 returns-in-Swake-clause-sound c =
     let t = c.swake_stretch-turn in
@@ -49,14 +37,6 @@ returns-in-Swake-clause-goes c may start first came =
     (swake_turns.goes may (c.args.asks || may) start first c.args.task.now t.new.task c.in-Swake.run' t.new.run c.in-Swake.stage
     t.result (subst (λ (r : Running). CameFrom may start first c.args.task.now r) c.in-Swake.is came) t.ensures.turned)
 
-pub returns-in-Swake-clause-asks : goal.returns-in-Swake-clause-asks
-returns-in-Swake-clause-asks c asked = subst (λ (r : Running). WentOut c.args.task.now r c.swake_stretch-turn.new.task
-    c.swake_leaves.result.0 c.swake_leaves.result.1) (sym c.in-Swake.is) tt
-
-pub cell_stretch-turn-requires-clause-at : goal.cell_stretch-turn-requires-clause-at
-cell_stretch-turn-requires-clause-at c = cell_turns.at c.args.kept.now c.args.task.now c.in-Cell.run' c.in-Cell.stage
-    (subst (λ (r : Running). IsRunningSound r c.args.kept.now c.args.task.now) c.in-Cell.is c.requires.sound)
-
 pub returns-in-Cell-clause-sound : goal.returns-in-Cell-clause-sound
 returns-in-Cell-clause-sound c =
     let t = c.cell_stretch-turn in
@@ -72,27 +52,3 @@ returns-in-Cell-clause-goes c may start first came =
     c.cell_leaves.result.1 (cell_shown t.new.run t.result) c.cell_leaves.ensures.left c.cell_leaves.ensures.shown
     (cell_turns.goes may (c.args.asks || may) start first c.args.task.now t.new.task c.in-Cell.run' t.new.run c.in-Cell.stage
     t.result (subst (λ (r : Running). CameFrom may start first c.args.task.now r) c.in-Cell.is came) t.ensures.turned)
-
-pub returns-in-Cell-clause-asks : goal.returns-in-Cell-clause-asks
-returns-in-Cell-clause-asks c asked = subst (λ (r : Running). WentOut c.args.task.now r c.cell_stretch-turn.new.task
-    c.cell_leaves.result.0 c.cell_leaves.result.1) (sym c.in-Cell.is) tt
-
-pub returns-in-Event-clause-asks : goal.returns-in-Event-clause-asks
-returns-in-Event-clause-asks c asked = subst (λ (r : Running). WentOut c.args.task.now r c.wait_on.new.task c.wait_on.result.0
-    c.wait_on.result.1) (sym c.in-Event.is) (c.wait_on.ensures.asks asked)
-
-pub returns-in-Bit-clause-asks : goal.returns-in-Bit-clause-asks
-returns-in-Bit-clause-asks c asked = subst (λ (r : Running). WentOut c.args.task.now r c.wait_on-in-Bit.new.task c.wait_on-in-Bit.result.0
-    c.wait_on-in-Bit.result.1) (sym c.in-Bit.is) (c.wait_on-in-Bit.ensures.asks asked)
-
-pub returns-in-Lock-clause-asks : goal.returns-in-Lock-clause-asks
-returns-in-Lock-clause-asks c asked = subst (λ (r : Running). WentOut c.args.task.now r c.wait_on-in-Lock.new.task c.wait_on-in-Lock.result.0
-    c.wait_on-in-Lock.result.1) (sym c.in-Lock.is) (c.wait_on-in-Lock.ensures.asks asked)
-
-pub returns-in-Page-clause-asks : goal.returns-in-Page-clause-asks
-returns-in-Page-clause-asks c asked = subst (λ (r : Running). WentOut c.args.task.now r c.wait_on-in-Page.new.task c.wait_on-in-Page.result.0
-    c.wait_on-in-Page.result.1) (sym c.in-Page.is) (c.wait_on-in-Page.ensures.asks asked)
-
-pub returns-in-Await-clause-asks : goal.returns-in-Await-clause-asks
-returns-in-Await-clause-asks c asked = subst (λ (r : Running). WentOut c.args.task.now r c.wait_on-in-Await.new.task c.wait_on-in-Await.result.0
-    c.wait_on-in-Await.result.1) (sym c.in-Await.is) (c.wait_on-in-Await.ensures.asks asked)

@@ -34,9 +34,6 @@ begin_page-run-requires-clause-out c = ready_out c.args.kept.now c.args.task.now
 pub begin_await-run-requires-clause-out : goal.begin_await-run-requires-clause-out
 begin_await-run-requires-clause-out c = ready_out c.args.kept.now c.args.task.now c.requires.ready
 
-pub begin_await-run-requires-clause-left : goal.begin_await-run-requires-clause-left
-begin_await-run-requires-clause-left c = c.requires.ready.off c.in-WaitFor.cell
-
 pub begin_page-run-requires-clause-asks : goal.begin_page-run-requires-clause-asks
 begin_page-run-requires-clause-asks c = ready_asks c.args.kept.now c.args.task.now c.requires.ready
 

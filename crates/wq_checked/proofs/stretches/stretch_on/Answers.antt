@@ -1,4 +1,3 @@
-use Rattle.std.proofs.Common.{◌∙◌, sym}
 use Rattle.std.specs.Prelude.{◌≡◌, true}
 use Rattle.wait_leave.specs.OnTheWay.{straight}
 use Rattle.wait_leave.proofs.Ways.{way_for}
@@ -7,11 +6,5 @@ use Rattle.wq_checked.proofs.stretches.stretch_on.Goals as goal
 pub returns-then-asks-clause-goes : goal.returns-then-asks-clause-goes
 returns-then-asks-clause-goes g c = way_for (c.args.asks ≡ true) c.if-asks.true _ _ _ _ _ _ _ _ c.stretch_asked.ensures.goes
 
-pub returns-then-asks-clause-asks : goal.returns-then-asks-clause-asks
-returns-then-asks-clause-asks g c asked = c.stretch_asked.ensures.asks
-
 pub returns-else-asks-clause-goes : goal.returns-else-asks-clause-goes
 returns-else-asks-clause-goes g c = straight _ _ _ c.stretch.ensures.turned.advances
-
-pub returns-else-asks-clause-asks : goal.returns-else-asks-clause-asks
-returns-else-asks-clause-asks g c asked = absurd (let no = sym c.if-asks.false ∙ asked in cc)

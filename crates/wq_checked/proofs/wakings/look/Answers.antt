@@ -3,7 +3,7 @@ use Rattle.wait_model.specs.declared.layout.TheConstants.{HEADS}
 use Rattle.wq_head.specs.Scanned.{HasEndedAt, HasScanned}
 use Rattle.wait_class.proofs.WatchHeads.{watch_fits}
 use Rattle.wq_checked.specs.Advancing.{normal_wake}
-use Rattle.wq_checked.proofs.Publishing.{full_there, looked_waking, looks_hit, silent_ready}
+use Rattle.wq_checked.proofs.Publishing.{full_there, looked_waking, silent_ready}
 use Rattle.wq_checked.proofs.WakeTurns.{first_sound}
 use Rattle.wq_checked.proofs.wakings.look.Goals as goal
 
@@ -19,14 +19,6 @@ returns-then-active-clause-sound c =
     (looked_waking c.args.kept.now c.args.task.now new aim c.requires.waking c.active.result
     (subst (λ (h : ℕ). HasScanned c.args.task.now new h c.active.result) c.head_of.ensures c.active.ensures.scanned)
     c.active.ensures.carries) c.wake_of.ensures
-
-pub returns-then-active-clause-looks : goal.returns-then-active-clause-looks
-returns-then-active-clause-looks c =
-    let new = c.active.new.task in
-    let aim = normal_wake c.args.watch in
-    λ d wakes. looks_hit c.args.kept.now c.args.task.now new aim c.requires.waking c.active.result
-    (subst (λ (h : ℕ). HasScanned c.args.task.now new h c.active.result) c.head_of.ensures c.active.ensures.scanned)
-    c.active.ensures.carries d wakes c.wake_of.result c.if-active.true c.wake_of.ensures
 
 pub returns-else-active-clause-sound : goal.returns-else-active-clause-sound
 returns-else-active-clause-sound c =
